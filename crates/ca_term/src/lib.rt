@@ -1,0 +1,4 @@
+//! Kernel terms, programs, operations and events.
+#![tactic(auto)]
+
+pub mod place;

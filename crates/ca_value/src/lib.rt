@@ -1,0 +1,11 @@
+//! Clojure values as the profile has them.
+//!
+//! The one model: a value is a tree of plain data, `Tree` of `specs/Tree.antt`, reached by `view`. All
+//! contracts speak of trees; addresses and spare capacity are no part of one. Lists are `Seq`, seen as
+//! a list and, beside it, the number of items that fit with no growth.
+//!
+//! Stands on std and `itoa` alone. Start with `seq`, then `value`.
+#![tactic(auto)]
+
+pub mod memory;
+pub mod seq;

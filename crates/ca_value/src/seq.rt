@@ -1,0 +1,120 @@
+ghost use Rattle.std.specs.Prelude.{◌≡◌, ◌+◌, ◌<◌, ◌≤◌, [], ◌∷◌, ◌++◌, ◌↔◌, IsTrue, length, OnOk, OnErr, IfOk, IfSome, None, slice_get, option_map};
+ghost use Rattle.ca_value.specs.Seq.{list, spare};
+
+use crate::memory::OutOfMemory;
+use std::alloc::Global;
+
+/// A list that grows only where it is asked to: a push needs room that `reserve` made before.
+///
+/// Places count from 0.
+#[derive(Drop)]
+pub struct Seq<T> {
+    items: Vec<T>,
+}
+
+/// Bytes: a text, or a keyword without its colon.
+pub type Text = Seq<u8>;
+
+impl<T> Seq<T> {
+    /// The empty list, which takes no memory.
+    pub fn new(alloc: Global) -> Seq<T>
+        ensures { list result ≡ [] }
+    {
+        Seq {
+            items: Vec::new(alloc),
+        }
+    }
+
+    /// Makes room for `n` more items at the least.
+    pub fn reserve(&mut self, n: u64) -> Result<(), OutOfMemory>
+        ensures same { list self.new ≡ list self.old }
+        ensures spare { OnOk result (n ≤ spare self.new) }
+        ensures keeps { spare self.old ≤ spare self.new }
+    {
+        self.items.reserve(n as usize)?;
+        Ok(())
+    }
+
+    /// Adds the item last, taking no memory.
+    pub fn push(&mut self, item: T)
+    where
+        T: Drop,
+        requires { 0 < spare self.old }
+        ensures added { list self.new ≡ list self.old ++ item ∷ [] }
+        ensures spare { spare self.old ≤ spare self.new + 1 }
+    {
+        match self.items.push(item) {
+            Ok(()) => {}
+            Err(_) => unreachable!(),
+        }
+    }
+
+    /// Takes the last item out.
+    pub fn pop(&mut self) -> Option<T>
+        ensures none { result ≡ None → (list self.old ≡ []) × (list self.new ≡ []) }
+        ensures some { IfSome result (λ x. list self.old ≡ list self.new ++ x ∷ []) }
+        ensures spare { spare self.old ≤ spare self.new }
+    {
+        self.items.pop()
+    }
+
+    /// The item at the place, or None past the last one.
+    pub fn get(&self, place: u64) -> Option<&T>
+        ensures { option_map (λ x. x.now) result ≡ slice_get (list self.now) place }
+    {
+        self.items.get(place as usize)
+    }
+
+    pub fn len(&self) -> u64
+        ensures { result ≡ length (list self.now) }
+    {
+        self.items.len() as u64
+    }
+
+    pub fn is_empty(&self) -> bool
+        ensures { IsTrue result ↔ (list self.now ≡ []) }
+    {
+        self.items.is_empty()
+    }
+
+    pub fn as_slice(&self) -> &[T]
+        ensures { result.now ≡ list self.now }
+    {
+        self.items.as_slice()
+    }
+
+    /// The vector that holds the items, with no copy.
+    pub fn into_vec(self) -> Vec<T>
+        ensures { result.items ≡ list self }
+    {
+        let Seq { items } = self;
+        items
+    }
+
+    /// The items of the vector, with no copy.
+    pub fn from_vec(items: Vec<T>) -> Seq<T>
+        ensures { list result ≡ items.items }
+    {
+        Seq { items }
+    }
+}
+
+impl Seq<u8> {
+    /// A list of these bytes.
+    pub fn from_bytes(alloc: Global, bytes: &[u8]) -> Result<Seq<u8>, OutOfMemory>
+        ensures { IfOk result (λ s. list s ≡ bytes.now) }
+    {
+        Ok(Seq {
+            items: Vec::from_slice(alloc, bytes)?,
+        })
+    }
+
+    /// Adds the bytes at the end; a refusal adds none.
+    pub fn append(&mut self, more: &[u8]) -> Result<(), OutOfMemory>
+        ensures ok { OnOk result (list self.new ≡ list self.old ++ more.now) }
+        ensures err { OnErr result (list self.new ≡ list self.old) }
+    {
+        self.items.extend_from_slice(more)?;
+        Ok(())
+    }
+}
