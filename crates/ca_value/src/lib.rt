@@ -7,5 +7,8 @@
 //! Stands on std and `itoa` alone. Start with `seq`, then `value`.
 #![tactic(auto)]
 
+pub mod copy;
 pub mod memory;
+pub mod plain;
 pub mod seq;
+pub mod value;
