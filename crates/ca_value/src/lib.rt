@@ -7,6 +7,7 @@
 //! Stands on std and `itoa` alone. Start with `seq`, then `value`.
 #![tactic(auto)]
 
+pub mod builtin;
 pub mod copy;
 pub mod memory;
 pub mod plain;
