@@ -1,0 +1,17 @@
+use Rattle.std.proofs.Common.{◌≡◌, ◌+◌, ◌≤◌, length, map, take}
+use Rattle.ca_value.specs.Seq.{list, spare}
+use Rattle.ca_term.specs.View.{kernel, named}
+use Rattle.ca_term.proofs.+copy.Given as goal
+
+abbrev pub invariant-copy::copy_terms-loop-term : goal.invariant-copy::copy_terms-loop-term
+invariant-copy::copy_terms-loop-term l = record {
+  same : map kernel (list l.copies) ≡ map kernel (take l.term-index l.term-items);
+  room : length l.term-items ≤ spare l.copies + l.term-index;
+}
+
+abbrev pub invariant-copy::copy_bindings-loop-binding :
+    goal.invariant-copy::copy_bindings-loop-binding
+invariant-copy::copy_bindings-loop-binding l = record {
+  same : map named (list l.copies) ≡ map named (take l.binding-index l.binding-items);
+  room : length l.binding-items ≤ spare l.copies + l.binding-index;
+}

@@ -1,0 +1,6 @@
+pub mod Kernel
+pub mod View
+pub mod Closed
+pub mod Program
+pub mod Operation
+pub mod Event

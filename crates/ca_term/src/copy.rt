@@ -1,0 +1,116 @@
+ghost use Rattle.std.specs.Prelude.{◌≡◌, IfOk};
+ghost use Rattle.ca_value.specs.Seq.{list};
+ghost use Rattle.ca_term.specs.View.{kernel, kernels, named, bindings, found, founds};
+
+use crate::term::{Binding, Found, Term};
+use ca_value::memory::OutOfMemory;
+use ca_value::seq::Seq;
+use std::alloc::Global;
+
+impl Term {
+    /// An equal term, in memory of its own.
+    #[cycle(copy)]
+    pub fn copy(&self, alloc: Global) -> Result<Term, OutOfMemory>
+        ensures { IfOk result (λ t. kernel t ≡ kernel self.now) }
+    {
+        match self {
+            Term::Const(value) => Ok(Term::Const(value.copy(alloc)?)),
+            Term::Var(name) => Ok(Term::Var(*name)),
+            Term::If(test, then, otherwise) => {
+                let test = Box::new(alloc, test.copy(alloc)?)?;
+                let then = Box::new(alloc, then.copy(alloc)?)?;
+                let otherwise = Box::new(alloc, otherwise.copy(alloc)?)?;
+                Ok(Term::If(test, then, otherwise))
+            }
+            Term::Let(rest, body) => {
+                let body = Box::new(alloc, body.copy(alloc)?)?;
+                Ok(Term::Let(copy_bindings(alloc, rest)?, body))
+            }
+            Term::Loop(known, rest, body) => {
+                let known = copy_found(alloc, known)?;
+                let body = Box::new(alloc, body.copy(alloc)?)?;
+                Ok(Term::Loop(known, copy_bindings(alloc, rest)?, body))
+            }
+            Term::Do(terms) => Ok(Term::Do(copy_terms(alloc, terms)?)),
+            Term::Frame(body) => Ok(Term::Frame(Box::new(alloc, body.copy(alloc)?)?)),
+            Term::Turn(names, text, now) => {
+                let text = Box::new(alloc, text.copy(alloc)?)?;
+                let now = Box::new(alloc, now.copy(alloc)?)?;
+                Ok(Term::Turn(copy_names(alloc, names)?, text, now))
+            }
+            Term::Apply(head, operands, place) => {
+                Ok(Term::Apply(*head, copy_terms(alloc, operands)?, *place))
+            }
+        }
+    }
+}
+
+impl Binding {
+    /// An equal binding, in memory of its own.
+    #[cycle(copy)]
+    pub fn copy(&self, alloc: Global) -> Result<Binding, OutOfMemory>
+        ensures { IfOk result (λ b. named b ≡ named self.now) }
+    {
+        Ok(Binding {
+            name: self.name,
+            term: self.term.copy(alloc)?,
+        })
+    }
+}
+
+impl Found {
+    /// The same name with an equal value.
+    pub fn copy(&self, alloc: Global) -> Result<Found, OutOfMemory>
+        ensures { IfOk result (λ f. found f ≡ found self.now) }
+    {
+        Ok(Found {
+            name: self.name,
+            value: self.value.copy(alloc)?,
+        })
+    }
+}
+
+/// Equal terms, in memory of their own.
+#[cycle(copy)]
+pub fn copy_terms(alloc: Global, terms: &Seq<Term>) -> Result<Seq<Term>, OutOfMemory>
+    ensures { IfOk result (λ s. kernels (list s) ≡ kernels (list terms.now)) }
+{
+    let mut copies = Seq::new(alloc);
+    copies.reserve(terms.len())?;
+    for term in terms.as_slice() {
+        copies.push(term.copy(alloc)?);
+    }
+    Ok(copies)
+}
+
+/// Equal bindings, in memory of their own.
+#[cycle(copy)]
+pub fn copy_bindings(alloc: Global, rest: &Seq<Binding>) -> Result<Seq<Binding>, OutOfMemory>
+    ensures { IfOk result (λ s. bindings (list s) ≡ bindings (list rest.now)) }
+{
+    let mut copies = Seq::new(alloc);
+    copies.reserve(rest.len())?;
+    for binding in rest.as_slice() {
+        copies.push(binding.copy(alloc)?);
+    }
+    Ok(copies)
+}
+
+/// The same names with equal values, in memory of their own.
+pub fn copy_found(alloc: Global, known: &Seq<Found>) -> Result<Seq<Found>, OutOfMemory>
+    ensures { IfOk result (λ s. founds (list s) ≡ founds (list known.now)) }
+{
+    let mut copies = Seq::new(alloc);
+    copies.reserve(known.len())?;
+    for pair in known.as_slice() {
+        copies.push(pair.copy(alloc)?);
+    }
+    Ok(copies)
+}
+
+/// The same names.
+pub fn copy_names(alloc: Global, names: &Seq<u64>) -> Result<Seq<u64>, OutOfMemory>
+    ensures { IfOk result (λ s. list s ≡ list names.now) }
+{
+    Ok(Seq::from_vec(Vec::from_slice(alloc, names.as_slice())?))
+}
