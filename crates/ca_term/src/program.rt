@@ -1,8 +1,6 @@
-ghost use Rattle.std.specs.Prelude.{◌≡◌, []};
-ghost use Rattle.ca_value.specs.Seq.{list};
+ghost use Rattle.std.specs.Prelude.{◌≡◌};
 ghost use Rattle.ca_term.specs.View.{kernel};
-ghost use Rattle.ca_term.specs.Closed.{IsClosed};
-ghost use Rattle.ca_term.specs.Program.{IsBound, ProgramView, main_of};
+ghost use Rattle.ca_term.specs.Program.{IsBound, ProgramParts, program_view};
 
 use crate::term::Term;
 use ca_value::seq::Seq;
@@ -27,26 +25,22 @@ pub struct Program {
 
 impl Model for Program {
     ghost use Rattle.ca_term.specs.contracts.term.Term as term_row;
-    ghost use Rattle.ca_term.specs.contracts.program.Procedure as procedure_row;
-    ghost use Rattle.ca_value.specs.contracts.seq.Seq as seq_row;
     ghost use Rattle.std.specs.Coded.{codes};
-    ghost use Rattle.ca_value.specs.Seq.{list};
-    ghost use Rattle.ca_term.specs.View.{kernel};
-    ghost use Rattle.ca_term.specs.Program.{IsBound, ProgramView};
+    ghost use Rattle.ca_term.specs.Program.{IsBound, ProgramParts, program_view};
 
-    ghost Value = { ProgramView };
+    ghost Value = { ProgramParts };
 
     ghost coded = { Prim.hlevel (codes, term_row.the_row.coded) };
 
     ghost view = { λ p. record { functions = p.functions; bodies = p.bodies; main = p.main } };
 
-    ghost invariant = { λ p. IsBound (list p.functions) (list p.bodies) (kernel p.main) };
+    ghost invariant = { λ p. IsBound (program_view (record { functions = p.functions; bodies = p.bodies; main = p.main })) };
 }
 
 impl Program {
     /// The program of these texts.
     pub fn of(functions: Seq<Procedure>, bodies: Seq<Procedure>, main: Term) -> Program
-        requires { IsBound (list functions) (list bodies) (kernel main) }
+        requires { IsBound (program_view (record { functions = functions; bodies = bodies; main = main })) }
         ensures { result ≡ record { functions = functions; bodies = bodies; main = main } }
     {
         Program {
@@ -58,8 +52,8 @@ impl Program {
 
     /// The main text.
     pub fn main(&self) -> &Term
-        ensures text { kernel result.now ≡ main_of self.now }
-        ensures bound { IsClosed [] (main_of self.now) }
+        ensures text { kernel result.now ≡ (program_view self.now).main }
+        ensures bound { IsBound (program_view self.now) }
     {
         &self.main
     }
