@@ -1,0 +1,40 @@
+-- When a list of events is a run of a program, how a run ends, and what it writes.
+use Rattle.std.specs.Prelude.{◌≡◌, ℕ, List, [], ◌∷◌, ◌++◌, Bool, true, false, ◌==◌}
+use Rattle.ca_term.specs.declared.event.Ending.{Ending}
+use Rattle.ca_term.specs.Program.{ProgramView}
+use Rattle.ca_term.specs.Event.{EventView, printed, over}
+use Rattle.ca_meaning.specs.State.{State, Opening}
+use Rattle.ca_meaning.specs.Steps.{Steps}
+
+-- the end of the main text, by its value or by a fault
+abbrev pub is_end_of_main : EventView → Bool
+is_end_of_main (over t how) = t == 0
+is_end_of_main e = false
+
+-- no event but the last is the end of the main text
+abbrev pub GoesOn : List EventView → Type 0
+GoesOn [] = Unit {0}
+GoesOn (e ∷ []) = Unit {0}
+GoesOn (e ∷ (f ∷ es)) = (is_end_of_main e ≡ false) × GoesOn (f ∷ es)
+
+-- the events lead from the opening of the program to the state
+pub record Reaches (program : ProgramView) (journal : List EventView) (s : State) : Type 0 where
+  pub opening : State
+  pub opens : Opening program opening
+  pub steps : Steps opening journal s
+
+-- the journal is a run of the program
+pub record Legal (program : ProgramView) (journal : List EventView) : Type 0 where
+  pub state : State
+  pub reaches : Reaches program journal state
+  pub goes_on : GoesOn journal
+
+-- the last event is the end of the main text by its value
+abbrev pub IsEnded : List EventView → Type 0
+IsEnded journal = (before : List EventView) × (journal ≡ before ++ over 0 Ending.Ended ∷ [])
+
+-- the printed lines, in order
+abbrev pub output : List EventView → List ℕ
+output [] = []
+output (printed t line ∷ es) = line ++ output es
+output (e ∷ es) = output es

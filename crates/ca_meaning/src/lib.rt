@@ -1,0 +1,4 @@
+//! The direct meaning of programs, and what their runs are.
+#![tactic(auto)]
+
+pub fn nothing() {}
