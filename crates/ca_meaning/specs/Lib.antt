@@ -15,6 +15,7 @@ pub mod ChannelSteps
 pub mod TaskSteps
 pub mod Steps
 pub mod Legal
+pub mod Sound
 pub mod Ends
 pub mod Texts
 pub mod Journal
