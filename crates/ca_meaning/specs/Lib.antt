@@ -4,3 +4,4 @@ pub mod Rest
 pub mod State
 pub mod Steps
 pub mod Legal
+pub mod Parts

@@ -9,7 +9,7 @@ use Rattle.ca_term.specs.Operation.{OpView, printing}
 use Rattle.ca_term.specs.Event.{EventView, printed, over as is_over}
 use Rattle.ca_meaning.specs.Body.{BodyView, at, at_op, ended, fill}
 use Rattle.ca_meaning.specs.Rest.{Rest}
-use Rattle.ca_meaning.specs.State.{State, Task, running, over}
+use Rattle.ca_meaning.specs.State.{State, running, over}
 
 -- the task runs, and its body stands at the operation
 abbrev pub StandsAt : State → ℕ → OpView → BodyView → Type 0

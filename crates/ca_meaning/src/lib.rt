@@ -1,4 +1,6 @@
 //! The direct meaning of programs, and what their runs are.
 #![tactic(auto)]
 
-pub fn nothing() {}
+pub mod contract;
+pub mod redex;
+pub mod replace;
