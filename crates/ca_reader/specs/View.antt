@@ -1,0 +1,35 @@
+-- What the Rust types of forms stand for.
+use Rattle.std.specs.Prelude.{List, [], ◌∷◌, map}
+use Rattle.ca_value.specs.Seq.{list}
+use Rattle.ca_reader.specs.declared.form.Form.{Form, fold-Form}
+use Rattle.ca_reader.specs.declared.form.Shape.{Shape, fold-Shape}
+use Rattle.ca_reader.specs.declared.form.Shape.TheOpen.{Form-F, Shape-F}
+use Rattle.ca_reader.specs.Form.{FormTree, FormTrees, ShapeTree, form, nil, bool, int, text, key, symbol, list_of, vector_of, map_of, none, item}
+
+abbrev pub trees_of : List FormTree → FormTrees
+trees_of [] = none
+trees_of (f ∷ fs) = item f (trees_of fs)
+
+abbrev pub shape_step : Shape-F ShapeTree FormTree → ShapeTree
+shape_step Shape-F.Nil = nil
+shape_step (Shape-F.Bool b) = bool b
+shape_step (Shape-F.Int z) = int z
+shape_step (Shape-F.Text s) = text (list s)
+shape_step (Shape-F.Key s) = key (list s)
+shape_step (Shape-F.Symbol s) = symbol (list s)
+shape_step (Shape-F.List fs) = list_of (trees_of (list fs))
+shape_step (Shape-F.Vector fs) = vector_of (trees_of (list fs))
+shape_step (Shape-F.Map fs) = map_of (trees_of (list fs))
+
+abbrev pub form_step : Form-F ShapeTree FormTree → FormTree
+form_step f = form f.shape f.place
+
+abbrev pub form_tree : Form → FormTree
+form_tree = fold-Form ShapeTree FormTree shape_step form_step
+
+abbrev pub shape_tree : Shape → ShapeTree
+shape_tree = fold-Shape ShapeTree FormTree shape_step form_step
+
+-- the forms of a list, in order
+abbrev pub form_trees : List Form → FormTrees
+form_trees fs = trees_of (map form_tree fs)
