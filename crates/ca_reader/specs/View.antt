@@ -1,25 +1,26 @@
 -- What the Rust types of forms stand for.
 use Rattle.std.specs.Prelude.{List, [], ◌∷◌, map}
 use Rattle.ca_value.specs.Seq.{list}
+use Rattle.ca_reader.specs.declared.form.Bracket.TheVariants.{Round, Square, Curly}
 use Rattle.ca_reader.specs.declared.form.Form.{Form, fold-Form}
 use Rattle.ca_reader.specs.declared.form.Shape.{Shape, fold-Shape}
 use Rattle.ca_reader.specs.declared.form.Shape.TheOpen.{Form-F, Shape-F}
-use Rattle.ca_reader.specs.Form.{FormTree, FormTrees, ShapeTree, form, nil, bool, int, text, key, symbol, list_of, vector_of, map_of, none, item}
+use Rattle.ca_reader.specs.Form.{FormTree, FormTrees, ShapeTree, form, atom, group, nil, bool, int, text, key, symbol, none, item}
 
 abbrev pub trees_of : List FormTree → FormTrees
 trees_of [] = none
 trees_of (f ∷ fs) = item f (trees_of fs)
 
 abbrev pub shape_step : Shape-F ShapeTree FormTree → ShapeTree
-shape_step Shape-F.Nil = nil
-shape_step (Shape-F.Bool b) = bool b
-shape_step (Shape-F.Int z) = int z
-shape_step (Shape-F.Text s) = text (list s)
-shape_step (Shape-F.Key s) = key (list s)
-shape_step (Shape-F.Symbol s) = symbol (list s)
-shape_step (Shape-F.List fs) = list_of (trees_of (list fs))
-shape_step (Shape-F.Vector fs) = vector_of (trees_of (list fs))
-shape_step (Shape-F.Map fs) = map_of (trees_of (list fs))
+shape_step Shape-F.Nil = atom nil
+shape_step (Shape-F.Bool b) = atom (bool b)
+shape_step (Shape-F.Int z) = atom (int z)
+shape_step (Shape-F.Text s) = atom (text (list s))
+shape_step (Shape-F.Key s) = atom (key (list s))
+shape_step (Shape-F.Symbol s) = atom (symbol (list s))
+shape_step (Shape-F.List fs) = group Round (trees_of (list fs))
+shape_step (Shape-F.Vector fs) = group Square (trees_of (list fs))
+shape_step (Shape-F.Map fs) = group Curly (trees_of (list fs))
 
 abbrev pub form_step : Form-F ShapeTree FormTree → FormTree
 form_step f = form f.shape f.place

@@ -28,3 +28,11 @@ pub enum Shape {
     /// Keys and values in turn.
     Map(Seq<Form>),
 }
+
+/// The three kinds of brackets: round ones make lists, square ones vectors, curly ones maps.
+#[derive(Clone, Copy, PartialEq, Eq, Debug)]
+pub enum Bracket {
+    Round,
+    Square,
+    Curly,
+}
