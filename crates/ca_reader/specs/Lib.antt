@@ -1,3 +1,9 @@
+pub mod Bytes
 pub mod Form
 pub mod Kind
+pub mod Pieces
+pub mod Reads
+pub mod Steps
+pub mod Texts
+pub mod Tokens
 pub mod View
