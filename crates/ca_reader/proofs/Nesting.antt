@@ -56,9 +56,14 @@ stands_next (outside fs) (closer b) p more whole s e = cc
 stands_next (inside c a q fs) (closer b) p more whole s e =
     let h = passes_both (same_bracket a b) (is_paired b fs) (OddMap, q) (StrayClose, p) e in
     let same : a ≡ b = same_is a b h.0 in
-    stands_with c (form (group a fs) q) whole (piece (opener a) q s.1) more s.2
-        (s.0, subst (λ (x : Bracket). is_paired x fs ≡ true) (sym same) h.1, s.1, p, refl,
-         subst (λ (x : Bracket). Nest (suc (depth c)) fs s.1 (piece (closer x) p more)) (sym same) s.3)
+    stands_with c (form (group a fs) q) whole (piece (opener a) q s.1) more s.2 (
+      s.0,
+      subst (λ (x : Bracket). is_paired x fs ≡ true) (sym same) h.1,
+      s.1,
+      p,
+      refl,
+      subst (λ (x : Bracket). Nest (suc (depth c)) fs s.1 (piece (closer x) p more)) (sym same) s.3,
+    )
 
 pub sound : (ps : Pieces) (c : Context) (whole : Pieces) → Stands c whole ps → Answered whole (go ps c)
 unfolding go
@@ -67,9 +72,10 @@ sound end (inside c b p fs) whole s = (inside c b p fs, end, s, refl)
 sound (stop k p) c whole s = (c, stop k p, s, refl)
 sound (piece x p more) c whole s =
     let by : (o : Option (ReadErrorKind × Place)) → piece_fault c x p ≡ o → Answered whole (unless o (go more (next c x p))) =
-        λ o e. (elim o as (λ o. piece_fault c x p ≡ o → Answered whole (unless o (go more (next c x p)))) [
-            None ↦ λ e. sound more (next c x p) whole (stands_next c x p more whole s e)
-          | Some f ↦ λ e. (c, piece x p more, s, e) ]) e
+    λ o e. (elim o as (λ o. piece_fault c x p ≡ o → Answered whole (unless o (go more (next c x p)))) [
+      | None ↦ λ e. sound more (next c x p) whole (stands_next c x p more whole s e)
+      | Some f ↦ λ e. (c, piece x p more, s, e)
+    ]) e
     in by (piece_fault c x p) refl
 
 -- c with these forms behind its own
@@ -167,9 +173,10 @@ faults_answer bytes k p e = subst (Answered (pieces bytes)) e (sound (pieces byt
 pub some_reading : (bytes : List ℕ) → ((fs : FormTrees) × Reads bytes fs) ⊎ ((k : ReadErrorKind) × (p : Place) × ReadFault bytes k p)
 some_reading bytes =
     let by : (r : Result FormTrees (ReadErrorKind × Place)) → answer bytes ≡ r → ((fs : FormTrees) × Reads bytes fs) ⊎ ((k : ReadErrorKind) × (p : Place) × ReadFault bytes k p) =
-        λ r e. (elim r as (λ r. answer bytes ≡ r → ((fs : FormTrees) × Reads bytes fs) ⊎ ((k : ReadErrorKind) × (p : Place) × ReadFault bytes k p)) [
-            Ok fs ↦ λ e. inl (fs, reads_answer bytes fs e)
-          | Err f ↦ λ e. inr (f.0, f.1, faults_answer bytes f.0 f.1 e) ]) e
+    λ r e. (elim r as (λ r. answer bytes ≡ r → ((fs : FormTrees) × Reads bytes fs) ⊎ ((k : ReadErrorKind) × (p : Place) × ReadFault bytes k p)) [
+      | Ok fs ↦ λ e. inl (fs, reads_answer bytes fs e)
+      | Err f ↦ λ e. inr (f.0, f.1, faults_answer bytes f.0 f.1 e)
+    ]) e
     in by (answer bytes) refl
 
 pub one_reading : (bytes : List ℕ) (fs gs : FormTrees) → Reads bytes fs → Reads bytes gs → fs ≡ gs

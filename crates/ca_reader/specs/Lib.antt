@@ -1,6 +1,7 @@
 pub mod Bytes
 pub mod Form
 pub mod Kind
+pub mod PieceView
 pub mod Pieces
 pub mod Reads
 pub mod Steps

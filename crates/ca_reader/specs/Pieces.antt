@@ -8,7 +8,7 @@ use Rattle.ca_reader.specs.declared.error.ReadErrorKind.{ReadErrorKind}
 use Rattle.ca_reader.specs.declared.error.ReadErrorKind.TheVariants.{BadByte, UnclosedText}
 use Rattle.ca_reader.specs.Form.{Atom, text}
 use Rattle.ca_reader.specs.Bytes.{is_separator, is_token_byte, start, past}
-use Rattle.ca_reader.specs.Tokens.{meaning}
+use Rattle.ca_reader.specs.Tokens.{meaning, keyword}
 use Rattle.ca_reader.specs.Texts.{TextCut, closed, unclosed, broken, text_cut}
 
 -- a text or a token, an opening bracket or a closing one
@@ -34,6 +34,10 @@ text_first (broken k n) = wrong k (suc n)
 abbrev pub token_first : ℕ → Result Atom ReadErrorKind → First
 token_first n (Ok a) = found (one a) n
 token_first n (Err k) = wrong k 0
+
+-- a token of these bytes that begins with a colon
+abbrev pub keyword_first : List ℕ → First
+keyword_first t = token_first (length t) (keyword t)
 
 abbrev pub bracket_first : ℕ → First
 bracket_first b =
@@ -71,10 +75,11 @@ pub data Pieces : Type 0 where
 unfoldable pub pieces_within : ℕ → Place → List ℕ → Pieces
 pieces_within zero p bs = end
 pieces_within (suc n) p bs = elim (first bs) [
-    over ↦ end
+  | over ↦ end
   | blank m ↦ pieces_within n (past p (take m bs)) (drop m bs)
   | found x m ↦ piece x p (pieces_within n (past p (take m bs)) (drop m bs))
-  | wrong k m ↦ stop k (past p (take m bs)) ]
+  | wrong k m ↦ stop k (past p (take m bs))
+]
 
 -- a text has no more pieces than bytes
 abbrev pub pieces_from : Place → List ℕ → Pieces

@@ -19,9 +19,9 @@ char_len bs =
     if nat_lt (slice_index bs 0) 0x80 then 1
     else (if is_in_range 0xC2 0xDF (slice_index bs 0) && is_continuation (slice_index bs 1) then 2
     else (if is_in_range 0xE0 0xEF (slice_index bs 0) && may_follow (slice_index bs 0) (slice_index bs 1)
-        && is_continuation (slice_index bs 2) then 3
+    && is_continuation (slice_index bs 2) then 3
     else (if is_in_range 0xF0 0xF4 (slice_index bs 0) && may_follow (slice_index bs 0) (slice_index bs 1)
-        && is_continuation (slice_index bs 2) && is_continuation (slice_index bs 3) then 4 else 0)))
+    && is_continuation (slice_index bs 2) && is_continuation (slice_index bs 3) then 4 else 0)))
 
 -- What comes next in a text: bytes that it says, spelled by so many bytes; the closing quote; the end of
 -- the script; or a fault.
@@ -74,10 +74,11 @@ further x m (broken k n) = broken k (m + n)
 unfoldable pub text_within : ℕ → List ℕ → TextCut
 text_within zero bs = unclosed
 text_within (suc n) bs = elim (letter bs) [
-    says x m ↦ further x m (text_within n (drop m bs))
+  | says x m ↦ further x m (text_within n (drop m bs))
   | quote ↦ closed [] 1
   | missing ↦ unclosed
-  | bad k ↦ broken k 0 ]
+  | bad k ↦ broken k 0
+]
 
 -- a text has no more letters than bytes
 abbrev pub text_cut : List ℕ → TextCut

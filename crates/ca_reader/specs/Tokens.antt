@@ -1,6 +1,7 @@
 -- What a token says.
 use Rattle.std.specs.Prelude.{ℕ, ◌^◌, ℤ, pos, neg_ℤ, List, Bool, not, ◌||◌, ◌&&◌, ◌==◌, nat_lt, nat_le, codes, length, drop, slice_index, if◌then◌else◌, Option, Some, None, Result, Ok, Err, true, false}
-use Rattle.std.specs.Str.{bytes_eq, all_ascii_digits}
+use Rattle.std.specs.Str.{bytes_eq}
+use Rattle.std.specs.List.{list_all}
 use Rattle.std.specs.Str.Parse.{digits_value}
 use Rattle.ca_reader.specs.declared.error.ReadErrorKind.{ReadErrorKind}
 use Rattle.ca_reader.specs.declared.error.ReadErrorKind.TheVariants.{BadByte, BadNumber}
@@ -15,9 +16,9 @@ unsigned t = if slice_index t 0 == 43 || slice_index t 0 == 45 then drop 1 t els
 abbrev pub is_numeral : List ℕ → Bool
 is_numeral t = is_digit (slice_index (unsigned t) 0)
 
--- `0`, or digits that don't begin with `0`
+-- digits that begin with `0` are that one alone
 abbrev pub is_decimal : List ℕ → Bool
-is_decimal ds = all_ascii_digits ds && (length ds == 1 || not (slice_index ds 0 == 48))
+is_decimal ds = if slice_index ds 0 == 48 then length ds == 1 else list_all is_digit ds
 
 -- the number of this sign and magnitude, in 64 bits
 abbrev pub with_sign : Bool → ℕ → Option ℤ
@@ -32,8 +33,8 @@ or_bad_number (Some z) = Ok (int z)
 or_bad_number None = Err BadNumber
 
 -- a colon, and then something without one
-abbrev pub is_keyword : List ℕ → Bool
-is_keyword t = nat_lt 1 (length t) && not (has_byte 58 (drop 1 t))
+abbrev pub keyword : List ℕ → Result Atom ReadErrorKind
+keyword t = if nat_lt 1 (length t) && not (has_byte 58 (drop 1 t)) then Ok (key (drop 1 t)) else Err BadByte
 
 abbrev pub word : List ℕ → Atom
 word t =
@@ -45,5 +46,5 @@ word t =
 unfoldable pub meaning : List ℕ → Result Atom ReadErrorKind
 meaning t =
     if is_numeral t then or_bad_number (number t)
-    else (if slice_index t 0 == 58 then (if is_keyword t then Ok (key (drop 1 t)) else Err BadByte)
+    else (if slice_index t 0 == 58 then keyword t
     else (if has_byte 58 t then Err BadByte else Ok (word t)))
