@@ -1,5 +1,5 @@
 -- What the reader's own types stand for.
-use Rattle.std.specs.Prelude.{ℕ, List, [], ◌∷◌, take}
+use Rattle.std.specs.Prelude.{ℕ, ◌<◌, ◌≤◌, List, [], ◌∷◌, take}
 use Rattle.ca_value.specs.Seq.{list}
 use Rattle.ca_reader.specs.declared.letter.Letter.{Letter}
 use Rattle.ca_reader.specs.declared.letter.Letter.TheVariants.{Character, Escape, Quote, Missing, Bad}
@@ -38,3 +38,10 @@ first_view Over = over
 first_view (Blank n) = blank n
 first_view (Found x n) = found (piece_view x) n
 first_view (Wrong k n) = wrong k n
+
+-- a letter lies within so many bytes
+abbrev pub LetterFits : ℕ → LetterCut → Type 0
+LetterFits most (says x m) = (0 < m) × (m ≤ most)
+LetterFits most quote = 0 < most
+LetterFits most missing = Unit {0}
+LetterFits most (bad k) = 0 < most

@@ -1,6 +1,6 @@
 -- A text cut into pieces.
-use Rattle.std.specs.Prelude.{ℕ, zero, suc, ◌+◌, List, [], ◌∷◌, Bool, not, ◌==◌, length, take, drop, if◌then◌else◌, Result, Ok, Err}
-use Rattle.std.specs.List.{prefix_len, take_while}
+use Rattle.std.specs.Prelude.{ℕ, zero, suc, ◌+◌, List, [], ◌∷◌, ◌==◌, length, take, drop, if◌then◌else◌, Result, Ok, Err}
+use Rattle.std.specs.List.{position_or_len, take_while}
 use Rattle.ca_term.specs.declared.place.Place.{Place}
 use Rattle.ca_reader.specs.declared.form.Bracket.{Bracket}
 use Rattle.ca_reader.specs.declared.form.Bracket.TheVariants.{Round, Square, Curly}
@@ -50,7 +50,7 @@ bracket_first b =
 
 -- how far a comment goes: to the next line feed, or to the end
 abbrev pub comment_len : List ℕ → ℕ
-comment_len bs = prefix_len (λ b. not (b == 10)) bs
+comment_len bs = position_or_len (λ b. b == 10) bs
 
 -- the longest run of token bytes in front
 abbrev pub token : List ℕ → List ℕ

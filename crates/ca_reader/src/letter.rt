@@ -1,6 +1,6 @@
-ghost use Rattle.std.specs.Prelude.{◌≡◌, ℕ, List};
+ghost use Rattle.std.specs.Prelude.{◌≡◌, ℕ, List, length};
 ghost use Rattle.ca_reader.specs.Texts.{is_continuation, may_follow, char_len, letter, escape};
-ghost use Rattle.ca_reader.specs.PieceView.{letter_view};
+ghost use Rattle.ca_reader.specs.PieceView.{letter_view, LetterFits};
 
 use crate::bytes::byte_at;
 use crate::error::ReadErrorKind;
@@ -19,9 +19,10 @@ pub enum Letter {
 }
 
 /// The next letter of a text.
-#[tactic(auto, unfolding(crate::specs::Texts::letter))]
+#[tactic(auto, using(crate::proofs::Cuts::char_len_fits), unfolding(crate::specs::Texts::letter))]
 pub fn next_letter(rest: &[u8]) -> Letter
-    ensures { letter_view rest.now result ≡ letter rest.now }
+    ensures value { letter_view rest.now result ≡ letter rest.now }
+    ensures fits { LetterFits (length rest.now) (letter_view rest.now result) }
 {
     let Some((byte, behind)) = rest.split_first() else {
         return Letter::Missing;

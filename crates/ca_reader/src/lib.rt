@@ -13,4 +13,5 @@ pub mod form;
 mod letter;
 mod lines;
 mod piece;
+mod text;
 mod token;
