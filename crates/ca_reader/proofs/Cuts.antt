@@ -18,11 +18,12 @@ not_zero n e = grind (arith, nat_tests)
 
 pub past_end : (p : ℕ → Bool) → p 0 ≡ false → (bs : List ℕ) (i : ℕ) → p (get_or bs i 0) ≡ true → i < length bs
 past_end p none bs i e = elim (cases_lt i (length bs)) [
-    inl l ↦ l
+  | inl l ↦ l
   | inr g ↦
       let z : get_or bs i 0 ≡ 0 = get_or_past bs i 0 g in
       let f : p (get_or bs i 0) ≡ p 0 = ap p z in
-      absurd (cc) ]
+      absurd (cc)
+]
 
 pub in_range_not_zero : (x y : Bool) (most : ℕ) → is_in_range (if x then 0xA0 else (if y then 0x90 else 0x80)) most 0 ≡ false
 in_range_not_zero true y most = refl
@@ -48,9 +49,9 @@ pub char_len_fits : (bs : List ℕ) → 0 < length bs → char_len bs ≤ length
 unfolding char_len
 char_len_fits bs l =
     chain_fits _ _ _ _ (length bs) l
-        (λ e. past_end is_continuation refl bs 1 (last_of _ _ e))
-        (λ e. past_end is_continuation refl bs 2 (last_of _ _ e))
-        (λ e. past_end is_continuation refl bs 3 (last_of _ _ e))
+    (λ e. past_end is_continuation refl bs 1 (last_of _ _ e))
+    (λ e. past_end is_continuation refl bs 2 (last_of _ _ e))
+    (λ e. past_end is_continuation refl bs 3 (last_of _ _ e))
 
 pub if_fits : (b : Bool) (most : ℕ) (x y : Letter) → LetterFits most x → LetterFits most y → LetterFits most (if b then x else y)
 if_fits true most x y h k = h
@@ -67,9 +68,10 @@ escape_fits (c ∷ bs) = escape_of_fits (suc (suc (length bs))) (escaped c) (ome
 pub character_fits : (bs : List ℕ) (n : ℕ) → 0 < length bs → n ≤ length bs → LetterFits (length bs) (character bs n)
 character_fits bs n l h =
     let by : (t : Bool) → (n == 0) ≡ t → LetterFits (length bs) (if t then bad BadByte else says (take n bs) n) =
-        λ t. elim t as (λ t. (n == 0) ≡ t → LetterFits (length bs) (if t then bad BadByte else says (take n bs) n)) [
-            true ↦ λ e. l
-          | false ↦ λ e. (not_zero n e, h) ]
+    λ t. elim t as (λ t. (n == 0) ≡ t → LetterFits (length bs) (if t then bad BadByte else says (take n bs) n)) [
+      | true ↦ λ e. l
+      | false ↦ λ e. (not_zero n e, h)
+    ]
     in by (n == 0) refl
 
 pub letter_fits : (bs : List ℕ) → LetterFits (length bs) (letter bs)
@@ -77,8 +79,8 @@ unfolding letter
 letter_fits [] = tt
 letter_fits (b ∷ bs) =
     if_fits (b == 34) (suc (length bs)) quote _ (omega arith)
-        (if_fits (b == 92) (suc (length bs)) (escape bs) (character (b ∷ bs) (char_len (b ∷ bs))) (escape_fits bs)
-            (character_fits (b ∷ bs) (char_len (b ∷ bs)) (omega arith) (char_len_fits (b ∷ bs) (omega arith))))
+    (if_fits (b == 92) (suc (length bs)) (escape bs) (character (b ∷ bs) (char_len (b ∷ bs))) (escape_fits bs)
+    (character_fits (b ∷ bs) (char_len (b ∷ bs)) (omega arith) (char_len_fits (b ∷ bs) (omega arith))))
 
 -- what a text is, by its first letter
 abbrev pub text_step : (List ℕ → TextCut) → List ℕ → Letter → TextCut
@@ -91,11 +93,12 @@ pub text_within_step : (n : ℕ) (bs : List ℕ) → text_within (suc n) bs ≡ 
 unfolding text_within
 text_within_step n bs =
     let by : (l : Letter) → (elim l [
-            says x m ↦ further x m (text_within n (drop m bs))
-          | quote ↦ closed [] 1
-          | missing ↦ unclosed
-          | bad k ↦ broken k 0 ]) ≡ text_step (text_within n) bs l =
-        λ l. elim l [ says x m ↦ refl | quote ↦ refl | missing ↦ refl | bad k ↦ refl ]
+      | says x m ↦ further x m (text_within n (drop m bs))
+      | quote ↦ closed [] 1
+      | missing ↦ unclosed
+      | bad k ↦ broken k 0
+    ]) ≡ text_step (text_within n) bs l =
+    λ l. elim l [ says x m ↦ refl | quote ↦ refl | missing ↦ refl | bad k ↦ refl ]
     in by (letter bs)
 
 pub text_step_same : (f g : List ℕ → TextCut) (bs : List ℕ) (l : Letter) → LetterFits (length bs) l → ((m : ℕ) → 0 < m → m ≤ length bs → f (drop m bs) ≡ g (drop m bs)) → text_step f bs l ≡ text_step g bs l
@@ -110,14 +113,14 @@ text_enough (suc n) zero bs h k = absurd (omega arith)
 text_enough (suc n) (suc m) bs h k =
     text_within_step n bs
     ∙ text_step_same (text_within n) (text_within m) bs (letter bs) (letter_fits bs)
-        (λ i p q. text_enough n m (drop i bs) (omega (arith, length-drop i bs)) (omega (arith, length-drop i bs)))
+    (λ i p q. text_enough n m (drop i bs) (omega (arith, length-drop i bs)) (omega (arith, length-drop i bs)))
     ∙ sym (text_within_step m bs)
 
 pub text_cut_step : (bs : List ℕ) → text_cut bs ≡ text_step text_cut bs (letter bs)
 text_cut_step bs =
     text_within_step (length bs) bs
     ∙ text_step_same (text_within (length bs)) text_cut bs (letter bs) (letter_fits bs)
-        (λ i p q. text_enough (length bs) (suc (length (drop i bs))) (drop i bs) (omega (arith, length-drop i bs)) (omega arith))
+    (λ i p q. text_enough (length bs) (suc (length (drop i bs))) (drop i bs) (omega (arith, length-drop i bs)) (omega arith))
 
 -- the first piece of a script, where its text so far says s in m bytes and goes on so
 abbrev pub so_far : List ℕ → ℕ → TextCut → First

@@ -25,8 +25,9 @@ digit_bounds c e = let h = both (nat_le 48 c) (nat_le c 57) e in (leb-true 48 c 
 pub digit_in : (ds : List ℕ) (i : ℕ) → i < length ds → list_all is_digit ds ≡ true → is_digit (get_or ds i 0) ≡ true
 digit_in ds i l h =
     let by : (b : Bool) → is_digit (get_or ds i 0) ≡ b → is_digit (get_or ds i 0) ≡ true = λ b. elim b as (λ b. is_digit (get_or ds i 0) ≡ b → is_digit (get_or ds i 0) ≡ true) [
-        true ↦ λ e. e
-      | false ↦ λ e. let f = list_all_at is_digit ds i 0 l e in cc ]
+      | true ↦ λ e. e
+      | false ↦ λ e. let f = list_all_at is_digit ds i 0 l e in cc
+    ]
     in by (is_digit (get_or ds i 0)) refl
 
 pub digit_value_is : (ds : List ℕ) (i : ℕ) → i < length ds → list_all is_digit ds ≡ true → (digit_value (get_or ds i 0) ≡ get_or ds i 0 - 48) × (48 ≤ get_or ds i 0) × (get_or ds i 0 ≤ 57)

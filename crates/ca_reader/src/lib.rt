@@ -8,6 +8,7 @@
 #![tactic(auto)]
 
 mod bytes;
+mod cut;
 pub mod error;
 pub mod form;
 mod letter;

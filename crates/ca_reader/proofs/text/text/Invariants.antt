@@ -8,7 +8,8 @@ use Rattle.ca_reader.proofs.text.text.Given as goal
 abbrev pub invariant-letters : goal.invariant-letters
 invariant-letters l = record {
   within : l.length ≤ length l.rest;
-  same : so_far (list l.said) l.length (text_cut (drop l.length l.rest)) ≡ text_first (text_cut (drop 1 l.rest)) }
+  same : so_far (list l.said) l.length (text_cut (drop l.length l.rest)) ≡ text_first (text_cut (drop 1 l.rest));
+}
 
 abbrev pub decreases-letters : goal.decreases-letters
 decreases-letters l = length l.rest - l.length
