@@ -1,3 +1,4 @@
 pub mod Cuts
 pub mod Nesting
 pub mod Numbers
+pub mod Stack

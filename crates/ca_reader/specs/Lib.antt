@@ -1,6 +1,7 @@
 pub mod Bytes
 pub mod Form
 pub mod Kind
+pub mod NestView
 pub mod PieceView
 pub mod Pieces
 pub mod Reads

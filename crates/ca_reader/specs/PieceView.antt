@@ -45,3 +45,10 @@ LetterFits most (says x m) = (0 < m) × (m ≤ most)
 LetterFits most quote = 0 < most
 LetterFits most missing = Unit {0}
 LetterFits most (bad k) = 0 < most
+
+-- what a text begins with lies within so many bytes
+abbrev pub FirstFits : ℕ → FirstCut → Type 0
+FirstFits most over = Unit {0}
+FirstFits most (blank m) = (0 < m) × (m ≤ most)
+FirstFits most (found x m) = (0 < m) × (m ≤ most)
+FirstFits most (wrong k m) = m ≤ most

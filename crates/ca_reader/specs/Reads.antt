@@ -1,5 +1,5 @@
 -- Which forms a text has, or which fault.
-use Rattle.std.specs.Prelude.{◌≡◌, ℕ, zero, suc, ◌+◌, ◌<◌, List, Bool, true, false, not, ◌&&◌, ◌==◌, nat_lt, if◌then◌else◌, Option, Some, None, IsTrue}
+use Rattle.std.specs.Prelude.{◌≡◌, ℕ, suc, ◌<◌, ◌%◌, List, Bool, true, false, ◌==◌, nat_lt, if◌then◌else◌, Option, Some, None, IsTrue}
 use Rattle.ca_term.specs.declared.place.Place.{Place}
 use Rattle.ca_reader.specs.declared.form.Bracket.{Bracket}
 use Rattle.ca_reader.specs.declared.form.Bracket.TheVariants.{Round, Square, Curly}
@@ -8,15 +8,15 @@ use Rattle.ca_reader.specs.declared.error.ReadErrorKind.TheVariants.{UnclosedLis
 use Rattle.ca_reader.specs.Form.{FormTree, FormTrees, ShapeTree, form, atom, group, none, item}
 use Rattle.ca_reader.specs.Pieces.{Piece, one, opener, closer, Pieces, end, stop, piece, pieces}
 
-abbrev pub is_even : FormTrees → Bool
-is_even none = true
-is_even (item f fs) = not (is_even fs)
+abbrev pub count : FormTrees → ℕ
+count none = 0
+count (item f fs) = suc (count fs)
 
 -- a map has a value for each key
 abbrev pub is_paired : Bracket → FormTrees → Bool
 is_paired Round fs = true
 is_paired Square fs = true
-is_paired Curly fs = is_even fs
+is_paired Curly fs = count fs % 2 == 0
 
 -- The pieces ps are these forms, with d brackets open around them, and then rest.
 abbrev mutual

@@ -1,3 +1,7 @@
+ghost use Rattle.std.specs.Prelude.{◌≡◌};
+ghost use Rattle.ca_reader.specs.Form.{form};
+ghost use Rattle.ca_reader.specs.View.{form_tree, shape_tree};
+
 use ca_term::place::Place;
 use ca_value::seq::{Seq, Text};
 
@@ -35,4 +39,12 @@ pub enum Bracket {
     Round,
     Square,
     Curly,
+}
+
+impl Form {
+    pub fn new(shape: Shape, place: Place) -> Form
+        ensures { form_tree result ≡ form (shape_tree shape) place }
+    {
+        Form { shape, place }
+    }
 }

@@ -13,6 +13,7 @@ pub mod error;
 pub mod form;
 mod letter;
 mod lines;
+mod nest;
 mod piece;
 mod text;
 mod token;
