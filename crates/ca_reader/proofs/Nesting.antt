@@ -1,5 +1,5 @@
 -- A reading from left to right answers as `Reads` and `ReadFault` say, and these say one thing only.
-use Rattle.std.proofs.Common.{◌≡◌, ℕ, suc, ◌<◌, refl, sym, ap, ◌∙◌, subst, Bool, true, false, ltb, Option, Some, None, Result, Ok, Err, arith, ◌⊎◌, inl, inr, List}
+use Rattle.std.proofs.Common.{◌≡◌, ℕ, suc, ◌<◌, refl, sym, ap, ◌∙◌, subst, Bool, true, false, Option, Some, None, Result, Ok, Err, ◌⊎◌, inl, inr, List}
 use Rattle.std.specs.Prelude.{nat_lt, if◌then◌else◌}
 use borrow.Author.Tests.{ltb-true, lt-ltb}
 use Rattle.ca_reader.specs.declared.error.ReadErrorKind.TheVariants.{OddMap, StrayClose, TooDeep}
@@ -9,8 +9,8 @@ use Rattle.ca_reader.specs.declared.form.Bracket.TheVariants.{Round, Square, Cur
 use Rattle.ca_reader.specs.declared.error.ReadErrorKind.{ReadErrorKind}
 use Rattle.ca_reader.specs.Form.{Atom, FormTree, FormTrees, ShapeTree, form, atom, group, none, item}
 use Rattle.ca_reader.specs.Pieces.{Piece, one, opener, closer, Pieces, end, stop, piece, pieces}
-use Rattle.ca_reader.specs.Reads.{Nest, NestForm, NestShape, Reads, ReadFault, Context, outside, inside, depth, Stands, end_fault, piece_fault, closing_fault, fault_at, same_bracket, is_paired}
-use Rattle.ca_reader.specs.Steps.{with_last, with_form, shut, next, innermost, unless, go}
+use Rattle.ca_reader.specs.Reads.{Nest, NestForm, NestShape, Reads, ReadFault, Context, outside, inside, depth, Stands, piece_fault, fault_at, same_bracket, is_paired}
+use Rattle.ca_reader.specs.Steps.{with_last, with_form, next, unless, go}
 
 abbrev pub Answered : Pieces → Result FormTrees (ReadErrorKind × Place) → Type 0
 Answered whole (Ok fs) = Nest 0 fs whole end

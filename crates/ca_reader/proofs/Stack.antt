@@ -1,21 +1,20 @@
 -- The stack of open brackets as a context.
-use Rattle.std.proofs.Common.{◌≡◌, ℕ, zero, suc, ◌+◌, ◌<◌, ◌≤◌, ◌%◌, Bool, true, false, List, [], ◌∷◌, ◌++◌, length, sym, ◌∙◌, ap, refl, arith, Option, None, Some, Result, Ok, Err, lt-ltb, le-ltb}
-use Rattle.std.specs.Prelude.{nat_lt, ◌==◌, if◌then◌else◌, map}
+use Rattle.std.proofs.Common.{◌≡◌, ℕ, suc, ◌+◌, ◌<◌, ◌≤◌, ◌%◌, true, false, List, [], ◌∷◌, ◌++◌, length, sym, ◌∙◌, ap, refl, arith, None, Some, lt-ltb, le-ltb}
+use Rattle.std.specs.Prelude.{◌==◌}
 use Rattle.ca_value.specs.Seq.{list}
 use Rattle.ca_term.specs.declared.place.Place.{Place}
 use Rattle.ca_reader.specs.declared.form.Form.{Form}
 use Rattle.ca_reader.specs.declared.form.Bracket.{Bracket}
-use Rattle.ca_reader.specs.declared.form.Bracket.TheVariants.{Round, Square, Curly}
+use Rattle.ca_reader.specs.declared.form.Bracket.TheVariants.{Curly}
 use Rattle.ca_reader.specs.declared.nest.Opened.{Opened}
-use Rattle.ca_reader.specs.declared.error.ReadErrorKind.{ReadErrorKind}
 use Rattle.ca_reader.specs.declared.error.ReadErrorKind.TheVariants.{TooDeep, StrayClose, OddMap, UnclosedList}
 use Rattle.ca_reader.specs.Form.{FormTree, FormTrees, form, group, none, item}
 use Rattle.ca_reader.specs.View.{form_tree, form_trees}
-use Rattle.ca_reader.specs.Pieces.{opener, closer}
+use Rattle.ca_reader.specs.Pieces.{opener}
 use Rattle.ca_reader.specs.Reads.{Context, outside, inside, depth, piece_fault, closing_fault, end_fault, same_bracket, is_paired, count}
 use Rattle.ca_reader.specs.Steps.{with_last, with_form, shut}
 use Rattle.ca_reader.specs.NestView.{around}
-use Rattle.ca_reader.proofs.Nesting.{same_self, same_is}
+use Rattle.ca_reader.proofs.Nesting.{same_is}
 
 pub count_is : (fs : List Form) → count (form_trees fs) ≡ length fs
 count_is [] = refl

@@ -1,5 +1,5 @@
 -- What the reader's stack of open brackets stands for.
-use Rattle.std.specs.Prelude.{◌≡◌, ℕ, List, [], ◌∷◌, Option, Some}
+use Rattle.std.specs.Prelude.{◌≡◌, List, [], ◌∷◌, Option, Some}
 use Rattle.ca_value.specs.Seq.{list}
 use Rattle.ca_term.specs.declared.place.Place.{Place}
 use Rattle.ca_reader.specs.declared.nest.Opened.{Opened}
@@ -9,7 +9,7 @@ use Rattle.ca_reader.specs.declared.error.ReadError.{ReadError}
 use Rattle.ca_reader.specs.declared.error.ReadError.TheVariants.{Fault, OutOfMemory}
 use Rattle.ca_reader.specs.Form.{FormTrees}
 use Rattle.ca_reader.specs.View.{form_trees}
-use Rattle.ca_reader.specs.Reads.{Context, outside, inside, ReadFault}
+use Rattle.ca_reader.specs.Reads.{Context, outside, inside}
 
 -- these brackets, the outermost first, stand open in k, and these forms follow the innermost one
 abbrev pub around : (FormTrees → Context) → List Opened → FormTrees → Context
@@ -23,8 +23,3 @@ context n = around outside n.open.items (form_trees (list n.forms))
 abbrev pub Tells : ReadError → Option (ReadErrorKind × Place) → Type 0
 Tells (Fault k p) o = o ≡ Some (k, p)
 Tells OutOfMemory o = Unit {0}
-
--- the error is the fault of this text, or want of memory
-abbrev pub IsFaultOf : List ℕ → ReadError → Type 0
-IsFaultOf bytes (Fault k p) = ReadFault bytes k p
-IsFaultOf bytes OutOfMemory = Unit {0}

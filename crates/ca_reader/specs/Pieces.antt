@@ -1,5 +1,5 @@
 -- A text cut into pieces.
-use Rattle.std.specs.Prelude.{ℕ, zero, suc, ◌+◌, List, [], ◌∷◌, ◌==◌, length, take, drop, if◌then◌else◌, Result, Ok, Err}
+use Rattle.std.specs.Prelude.{ℕ, zero, suc, List, [], ◌∷◌, ◌==◌, length, take, drop, if◌then◌else◌, Result, Ok, Err}
 use Rattle.std.specs.List.{position_or_len, take_while}
 use Rattle.ca_term.specs.declared.place.Place.{Place}
 use Rattle.ca_reader.specs.declared.form.Bracket.{Bracket}

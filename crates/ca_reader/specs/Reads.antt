@@ -1,8 +1,10 @@
 -- Which forms a text has, or which fault.
-use Rattle.std.specs.Prelude.{◌≡◌, ℕ, suc, ◌<◌, ◌%◌, List, Bool, true, false, ◌==◌, nat_lt, if◌then◌else◌, Option, Some, None, IsTrue}
+use Rattle.std.specs.Prelude.{◌≡◌, ℕ, suc, ◌<◌, ◌%◌, List, Bool, true, false, ◌==◌, nat_lt, if◌then◌else◌, Option, Some, None}
 use Rattle.ca_term.specs.declared.place.Place.{Place}
 use Rattle.ca_reader.specs.declared.form.Bracket.{Bracket}
 use Rattle.ca_reader.specs.declared.form.Bracket.TheVariants.{Round, Square, Curly}
+use Rattle.ca_reader.specs.declared.error.ReadError.{ReadError}
+use Rattle.ca_reader.specs.declared.error.ReadError.TheVariants.{Fault, OutOfMemory}
 use Rattle.ca_reader.specs.declared.error.ReadErrorKind.{ReadErrorKind}
 use Rattle.ca_reader.specs.declared.error.ReadErrorKind.TheVariants.{UnclosedList, StrayClose, OddMap, TooDeep}
 use Rattle.ca_reader.specs.Form.{FormTree, FormTrees, ShapeTree, form, atom, group, none, item}
@@ -83,3 +85,8 @@ fault_at c (piece x q more) = piece_fault c x q
 -- a reading comes as far as some piece, or to the end, and there is this fault
 abbrev pub ReadFault : List ℕ → ReadErrorKind → Place → Type 0
 ReadFault bytes k p = (c : Context) × (rest : Pieces) × Stands c (pieces bytes) rest × (fault_at c rest ≡ Some (k, p))
+
+-- the error is the fault of this text, or want of memory
+abbrev pub IsFaultOf : List ℕ → ReadError → Type 0
+IsFaultOf bytes (Fault k p) = ReadFault bytes k p
+IsFaultOf bytes OutOfMemory = Unit {0}

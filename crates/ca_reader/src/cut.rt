@@ -2,7 +2,7 @@ ghost use Rattle.std.specs.Prelude.{◌≡◌, ◌==◌, length, IfOk};
 ghost use Rattle.std.specs.List.{prefix_len, position_or_len};
 ghost use Rattle.ca_reader.specs.Bytes.{is_token_byte};
 ghost use Rattle.ca_reader.specs.Pieces.{first, bracket_first, comment_len, token};
-ghost use Rattle.ca_reader.specs.PieceView.{first_view};
+ghost use Rattle.ca_reader.specs.PieceView.{first_view, FirstFits};
 
 use crate::bytes::{is_separator, is_token_byte};
 use crate::error::ReadErrorKind;
@@ -14,8 +14,15 @@ use ca_value::memory::OutOfMemory;
 use std::alloc::Global;
 
 /// What the rest of a script begins with.
-#[tactic(auto, unfolding(crate::specs::Pieces::first))]
 pub fn next_piece(alloc: Global, rest: &[u8]) -> Result<First, OutOfMemory>
+    ensures value { IfOk result (λ f. first_view f ≡ first rest.now) }
+    ensures fits { IfOk result (λ f. FirstFits (length rest.now) (first_view f)) }
+{
+    first(alloc, rest)
+}
+
+#[tactic(auto, unfolding(crate::specs::Pieces::first))]
+fn first(alloc: Global, rest: &[u8]) -> Result<First, OutOfMemory>
     ensures { IfOk result (λ f. first_view f ≡ first rest.now) }
 {
     let Some((byte, _)) = rest.split_first() else {

@@ -15,5 +15,6 @@ mod letter;
 mod lines;
 mod nest;
 mod piece;
+pub mod read;
 mod text;
 mod token;

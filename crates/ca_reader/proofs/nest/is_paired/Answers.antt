@@ -1,4 +1,4 @@
-use Rattle.std.proofs.Common.{◌≡◌, sym, ◌∙◌, ap}
+use Rattle.std.proofs.Common.{sym, ◌∙◌, ap}
 use Rattle.ca_value.specs.Seq.{list}
 use Rattle.ca_reader.specs.View.{form_trees}
 use Rattle.ca_reader.specs.Reads.{is_paired}

@@ -1,9 +1,6 @@
-use Rattle.std.proofs.Common.{◌≡◌, ℕ, ◌+◌, ◌-◌, ◌≤◌, List, [], ◌∷◌, ◌++◌, length, drop, take, sym, ◌∙◌, ap, arith}
+use Rattle.std.proofs.Common.{[], ◌∷◌, sym, ◌∙◌, arith}
 use Rattle.ca_value.specs.Seq.{list}
-use Rattle.ca_reader.specs.Texts.{text_cut}
-use Rattle.ca_reader.specs.Pieces.{text_first}
-use Rattle.ca_reader.specs.PieceView.{first_view}
-use Rattle.ca_reader.proofs.Cuts.{so_far, slice_of_is, so_far_says, so_far_quote, so_far_missing, so_far_bad}
+use Rattle.ca_reader.proofs.Cuts.{slice_of_is, so_far_says, so_far_quote, so_far_missing, so_far_bad}
 use Rattle.ca_reader.proofs.text.text.Goals as goal
 
 pub letters-preserved-in-Character : goal.letters-preserved-in-Character

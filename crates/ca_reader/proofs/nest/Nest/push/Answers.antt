@@ -1,6 +1,5 @@
 use Rattle.std.proofs.Common.{◌++◌, ◌∷◌, [], ◌∙◌, ap}
 use Rattle.ca_value.specs.Seq.{list}
-use Rattle.ca_reader.specs.View.{form_trees}
 use Rattle.ca_reader.proofs.Stack.{pushed}
 use Rattle.ca_reader.proofs.nest.Nest.push.Goals as goal
 
