@@ -16,5 +16,7 @@ mod lines;
 mod nest;
 mod piece;
 pub mod read;
+#[cfg(test)]
+mod tests;
 mod text;
 mod token;
