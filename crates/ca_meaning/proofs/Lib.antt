@@ -1,3 +1,10 @@
+pub mod Redexes
+pub mod OpenTerms
+pub mod Closed
+pub mod Served
+pub mod Sizes
+pub mod Rests
+pub mod Bodies
 pub mod Waits
 pub mod Rows
 pub mod Fits
@@ -6,3 +13,4 @@ pub mod Effects
 pub mod Channels
 pub mod Tasks
 pub mod Soundness
+pub mod Running

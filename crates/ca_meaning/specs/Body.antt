@@ -1,14 +1,13 @@
 -- A task's body: where it stands, what a local step makes of it, and the body with its operation
 -- replaced by the answer.
-use Rattle.std.specs.Prelude.{ℕ, List, [], ◌∷◌, ◌++◌, Bool, true, false}
+use Rattle.std.specs.Prelude.{ℕ, List, [], ◌∷◌, ◌++◌}
 use Rattle.ca_value.specs.Tree.{Tree, nil}
 use Rattle.ca_value.specs.Printed.{plain_items}
 use Rattle.ca_term.specs.declared.place.Place.{Place}
 use Rattle.ca_term.specs.declared.fault.Fault.{Fault}
-use Rattle.ca_term.specs.declared.head.Head.{Head}
 use Rattle.ca_term.specs.declared.head.Head.TheVariants.{Print}
-use Rattle.ca_term.specs.Kernel.{Kernel, Kernels, const, var, branch, bind, loop, seq, frame, turn, apply, none, item, empty, binding, put, put_bindings}
-use Rattle.ca_term.specs.Operation.{OpView, WantView, printing}
+use Rattle.ca_term.specs.Kernel.{Kernel, Kernels, const, bind, seq, apply, none, item, empty, binding, put, put_bindings}
+use Rattle.ca_term.specs.Operation.{WantView, printing}
 use Rattle.ca_meaning.specs.Redex.{redex, replace, value_of, values_of}
 
 -- a term, its turns since the last event, and the depth of its calls

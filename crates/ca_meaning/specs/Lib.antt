@@ -1,6 +1,11 @@
 pub mod Redex
 pub mod Body
 pub mod Rest
+pub mod Parts
+pub mod Served
+pub mod Size
+pub mod BodyParts
+pub mod BodyViews
 pub mod Channel
 pub mod Wait
 pub mod Row

@@ -1,8 +1,7 @@
 -- The direct meaning of a term: the place where it goes on, and the whole term with another there.
 -- No term is ever taken apart into pieces that are kept.
-use Rattle.std.specs.Prelude.{ℕ, Bool, true, false, cond, not, ◌&&◌}
+use Rattle.std.specs.Prelude.{Bool, true, false, cond, not, ◌&&◌}
 use Rattle.ca_value.specs.Tree.{Tree, Trees, nil, none as no_values, item as value_item}
-use Rattle.ca_term.specs.declared.head.Head.{Head}
 use Rattle.ca_term.specs.declared.head.Head.TheVariants.{Recur}
 use Rattle.ca_term.specs.Kernel.{Kernel, Kernels, Bindings, const, var, branch, bind, loop, seq, frame, turn, apply, none, item, empty, binding}
 

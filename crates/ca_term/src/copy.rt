@@ -31,7 +31,7 @@ impl Term {
                 let body = Box::new(alloc, body.copy(alloc)?)?;
                 Ok(Term::Loop(known, copy_bindings(alloc, rest)?, body))
             }
-            Term::Do(terms) => Ok(Term::Do(copy_terms(alloc, terms)?)),
+            Term::Do(terms) => Ok(Term::Do(copy_terms(alloc, terms.as_slice())?)),
             Term::Frame(body) => Ok(Term::Frame(Box::new(alloc, body.copy(alloc)?)?)),
             Term::Turn(names, text, now) => {
                 let text = Box::new(alloc, text.copy(alloc)?)?;
@@ -39,7 +39,7 @@ impl Term {
                 Ok(Term::Turn(copy_names(alloc, names)?, text, now))
             }
             Term::Apply(head, operands, place) => {
-                Ok(Term::Apply(*head, copy_terms(alloc, operands)?, *place))
+                Ok(Term::Apply(*head, copy_terms(alloc, operands.as_slice())?, *place))
             }
         }
     }
@@ -72,12 +72,12 @@ impl Found {
 
 /// Equal terms, in memory of their own.
 #[cycle(copy)]
-pub fn copy_terms(alloc: Global, terms: &Seq<Term>) -> Result<Seq<Term>, OutOfMemory>
-    ensures { IfOk result (λ s. kernels (list s) ≡ kernels (list terms.now)) }
+pub fn copy_terms(alloc: Global, terms: &[Term]) -> Result<Seq<Term>, OutOfMemory>
+    ensures { IfOk result (λ s. kernels (list s) ≡ kernels terms.now) }
 {
     let mut copies = Seq::new(alloc);
-    copies.reserve(terms.len())?;
-    for term in terms.as_slice() {
+    copies.reserve(terms.len() as u64)?;
+    for term in terms {
         copies.push(term.copy(alloc)?);
     }
     Ok(copies)

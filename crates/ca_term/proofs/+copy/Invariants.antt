@@ -5,8 +5,8 @@ use Rattle.ca_term.proofs.+copy.Given as goal
 
 abbrev pub invariant-copy::copy_terms-loop-term : goal.invariant-copy::copy_terms-loop-term
 invariant-copy::copy_terms-loop-term l = record {
-  same : map kernel (list l.copies) ≡ map kernel (take l.term-index l.term-items);
-  room : length l.term-items ≤ spare l.copies + l.term-index;
+  same : map kernel (list l.copies) ≡ map kernel (take l.term-index l.terms);
+  room : length l.terms ≤ spare l.copies + l.term-index;
 }
 
 abbrev pub invariant-copy::copy_bindings-loop-binding :

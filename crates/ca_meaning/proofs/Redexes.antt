@@ -1,0 +1,48 @@
+-- The redex of a sequence, and of lists of terms.
+use Rattle.std.proofs.Common.{◌≡◌, List, [], ◌∷◌, ◌≢◌, refl, Bool, true, false, cond, not, rules, ◌&&◌}
+use Rattle.ca_value.specs.Seq.{list}
+use Rattle.ca_value.specs.declared.seq.Seq.{Seq}
+use Rattle.ca_term.specs.declared.term.Term.{Term, Do, the_lemmas}
+use Rattle.ca_term.specs.Kernel.{Kernel, Kernels, seq, none, item}
+use Rattle.ca_term.specs.View.{kernel, kernels}
+use Rattle.ca_meaning.specs.Redex.{redex, redex_items, is_value, all_values, replace, replace_items}
+use Rattle.ca_meaning.specs.Body.{contract}
+use Rattle.ca_meaning.specs.Parts.{is_open_sequence}
+
+pub is_open_sequence-several : (t : Term) (ts : List Term) → ts ≢ [] → is_open_sequence (kernels (t ∷ ts)) ≡ not (is_value (kernel t))
+is_open_sequence-several t [] h = absurd (h refl)
+is_open_sequence-several t (u ∷ us) h = refl
+
+pub redex-open_sequence : (ts : Kernels) (here : Kernel) → is_open_sequence ts ≡ true → redex (seq ts) ≡ redex_items ts here
+redex-open_sequence none here h = cc
+redex-open_sequence (item t none) here h = cc
+redex-open_sequence (item t (item u us)) here h = by (is_value t) h
+  where
+    by : (v : Bool) → not v ≡ true → cond v (seq (item t (item u us))) (redex t) ≡ cond v (redex_items (item u us) here) (redex t)
+    by true h = cc
+    by false h = refl
+
+pub kernel-Do : (ts : Seq Term) → kernel (Do ts) ≡ seq (kernels (list ts))
+kernel-Do ts = search (rules, the_lemmas)
+
+pub replace-open_sequence : (u : Kernel) (ts : Kernels) → is_open_sequence ts ≡ true → replace u (seq ts) ≡ seq (replace_items u ts)
+replace-open_sequence u none h = cc
+replace-open_sequence u (item t none) h = cc
+replace-open_sequence u (item t (item v vs)) h = by (is_value t) h
+  where
+    by : (b : Bool) → not b ≡ true → cond b u (seq (item (replace u t) (item v vs))) ≡ seq (cond b (item t (replace_items u (item v vs))) (item (replace u t) (item v vs)))
+    by true h = cc
+    by false h = refl
+
+pub all_values-open_sequence : (ts : Kernels) → is_open_sequence ts ≡ true → all_values ts ≡ false
+all_values-open_sequence none h = cc
+all_values-open_sequence (item t none) h = cc
+all_values-open_sequence (item t (item v vs)) h = by (is_value t) h
+  where
+    by : (b : Bool) → not b ≡ true → (b && all_values (item v vs)) ≡ false
+    by true h = cc
+    by false h = refl
+
+pub contract-several : (t : Term) (ts : List Term) → ts ≢ [] → contract (seq (kernels (t ∷ ts))) ≡ seq (kernels ts)
+contract-several t [] h = absurd (h refl)
+contract-several t (u ∷ us) h = refl

@@ -1,0 +1,6 @@
+pub mod Cuts
+pub mod Nesting
+pub mod Numbers
+pub mod Reader
+pub mod Readings
+pub mod Stack

@@ -1,0 +1,11 @@
+pub mod Bytes
+pub mod Form
+pub mod Kind
+pub mod NestView
+pub mod PieceView
+pub mod Pieces
+pub mod Reads
+pub mod Steps
+pub mod Texts
+pub mod Tokens
+pub mod View

@@ -1,0 +1,50 @@
+ghost use Rattle.std.specs.Prelude.{◌≡◌};
+ghost use Rattle.ca_reader.specs.Form.{form};
+ghost use Rattle.ca_reader.specs.View.{form_tree, shape_tree};
+
+use ca_term::place::Place;
+use ca_value::seq::{Seq, Text};
+
+/// What a script is made of, with the place of its first byte.
+#[cycle(form)]
+#[derive(Drop)]
+pub struct Form {
+    pub shape: Shape,
+    pub place: Place,
+}
+
+/// Forms in order: a whole script, or what stands between two brackets.
+pub type Forms = Seq<Form>;
+
+#[cycle(form)]
+#[derive(Drop)]
+pub enum Shape {
+    Nil,
+    Bool(bool),
+    Int(i64),
+    /// The bytes between the quotes, escapes read.
+    Text(Text),
+    /// The bytes behind the colon.
+    Key(Text),
+    Symbol(Text),
+    List(Seq<Form>),
+    Vector(Seq<Form>),
+    /// Keys and values in turn.
+    Map(Seq<Form>),
+}
+
+/// The three kinds of brackets: round ones make lists, square ones vectors, curly ones maps.
+#[derive(Clone, Copy, PartialEq, Eq, Debug)]
+pub enum Bracket {
+    Round,
+    Square,
+    Curly,
+}
+
+impl Form {
+    pub fn new(shape: Shape, place: Place) -> Form
+        ensures { form_tree result ≡ form (shape_tree shape) place }
+    {
+        Form { shape, place }
+    }
+}

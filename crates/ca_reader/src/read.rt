@@ -1,0 +1,56 @@
+ghost use Rattle.std.specs.Prelude.{◌≡◌, ◌⊎◌, ℕ, List, IfOk, IfErr};
+ghost use Rattle.ca_term.specs.declared.place.Place.{Place};
+ghost use Rattle.ca_value.specs.Seq.{list};
+ghost use Rattle.ca_reader.specs.declared.error.ReadErrorKind.{ReadErrorKind};
+ghost use Rattle.ca_reader.specs.Form.{FormTrees};
+ghost use Rattle.ca_reader.specs.View.{form_trees};
+ghost use Rattle.ca_reader.specs.Reads.{Reads, ReadFault, IsFaultOf};
+
+use crate::cut::next_piece;
+use crate::error::ReadError;
+use crate::form::Forms;
+use crate::lines::past;
+use crate::nest::Nest;
+use crate::piece::First;
+use ca_term::place::Place;
+use std::alloc::Global;
+
+/// The forms of a script, or the first fault in it; `OutOfMemory` at any time.
+///
+/// One pass over the bytes, in time linear in their number.
+pub fn read(alloc: Global, bytes: &[u8]) -> Result<Forms, ReadError>
+    ensures forms { IfOk result (λ fs. Reads bytes.now (form_trees (list fs))) }
+    ensures fault { IfErr result (λ e. IsFaultOf bytes.now e) }
+{
+    let mut nest = Nest::new(alloc);
+    let mut place = Place { line: 1, column: 1 };
+    let mut rest = bytes;
+    'pieces: loop {
+        match next_piece(alloc, rest)? {
+            First::Over => return nest.finish(),
+            First::Blank(length) => {
+                place = past(place, &rest[..length]);
+                rest = &rest[length..];
+            }
+            First::Found(piece, length) => {
+                nest.add(alloc, piece, place)?;
+                place = past(place, &rest[..length]);
+                rest = &rest[length..];
+            }
+            First::Wrong(kind, length) => {
+                return Err(ReadError::Fault(kind, past(place, &rest[..length])));
+            }
+        }
+    }
+}
+
+/// Every text has forms or a fault, never both, and no two of either.
+pub fn one_reading()
+    ensures some { (bytes : List ℕ) → ((fs : FormTrees) × Reads bytes fs)
+        ⊎ ((k : ReadErrorKind) × (p : Place) × ReadFault bytes k p) }
+    ensures forms { (bytes : List ℕ) (fs gs : FormTrees) → Reads bytes fs → Reads bytes gs → fs ≡ gs }
+    ensures fault { (bytes : List ℕ) (j k : ReadErrorKind) (p q : Place) → ReadFault bytes j p → ReadFault bytes k q
+        → (j ≡ k) × (p ≡ q) }
+    ensures not_both { (bytes : List ℕ) (fs : FormTrees) (k : ReadErrorKind) (p : Place) → Reads bytes fs
+        → ReadFault bytes k p → ⊥ }
+{}
