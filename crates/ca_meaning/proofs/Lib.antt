@@ -14,3 +14,6 @@ pub mod Channels
 pub mod Tasks
 pub mod Soundness
 pub mod Running
+pub mod Histories
+pub mod Named
+pub mod ChannelLaws

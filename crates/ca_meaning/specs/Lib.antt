@@ -22,5 +22,7 @@ pub mod Steps
 pub mod Legal
 pub mod Sound
 pub mod Ends
+pub mod History
+pub mod ChannelLaw
 pub mod Texts
 pub mod Journal

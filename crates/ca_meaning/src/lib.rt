@@ -11,6 +11,7 @@
 
 pub mod body;
 pub mod contract;
+pub mod laws;
 pub mod redex;
 pub mod replace;
 pub mod rest;

@@ -1,0 +1,5 @@
+//! The laws of every legal journal, of whatever program. Each is the contract of a function that does
+//! nothing: what it says is in `specs/`, and the proof is of the definitions that all code is measured
+//! against.
+
+pub mod channels;
