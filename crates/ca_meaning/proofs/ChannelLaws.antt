@@ -1,24 +1,24 @@
 -- The channel law of every legal journal.
-use Rattle.std.proofs.Common.{◌≡◌, ◌⊎◌, inl, inr, ⊎_elim, ℕ, List, [], ◌∷◌, ◌++◌, refl, sym, ap, ◌∙◌, subst, Bool, true, false, cond, Option, Some, None, eqb, eqb-true}
-use Rattle.ca_value.specs.Tree.{Tree, nil, bool}
+use Rattle.std.proofs.Common.{◌≡◌, ◌⊎◌, inl, inr, ⊎_elim, ℕ, List, [], ◌∷◌, ◌++◌, refl, sym, ap, ◌∙◌, subst, Bool, true, false, cond, Option, Some, eqb, eqb-true}
+use Rattle.ca_value.specs.Tree.{Tree}
 use Rattle.ca_term.specs.declared.event.Side.{Side}
 use Rattle.ca_term.specs.declared.event.Side.TheVariants.{Take, Put}
 use Rattle.ca_term.specs.declared.event.Ending.TheVariants.{Ended, Faulted}
 use Rattle.ca_term.specs.Program.{ProgramView}
 use Rattle.ca_term.specs.Event.{BranchView, take_of, put_of, EventView, made, spawned, done, met, parked, posted, settled, defaulted, closed, registered, printed, ticked, over as is_over}
 use Rattle.ca_meaning.specs.Operands.{is_nil, truth}
-use Rattle.ca_meaning.specs.Channel.{Channel, is_promise}
+use Rattle.ca_meaning.specs.Channel.{Channel}
 use Rattle.ca_meaning.specs.Wait.{Handler, side_of, port_of, front, queue}
 use Rattle.ca_meaning.specs.Row.{Row, not_ready, completes as row_completes, meets, row_on, settles, settle_row}
 use Rattle.ca_meaning.specs.State.{State, opening_state, Opening}
 use Rattle.ca_meaning.specs.ChannelSteps.{other_side}
 use Rattle.ca_meaning.specs.Steps.{Step, Steps}
 use Rattle.ca_meaning.specs.Legal.{Reaches, Legal}
-use Rattle.ca_meaning.specs.Sound.{Each, Idle, IsNotNil, Fits, Sound}
+use Rattle.ca_meaning.specs.Sound.{Each, IsNotNil}
 use Rattle.ca_meaning.specs.History.{Mark, accept, give, give_none, pass, no_mark, mark_of_take, mark_of_put, mark_of_done, mark_of_settled, mark_on, channel_in, branch_on, MakesBranch, completed_by}
 use Rattle.ca_meaning.specs.ChannelLaw.{Tells, OfferedWhileOpen, KeepsOrder, ChannelLaw}
 use Rattle.ca_meaning.proofs.Waits.{each-head}
-use Rattle.ca_meaning.proofs.Rows.{TakeDone, gave, nothing_left, take_done, PutDone, refused, promised, accepted, put_done, TakeMeets, take_meets, PutMeets, put_meets, Settled, moved_in, served, served_nil, settle_does, row_channel}
+use Rattle.ca_meaning.proofs.Rows.{TakeDone, gave, nothing_left, take_done, PutDone, refused, promised, accepted, put_done, take_meets, put_meets, Settled, moved_in, served, served_nil, settle_does, row_channel}
 use Rattle.ca_meaning.proofs.Soundness.{opening_sound}
 use Rattle.ca_meaning.proofs.Named.{NamedIn, Known, steps_known}
 

@@ -1,20 +1,20 @@
 -- What a journal tells of a channel is what the state has.
-use Rattle.std.proofs.Common.{◌≡◌, ◌≢◌, ℕ, zero, suc, List, [], ◌∷◌, ◌++◌, refl, sym, ap, ap₂, ◌∙◌, subst, Bool, true, false, cond, Option, Some, None, option_map, eqb, eqb-true, eq-eqb}
+use Rattle.std.proofs.Common.{◌≡◌, ℕ, List, [], ◌∷◌, refl, sym, ap, ◌∙◌, subst, Bool, true, false, cond, Option, Some, None, option_map, eqb, eqb-true}
 use Rattle.std.specs.Map.{update}
-use Rattle.ca_value.specs.Tree.{Tree, nil, bool}
+use Rattle.ca_value.specs.Tree.{Tree}
 use Rattle.ca_term.specs.declared.event.Side.{Side}
 use Rattle.ca_term.specs.declared.event.Side.TheVariants.{Take, Put}
 use Rattle.ca_term.specs.declared.event.Ending.TheVariants.{Ended, Faulted}
 use Rattle.ca_term.specs.Program.{ProgramView}
 use Rattle.ca_term.specs.Event.{BranchView, take_of, put_of, EventView, made, spawned, done, met, parked, posted, settled, defaulted, closed, registered, printed, ticked, over as is_over, port_number}
 use Rattle.ca_meaning.specs.Operands.{is_nil, truth}
-use Rattle.ca_meaning.specs.Channel.{Channel, channel_made, keeping, giving, shut}
-use Rattle.ca_meaning.specs.Wait.{Handler, port_of, front, queue}
-use Rattle.ca_meaning.specs.Row.{Row, not_ready, completes as row_completes, meets, row_on, settles, settle_row}
+use Rattle.ca_meaning.specs.Channel.{Channel, shut}
+use Rattle.ca_meaning.specs.Wait.{Handler, port_of, front}
+use Rattle.ca_meaning.specs.Row.{not_ready, completes as row_completes, row_on}
 use Rattle.ca_meaning.specs.State.{State, Channels, shut_at, shut_all, shut_result}
 use Rattle.ca_meaning.specs.Steps.{Step, Steps}
 use Rattle.ca_meaning.specs.Sound.{Each, IsNotNil, Sound}
-use Rattle.ca_meaning.specs.History.{Mark, accept, give, give_none, pass, no_mark, mark_of_take, mark_of_put, mark_of_done, mark_of_settled, mark_on, marked, is_named, is_result, closes, shut_if, channel_after, channel_from}
+use Rattle.ca_meaning.specs.History.{Mark, accept, give, give_none, pass, no_mark, mark_of_take, mark_of_put, mark_of_done, mark_of_settled, marked, is_named, is_result, shut_if, channel_after, channel_from}
 use Rattle.ca_meaning.proofs.Rows.{TakeDone, gave, nothing_left, take_done, PutDone, refused, promised, accepted, put_done, Settled, moved_in, served, served_nil, settle_does, row_channel}
 use Rattle.ca_meaning.proofs.Effects.{channels_of}
 use Rattle.ca_meaning.proofs.Soundness.{step_sound}

@@ -17,3 +17,4 @@ pub mod Running
 pub mod Histories
 pub mod Named
 pub mod ChannelLaws
+pub mod Possible

@@ -1,17 +1,17 @@
 -- Each waiting branch was named by the Park or Post of its wait.
-use Rattle.std.proofs.Common.{◌≡◌, ℕ, zero, suc, ◌+◌, List, [], ◌∷◌, ◌++◌, refl, sym, ap, ap₂, ◌∙◌, subst, arith, Bool, true, false, cond, Option, Some, None, eqb, slice_get, append_assoc, append-nil}
-use Rattle.ca_value.specs.Tree.{Tree, nil, port}
+use Rattle.std.proofs.Common.{◌≡◌, ℕ, zero, suc, ◌+◌, List, [], ◌∷◌, ◌++◌, refl, sym, ap, ◌∙◌, subst, arith, Bool, true, false, cond, Option, Some, None, slice_get, append_assoc, append-nil}
+use Rattle.ca_value.specs.Tree.{Tree, port}
 use Rattle.ca_term.specs.declared.event.Side.{Side}
 use Rattle.ca_term.specs.declared.event.Side.TheVariants.{Take, Put}
 use Rattle.ca_term.specs.declared.event.Ending.TheVariants.{Ended, Faulted}
 use Rattle.ca_term.specs.Operation.{posting}
 use Rattle.ca_term.specs.Program.{ProgramView}
-use Rattle.ca_term.specs.Event.{BranchView, take_of, put_of, EventView, made, spawned, done, met, parked, posted, settled, defaulted, closed, registered, printed, ticked, over as is_over}
+use Rattle.ca_term.specs.Event.{BranchView, put_of, EventView, made, spawned, done, met, parked, posted, settled, defaulted, closed, registered, printed, ticked, over as is_over}
 use Rattle.ca_meaning.specs.Channel.{Channel}
-use Rattle.ca_meaning.specs.Wait.{Wait, Handler, is_on, brought, handlers, queue, front, without, port_of}
+use Rattle.ca_meaning.specs.Wait.{Wait, Handler, is_on, brought, handlers, queue, front, without}
 use Rattle.ca_meaning.specs.Row.{not_ready, row_at}
-use Rattle.ca_meaning.specs.State.{State, Channels}
-use Rattle.ca_meaning.specs.Choice.{branches_of, row, any_ready}
+use Rattle.ca_meaning.specs.State.{State}
+use Rattle.ca_meaning.specs.Choice.{row, any_ready}
 use Rattle.ca_meaning.specs.Steps.{Step, Steps}
 use Rattle.ca_meaning.specs.Sound.{Each, Sound}
 use Rattle.ca_meaning.specs.History.{channel_in, branch_on, MakesBranch, channel_after, channel_from}

@@ -1,12 +1,12 @@
 -- The channel law: what each channel did, read off a journal. (core.async API reference: `chan`, `>!`,
 -- `<!`, `close!`: values are given in the order in which they were accepted, none is given twice or
 -- made up, and a closed channel still gives what it holds.)
-use Rattle.std.specs.Prelude.{◌≡◌, ◌⊎◌, ℕ, List, [], ◌∷◌, ◌++◌, Option, Some, Bool, true, false}
+use Rattle.std.specs.Prelude.{◌≡◌, ◌⊎◌, ℕ, List, [], ◌∷◌, ◌++◌, Some, true, false}
 use Rattle.ca_value.specs.Tree.{Tree}
 use Rattle.ca_term.specs.Event.{EventView, put_of}
 use Rattle.ca_meaning.specs.Channel.{Channel}
 use Rattle.ca_meaning.specs.Sound.{Fits}
-use Rattle.ca_meaning.specs.History.{Mark, accept, give, give_none, pass, mark_on, channel_in, MakesBranch, completed_by}
+use Rattle.ca_meaning.specs.History.{accept, give, give_none, pass, mark_on, channel_in, MakesBranch, completed_by}
 
 -- the events before this one tell that channel p is c
 abbrev pub Tells : List EventView → ℕ → Channel → Type 0

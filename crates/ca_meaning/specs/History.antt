@@ -1,10 +1,9 @@
 -- What a journal tells of a channel and of a wait, without any state.
-use Rattle.std.specs.Prelude.{◌≡◌, ℕ, List, [], ◌∷◌, ◌++◌, slice_get, Option, Some, None, option_map, Bool, true, false, cond, eqb}
+use Rattle.std.specs.Prelude.{◌≡◌, ℕ, List, [], ◌∷◌, slice_get, Option, Some, None, option_map, Bool, true, false, cond, eqb}
 use Rattle.ca_value.specs.Tree.{Tree}
 use Rattle.ca_term.specs.declared.event.Side.{Side}
 use Rattle.ca_term.specs.declared.event.Side.TheVariants.{Take, Put}
-use Rattle.ca_term.specs.declared.event.Ending.{Ending}
-use Rattle.ca_term.specs.declared.event.Ending.TheVariants.{Ended, Faulted}
+use Rattle.ca_term.specs.declared.event.Ending.TheVariants.{Faulted}
 use Rattle.ca_term.specs.Event.{BranchView, take_of, put_of, EventView, made, done, met, parked, posted, settled, closed, ticked, over, port_number}
 use Rattle.ca_meaning.specs.Operands.{is_nil, truth}
 use Rattle.ca_meaning.specs.Channel.{Channel, channel_made, keeping, giving, shut}

@@ -24,5 +24,6 @@ pub mod Sound
 pub mod Ends
 pub mod History
 pub mod ChannelLaw
+pub mod EndsLaw
 pub mod Texts
 pub mod Journal

@@ -1,5 +1,5 @@
 -- What holds of the state of every legal journal.
-use Rattle.std.specs.Prelude.{◌≡◌, ◌≢◌, ℕ, ◌≤◌, List, [], ◌∷◌, length, Option, Some, None, true, false}
+use Rattle.std.specs.Prelude.{◌≡◌, ◌≢◌, ℕ, ◌<◌, ◌≤◌, List, [], ◌∷◌, length, Option, Some, None, true, false}
 use Rattle.ca_value.specs.Tree.{Tree}
 use Rattle.ca_term.specs.declared.event.Side.{Side}
 use Rattle.ca_term.specs.declared.event.Side.TheVariants.{Take, Put}
@@ -8,7 +8,8 @@ use Rattle.ca_meaning.specs.Operands.{is_nil}
 use Rattle.ca_meaning.specs.Channel.{Channel, FitsPolicy, is_promise, is_fixed}
 use Rattle.ca_meaning.specs.Wait.{Wait, Handler, queue, head, is_live, owner_of, is_among}
 use Rattle.ca_meaning.specs.Task.{body_at}
-use Rattle.ca_meaning.specs.State.{State, Task, Tasks, Channels, waiting}
+use Rattle.ca_meaning.specs.State.{State, Task, Tasks, Channels, Deadline, waiting}
+use Rattle.ca_meaning.specs.TaskSteps.{moments}
 
 -- each of the list
 abbrev pub Each : {A : Type 0} → (A → Type 0) → List A → Type 0
@@ -65,6 +66,9 @@ pub record Sound (s : State) : Type 0 where
   pub owned : AllOwned s.tasks s.waits
   pub waited : AllWaited s.tasks s.waits
   pub rested : AllRested s.tasks
+  -- the moment now and those of the open deadlines are moments
+  pub clock : s.now < moments
+  pub dated : Each (λ (d : Deadline). d.moment < moments) s.deadlines
   -- only finitely many numbers were given
   pub tasks_end : Bounded s.tasks
   pub channels_end : Bounded s.channels

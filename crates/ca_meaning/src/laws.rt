@@ -3,3 +3,4 @@
 //! against.
 
 pub mod channels;
+pub mod ends;
