@@ -18,3 +18,5 @@ pub mod Histories
 pub mod Named
 pub mod ChannelLaws
 pub mod Possible
+pub mod Once
+pub mod WaitLaws

@@ -25,5 +25,6 @@ pub mod Ends
 pub mod History
 pub mod ChannelLaw
 pub mod EndsLaw
+pub mod WaitLaw
 pub mod Texts
 pub mod Journal

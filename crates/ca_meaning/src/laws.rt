@@ -4,3 +4,4 @@
 
 pub mod channels;
 pub mod ends;
+pub mod waits;
