@@ -26,5 +26,6 @@ pub mod History
 pub mod ChannelLaw
 pub mod EndsLaw
 pub mod WaitLaw
+pub mod Solo
 pub mod Texts
 pub mod Journal
