@@ -14,6 +14,8 @@ pub mod Channels
 pub mod Tasks
 pub mod Soundness
 pub mod Running
+pub mod Worked
+pub mod Journals
 pub mod Histories
 pub mod Named
 pub mod ChannelLaws

@@ -44,11 +44,11 @@ not_there (x ∷ xs) w le = ap (λ c. cond c true (is_among w xs)) (ne_eqb w x (
 new_wait : (used : List ℕ) → is_among (above used) used ≡ false
 new_wait used = not_there used (above used) (omega arith)
 
-body_rests : (program : ProgramView) (b : TaskBody) → (c : TaskBody) × BodyRest program b c
+pub body_rests : (program : ProgramView) (b : TaskBody) → (c : TaskBody) × BodyRest program b c
 body_rests program (script b) = let r = rests b in (script r.0, (r.0, r.1, refl))
 body_rests program (system_task (unserved kind values place)) = (system_task (unserved kind values place), (unserved kind values place, refl, refl))
 
-goes_there : (program : ProgramView) (tasks : Tasks) (t : ℕ) (x : Task) (v : Tree) → (after : Tasks) × Goes program tasks t x v after
+pub goes_there : (program : ProgramView) (tasks : Tasks) (t : ℕ) (x : Task) (v : Tree) → (after : Tasks) × Goes program tasks t x v after
 goes_there program tasks t x v = let r = body_rests program (body_fill v x.body) in (update eqb tasks t (Some (runs x.result r.0)), (r.0, r.1, refl))
 
 waits_not_runs : {G : Type 0} (x y : Task) (w : ℕ) → x ≡ y → x.mode ≡ running → y.mode ≡ waiting w → G
@@ -62,7 +62,7 @@ wakes_there : (program : ProgramView) (s : State) → AllOwned s.tasks s.waits �
 wakes_there program s own tasks kept w p v None e = (tasks, refl)
 wakes_there program s own tasks kept w p v (Some u) e = let o = own w u e in let g = goes_there program tasks u o.0 (reply o.0.body p v) in (g.0, (o.0, kept u w o.0 o.1 o.2, o.2, g.1))
 
-waiters_kept : (s : State) (t : ℕ) (x z : Task) → s.tasks t ≡ Some x → x.mode ≡ running → (u w : ℕ) (y : Task) → s.tasks u ≡ Some y → y.mode ≡ waiting w → update eqb s.tasks t (Some z) u ≡ Some y
+pub waiters_kept : (s : State) (t : ℕ) (x z : Task) → s.tasks t ≡ Some x → x.mode ≡ running → (u w : ℕ) (y : Task) → s.tasks u ≡ Some y → y.mode ≡ waiting w → update eqb s.tasks t (Some z) u ≡ Some y
 waiters_kept s t x z at r u w y is m = update_apart s.tasks t (Some z) u (λ (e : u ≡ t). waits_not_runs x y w (some_task x y (sym at ∙ ap s.tasks (sym e) ∙ is)) r m) ∙ is
 
 -- the first branch that is ready

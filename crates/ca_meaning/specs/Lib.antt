@@ -27,5 +27,7 @@ pub mod ChannelLaw
 pub mod EndsLaw
 pub mod WaitLaw
 pub mod Solo
+pub mod RowViews
+pub mod Worked
 pub mod Texts
 pub mod Journal

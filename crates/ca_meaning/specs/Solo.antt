@@ -71,9 +71,9 @@ GoesOnLane d t d2 = (lane : Lane) × (d.lane ≡ Some lane) × (lane.events < pa
 abbrev pub IsPicked : State → Desk → ℕ → Desk → Type 0
 IsPicked s d t d2 =
     (rest later : List ℕ)
-        × IsFree d.lane d.ready (t ∷ rest)
-        × AsksBefore s.deadlines d.readings later
-        × (d2 ≡ record d { ready = rest; lane = Some (record { task = t; events = 0 }); readings = later })
+    × IsFree d.lane d.ready (t ∷ rest)
+    × AsksBefore s.deadlines d.readings later
+    × (d2 ≡ record d { ready = rest; lane = Some (record { task = t; events = 0 }); readings = later })
 
 abbrev pub IsTurnOf : State → Desk → ℕ → Desk → Type 0
 IsTurnOf s d t d2 = GoesOnLane d t d2 ⊎ IsPicked s d t d2
@@ -83,9 +83,9 @@ IsTurnOf s d t d2 = GoesOnLane d t d2 ⊎ IsPicked s d t d2
 abbrev pub TicksAtPick : State → Desk → ℕ → Desk → Type 0
 TicksAtPick s d m d2 =
     (t : ℕ) × (rest later : List ℕ)
-        × IsFree d.lane d.ready (t ∷ rest)
-        × AsksAfter s.deadlines m d.readings later
-        × (d2 ≡ record d { ready = rest; lane = Some (record { task = t; events = 0 }); readings = later })
+    × IsFree d.lane d.ready (t ∷ rest)
+    × AsksAfter s.deadlines m d.readings later
+    × (d2 ≡ record d { ready = rest; lane = Some (record { task = t; events = 0 }); readings = later })
 
 abbrev pub TicksIdle : State → Desk → ℕ → Desk → Type 0
 TicksIdle s d m d2 = (later : List ℕ) × IsFree d.lane d.ready [] × AsksAfter s.deadlines m d.readings later × (d2 ≡ record d { lane = None; readings = later })

@@ -5,3 +5,4 @@
 pub mod channels;
 pub mod ends;
 pub mod waits;
+pub mod worked;
