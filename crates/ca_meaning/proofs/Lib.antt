@@ -20,5 +20,7 @@ pub mod Histories
 pub mod Named
 pub mod ChannelLaws
 pub mod Possible
+pub mod Single
+pub mod Alike
 pub mod Once
 pub mod WaitLaws

@@ -1,5 +1,5 @@
 -- The schedule with one worker: which of the free choices it makes, and when it asks the clock.
-use Rattle.std.specs.Prelude.{◌≡◌, ◌≢◌, ◌⊎◌, ℕ, suc, ◌+◌, ◌-◌, ◌%◌, ◌<◌, ◌≤◌, List, [], ◌∷◌, ◌++◌, length, slice_get, Option, Some, None, false, cond, eqb}
+use Rattle.std.specs.Prelude.{◌≡◌, ◌≢◌, ◌⊎◌, ℕ, suc, ◌+◌, ◌-◌, ◌%◌, ◌<◌, ◌≤◌, List, [], ◌∷◌, ◌++◌, length, slice_get, Option, Some, None, false, cond, eqb, nat_lt}
 use Rattle.ca_term.specs.declared.event.Side.TheVariants.{Take, Put}
 use Rattle.ca_term.specs.Operation.{OpView, choosing}
 use Rattle.ca_term.specs.Program.{ProgramView}
@@ -92,7 +92,7 @@ TicksIdle s d m d2 = (later : List ℕ) × IsFree d.lane d.ready [] × AsksAfter
 
 -- how far branch k lies from the start, going round n branches
 abbrev pub distance : ℕ → ℕ → ℕ → ℕ
-distance n start k = (k + (n - start)) % n
+distance n start k = cond (nat_lt k start) (k + (n - start)) (k - start)
 
 -- without priority the first ready branch is taken, from the number of the task's earlier alts on
 abbrev pub IsFirstFrom : State → List BranchView → ℕ → ℕ → Type 0

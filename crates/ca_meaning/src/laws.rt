@@ -4,5 +4,6 @@
 
 pub mod channels;
 pub mod ends;
+pub mod states;
 pub mod waits;
 pub mod worked;
