@@ -2,3 +2,5 @@
 #![tactic(auto)]
 
 pub mod device;
+pub mod early;
+pub mod small;

@@ -1,4 +1,4 @@
-ghost use Rattle.std.specs.Prelude.{◌≡◌, ◌+◌, ◌<◌, ◌≤◌, [], ◌∷◌, ◌++◌, ◌↔◌, IsTrue, length, OnOk, OnErr, IfOk, IfSome, None, slice_get, option_map};
+ghost use Rattle.std.specs.Prelude.{◌≡◌, ◌+◌, ◌<◌, ◌≤◌, [], ◌∷◌, ◌++◌, ◌↔◌, IsTrue, length, take, OnOk, OnErr, IfOk, IfSome, None, slice_get, option_map};
 ghost use Rattle.ca_value.specs.Seq.{list, spare};
 
 use crate::memory::OutOfMemory;
@@ -56,6 +56,16 @@ impl<T> Seq<T> {
         ensures spare { spare self.old ≤ spare self.new }
     {
         self.items.pop()
+    }
+
+    /// Keeps the first `n` items, or all where there are fewer.
+    pub fn truncate(&mut self, n: u64)
+    where
+        T: Drop,
+        ensures first { list self.new ≡ take n (list self.old) }
+        ensures spare { spare self.old ≤ spare self.new }
+    {
+        self.items.truncate(n as usize);
     }
 
     /// The item at the place, or None past the last one.
