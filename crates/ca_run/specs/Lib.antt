@@ -1,2 +1,4 @@
 pub mod Causes
 pub mod Early
+pub mod Events
+pub mod Printing

@@ -3,4 +3,5 @@
 
 pub mod device;
 pub mod early;
+pub mod run;
 pub mod small;
