@@ -1,6 +1,7 @@
 //! The top call.
 #![tactic(auto)]
 
+pub mod answer;
 pub mod clock;
 pub mod device;
 pub mod early;
