@@ -9,7 +9,7 @@ use Rattle.ca_run.specs.declared.answer.Answer.TheVariants.{Usage, Refused, Ran}
 use Rattle.ca_run.specs.declared.answer.Refusal.{Refusal}
 use Rattle.ca_run.specs.declared.answer.Refusal.TheVariants.{TooLong, Fault, NotYet}
 use Rattle.ca_run.specs.Events.{events}
-use Rattle.ca_run.specs.Top.{usage, error_line, first_place, RefusedFor, RunOf}
+use Rattle.ca_run.specs.Top.{usage, error_line, first_place, RefusedFor, RunOf, Refused as RefusedFrom, Ran as RanFrom}
 
 abbrev pub refusal_line : Refusal → List ℕ
 refusal_line TooLong = error_line (codes "TooLong") first_place
@@ -36,3 +36,9 @@ abbrev pub Judged : List ℕ → Answer → Type 0
 Judged input Usage = ⊥
 Judged input (Refused r) = RefusedFor input (refusal_line r)
 Judged input (Ran j) = RunOf input (events j)
+
+-- what the words and the source come to
+abbrev pub AnswersTo : Option (List ℕ) → Option (List ℕ) → Answer → Type 0
+AnswersTo before after Usage = Unit {0}
+AnswersTo before after (Refused r) = RefusedFrom before after (refusal_line r)
+AnswersTo before after (Ran j) = RanFrom before after (events j)

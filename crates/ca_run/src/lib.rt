@@ -10,3 +10,4 @@ pub mod gate;
 pub mod memory;
 pub mod run;
 pub mod small;
+pub mod top;
