@@ -5,3 +5,4 @@ pub mod Pairs
 pub mod Measure
 pub mod Equality
 pub mod Printed
+pub mod IsValue

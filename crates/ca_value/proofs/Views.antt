@@ -1,0 +1,35 @@
+-- Laws of the trees of lists.
+use Rattle.std.proofs.Common.{◌≡◌, ◌≢◌, ℕ, suc, List, [], ◌∷◌, length, refl, ap, ◌∙◌, arith, rules, get_or, drop, drop-cons, ◌<◌, ◌+◌, false, true, Bool, ◌&&◌, add-one}
+use Rattle.ca_value.specs.declared.value.Value.{Value, the_lemmas}
+use Rattle.ca_value.specs.declared.value.Pairs.{Pairs}
+use Rattle.ca_value.specs.declared.value.Pair.{Pair}
+use Rattle.ca_value.specs.Pairs.{pairs_list}
+use Rattle.ca_value.specs.View.{trees, tree_pairs, pairs_view, pair_view}
+use Rattle.ca_value.specs.Tree.{TreePairs}
+use Rattle.ca_value.specs.Equality.{equals, equal_items, pair_count, within, has_pair}
+
+-- the pairs of a map are the trees of its list
+pub pairs_view-is : (s : Pairs) → pairs_view s ≡ tree_pairs (pairs_list s)
+pairs_view-is s = search (rules, the_lemmas)
+
+pub pair_count-tree_pairs : (ps : List Pair) → pair_count (tree_pairs ps) ≡ length ps
+pair_count-tree_pairs [] = refl
+pair_count-tree_pairs (p ∷ ps) = grind (arith, pair_count-tree_pairs ps)
+
+pub pair_count-pairs_view : (s : Pairs) → pair_count (pairs_view s) ≡ length (pairs_list s)
+pair_count-pairs_view s = ap pair_count (pairs_view-is s) ∙ pair_count-tree_pairs (pairs_list s)
+
+and-false : (b : Bool) → (b && false) ≡ false
+and-false true = refl
+and-false false = refl
+
+-- vectors of two lengths differ
+pub equal_items-lengths : (xs ys : List Value) → length xs ≢ length ys → equal_items (trees xs) (trees ys) ≡ false
+equal_items-lengths [] [] h = absurd (h refl)
+equal_items-lengths [] (y ∷ ys) h = refl
+equal_items-lengths (x ∷ xs) [] h = refl
+equal_items-lengths (x ∷ xs) (y ∷ ys) h =
+    let rest = equal_items-lengths xs ys (λ e. h (ap suc e)) in rw rest (and-false _)
+
+pub within-next : (l : List Pair) (i : ℕ) (x : Pair) (b : TreePairs) → x ≡ get_or l i x → i < length l → within (tree_pairs (drop i l)) b ≡ has_pair (equals (pair_view x).0) (equals (pair_view x).1) b && within (tree_pairs (drop (i + 1) l)) b
+within-next l i x b e h = rw (drop-cons l i x, ← e, add-one) refl
