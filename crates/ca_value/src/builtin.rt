@@ -1,3 +1,10 @@
+mod kinds;
+mod maps;
+mod numbers;
+mod predicates;
+mod text;
+mod vectors;
+
 /// A builtin function, named as in the Clojure reference. `Part`, `Items` and `WorkerCount` are hidden:
 /// no script can name them.
 #[derive(Clone, Copy, PartialEq, Eq, Debug)]

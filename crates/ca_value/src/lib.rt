@@ -11,6 +11,7 @@
 pub mod builtin;
 pub mod copy;
 pub mod equal;
+pub mod fault;
 pub mod measure;
 pub mod memory;
 pub mod plain;
