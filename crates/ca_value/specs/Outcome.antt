@@ -1,8 +1,9 @@
 -- What a builtin answers: a value or a fault.
-use Rattle.std.specs.Prelude.{ℤ, Bool, if◌then◌else◌, nat_le, List, [], ◌∷◌, Option, Some, None, Result, Ok, Err}
+use Rattle.std.specs.Prelude.{◌≡◌, ℤ, Bool, if◌then◌else◌, nat_le, List, [], ◌∷◌, Option, Some, None, Result, Ok, Err}
 use Rattle.ca_value.specs.declared.value.Value.{Value}
 use Rattle.ca_value.specs.declared.value.Pairs.{Pairs}
 use Rattle.ca_value.specs.declared.seq.Seq.{Seq}
+use Rattle.ca_value.specs.declared.fault.ApplyError.{ApplyError}
 use Rattle.ca_value.specs.declared.fault.ValueFault.{ValueFault}
 use Rattle.ca_value.specs.declared.fault.ValueFault.TheVariants.{WrongKind, TooHeavy, TooNested}
 use Rattle.ca_value.specs.Tree.{Tree, int, bool}
@@ -74,3 +75,8 @@ items_outcome (Err f) = Err f
 abbrev pub pairs_outcome : Answer Pairs → Answer (List (Tree × Tree))
 pairs_outcome (Ok s) = Ok (pair_views (pairs_list s))
 pairs_outcome (Err f) = Err f
+
+-- the error is this outcome's fault; want of memory says nothing
+abbrev pub IsFault : ApplyError → Outcome → Type 0
+IsFault (ApplyError.Fault f) o = o ≡ Err f
+IsFault ApplyError.OutOfMemory o = Unit {0}

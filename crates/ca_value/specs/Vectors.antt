@@ -1,5 +1,5 @@
 -- Builtins on vectors. Places count from 0.
-use Rattle.std.specs.Prelude.{ℤ, pos, negsuc, ◌+ℤ◌, ◌-ℤ◌, ◌-◌, ◌==◌, int_le, unsigned_abs, ◌&&◌, if◌then◌else◌, List, ◌++◌, map as map_list, length, take, slice_get, slice_range, Option, Some, None, Ok, Err, unwrap_or, ok_or}
+use Rattle.std.specs.Prelude.{ℕ, ℤ, pos, negsuc, ◌+ℤ◌, ◌-ℤ◌, ◌-◌, ◌==◌, int_le, unsigned_abs, ◌&&◌, if◌then◌else◌, List, ◌++◌, map as map_list, length, take, slice_get, slice_range, Option, Some, None, Ok, Err, unwrap_or, ok_or}
 use Rattle.std.specs.List.{range_with_len}
 use Rattle.std.specs.Int.{int_max}
 use Rattle.ca_value.specs.declared.fault.ValueFault.TheVariants.{WrongKind, OutOfRange}
@@ -55,12 +55,22 @@ abbrev pub subvec_of : Tree → Tree → Option Tree → Outcome
 subvec_of c s e = vector_of c >>= λ ts. integer_of s >>= λ i. end_of ts e >>= λ j. part_between ts i j
 
 -- the integers from the first up to, not including, the last
+abbrev pub distance_of : ℤ → ℤ → ℕ
+distance_of low high = unsigned_abs (int_max (pos 0) (high -ℤ low))
+
+abbrev pub integers_from : ℤ → ℕ → List Tree
+integers_from low n = map_list (λ k. int (low +ℤ pos k)) (range_with_len 0 n)
+
 abbrev pub counted : ℤ → ℤ → List Tree
-counted low high = map_list (λ k. int (low +ℤ pos k)) (range_with_len 0 (unsigned_abs (int_max (pos 0) (high -ℤ low))))
+counted low high = integers_from low (distance_of low high)
+
+-- from 0 up to one integer, or from one up to another
+abbrev pub bounds_of : Tree → Option Tree → Answer (ℤ × ℤ)
+bounds_of a None = integer_of a >>= λ high. Ok (pos 0, high)
+bounds_of a (Some b) = integer_of a >>= λ low. integer_of b >>= λ high. Ok (low, high)
 
 abbrev pub range_of : Tree → Option Tree → Outcome
-range_of a None = integer_of a >>= λ high. Ok (vector_from (counted (pos 0) high))
-range_of a (Some b) = integer_of a >>= λ low. integer_of b >>= λ high. Ok (vector_from (counted low high))
+range_of a b = bounds_of a b >>= λ r. Ok (vector_from (counted r.0 r.1))
 
 abbrev pub part_of : Tree → Tree → Outcome
 part_of c i = sequence_of c >>= λ ts. integer_of i >>= λ n. Ok (unwrap_or (item_at ts n) nil)

@@ -1,4 +1,4 @@
-ghost use Rattle.std.specs.Prelude.{◌≡◌, ◌<◌, [], ◌∷◌, length};
+ghost use Rattle.std.specs.Prelude.{◌≡◌, ◌<◌, ◌≤◌, [], ◌∷◌, length, option_to_list};
 ghost use Rattle.ca_value.specs.Seq.{list};
 ghost use Rattle.ca_value.specs.View.{view};
 ghost use Rattle.ca_value.specs.Outcome.{items_outcome, pairs_outcome};
@@ -86,4 +86,25 @@ pub fn first_and_rest(args: Items) -> (Value, Items)
     let mut args = args.into_vec();
     let first = args.remove(0);
     (first, Items::from_vec(args))
+}
+
+/// The first two arguments, and the third if there is one.
+pub fn two_and_option(mut args: Items) -> (Value, Value, Option<Value>)
+    requires at_least { 2 ≤ length (list args) }
+    requires at_most { length (list args) ≤ 3 }
+    ensures { list args ≡ result.0 ∷ result.1 ∷ option_to_list result.2 }
+{
+    let third = if args.len() == 3 { args.pop() } else { None };
+    let (first, second) = both(args);
+    (first, second, third)
+}
+
+/// The first argument, and the second if there is one.
+pub fn one_and_option(mut args: Items) -> (Value, Option<Value>)
+    requires at_least { 1 ≤ length (list args) }
+    requires at_most { length (list args) ≤ 2 }
+    ensures { list args ≡ result.0 ∷ option_to_list result.1 }
+{
+    let second = if args.len() == 2 { args.pop() } else { None };
+    (only(args), second)
 }
