@@ -15,6 +15,7 @@ mod letter;
 mod lines;
 mod nest;
 mod piece;
+pub mod print;
 pub mod read;
 #[cfg(test)]
 mod tests;
