@@ -3,7 +3,7 @@ use Rattle.std.proofs.lemmas.Result.{err_from_is_err_and}
 use Rattle.ca_reader.specs.Pieces.{First}
 use Rattle.ca_reader.specs.PieceView.{first_view, piece_view, FirstFits}
 use Rattle.ca_reader.specs.NestView.{context}
-use Rattle.ca_reader.proofs.Reader.{turn_blank, turn_found, turn_bound, turn_refused, turn_wrong, end_reads, end_faults}
+use Rattle.ca_reader.proofs.Reader.{turn_blank, turn_found, turn_bound, turn_refused, turn_wrong, end_reads, end_faults, end_prints}
 use Rattle.ca_reader.proofs.read.read.Goals as goal
 
 pub pieces-preserved-in-Blank : goal.pieces-preserved-in-Blank
@@ -49,3 +49,6 @@ pub returns-in-Over-clause-fault : goal.returns-in-Over-clause-fault
 returns-in-Over-clause-fault c =
     let e = ap first_view (sym c.in-Over.is) ∙ c.in_ok-next_piece.ensures.value in
     end_faults c.args.bytes.now c.pieces.place c.pieces.rest.now (context c.pieces.nest) c.finish.result c.pieces.invariant.same e c.finish.ensures.err
+
+pub returns-in-Over-clause-printable : goal.returns-in-Over-clause-printable
+returns-in-Over-clause-printable c = end_prints c.args.bytes.now c.finish.result (returns-in-Over-clause-forms c)
