@@ -92,8 +92,8 @@ first_spelt (b ∷ bs) =
     if_spelt (b == 59) _ _ (λ e. tt) (λ e.
     if_spelt (b == 34) _ _ (λ e. text_first_spelt (text_cut bs) (text_says (suc (length bs)) bs)) (λ e.
     if_spelt (is_token_byte b) _ _
-        (λ e. token_first_spelt (token (b ∷ bs)) (length (token (b ∷ bs))) (meaning (token (b ∷ bs))) (token_some b bs e) (token_all (b ∷ bs)) refl)
-        (λ e. bracket_first_spelt b))))
+    (λ e. token_first_spelt (token (b ∷ bs)) (length (token (b ∷ bs))) (meaning (token (b ∷ bs))) (token_some b bs e) (token_all (b ∷ bs)) refl)
+    (λ e. bracket_first_spelt b))))
 
 pub pieces_step_spelt : (more : Place → List ℕ → Pieces) (p : Place) (bs : List ℕ) (f : First) → SpeltFirst f → ((q : Place) (ds : List ℕ) → AllSpelt (more q ds)) → AllSpelt (pieces_step more p bs f)
 pieces_step_spelt more p bs over h k = tt
@@ -209,15 +209,15 @@ mutual
   begins_forms (item f fs) d p tail h a =
       let x = begins_form f d p (more_text fs ++ tail) h.0 (more_apart fs tail a) in
       subst (λ (bs : List ℕ). Begins d (item f fs) p bs tail) (sym (append_assoc (form_text f) (more_text fs) tail))
-          (begins_item d f fs p (form_text f ++ (more_text fs ++ tail)) (more_text fs ++ tail) tail x (begins_more fs d x.1 tail h.1 a))
+      (begins_item d f fs p (form_text f ++ (more_text fs ++ tail)) (more_text fs ++ tail) tail x (begins_more fs d x.1 tail h.1 a))
 
   pub begins_more : (fs : FormTrees) (d : ℕ) (p : Place) (tail : List ℕ) → Prints d fs → IsApart tail → Begins d fs p (more_text fs ++ tail) tail
   begins_more none d p tail h a = (none, p, refl, refl)
   begins_more (item f fs) d p tail h a =
       let x = begins_form f d (past p (32 ∷ [])) (more_text fs ++ tail) h.0 (more_apart fs tail a) in
       let y : Begins d (item f fs) (past p (32 ∷ [])) ((form_text f ++ more_text fs) ++ tail) tail =
-          subst (λ (bs : List ℕ). Begins d (item f fs) (past p (32 ∷ [])) bs tail) (sym (append_assoc (form_text f) (more_text fs) tail))
-              (begins_item d f fs (past p (32 ∷ [])) (form_text f ++ (more_text fs ++ tail)) (more_text fs ++ tail) tail x (begins_more fs d x.1 tail h.1 a)) in
+      subst (λ (bs : List ℕ). Begins d (item f fs) (past p (32 ∷ [])) bs tail) (sym (append_assoc (form_text f) (more_text fs) tail))
+      (begins_item d f fs (past p (32 ∷ [])) (form_text f ++ (more_text fs ++ tail)) (more_text fs ++ tail) tail x (begins_more fs d x.1 tail h.1 a)) in
       (y.0, y.1, y.2, subst (λ (ps : Pieces). Nest d y.0 ps (pieces_from y.1 tail)) (sym (pieces_space p ((form_text f ++ more_text fs) ++ tail))) y.3)
 
   pub begins_form : (f : FormTree) (d : ℕ) (p : Place) (tail : List ℕ) → PrintsForm d f → IsApart tail → BeginsForm d f p (form_text f ++ tail) tail
@@ -227,12 +227,20 @@ mutual
   begins_shape (atom t) q d p tail h a = (form (atom t) p, past p (atom_text t), refl, pieces_found p (atom_text t) tail (one t) (h tail a))
   begins_shape (group b fs) q d p tail h a =
       let e = append_assoc (forms_text fs) (closing b ∷ []) tail in
-      let x = begins_forms fs (suc d) (past p (opening b ∷ [])) (closing b ∷ tail) h.2 (closing_apart b) in
-      (form (group b x.0) p, past x.1 (closing b ∷ []), ap (λ (y : FormTrees). form (group b y) start) x.2,
-       (h.0, paired_bare b fs x.0 x.2 h.1, pieces_from (past p (opening b ∷ [])) (forms_text fs ++ closing b ∷ tail), x.1,
-        pieces_found p (opening b ∷ []) ((forms_text fs ++ closing b ∷ []) ++ tail) (opener b) (first_opening b _)
-            ∙ ap (λ (bs : List ℕ). piece (opener b) p (pieces_from (past p (opening b ∷ [])) bs)) e,
-        subst (Nest (suc d) x.0 (pieces_from (past p (opening b ∷ [])) (forms_text fs ++ closing b ∷ tail))) (pieces_found x.1 (closing b ∷ []) tail (closer b) (first_closing b tail)) x.3))
+      let x = begins_forms fs (suc d) (past p (opening b ∷ [])) (closing b ∷ tail) h.2 (closing_apart b) in (
+        form (group b x.0) p,
+        past x.1 (closing b ∷ []),
+        ap (λ (y : FormTrees). form (group b y) start) x.2,
+        (
+          h.0,
+          paired_bare b fs x.0 x.2 h.1,
+          pieces_from (past p (opening b ∷ [])) (forms_text fs ++ closing b ∷ tail),
+          x.1,
+          pieces_found p (opening b ∷ []) ((forms_text fs ++ closing b ∷ []) ++ tail) (opener b) (first_opening b _)
+              ∙ ap (λ (bs : List ℕ). piece (opener b) p (pieces_from (past p (opening b ∷ [])) bs)) e,
+          subst (Nest (suc d) x.0 (pieces_from (past p (opening b ∷ [])) (forms_text fs ++ closing b ∷ tail))) (pieces_found x.1 (closing b ∷ []) tail (closer b) (first_closing b tail)) x.3,
+        ),
+      )
 
 pub pieces_end : (p : Place) → pieces_from p [] ≡ end
 unfolding first

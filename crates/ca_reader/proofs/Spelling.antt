@@ -28,8 +28,9 @@ IsApart (b ∷ bs) = is_token_byte b ≡ false
 pub other_byte : (b n : ℕ) → is_token_byte b ≡ true → is_token_byte n ≡ false → (b == n) ≡ false
 other_byte b n h k =
     let by : (t : Bool) → (b == n) ≡ t → (b == n) ≡ false = λ t. elim t as (λ t. (b == n) ≡ t → (b == n) ≡ false) [
-        true ↦ λ e. (let f : b ≡ n = eqb-true b n e in let g = ap is_token_byte f in cc)
-      | false ↦ λ e. e ]
+      | true ↦ λ e. (let f : b ≡ n = eqb-true b n e in let g = ap is_token_byte f in cc)
+      | false ↦ λ e. e
+    ]
     in by (b == n) refl
 
 pub no_separator : (b : ℕ) → is_token_byte b ≡ true → is_separator b ≡ false
@@ -64,7 +65,7 @@ first_token [] tail l h a = absurd (omega arith)
 first_token (b ∷ t) tail l h a =
     let k = both (is_token_byte b) (list_all is_token_byte t) h in
     fourth (is_separator b) (b == 59) (b == 34) (is_token_byte b) _ _ _ _ _
-        (no_separator b k.0) (other_byte b 59 k.0 not_token_59) (other_byte b 34 k.0 not_token_34) k.0
+    (no_separator b k.0) (other_byte b 59 k.0 not_token_59) (other_byte b 34 k.0 not_token_34) k.0
     ∙ ap (λ (x : List ℕ). token_first (length x) (meaning x)) (token_whole (b ∷ t) tail h a)
 
 -- the atom is read from what printing writes for it
@@ -99,20 +100,23 @@ pub with_sign_rightly : (t : List ℕ) (b : Bool) (n : ℕ) → Rightly t (or_ba
 with_sign_rightly t true zero = omega arith
 with_sign_rightly t true (suc n) =
     let by : (c : Bool) → nat_le (suc n) (2 ^ 63) ≡ c → Rightly t (or_bad_number (if c then Some (negsuc n) else None)) = λ c. elim c as (λ c. nat_le (suc n) (2 ^ 63) ≡ c → Rightly t (or_bad_number (if c then Some (negsuc n) else None))) [
-        true ↦ λ e. (let h = leb-true (suc n) (2 ^ 63) e in omega arith)
-      | false ↦ λ e. tt ]
+      | true ↦ λ e. (let h = leb-true (suc n) (2 ^ 63) e in omega arith)
+      | false ↦ λ e. tt
+    ]
     in by (nat_le (suc n) (2 ^ 63)) refl
 with_sign_rightly t false n =
     let by : (c : Bool) → nat_lt n (2 ^ 63) ≡ c → Rightly t (or_bad_number (if c then Some (pos n) else None)) = λ c. elim c as (λ c. nat_lt n (2 ^ 63) ≡ c → Rightly t (or_bad_number (if c then Some (pos n) else None))) [
-        true ↦ λ e. ltb-true n (2 ^ 63) e
-      | false ↦ λ e. tt ]
+      | true ↦ λ e. ltb-true n (2 ^ 63) e
+      | false ↦ λ e. tt
+    ]
     in by (nat_lt n (2 ^ 63)) refl
 
 pub number_rightly : (t : List ℕ) → Rightly t (or_bad_number (number t))
 number_rightly t =
     let by : (c : Bool) → Rightly t (or_bad_number (if c then with_sign (slice_index t 0 == 45) (digits_value 10 (unsigned t)) else None)) = λ c. elim c as (λ c. Rightly t (or_bad_number (if c then with_sign (slice_index t 0 == 45) (digits_value 10 (unsigned t)) else None))) [
-        true ↦ with_sign_rightly t (slice_index t 0 == 45) (digits_value 10 (unsigned t))
-      | false ↦ tt ]
+      | true ↦ with_sign_rightly t (slice_index t 0 == 45) (digits_value 10 (unsigned t))
+      | false ↦ tt
+    ]
     in by (is_decimal (unsigned t))
 
 pub keyword_rightly : (t : List ℕ) → (slice_index t 0 == 58) ≡ true → Rightly t (keyword t)
@@ -123,8 +127,8 @@ keyword_rightly (b ∷ t) h = if_rightly (nat_lt 1 (suc (length t)) && not (has_
 pub word_right : (t : List ℕ) → IsRight t (word t)
 word_right t =
     if_right (bytes_eq t (codes "nil")) t nil _ tt
-        (if_right (bytes_eq t (codes "true")) t (bool true) _ tt
-            (if_right (bytes_eq t (codes "false")) t (bool false) (symbol t) tt refl))
+    (if_right (bytes_eq t (codes "true")) t (bool true) _ tt
+    (if_right (bytes_eq t (codes "false")) t (bool false) (symbol t) tt refl))
 
 pub meaning_rightly : (t : List ℕ) → Rightly t (meaning t)
 unfolding meaning
@@ -146,8 +150,9 @@ passed_over b x y h = rw h refl
 pub eqb_apart : (a b : ℕ) → (a < b) ⊎ (b < a) → (a == b) ≡ false
 eqb_apart a b h =
     let by : (t : Bool) → (a == b) ≡ t → (a == b) ≡ false = λ t. elim t as (λ t. (a == b) ≡ t → (a == b) ≡ false) [
-        true ↦ λ e. (let f : a ≡ b = eqb-true a b e in absurd (elim h [ inl l ↦ omega arith | inr l ↦ omega arith ]))
-      | false ↦ λ e. e ]
+      | true ↦ λ e. (let f : a ≡ b = eqb-true a b e in absurd (elim h [ inl l ↦ omega arith | inr l ↦ omega arith ]))
+      | false ↦ λ e. e
+    ]
     in by (a == b) refl
 
 pub minus_is_token : (ds : List ℕ) → list_all is_token_byte ds ≡ true → list_all is_token_byte (45 ∷ ds) ≡ true

@@ -60,10 +60,10 @@ pick_same false false false false s' t' u' v' n e l a b c d = absurd (omega arit
 pub char_len_same : (bs ds : List ℕ) (n : ℕ) → char_len bs ≡ n → 0 < n → ((i : ℕ) → i < n → slice_index bs i ≡ slice_index ds i) → char_len ds ≡ n
 char_len_same bs ds n e l same =
     char_len_is ds ∙ pick_same (nat_lt (slice_index bs 0) 0x80) (second_test bs) (third_test bs) (fourth_test bs) _ _ _ _ n (sym (char_len_is bs) ∙ e) l
-        (λ h. ap (λ a. nat_lt a 0x80) (same 0 h))
-        (λ h. let a = same 0 l in let b = same 1 h in cc)
-        (λ h. let a = same 0 l in let b = same 1 (omega arith) in let c = same 2 h in cc)
-        (λ h. let a = same 0 l in let b = same 1 (omega arith) in let c = same 2 (omega arith) in let d = same 3 h in cc)
+    (λ h. ap (λ a. nat_lt a 0x80) (same 0 h))
+    (λ h. let a = same 0 l in let b = same 1 h in cc)
+    (λ h. let a = same 0 l in let b = same 1 (omega arith) in let c = same 2 h in cc)
+    (λ h. let a = same 0 l in let b = same 1 (omega arith) in let c = same 2 (omega arith) in let d = same 3 h in cc)
 
 pub take_is_character : (bs : List ℕ) (n : ℕ) → char_len bs ≡ n → 0 < n → n ≤ length bs → IsCharacter (take n bs)
 take_is_character bs n e l h =
@@ -81,8 +81,9 @@ pub may_follow_low : (b c : ℕ) → may_follow b c ≡ true → 128 ≤ c
 may_follow_low b c h =
     let k = in_range_low _ _ c h in
     let by : (x y : Bool) → (if x then 0xA0 else (if y then 0x90 else 0x80)) ≤ c → 128 ≤ c = λ x y. elim x as (λ x. (if x then 0xA0 else (if y then 0x90 else 0x80)) ≤ c → 128 ≤ c) [
-        true ↦ λ l. omega arith
-      | false ↦ elim y as (λ y. (if false then 0xA0 else (if y then 0x90 else 0x80)) ≤ c → 128 ≤ c) [ true ↦ λ l. omega arith | false ↦ λ l. l ] ]
+      | true ↦ λ l. omega arith
+      | false ↦ elim y as (λ y. (if false then 0xA0 else (if y then 0x90 else 0x80)) ≤ c → 128 ≤ c) [ true ↦ λ l. omega arith | false ↦ λ l. l ]
+    ]
     in by (b == 0xE0) (b == 0xF0) k
 
 pub pick_two : (s t u v : Bool) → pick s t u v ≡ 2 → t ≡ true
@@ -148,7 +149,7 @@ character_high a b (d ∷ []) h =
     (omega arith, (may_follow_low a b m.1, (in_range_low _ _ d k.1, tt)))
 character_high a b (d ∷ e ∷ f) h =
     let q : pick (nat_lt a 0x80) (second_test (a ∷ b ∷ d ∷ e ∷ f)) (third_test (a ∷ b ∷ d ∷ e ∷ f)) (fourth_test (a ∷ b ∷ d ∷ e ∷ f)) ≡ suc (suc (suc (suc (length f)))) =
-        sym (char_len_is (a ∷ b ∷ d ∷ e ∷ f)) ∙ h.1 in
+    sym (char_len_is (a ∷ b ∷ d ∷ e ∷ f)) ∙ h.1 in
     let v = pick_four _ _ _ _ (q_bound _ (length f) q) in
     let k = both _ _ v.0 in
     let m = both _ _ k.0 in
@@ -160,9 +161,10 @@ character_high a b (d ∷ e ∷ f) h =
 pub byte_low : (b : ℕ) → IsCharacter (b ∷ []) → b < 128
 byte_low b h =
     let by : (t : Bool) → nat_lt b 0x80 ≡ t → b < 128 = λ t. elim t as (λ t. nat_lt b 0x80 ≡ t → b < 128) [
-        true ↦ λ e. ltb-true b 128 e
+      | true ↦ λ e. ltb-true b 128 e
       | false ↦ λ e. absurd (not_alone (second_test (b ∷ [])) (third_test (b ∷ [])) (fourth_test (b ∷ []))
-            (ap (λ x. pick x (second_test (b ∷ [])) (third_test (b ∷ [])) (fourth_test (b ∷ []))) (sym e) ∙ sym (char_len_is (b ∷ [])) ∙ h.1)) ]
+          (ap (λ x. pick x (second_test (b ∷ [])) (third_test (b ∷ [])) (fourth_test (b ∷ []))) (sym e) ∙ sym (char_len_is (b ∷ [])) ∙ h.1))
+    ]
     in by (nat_lt b 0x80) refl
 
 pub letter_plain : (b : ℕ) (bs : List ℕ) (n : ℕ) → (b == 34) ≡ false → (b == 92) ≡ false → char_len (b ∷ bs) ≡ n → (n == 0) ≡ false → letter (b ∷ bs) ≡ says (take n (b ∷ bs)) n
@@ -196,7 +198,7 @@ letter_written (a ∷ b ∷ c) rest h =
     let high = character_high a b c h in
     let e = all_written_high (a ∷ b ∷ c) high in
     rw e (letter_plain a (b ∷ (c ++ rest)) (length (a ∷ b ∷ c)) (eqb_apart a 34 (inr (omega (arith, high.0)))) (eqb_apart a 92 (inr (omega (arith, high.0))))
-        (append_is_character (a ∷ b ∷ c) rest h) (eqb_apart _ 0 (inr (omega arith)))
+    (append_is_character (a ∷ b ∷ c) rest h) (eqb_apart _ 0 (inr (omega arith)))
     ∙ ap (λ (x : List ℕ). says x (length (a ∷ b ∷ c))) (take_at (a ∷ b ∷ c) rest (length (a ∷ b ∷ c)) refl))
 
 pub all_escaped_append : (s t : List ℕ) → all_escaped (s ++ t) ≡ all_escaped s ++ all_escaped t
@@ -212,9 +214,9 @@ text_written [] tail h = text_quote tail
 text_written (c ∷ cs) tail h =
     let rest = all_escaped (concat cs) ++ 34 ∷ tail in
     let e : all_escaped (c ++ concat cs) ++ 34 ∷ tail ≡ all_escaped c ++ rest =
-        ap (λ (x : List ℕ). x ++ 34 ∷ tail) (all_escaped_append c (concat cs)) ∙ append_assoc (all_escaped c) (all_escaped (concat cs)) (34 ∷ tail) in
+    ap (λ (x : List ℕ). x ++ 34 ∷ tail) (all_escaped_append c (concat cs)) ∙ append_assoc (all_escaped c) (all_escaped (concat cs)) (34 ∷ tail) in
     let l : length (all_escaped c) + (length (all_escaped (concat cs)) + 1) ≡ length (all_escaped (c ++ concat cs)) + 1 =
-        omega (arith, ap length (all_escaped_append c (concat cs)), length-append (all_escaped c) (all_escaped (concat cs))) in
+    omega (arith, ap length (all_escaped_append c (concat cs)), length-append (all_escaped c) (all_escaped (concat cs))) in
     ap text_cut e
     ∙ text_cut_step (all_escaped c ++ rest)
     ∙ ap (text_step text_cut (all_escaped c ++ rest)) (letter_written c rest h.0)
@@ -262,7 +264,7 @@ letter_says (b ∷ bs) =
     if_says (b == 34) quote _ (λ e. tt) (λ e.
     if_says (b == 92) (escape bs) _ (λ f. escape_says bs) (λ f.
     if_says (char_len (b ∷ bs) == 0) (bad BadByte) _ (λ g. tt) (λ g.
-        take_is_character (b ∷ bs) (char_len (b ∷ bs)) refl (not_zero (char_len (b ∷ bs)) g) (char_len_fits (b ∷ bs) (omega arith)))))
+    take_is_character (b ∷ bs) (char_len (b ∷ bs)) refl (not_zero (char_len (b ∷ bs)) g) (char_len_fits (b ∷ bs) (omega arith)))))
 
 pub further_says : (x : List ℕ) (m : ℕ) (t : TextCut) → IsCharacter x → SaysText t → SaysText (further x m t)
 further_says x m (closed s n) h k = (x ∷ k.0, ap (λ (y : List ℕ). x ++ y) k.1, (h, k.2))
@@ -285,7 +287,7 @@ unfolding first
 first_text s tail h =
     let e = append_assoc (all_escaped s) (34 ∷ []) tail in
     let w : text_cut (all_escaped s ++ 34 ∷ tail) ≡ closed s (length (all_escaped s) + 1) =
-        subst (λ (x : List ℕ). text_cut (all_escaped x ++ 34 ∷ tail) ≡ closed x (length (all_escaped x) + 1)) (sym h.1) (text_written h.0 tail h.2) in
+    subst (λ (x : List ℕ). text_cut (all_escaped x ++ 34 ∷ tail) ≡ closed x (length (all_escaped x) + 1)) (sym h.1) (text_written h.0 tail h.2) in
     let l : length (all_escaped s) + 1 ≡ length (all_escaped s ++ 34 ∷ []) = omega (arith, length-append (all_escaped s) (34 ∷ [])) in
     ap (λ (x : List ℕ). text_first (text_cut x)) e ∙ ap text_first w ∙ ap (λ (n : ℕ). found (one (text s)) (suc n)) l
 

@@ -16,6 +16,8 @@ mod lines;
 mod nest;
 mod piece;
 pub mod print;
+#[cfg(test)]
+mod print_tests;
 pub mod read;
 #[cfg(test)]
 mod tests;
