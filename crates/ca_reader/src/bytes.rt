@@ -13,7 +13,27 @@ pub fn is_separator(byte: u8) -> bool
 pub fn is_token_byte(byte: u8) -> bool
     ensures { result ≡ is_token_byte byte }
 {
-    matches!(byte, b'a'..=b'z' | b'A'..=b'Z' | b'0'..=b'9') || b"*+!-_?<>=&%$./:".contains(&byte)
+    matches!(
+        byte,
+        b'a'..=b'z'
+            | b'A'..=b'Z'
+            | b'0'..=b'9'
+            | b'*'
+            | b'+'
+            | b'!'
+            | b'-'
+            | b'_'
+            | b'?'
+            | b'<'
+            | b'>'
+            | b'='
+            | b'&'
+            | b'%'
+            | b'$'
+            | b'.'
+            | b'/'
+            | b':'
+    )
 }
 
 pub fn is_digit(byte: u8) -> bool
