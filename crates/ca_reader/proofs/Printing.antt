@@ -1,23 +1,23 @@
 -- What printing writes reads to the same forms.
-use Rattle.std.proofs.Common.{◌≡◌, ℕ, zero, suc, ◌+◌, ◌<◌, ◌≤◌, ◌%◌, Bool, true, false, List, [], ◌∷◌, ◌++◌, length, take, drop, sym, ◌∙◌, ap, refl, subst, arith, Option, None, Some, Result, Ok, Err, append_assoc, append-nil}
+use Rattle.std.proofs.Common.{◌≡◌, ℕ, zero, suc, ◌<◌, ◌%◌, Bool, true, false, List, [], ◌∷◌, ◌++◌, length, take, drop, sym, ◌∙◌, ap, refl, subst, arith, Result, Ok, Err, append_assoc, append-nil}
 use Rattle.std.specs.Prelude.{◌==◌, if◌then◌else◌, cond}
-use Rattle.std.specs.List.{list_all, prefix_len}
+use Rattle.std.specs.List.{list_all}
 use Rattle.std.proofs.lemmas.List.{take_at, drop_at}
 use Rattle.std.proofs.lemmas.List.Sums.{take_while-cons}
 use Rattle.ca_term.specs.declared.place.Place.{Place}
 use Rattle.ca_reader.specs.declared.form.Bracket.{Bracket}
 use Rattle.ca_reader.specs.declared.form.Bracket.TheVariants.{Round, Square, Curly}
 use Rattle.ca_reader.specs.declared.error.ReadErrorKind.{ReadErrorKind}
-use Rattle.ca_reader.specs.Form.{Atom, FormTree, FormTrees, ShapeTree, form, atom, group, none, item, text}
+use Rattle.ca_reader.specs.Form.{Atom, FormTree, FormTrees, ShapeTree, form, atom, group, none, item}
 use Rattle.ca_reader.specs.Bytes.{past, start, is_token_byte, is_separator}
 use Rattle.ca_reader.specs.Tokens.{meaning}
-use Rattle.ca_reader.specs.Texts.{TextCut, closed, unclosed, broken, text_within, text_cut}
+use Rattle.ca_reader.specs.Texts.{TextCut, closed, unclosed, broken, text_cut}
 use Rattle.ca_reader.specs.Pieces.{Piece, one, opener, closer, First, over, blank, found, wrong, first, text_first, token_first, bracket_first, token, Pieces, end, stop, piece, pieces_within, pieces_from, pieces}
 use Rattle.ca_reader.specs.Reads.{Nest, NestForm, NestShape, Reads, count, is_paired}
 use Rattle.ca_reader.specs.Printed.{atom_text, opening, closing, form_text, shape_text, forms_text, more_text, bare, bare_form, bare_shape, ReadsAside}
 use Rattle.ca_reader.proofs.Readings.{pieces_step, pieces_from_is, pieces_within_step}
 use Rattle.ca_reader.proofs.Spelling.{IsApart, IsSpelt, spelt_token, taken}
-use Rattle.ca_reader.proofs.TextSpelling.{IsText, SaysText, text_says, spelt_text}
+use Rattle.ca_reader.proofs.TextSpelling.{SaysText, text_says, spelt_text}
 
 -- forms that printing writes so that they are read again, with d brackets open around them
 abbrev mutual

@@ -1,8 +1,7 @@
 -- The token that says an atom is what printing writes for it.
-use Rattle.std.proofs.Common.{◌≡◌, ℕ, zero, suc, ◌+◌, ◌-◌, ◌<◌, ◌≤◌, ◌^◌, Bool, true, false, List, [], ◌∷◌, ◌++◌, length, get_or, take, drop, sym, ◌∙◌, ap, refl, subst, arith, Option, None, Some, Result, Ok, Err, ℤ, pos, negsuc, neg_ℤ, inl, inr, ◌⊎◌}
+use Rattle.std.proofs.Common.{◌≡◌, ℕ, zero, suc, ◌<◌, ◌≤◌, ◌^◌, Bool, true, false, List, [], ◌∷◌, ◌++◌, length, take, sym, ◌∙◌, ap, refl, subst, arith, None, Some, Result, Ok, Err, ℤ, pos, negsuc, inl, inr, ◌⊎◌}
 use Rattle.std.specs.Prelude.{◌==◌, ◌&&◌, ◌||◌, if◌then◌else◌, not, codes, decimal, nat_le, nat_lt, slice_index}
-use Rattle.std.specs.Fmt.{signed_decimal}
-use Rattle.std.specs.List.{list_all, prefix_len, take_while}
+use Rattle.std.specs.List.{list_all, prefix_len}
 use Rattle.std.specs.Int.{is_in_range}
 use Rattle.std.specs.Str.{bytes_eq}
 use Rattle.std.specs.Str.Parse.{digits_value, AllDigits}
@@ -16,7 +15,7 @@ use Rattle.ca_reader.specs.declared.error.ReadErrorKind.TheVariants.{BadByte}
 use Rattle.ca_reader.specs.Form.{Atom, nil, bool, int, text, key, symbol}
 use Rattle.ca_reader.specs.Bytes.{is_separator, is_token_byte, is_digit, has_byte}
 use Rattle.ca_reader.specs.Tokens.{meaning, unsigned, is_numeral, is_decimal, number, with_sign, or_bad_number, keyword, word}
-use Rattle.ca_reader.specs.Pieces.{one, First, found, first, token_first, token}
+use Rattle.ca_reader.specs.Pieces.{one, found, first, token_first, token}
 use Rattle.ca_reader.specs.Printed.{atom_text}
 use Rattle.ca_reader.proofs.Numbers.{both, digit_bounds, digit_in}
 

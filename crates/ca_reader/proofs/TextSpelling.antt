@@ -1,19 +1,17 @@
 -- What a text says is characters one after another, and so it is read from what printing writes.
-use Rattle.std.proofs.Common.{◌≡◌, ℕ, zero, suc, ◌+◌, ◌-◌, ◌<◌, ◌≤◌, Bool, true, false, List, [], ◌∷◌, ◌++◌, length, get_or, take, drop, sym, ◌∙◌, ap, refl, subst, arith, Option, None, Some, inl, inr, ◌⊎◌, append_assoc, append-nil}
-use Rattle.std.specs.Prelude.{◌==◌, ◌&&◌, ◌||◌, if◌then◌else◌, nat_le, nat_lt, slice_index, cond}
+use Rattle.std.proofs.Common.{◌≡◌, ℕ, zero, suc, ◌+◌, ◌<◌, ◌≤◌, Bool, true, false, List, [], ◌∷◌, ◌++◌, length, take, drop, sym, ◌∙◌, ap, refl, subst, arith, Option, Some, inr, append_assoc, append-nil}
+use Rattle.std.specs.Prelude.{◌==◌, ◌&&◌, if◌then◌else◌, nat_le, nat_lt, slice_index, cond}
 use Rattle.std.specs.Int.{is_in_range}
-use Rattle.std.specs.List.{list_all}
 use Rattle.std.proofs.lemmas.List.{take_at, drop_at, length-append}
 use Rattle.std.proofs.lemmas.Grind.{common_steps}
 use borrow.Author.Tests.{eqb-true, leb-true, ltb-true}
 use Rattle.ca_value.specs.Printed.{escaped as written, all_escaped, quoted}
-use Rattle.ca_reader.specs.declared.error.ReadErrorKind.{ReadErrorKind}
-use Rattle.ca_reader.specs.declared.error.ReadErrorKind.TheVariants.{BadByte, BadEscape}
-use Rattle.ca_reader.specs.Form.{Atom, text}
+use Rattle.ca_reader.specs.declared.error.ReadErrorKind.TheVariants.{BadByte}
+use Rattle.ca_reader.specs.Form.{text}
 use Rattle.ca_reader.specs.Texts.{Letter, says, quote, missing, bad, escaped, escape_of, escape, character, letter, char_len, is_continuation, may_follow, TextCut, closed, unclosed, broken, further, text_within, text_cut}
-use Rattle.ca_reader.specs.Pieces.{one, First, found, first, text_first}
+use Rattle.ca_reader.specs.Pieces.{one, found, first, text_first}
 use Rattle.ca_reader.proofs.Cuts.{text_step, text_within_step, text_cut_step, char_len_fits, not_zero}
-use Rattle.ca_reader.proofs.Spelling.{IsSpelt, taken, passed_over, eqb_apart}
+use Rattle.ca_reader.proofs.Spelling.{IsSpelt, passed_over, eqb_apart}
 use Rattle.ca_reader.proofs.Numbers.{both}
 
 -- one character of UTF-8

@@ -36,7 +36,7 @@ pub fn read(alloc: Global, bytes: &[u8]) -> Result<Forms, ReadError>
                 rest = &rest[length..];
             }
             First::Found(piece, length) => {
-                nest.add(alloc, piece, place)?;
+                nest.add(piece, place)?;
                 place = past(place, &rest[..length]);
                 rest = &rest[length..];
             }

@@ -12,6 +12,7 @@ pieces-preserved-in-Blank c =
     let f = subst (λ (x : First). FirstFits (length c.pieces.rest.now) x) (ap first_view c.in-Blank.is) c.in_ok-next_piece.ensures.fits in
     record {
       same = turn_blank _ c.pieces.place _ c.pieces.rest.now _ c.in-Blank.length c.pieces.invariant.same e c.past-place.ensures.value;
+      sound = c.pieces.invariant.sound;
       line_bound = turn_bound c.pieces.rest.now c.in-Blank.length _ c.pieces.place.line _ c.pieces.invariant.line_bound f.1 c.past-place.ensures.line;
       column_bound = turn_bound c.pieces.rest.now c.in-Blank.length _ c.pieces.place.column _ c.pieces.invariant.column_bound f.1 c.past-place.ensures.column;
     }
@@ -23,6 +24,7 @@ pieces-preserved c =
     record {
       same = turn_found _ c.pieces.place _ c.pieces.rest.now (context c.pieces.nest) _ (piece_view c.in-Found.piece) c.in-Found.length
           c.pieces.invariant.same e c.past-place-in-Found.ensures.value c.in_ok-add-in-Found.ensures.ok c.in_ok-add-in-Found.ensures.becomes;
+      sound = c.in_ok-add-in-Found.ensures.sound;
       line_bound = turn_bound c.pieces.rest.now c.in-Found.length _ c.pieces.place.line _ c.pieces.invariant.line_bound f.1 c.past-place-in-Found.ensures.line;
       column_bound = turn_bound c.pieces.rest.now c.in-Found.length _ c.pieces.place.column _ c.pieces.invariant.column_bound f.1 c.past-place-in-Found.ensures.column;
     }
