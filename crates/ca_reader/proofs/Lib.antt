@@ -6,4 +6,5 @@ pub mod Reader
 pub mod Readings
 pub mod Spelling
 pub mod Stack
+pub mod Table
 pub mod TextSpelling
