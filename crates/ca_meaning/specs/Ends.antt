@@ -5,7 +5,7 @@ use Rattle.ca_term.specs.declared.fault.Fault.{Fault}
 use Rattle.ca_term.specs.declared.event.Ending.TheVariants.{Ended, Faulted}
 use Rattle.ca_term.specs.Program.{ProgramView}
 use Rattle.ca_term.specs.Event.{EventView, over}
-use Rattle.ca_term.specs.Cost.{cost}
+use Rattle.ca_meaning.specs.Cost.{cost}
 use Rattle.ca_meaning.specs.State.{State}
 use Rattle.ca_meaning.specs.Steps.{Step}
 use Rattle.ca_meaning.specs.Legal.{Reaches}

@@ -6,6 +6,7 @@ pub mod Served
 pub mod Size
 pub mod BodyParts
 pub mod BodyViews
+pub mod Buffer
 pub mod Channel
 pub mod Wait
 pub mod Row
@@ -21,6 +22,7 @@ pub mod TaskSteps
 pub mod Steps
 pub mod Legal
 pub mod Sound
+pub mod Cost
 pub mod Ends
 pub mod History
 pub mod ChannelLaw

@@ -1,6 +1,10 @@
 pub mod Cuts
 pub mod Nesting
 pub mod Numbers
+pub mod Printing
 pub mod Reader
 pub mod Readings
+pub mod Spelling
 pub mod Stack
+pub mod Table
+pub mod TextSpelling

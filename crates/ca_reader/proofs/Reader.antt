@@ -1,5 +1,5 @@
 -- The loop of `read`, turn by turn.
-use Rattle.std.proofs.Common.{◌≡◌, ℕ, ◌+◌, ◌≤◌, List, length, take, drop, sym, ◌∙◌, ap, arith, None, Result, Ok, Err}
+use Rattle.std.proofs.Common.{refl, ◌≡◌, ℕ, ◌+◌, ◌≤◌, List, length, take, drop, sym, ◌∙◌, ap, arith, None, Result, Ok, Err}
 use Rattle.std.specs.Prelude.{IfOk, OnOk, IfErr}
 use Rattle.std.proofs.lemmas.Grind.{common_steps}
 use Rattle.ca_value.specs.Seq.{list}
@@ -13,6 +13,7 @@ use Rattle.ca_reader.specs.View.{form_trees}
 use Rattle.ca_reader.specs.Bytes.{past}
 use Rattle.ca_reader.specs.Pieces.{Piece, over, blank, found, wrong, first, pieces_from}
 use Rattle.ca_reader.specs.Reads.{Context, Reads, ReadFault, IsFaultOf, end_fault, piece_fault}
+use Rattle.ca_reader.specs.Printed.{ReadsAside}
 use Rattle.ca_reader.specs.Steps.{next, innermost, unless, go}
 use Rattle.ca_reader.specs.NestView.{Tells}
 use Rattle.ca_reader.proofs.Cuts.{slice_from, slice_from_is}
@@ -57,3 +58,7 @@ end_faults bytes p rest c (Ok fs) g e t = tt
 end_faults bytes p rest c (Err (Fault k q)) g e t =
     faults_answer bytes k q (sym g ∙ go_over p rest c e ∙ ap (λ o. unless o (Ok (innermost c))) t)
 end_faults bytes p rest c (Err OutOfMemory) g e t = tt
+
+pub end_prints : (bytes : List ℕ) (r : Result (Seq Form) ReadError) → IfOk r (λ fs. Reads bytes (form_trees (list fs))) → IfOk r (λ fs. (text : List ℕ) × ReadsAside text (form_trees (list fs)))
+end_prints bytes (Ok fs) h = (bytes, (form_trees (list fs), h, refl))
+end_prints bytes (Err e) h = tt

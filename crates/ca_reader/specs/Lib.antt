@@ -4,6 +4,7 @@ pub mod Kind
 pub mod NestView
 pub mod PieceView
 pub mod Pieces
+pub mod Printed
 pub mod Reads
 pub mod Steps
 pub mod Texts

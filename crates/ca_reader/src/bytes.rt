@@ -8,12 +8,27 @@ pub fn is_separator(byte: u8) -> bool
     matches!(byte, b' ' | b'\t' | b'\n' | b'\r' | b',')
 }
 
+const Y: bool = true;
+
+const N: bool = false;
+
+/// For each byte, whether it may stand in a token: a row for each high nibble.
+const TOKEN_BYTES: [bool; 256] = [
+    N, N, N, N, N, N, N, N, N, N, N, N, N, N, N, N, N, N, N, N, N, N, N, N, N, N, N, N, N, N, N, N,
+    N, Y, N, N, Y, Y, Y, N, N, N, Y, Y, N, Y, Y, Y, Y, Y, Y, Y, Y, Y, Y, Y, Y, Y, Y, N, Y, Y, Y, Y,
+    N, Y, Y, Y, Y, Y, Y, Y, Y, Y, Y, Y, Y, Y, Y, Y, Y, Y, Y, Y, Y, Y, Y, Y, Y, Y, Y, N, N, N, N, Y,
+    N, Y, Y, Y, Y, Y, Y, Y, Y, Y, Y, Y, Y, Y, Y, Y, Y, Y, Y, Y, Y, Y, Y, Y, Y, Y, Y, N, N, N, N, N,
+    N, N, N, N, N, N, N, N, N, N, N, N, N, N, N, N, N, N, N, N, N, N, N, N, N, N, N, N, N, N, N, N,
+    N, N, N, N, N, N, N, N, N, N, N, N, N, N, N, N, N, N, N, N, N, N, N, N, N, N, N, N, N, N, N, N,
+    N, N, N, N, N, N, N, N, N, N, N, N, N, N, N, N, N, N, N, N, N, N, N, N, N, N, N, N, N, N, N, N,
+    N, N, N, N, N, N, N, N, N, N, N, N, N, N, N, N, N, N, N, N, N, N, N, N, N, N, N, N, N, N, N, N,
+];
+
 /// An ASCII letter or digit, or one of `*+!-_?<>=&%$./:`.
-#[tactic(auto, unfolding(crate::specs::Bytes::is_token_byte))]
 pub fn is_token_byte(byte: u8) -> bool
     ensures { result ≡ is_token_byte byte }
 {
-    matches!(byte, b'a'..=b'z' | b'A'..=b'Z' | b'0'..=b'9') || b"*+!-_?<>=&%$./:".contains(&byte)
+    TOKEN_BYTES[byte as usize]
 }
 
 pub fn is_digit(byte: u8) -> bool

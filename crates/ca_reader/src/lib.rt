@@ -15,6 +15,9 @@ mod letter;
 mod lines;
 mod nest;
 mod piece;
+pub mod print;
+#[cfg(test)]
+mod print_tests;
 pub mod read;
 #[cfg(test)]
 mod tests;

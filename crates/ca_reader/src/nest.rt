@@ -1,58 +1,63 @@
 ghost use Rattle.std.specs.Prelude.{◌≡◌, ◌++◌, ◌∷◌, [], None, OnOk, IfOk, IfErr};
 ghost use Rattle.ca_value.specs.Seq.{list};
-ghost use Rattle.ca_reader.specs.Form.{FormTree, atom, group, none};
+ghost use Rattle.ca_reader.specs.Form.{FormTrees, atom, group, none};
 ghost use Rattle.ca_reader.specs.View.{form_tree, form_trees, shape_tree};
 ghost use Rattle.ca_reader.specs.PieceView.{atom_view, piece_view};
 ghost use Rattle.ca_reader.specs.Pieces.{opener};
-ghost use Rattle.ca_reader.specs.Reads.{outside, inside, piece_fault, closing_fault, end_fault, is_paired, same_bracket};
+ghost use Rattle.ca_reader.specs.Reads.{outside, inside, piece_fault, closing_fault, end_fault, is_paired, same_bracket, count};
 ghost use Rattle.ca_reader.specs.Steps.{next, shut, with_form, innermost};
-ghost use Rattle.ca_reader.specs.NestView.{context, Tells};
+ghost use Rattle.ca_reader.specs.NestView.{context, IsNest, Tells};
 
 use crate::error::{ReadError, ReadErrorKind};
 use crate::form::{Bracket, Form, Forms, Shape};
 use crate::piece::Piece;
 use ca_term::place::Place;
 use std::alloc::Global;
-use std::mem;
 
 /// How many brackets may stand open.
 const MOST_OPEN: usize = 200;
 
-/// A bracket that stands open, and the forms before it on its own level.
-#[derive(Drop)]
+/// A bracket that stands open, and how many forms stand before it on its own level.
+#[derive(Clone, Copy)]
 pub struct Opened {
-    before: Forms,
+    before: usize,
     bracket: Bracket,
     place: Place,
 }
 
-/// Where a reading stands: the open brackets, the outermost first, and the forms behind the last one.
+/// Where a reading stands: the open brackets, the outermost first, and the forms of all levels, of which
+/// those from `base` on stand behind the last bracket.
 #[derive(Drop)]
 pub struct Nest {
     open: Vec<Opened>,
-    forms: Forms,
+    base: usize,
+    forms: Vec<Form>,
 }
 
 impl Nest {
     /// A reading that has seen nothing.
     pub fn new(alloc: Global) -> Nest
-        ensures { context result ≡ outside none }
+        ensures nothing { context result ≡ outside none }
+        ensures sound { IsNest result }
     {
         Nest {
             open: Vec::new(alloc),
-            forms: Forms::new(alloc),
+            base: 0,
+            forms: Vec::new(alloc),
         }
     }
 
     /// Takes the next piece.
-    pub fn add(&mut self, alloc: Global, piece: Piece, place: Place) -> Result<(), ReadError>
+    pub fn add(&mut self, piece: Piece, place: Place) -> Result<(), ReadError>
+        requires { IsNest self.old }
         ensures ok { OnOk result (piece_fault (context self.old) (piece_view piece) place ≡ None) }
         ensures becomes { OnOk result (context self.new ≡ next (context self.old) (piece_view piece) place) }
+        ensures sound { OnOk result (IsNest self.new) }
         ensures err { IfErr result (λ e. Tells e (piece_fault (context self.old) (piece_view piece) place)) }
     {
         match piece {
             Piece::One(atom) => self.push(Form::new(atom.shape(), place)),
-            Piece::Opener(bracket) => self.open(alloc, bracket, place),
+            Piece::Opener(bracket) => self.open(bracket, place),
             Piece::Closer(bracket) => self.close(bracket, place),
         }
     }
@@ -63,43 +68,53 @@ impl Nest {
         ensures whole { OnOk result (end_fault (context self) ≡ None) }
         ensures err { IfErr result (λ e. Tells e (end_fault (context self))) }
     {
-        let Nest { mut open, forms } = self;
+        let Nest {
+            mut open,
+            forms,
+            ..
+        } = self;
         match open.pop() {
-            None => Ok(forms),
+            None => Ok(Forms::from_vec(forms)),
             Some(opened) => Err(ReadError::Fault(ReadErrorKind::UnclosedList, opened.place)),
         }
     }
 
     /// Adds a form behind the last one.
     fn push(&mut self, form: Form) -> Result<(), ReadError>
+        requires { IsNest self.old }
         ensures ok { OnOk result (context self.new ≡ with_form (context self.old) (form_tree form)) }
+        ensures sound { OnOk result (IsNest self.new) }
         ensures err { IfErr result (λ e. Tells e None) }
     {
-        self.forms.reserve(1)?;
-        self.forms.push(form);
+        self.forms.push(form)?;
         Ok(())
     }
 
-    fn open(&mut self, alloc: Global, bracket: Bracket, place: Place) -> Result<(), ReadError>
+    fn open(&mut self, bracket: Bracket, place: Place) -> Result<(), ReadError>
+        requires { IsNest self.old }
         ensures ok { OnOk result (piece_fault (context self.old) (opener bracket) place ≡ None) }
         ensures becomes { OnOk result (context self.new ≡ inside (context self.old) bracket place none) }
+        ensures sound { OnOk result (IsNest self.new) }
         ensures err { IfErr result (λ e. Tells e (piece_fault (context self.old) (opener bracket) place)) }
     {
         if self.open.len() >= MOST_OPEN {
             return Err(ReadError::Fault(ReadErrorKind::TooDeep, place));
         }
-        let before = mem::replace(&mut self.forms, Forms::new(alloc));
+        let before = self.forms.len() - self.base;
         self.open.push(Opened {
             before,
             bracket,
             place,
         })?;
+        self.base = self.forms.len();
         Ok(())
     }
 
     fn close(&mut self, bracket: Bracket, place: Place) -> Result<(), ReadError>
+        requires { IsNest self.old }
         ensures ok { OnOk result (closing_fault (context self.old) bracket place ≡ None) }
         ensures becomes { OnOk result (context self.new ≡ shut (context self.old)) }
+        ensures sound { OnOk result (IsNest self.new) }
         ensures err { IfErr result (λ e. Tells e (closing_fault (context self.old) bracket place)) }
     {
         let Some(opened) = self.open.pop() else {
@@ -108,12 +123,12 @@ impl Nest {
         if !closes(bracket, opened.bracket) {
             return Err(ReadError::Fault(ReadErrorKind::StrayClose, place));
         }
-        if !is_paired(bracket, &self.forms) {
+        if !is_paired(bracket, self.forms.len() - self.base) {
             return Err(ReadError::Fault(ReadErrorKind::OddMap, opened.place));
         }
-        let Opened { before, place, .. } = opened;
-        let inner = mem::replace(&mut self.forms, before);
-        self.push(Form::new(grouped(bracket, inner), place))
+        let inner = Forms::from_vec(self.forms.split_off(self.base)?);
+        self.base -= opened.before;
+        self.push(Form::new(grouped(bracket, inner), opened.place))
     }
 }
 
@@ -125,12 +140,12 @@ fn closes(closing: Bracket, opening: Bracket) -> bool
 }
 
 /// A map has a value for each key.
-fn is_paired(bracket: Bracket, forms: &Forms) -> bool
-    ensures { result ≡ is_paired bracket (form_trees (list forms.now)) }
+fn is_paired(bracket: Bracket, length: usize) -> bool
+    ensures { (fs : FormTrees) → count fs ≡ length → result ≡ is_paired bracket fs }
 {
     match bracket {
         Bracket::Round | Bracket::Square => true,
-        Bracket::Curly => forms.len() % 2 == 0,
+        Bracket::Curly => length % 2 == 0,
     }
 }
 

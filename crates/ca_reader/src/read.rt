@@ -5,6 +5,7 @@ ghost use Rattle.ca_reader.specs.declared.error.ReadErrorKind.{ReadErrorKind};
 ghost use Rattle.ca_reader.specs.Form.{FormTrees};
 ghost use Rattle.ca_reader.specs.View.{form_trees};
 ghost use Rattle.ca_reader.specs.Reads.{Reads, ReadFault, IsFaultOf};
+ghost use Rattle.ca_reader.specs.Printed.{ReadsAside};
 
 use crate::cut::next_piece;
 use crate::error::ReadError;
@@ -21,6 +22,8 @@ use std::alloc::Global;
 pub fn read(alloc: Global, bytes: &[u8]) -> Result<Forms, ReadError>
     ensures forms { IfOk result (λ fs. Reads bytes.now (form_trees (list fs))) }
     ensures fault { IfErr result (λ e. IsFaultOf bytes.now e) }
+    // So they can be printed.
+    ensures printable { IfOk result (λ fs. (text : List ℕ) × ReadsAside text (form_trees (list fs))) }
 {
     let mut nest = Nest::new(alloc);
     let mut place = Place { line: 1, column: 1 };
@@ -33,7 +36,7 @@ pub fn read(alloc: Global, bytes: &[u8]) -> Result<Forms, ReadError>
                 rest = &rest[length..];
             }
             First::Found(piece, length) => {
-                nest.add(alloc, piece, place)?;
+                nest.add(piece, place)?;
                 place = past(place, &rest[..length]);
                 rest = &rest[length..];
             }

@@ -1,6 +1,6 @@
 ghost use Rattle.std.specs.Prelude.{◌≡◌, ℕ, List, [], ◌∷◌, Option, Some, pos, true, false, codes, option_map};
 ghost use Rattle.ca_value.specs.Tree.{Tree, nil, bool, int};
-ghost use Rattle.ca_value.specs.Buffer.{fixed_buffer};
+ghost use Rattle.ca_meaning.specs.Buffer.{fixed_buffer};
 ghost use Rattle.ca_value.specs.declared.value.PortId.{PortId};
 ghost use Rattle.ca_term.specs.declared.fault.Fault.{Fault as FaultKind};
 ghost use Rattle.ca_term.specs.declared.place.Place.{Place};
@@ -9,7 +9,7 @@ ghost use Rattle.ca_term.specs.declared.event.Side.TheVariants.{Take, Put};
 ghost use Rattle.ca_term.specs.declared.event.Ending.TheVariants.{Faulted};
 ghost use Rattle.ca_term.specs.Program.{ProgramView};
 ghost use Rattle.ca_term.specs.Event.{BranchView, done, met, settled, over};
-ghost use Rattle.ca_term.specs.Cost.{cost};
+ghost use Rattle.ca_meaning.specs.Cost.{cost};
 ghost use Rattle.ca_meaning.specs.State.{State, Task};
 ghost use Rattle.ca_meaning.specs.Channel.{shut};
 ghost use Rattle.ca_meaning.specs.Legal.{is_end_of_main};

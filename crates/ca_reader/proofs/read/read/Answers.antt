@@ -3,7 +3,7 @@ use Rattle.std.proofs.lemmas.Result.{err_from_is_err_and}
 use Rattle.ca_reader.specs.Pieces.{First}
 use Rattle.ca_reader.specs.PieceView.{first_view, piece_view, FirstFits}
 use Rattle.ca_reader.specs.NestView.{context}
-use Rattle.ca_reader.proofs.Reader.{turn_blank, turn_found, turn_bound, turn_refused, turn_wrong, end_reads, end_faults}
+use Rattle.ca_reader.proofs.Reader.{turn_blank, turn_found, turn_bound, turn_refused, turn_wrong, end_reads, end_faults, end_prints}
 use Rattle.ca_reader.proofs.read.read.Goals as goal
 
 pub pieces-preserved-in-Blank : goal.pieces-preserved-in-Blank
@@ -12,6 +12,7 @@ pieces-preserved-in-Blank c =
     let f = subst (λ (x : First). FirstFits (length c.pieces.rest.now) x) (ap first_view c.in-Blank.is) c.in_ok-next_piece.ensures.fits in
     record {
       same = turn_blank _ c.pieces.place _ c.pieces.rest.now _ c.in-Blank.length c.pieces.invariant.same e c.past-place.ensures.value;
+      sound = c.pieces.invariant.sound;
       line_bound = turn_bound c.pieces.rest.now c.in-Blank.length _ c.pieces.place.line _ c.pieces.invariant.line_bound f.1 c.past-place.ensures.line;
       column_bound = turn_bound c.pieces.rest.now c.in-Blank.length _ c.pieces.place.column _ c.pieces.invariant.column_bound f.1 c.past-place.ensures.column;
     }
@@ -23,6 +24,7 @@ pieces-preserved c =
     record {
       same = turn_found _ c.pieces.place _ c.pieces.rest.now (context c.pieces.nest) _ (piece_view c.in-Found.piece) c.in-Found.length
           c.pieces.invariant.same e c.past-place-in-Found.ensures.value c.in_ok-add-in-Found.ensures.ok c.in_ok-add-in-Found.ensures.becomes;
+      sound = c.in_ok-add-in-Found.ensures.sound;
       line_bound = turn_bound c.pieces.rest.now c.in-Found.length _ c.pieces.place.line _ c.pieces.invariant.line_bound f.1 c.past-place-in-Found.ensures.line;
       column_bound = turn_bound c.pieces.rest.now c.in-Found.length _ c.pieces.place.column _ c.pieces.invariant.column_bound f.1 c.past-place-in-Found.ensures.column;
     }
@@ -49,3 +51,6 @@ pub returns-in-Over-clause-fault : goal.returns-in-Over-clause-fault
 returns-in-Over-clause-fault c =
     let e = ap first_view (sym c.in-Over.is) ∙ c.in_ok-next_piece.ensures.value in
     end_faults c.args.bytes.now c.pieces.place c.pieces.rest.now (context c.pieces.nest) c.finish.result c.pieces.invariant.same e c.finish.ensures.err
+
+pub returns-in-Over-clause-printable : goal.returns-in-Over-clause-printable
+returns-in-Over-clause-printable c = end_prints c.args.bytes.now c.finish.result (returns-in-Over-clause-forms c)

@@ -1,8 +1,5 @@
-use Rattle.ca_value.specs.Seq.{list}
-use Rattle.ca_reader.specs.View.{form_trees}
 use Rattle.ca_reader.proofs.Stack.{end_inside}
 use Rattle.ca_reader.proofs.nest.Nest.finish.Goals as goal
 
 pub returns-clause-err : goal.returns-clause-err
-returns-clause-err c =
-    end_inside c.pop.new.self.items c.args.self.open.items c.in-Some.opened (form_trees (list c.args.self.forms)) c.in-Some.ensures.items
+returns-clause-err c = end_inside c.pop.new.self.items c.args.self.open.items c.in-Some.opened c.args.self.forms.items c.in-Some.ensures.items
