@@ -1,5 +1,5 @@
 -- On one desk the next event is one.
-use Rattle.std.proofs.Common.{◌≡◌, ◌⊎◌, inl, inr, ⊎_elim, ℕ, zero, suc, ◌+◌, ◌-◌, ◌%◌, ◌<◌, ◌≤◌, List, [], ◌∷◌, ◌++◌, length, refl, sym, ap, ap₂, ◌∙◌, subst, arith, Bool, true, false, cond, Option, Some, None, option_map, slice_get, eqb, eqb-true, nat_lt, ltb-true, ltb-false}
+use Rattle.std.proofs.Common.{◌≡◌, ℕ, zero, suc, ◌+◌, ◌-◌, ◌%◌, ◌<◌, ◌≤◌, List, [], ◌∷◌, length, refl, sym, ap, ap₂, ◌∙◌, subst, arith, Bool, true, false, cond, Option, Some, None, option_map, slice_get, eqb, eqb-true, nat_lt, ltb-true, ltb-false}
 use Rattle.std.proofs.lemmas.Nat.{mod_below}
 use mathlib.Core.Logic.{dite}
 use native.Mathlib.Decide.{ℕ_discrete, dec_le}
@@ -11,30 +11,30 @@ use Rattle.ca_term.specs.declared.fault.Fault.{Fault}
 use Rattle.ca_term.specs.declared.event.Ending.TheVariants.{Ended, Faulted}
 use Rattle.ca_term.specs.declared.event.Side.{Side}
 use Rattle.ca_term.specs.declared.head.RegisterName.{RegisterName}
-use Rattle.ca_term.specs.Operation.{OpView, WantView, SeedView, WhatView, unbuffered, fixed, dropping, sliding, promise, timeout, mult, mix, publication, taking, putting, choosing, posting, making, spawning, closing, registering, printing}
+use Rattle.ca_term.specs.declared.head.SeedKind.{SeedKind}
+use Rattle.ca_term.specs.Operation.{OpView, WhatView, unbuffered, fixed, dropping, sliding, promise, timeout, mult, mix, publication, taking, putting, choosing, posting, making, spawning, closing, registering, printing}
 use Rattle.ca_term.specs.Program.{ProgramView}
-use Rattle.ca_term.specs.Event.{BranchView, put_of, EventView, made, spawned, done, met, parked, posted, settled, defaulted, closed, registered, printed, ticked, over as is_over, port_number}
+use Rattle.ca_term.specs.Event.{BranchView, EventView, made, spawned, done, met, parked, posted, settled, defaulted, closed, registered, printed, ticked, over as is_over, port_number}
 use Rattle.ca_meaning.specs.Body.{At, local, at_op, ended, faulted, nowhere}
-use Rattle.ca_meaning.specs.Channel.{Channel}
-use Rattle.ca_meaning.specs.Registry.{Registry, answers}
+use Rattle.ca_meaning.specs.Registry.{answers}
 use Rattle.ca_meaning.specs.Wait.{Handler, side_of, port_of}
-use Rattle.ca_meaning.specs.Row.{Row, not_ready, completes, meets}
+use Rattle.ca_meaning.specs.Row.{not_ready, completes, meets}
 use Rattle.ca_meaning.specs.Task.{body_at}
-use Rattle.ca_meaning.specs.State.{State, Task, running}
+use Rattle.ca_meaning.specs.State.{State, Task}
 use Rattle.ca_meaning.specs.Choice.{branches_of, has_priority, default_of, parks, row, is_ready, any_ready, Picks}
 use Rattle.ca_meaning.specs.Refusal.{refusal, registering_gives, fault_at}
-use Rattle.ca_meaning.specs.Going.{Runs, IsAtOp, Stands}
+use Rattle.ca_meaning.specs.Going.{IsAtOp, Stands}
 use Rattle.ca_meaning.specs.TaskSteps.{IsMoment, kind_of, result_of}
 use Rattle.ca_meaning.specs.Steps.{Step}
 use Rattle.ca_meaning.specs.EndsLaw.{is_of}
-use Rattle.ca_meaning.specs.Solo.{Desk, distance, IsFirstFrom, Chooses, ReadsMoment, CountsAlts, Leaves}
+use Rattle.ca_meaning.specs.Solo.{Desk, distance, IsFirstFrom, Chooses, ReadsMoment, Leaves}
 use Rattle.ca_meaning.proofs.Single.{same_task, same_op, same_seed}
 
 -- which kind of event a task has
-data Class : Type 0 where
+pub data Class : Type 0 where
   makes spawns takes_branch takes_default waits posts closes registers prints ends faults settles_it ticks_it : Class
 
-abbrev class : EventView → Class
+abbrev pub class : EventView → Class
 class (made t p what moment) = makes
 class (spawned t u kind result) = spawns
 class (done t k b a) = takes_branch
@@ -148,7 +148,7 @@ actor program s s2 t (is_over u (Faulted fault place result)) x o = at_task s u 
 actor program s s2 t (settled w k side p v) x o = absurd (let j : false ≡ true = o in cc)
 actor program s s2 t (ticked m ports) x o = absurd (let j : false ≡ true = o in cc)
 
-same_class : (program : ProgramView) (s f g : State) (t : ℕ) (a b : EventView) → Step program s a f → Step program s b g → is_of t a ≡ true → is_of t b ≡ true → class a ≡ class b
+pub same_class : (program : ProgramView) (s f g : State) (t : ℕ) (a b : EventView) → Step program s a f → Step program s b g → is_of t a ≡ true → is_of t b ≡ true → class a ≡ class b
 same_class program s f g t a b x y o p =
     let m = actor program s f t a x o in
     let n = actor program s g t b y p in
@@ -171,7 +171,7 @@ apart_by j k n start jn kn sn e = by (nat_lt j start) (nat_lt k start) refl refl
 start_within : (turns n k : ℕ) → k < n → turns % n ≤ n
 start_within turns n k lt = let m = mod_below turns n (let p : 0 < n = omega (arith, lt) in p) in omega (arith, m)
 
-one_of : (j k : ℕ) → (j < k → ⊥) → (k < j → ⊥) → j ≡ k
+pub one_of : (j k : ℕ) → (j < k → ⊥) → (k < j → ⊥) → j ≡ k
 one_of j k a b = dite (ℕ_discrete j k) (λ e. e) (λ ne. dite (dec_le j k) (λ le. absurd (a (omega (arith, le, ne)))) (λ gt. absurd (b (lt_of_not-le gt))))
 
 not_unready : (s : State) (b : BranchView) → is_ready (row s b) ≡ true → row s b ≡ not_ready → ⊥
@@ -196,3 +196,225 @@ chosen_once s op turns j k b c p q rb rc fj fk = by (has_priority op) refl where
 
 same_branch : (bs : List BranchView) (j k : ℕ) (b c : BranchView) → j ≡ k → slice_get bs j ≡ Some b → slice_get bs k ≡ Some c → b ≡ c
 same_branch bs j k b c e p q = let i : Some b ≡ Some c = sym p ∙ ap (slice_get bs) e ∙ q in cc
+
+-- numbers, values and the parts of operations that are equal
+same_value : (v w : Tree) → Some v ≡ Some w → v ≡ w
+same_value v w e = cc
+
+same_making : (v w : WhatView) → making v ≡ making w → v ≡ w
+same_making v w e = cc
+
+same_closing : (p q : ℕ) → closing (port p) ≡ closing (port q) → p ≡ q
+same_closing p q e = let k : port p ≡ port q = cc in let j : p ≡ q = cc in j
+
+same_printing : (v w : List ℕ) → printing v ≡ printing w → v ≡ w
+same_printing v w e = cc
+
+moment_once : (now : ℕ) (what : WhatView) (m n : Option ℕ) (d f g : Desk) → IsMoment now what m → IsMoment now what n → ReadsMoment m d f → ReadsMoment n d g → m ≡ n
+moment_once now (timeout k) (Some a) (Some b) d f g i j r q = ap (λ n. Some n) (let e : a ∷ r.0 ≡ b ∷ q.0 = sym r.1 ∙ q.1 in let h : a ≡ b = cc in h)
+moment_once now (timeout k) None n d f g i j r q = absurd i
+moment_once now (timeout k) (Some a) None d f g i j r q = absurd j
+moment_once now unbuffered m n d f g i j r q = i ∙ sym j
+moment_once now (fixed k) m n d f g i j r q = i ∙ sym j
+moment_once now (dropping k) m n d f g i j r q = i ∙ sym j
+moment_once now (sliding k) m n d f g i j r q = i ∙ sym j
+moment_once now promise m n d f g i j r q = i ∙ sym j
+moment_once now (mult s) m n d f g i j r q = i ∙ sym j
+moment_once now (mix o c) m n d f g i j r q = i ∙ sym j
+moment_once now (publication s) m n d f g i j r q = i ∙ sym j
+
+-- two numbers of a task are one
+both : (a b t : ℕ) → eqb a t ≡ true → eqb b t ≡ true → a ≡ b
+both a b t e h = eqb-true a t e ∙ sym (eqb-true b t h)
+
+-- the operations of two events of one task
+op_once : (s : State) (a b : ℕ) (x y : Task) (o p : OpView) → a ≡ b → s.tasks a ≡ Some x → s.tasks b ≡ Some y → IsAtOp x.body o → IsAtOp y.body p → o ≡ p
+op_once s a b x y o p e ax by' xo yp = same_op x.body y.body o p (ap (λ (z : Task). z.body) (same_task s.tasks a x y ax (ap s.tasks e ∙ by'))) xo yp
+
+-- the chosen branch at two events of one task
+pick_once : (s : State) (d : Desk) (a b j k : ℕ) (x y : Task) (o p : OpView) (c e : BranchView) → a ≡ b → Stands s a o x → Stands s b p y → Picks s o j c → Picks s p k e → is_ready (row s c) ≡ true → is_ready (row s e) ≡ true
+    → Chooses s d a j → Chooses s d b k → (j ≡ k) × (c ≡ e)
+pick_once s d a b j k x y o p c e ab sx sy px py rc re cj ck =
+    let op : o ≡ p = op_once s a b x y o p ab sx.0 sy.0 sx.2 sy.2 in
+    let px' : Picks s p j c = subst (λ z. Picks s z j c) op px in
+    let oj : cj.1 ≡ p = op_once s a b cj.0 y cj.1 p ab cj.2 sy.0 cj.3 sy.2 in
+    let ok : ck.1 ≡ p = op_once s b b ck.0 y ck.1 p refl ck.2 sy.0 ck.3 sy.2 in
+    let fj : has_priority p ≡ false → IsFirstFrom s (branches_of p) (d.alts a) j = subst (λ z. has_priority z ≡ false → IsFirstFrom s (branches_of z) (d.alts a) j) oj cj.4 in
+    let fk : has_priority p ≡ false → IsFirstFrom s (branches_of p) (d.alts a) k = subst (λ n. has_priority p ≡ false → IsFirstFrom s (branches_of p) (d.alts n) k) (sym ab) (subst (λ z. has_priority z ≡ false → IsFirstFrom s (branches_of z) (d.alts b) k) ok ck.4) in
+    let jk = chosen_once s p (d.alts a) j k c e px' py rc re fj fk in
+    (jk, same_branch (branches_of p) j k c e jk px'.0 py.0)
+
+same_result : (r q : Option PortId) → option_map port_number r ≡ option_map port_number q → r ≡ q
+same_result None None e = refl
+same_result None (Some q) e = absurd (let k : None ≡ Some q.n = e in cc)
+same_result (Some r) None e = absurd (let k : Some r.n ≡ None = e in cc)
+same_result (Some r) (Some q) e = let k : r.n ≡ q.n = cc in ap (λ (n : ℕ). Some (at n)) k where
+  at : ℕ → PortId
+  at n = record { n = n }
+
+-- what differs in kind isn't of one class
+abbrev pub Same : ProgramView → State → ℕ → Desk → EventView → EventView → Type 0
+Same program s t d a b =
+    class a ≡ class b → (f g : State) (i j : Desk) → Step program s a f → Step program s b g → is_of t a ≡ true → is_of t b ≡ true → Leaves s d a i → Leaves s d b j → a ≡ b
+
+same_made : (program : ProgramView) (s : State) (t : ℕ) (d : Desk) (a p b q : ℕ) (v w : WhatView) (m n : Option ℕ) → Same program s t d (made a p v m) (made b q w n)
+same_made program s t d a p b q v w m n c f g i j x y o h k l =
+    let ab = both a b t o h in
+    let pq : p ≡ q = k.1 ∙ sym l.1 in
+    let vw = same_making v w (op_once s a b x.0 y.0 (making v) (making w) ab x.2.0 y.2.0 x.2.2 y.2.2) in
+    let mn = moment_once s.now w m n d k.0 l.0 (subst (λ z. IsMoment s.now z m) vw x.5) y.5 k.2 l.2 in
+    λ r. made (ab r) (pq r) (vw r) (mn r)
+
+same_spawned : (program : ProgramView) (s : State) (t : ℕ) (d : Desk) (a u b w : ℕ) (c e : SeedKind) (m n : Option ℕ) → Same program s t d (spawned a u c m) (spawned b w e n)
+same_spawned program s t d a u b w c e m n cl f g i j x y o h k l =
+    let ab = both a b t o h in
+    let uw : u ≡ w = k.0 ∙ sym l.0 in
+    let seed = same_seed x.1 y.1 (op_once s a b x.0 y.0 (spawning x.1) (spawning y.1) ab x.4.0 y.4.0 x.4.2 y.4.2) in
+    let ce : c ≡ e = sym x.6 ∙ ap kind_of seed ∙ y.6 in
+    let mn : m ≡ n = sym x.7 ∙ ap result_of seed ∙ y.7 in
+    λ r. spawned (ab r) (uw r) (ce r) (mn r)
+
+same_done : (program : ProgramView) (s : State) (t : ℕ) (d : Desk) (a k b l : ℕ) (c e : BranchView) (v w : Tree) → Same program s t d (done a k c v) (done b l e w)
+same_done program s t d a k b l c e v w cl f g i j x y o h m n =
+    let ab = both a b t o h in
+    let p = pick_once s d a b k l x.0 y.0 x.1 y.1 c e ab x.4 y.4 x.5 y.5 (ap is_ready x.6) (ap is_ready y.6) m.1 n.1 in
+    let vw : v ≡ w = (let q : completes v x.3 ≡ completes w y.3 = sym x.6 ∙ ap (row s) p.1 ∙ y.6 in cc) in
+    λ r. done (ab r) (p.0 r) (p.1 r) (vw r)
+
+done_not_met : {G : Type 0} (program : ProgramView) (s : State) (t : ℕ) (d : Desk) (a k b l : ℕ) (c : BranchView) (v w : Tree) (side : Side) (p n z : ℕ) (f g : State) (i j : Desk) → Step program s (done a k c v) f → Step program s (met b l side p w n z) g → is_of t (done a k c v) ≡ true → is_of t (met b l side p w n z) ≡ true → Leaves s d (done a k c v) i → Leaves s d (met b l side p w n z) j → G
+done_not_met program s t d a k b l c v w side p n z f g i j x y o h m q =
+    let ab = both a b t o h in
+    let r = pick_once s d a b k l x.0 y.0 x.1 y.1 c y.2 ab x.4 y.6 x.5 y.7 (ap is_ready x.6) (ap is_ready y.10) m.1 q.1 in
+    absurd (let u : completes v x.3 ≡ meets y.3 w = sym x.6 ∙ ap (row s) r.1 ∙ y.10 in cc)
+
+same_meeting : (h i : Handler) (v w : Tree) → meets h v ≡ meets i w → (h ≡ i) × (v ≡ w)
+same_meeting h i v w e = (let k : h ≡ i = cc in k, let k : v ≡ w = cc in k)
+
+same_met : (program : ProgramView) (s : State) (t : ℕ) (d : Desk) (a k b l : ℕ) (c e : Side) (p q : ℕ) (v w : Tree) (m n u z : ℕ) → Same program s t d (met a k c p v m u) (met b l e q w n z)
+same_met program s t d a k b l c e p q v w m n u z cl f g i j x y o h x2 y2 =
+    let ab = both a b t o h in
+    let r = pick_once s d a b k l x.0 y.0 x.1 y.1 x.2 y.2 ab x.6 y.6 x.7 y.7 (ap is_ready x.10) (ap is_ready y.10) x2.1 y2.1 in
+    let hv = same_meeting x.3 y.3 v w (sym x.10 ∙ ap (row s) r.1 ∙ y.10) in
+    let ce : c ≡ e = sym x.8 ∙ ap side_of r.1 ∙ y.8 in
+    let pq : p ≡ q = sym x.9 ∙ ap port_of r.1 ∙ y.9 in
+    let mn : m ≡ n = sym x.11 ∙ ap (λ (h : Handler). h.wait) hv.0 ∙ y.11 in
+    let uz : u ≡ z = sym x.12 ∙ ap (λ (h : Handler). h.branch) hv.0 ∙ y.12 in
+    λ r2. met (ab r2) (r.0 r2) (ce r2) (pq r2) (hv.1 r2) (mn r2) (uz r2)
+
+same_parked : (program : ProgramView) (s : State) (t : ℕ) (d : Desk) (a m b n : ℕ) (bs cs : List BranchView) → Same program s t d (parked a m bs) (parked b n cs)
+same_parked program s t d a m b n bs cs cl f g i j x y o h k l =
+    let ab = both a b t o h in
+    let op = op_once s a b x.0 y.0 x.1 y.1 ab x.2.0 y.2.0 x.2.2 y.2.2 in
+    let mn : m ≡ n = k.1 ∙ sym l.1 in
+    let bc : bs ≡ cs = sym x.4 ∙ ap branches_of op ∙ y.4 in
+    λ r. parked (ab r) (mn r) (bc r)
+
+same_posting : (p q : ℕ) (v w : Tree) → posting (port p) v ≡ posting (port q) w → (p ≡ q) × (v ≡ w)
+same_posting p q v w e = (let k : port p ≡ port q = cc in let j : p ≡ q = cc in j, let k : v ≡ w = cc in k)
+
+same_posted : (program : ProgramView) (s : State) (t : ℕ) (d : Desk) (a m b n p q : ℕ) (v w : Tree) → Same program s t d (posted a m p v) (posted b n q w)
+same_posted program s t d a m b n p q v w cl f g i j x y o h k l =
+    let ab = both a b t o h in
+    let r = same_posting p q v w (op_once s a b x.0 y.0 (posting (port p) v) (posting (port q) w) ab x.2.0 y.2.0 x.2.2 y.2.2) in
+    let mn : m ≡ n = k.0 ∙ sym l.0 in
+    λ z. posted (ab z) (mn z) (r.0 z) (r.1 z)
+
+same_defaulted : (program : ProgramView) (s : State) (t : ℕ) (d : Desk) (a b : ℕ) (v w : Tree) → Same program s t d (defaulted a v) (defaulted b w)
+same_defaulted program s t d a b v w cl f g i j x y o h k l =
+    let ab = both a b t o h in
+    let op = op_once s a b x.0 y.0 x.1 y.1 ab x.3.0 y.3.0 x.3.2 y.3.2 in
+    ap₂ defaulted ab (same_value v w (sym x.4 ∙ ap default_of op ∙ y.4))
+
+same_closed : (program : ProgramView) (s : State) (t : ℕ) (d : Desk) (a b p q : ℕ) → Same program s t d (closed a p) (closed b q)
+same_closed program s t d a b p q cl f g i j x y o h k l =
+    let ab = both a b t o h in
+    ap₂ closed ab (same_closing p q (op_once s a b x.0 y.0 (closing (port p)) (closing (port q)) ab x.2.0 y.2.0 x.2.2 y.2.2))
+
+same_registering : (m n : RegisterName) (v w : Trees) → registering m v ≡ registering n w → (m ≡ n) × (v ≡ w)
+same_registering m n v w e = (let k : m ≡ n = cc in k, let k : v ≡ w = cc in k)
+
+same_registered : (program : ProgramView) (s : State) (t : ℕ) (d : Desk) (a b : ℕ) (m n : RegisterName) (us bs : Trees) (v w : Tree) → Same program s t d (registered a m us v) (registered b n bs w)
+same_registered program s t d a b m n us bs v w cl f g i j x y o h k l =
+    let ab = both a b t o h in
+    let r = same_registering m n us bs (op_once s a b x.0 y.0 (registering m us) (registering n bs) ab x.3.0 y.3.0 x.3.2 y.3.2) in
+    let vw : v ≡ w = (let q : answers v x.1 ≡ answers w y.1 = sym x.4 ∙ ap₂ (registering_gives s) r.0 r.1 ∙ y.4 in cc) in
+    λ z. registered (ab z) (r.0 z) (r.1 z) (vw z)
+
+same_printed : (program : ProgramView) (s : State) (t : ℕ) (d : Desk) (a b : ℕ) (v w : List ℕ) → Same program s t d (printed a v) (printed b w)
+same_printed program s t d a b v w cl f g i j x y o h k l =
+    let ab = both a b t o h in
+    ap₂ printed ab (same_printing v w (op_once s a b x.0 y.0 (printing v) (printing w) ab x.2.0 y.2.0 x.2.2 y.2.2))
+
+same_ended : (program : ProgramView) (s : State) (t : ℕ) (d : Desk) (a b : ℕ) → Same program s t d (is_over a Ended) (is_over b Ended)
+same_ended program s t d a b cl f g i j x y o h k l = ap (λ n. is_over n Ended) (both a b t o h)
+
+same_faulted : (program : ProgramView) (s : State) (t : ℕ) (d : Desk) (a b : ℕ) (u v : Fault) (p q : Place) (m n : Option PortId) → Same program s t d (is_over a (Faulted u p m)) (is_over b (Faulted v q n))
+same_faulted program s t d a b u v p q m n cl f g i j x y o h k l =
+    let ab = both a b t o h in
+    let xy = same_task s.tasks a x.0 y.0 x.1.0 (ap s.tasks ab ∙ y.1.0) in
+    let fp : ◌≡◌ {A = Option (Fault × Place)} (Some (u, p)) (Some (v, q)) = sym x.2 ∙ ap (λ (z : Task). fault_at s (body_at z.body)) xy ∙ y.2 in
+    let parts : ◌≡◌ {A = Fault × Place} (u, p) (v, q) = cc in
+    let uv : u ≡ v = ap (λ (z : Fault × Place). z.0) parts in
+    let pq : p ≡ q = ap (λ (z : Fault × Place). z.1) parts in
+    let mn = same_result m n (sym x.3 ∙ ap (λ (z : Task). z.result) xy ∙ y.3) in
+    λ r. is_over (ab r) (Faulted (uv r) (pq r) (mn r))
+
+abbrev diagonal : Class → Class → Bool
+diagonal makes makes = true
+diagonal spawns spawns = true
+diagonal takes_branch takes_branch = true
+diagonal takes_default takes_default = true
+diagonal waits waits = true
+diagonal posts posts = true
+diagonal closes closes = true
+diagonal registers registers = true
+diagonal prints prints = true
+diagonal ends ends = true
+diagonal faults faults = true
+diagonal settles_it settles_it = true
+diagonal ticks_it ticks_it = true
+diagonal c d = false
+
+with_itself : (c : Class) → diagonal c c ≡ true
+with_itself makes = refl
+with_itself spawns = refl
+with_itself takes_branch = refl
+with_itself takes_default = refl
+with_itself waits = refl
+with_itself posts = refl
+with_itself closes = refl
+with_itself registers = refl
+with_itself prints = refl
+with_itself ends = refl
+with_itself faults = refl
+with_itself settles_it = refl
+with_itself ticks_it = refl
+
+is_diagonal : (c d : Class) → c ≡ d → diagonal c d ≡ true
+is_diagonal c d e = subst (λ z. diagonal c z ≡ true) e (with_itself c)
+
+no_false : false ≡ true → ⊥
+no_false e = cc
+
+pub same_event : (program : ProgramView) (s : State) (t : ℕ) (d : Desk) (a b : EventView) → Same program s t d a b
+same_event program s t d (made a p v m) (made b q w n) = same_made program s t d a p b q v w m n
+same_event program s t d (spawned a u c m) (spawned b w e n) = same_spawned program s t d a u b w c e m n
+same_event program s t d (done a k c v) (done b l e w) = same_done program s t d a k b l c e v w
+same_event program s t d (done a k c v) (met b l e q w n z) = λ cl f g i j x y o h m u. done_not_met program s t d a k b l c v w e q n z f g i j x y o h m u
+same_event program s t d (met b l e q w n z) (done a k c v) = λ cl f g i j x y o h m u. done_not_met program s t d a k b l c v w e q n z g f j i y x h o u m
+same_event program s t d (met a k c p v m u) (met b l e q w n z) = same_met program s t d a k b l c e p q v w m n u z
+same_event program s t d (parked a m bs) (parked b n cs) = same_parked program s t d a m b n bs cs
+same_event program s t d (posted a m p v) (posted b n q w) = same_posted program s t d a m b n p q v w
+same_event program s t d (defaulted a v) (defaulted b w) = same_defaulted program s t d a b v w
+same_event program s t d (closed a p) (closed b q) = same_closed program s t d a b p q
+same_event program s t d (registered a m us v) (registered b n bs w) = same_registered program s t d a b m n us bs v w
+same_event program s t d (printed a v) (printed b w) = same_printed program s t d a b v w
+same_event program s t d (is_over a Ended) (is_over b Ended) = same_ended program s t d a b
+same_event program s t d (is_over a (Faulted u p m)) (is_over b (Faulted v q n)) = same_faulted program s t d a b u v p q m n
+same_event program s t d (settled w k side p v) b = λ cl f g i j x y o h m u. absurd m
+same_event program s t d (ticked n ports) b = λ cl f g i j x y o h m u. absurd m
+same_event program s t d (is_over a Ended) b = λ cl f g i j x y o h m u. absurd (no_false (is_diagonal (class (is_over a Ended)) (class b) cl))
+same_event program s t d (is_over a (Faulted v p r)) b = λ cl f g i j x y o h m u. absurd (no_false (is_diagonal (class (is_over a (Faulted v p r))) (class b) cl))
+same_event program s t d a (is_over b Ended) = λ cl f g i j x y o h m u. absurd (no_false (is_diagonal (class a) (class (is_over b Ended)) cl))
+same_event program s t d a (is_over b (Faulted v p r)) = λ cl f g i j x y o h m u. absurd (no_false (is_diagonal (class a) (class (is_over b (Faulted v p r))) cl))
+same_event program s t d a b = λ cl f g i j x y o h m u. absurd (no_false (is_diagonal (class a) (class b) cl))

@@ -22,5 +22,6 @@ pub mod ChannelLaws
 pub mod Possible
 pub mod Single
 pub mod Alike
+pub mod SoloLaws
 pub mod Once
 pub mod WaitLaws

@@ -1,21 +1,20 @@
 -- Each event leads from a state to one state, and each journal to one.
-use Rattle.std.proofs.Common.{◌≡◌, ℕ, List, [], ◌∷◌, true, refl, sym, ap, ap₂, ◌∙◌, subst, Option, Some, None, option_map, eqb}
+use Rattle.std.proofs.Common.{◌≡◌, ℕ, List, [], ◌∷◌, true, refl, sym, ap, ap₂, ◌∙◌, subst, Option, Some, None, eqb}
 use Rattle.std.specs.Map.{update}
-use Rattle.ca_value.specs.Tree.{Tree, Trees, nil, bool, port}
+use Rattle.ca_value.specs.Tree.{Tree, nil, bool, port}
 use Rattle.ca_term.specs.declared.event.Side.{Side}
-use Rattle.ca_term.specs.declared.event.Side.TheVariants.{Take, Put}
 use Rattle.ca_term.specs.declared.event.Ending.TheVariants.{Ended, Faulted}
 use Rattle.ca_term.specs.Operation.{OpView, WantView, SeedView, spawning}
 use Rattle.ca_term.specs.Program.{ProgramView}
-use Rattle.ca_term.specs.Event.{EventView, made, spawned, done, met, parked, posted, settled, defaulted, closed, registered, printed, ticked, over as is_over, port_number}
-use Rattle.ca_meaning.specs.Body.{At, at_op, new_body}
-use Rattle.ca_meaning.specs.Channel.{Channel, channel_made}
+use Rattle.ca_term.specs.Event.{EventView, made, spawned, done, met, parked, posted, settled, defaulted, closed, registered, printed, ticked, over as is_over}
+use Rattle.ca_meaning.specs.Body.{at_op, new_body}
+use Rattle.ca_meaning.specs.Channel.{Channel}
 use Rattle.ca_meaning.specs.Registry.{Registry, answers}
 use Rattle.ca_meaning.specs.Wait.{Handler, owner_of, port_of}
 use Rattle.ca_meaning.specs.Row.{Row, Settling, completes, settles, settle_row}
 use Rattle.ca_meaning.specs.Task.{TaskBody, script, system_task, unserved, body_at, body_fill, BodyRest, new_task, reply}
 use Rattle.ca_meaning.specs.State.{State, Task, Tasks, Opening, runs, opening_state}
-use Rattle.ca_meaning.specs.Going.{IsAtOp, Stands, Goes, Wakes}
+use Rattle.ca_meaning.specs.Going.{IsAtOp, Goes, Wakes}
 use Rattle.ca_meaning.specs.Steps.{Step, Steps}
 use Rattle.ca_meaning.specs.Legal.{Reaches}
 use Rattle.ca_meaning.proofs.Rests.{one_rest}

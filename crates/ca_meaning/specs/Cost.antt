@@ -2,7 +2,6 @@
 use Rattle.std.specs.Prelude.{ℕ, ◌+◌, ◌/◌, List, [], ◌∷◌, length, suc}
 use Rattle.ca_value.specs.Tree.{Tree}
 use Rattle.ca_value.specs.Measure.{weight_of, weight_of_items}
-use Rattle.ca_term.specs.declared.event.Side.TheVariants.{Take, Put}
 use Rattle.ca_term.specs.Event.{BranchView, take_of, put_of, EventView, made, spawned, done, met, parked, posted, settled, defaulted, closed, registered, printed, ticked, over}
 
 -- of the branches only the values that are put

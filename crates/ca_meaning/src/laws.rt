@@ -4,6 +4,7 @@
 
 pub mod channels;
 pub mod ends;
+pub mod solo;
 pub mod states;
 pub mod waits;
 pub mod worked;
