@@ -44,7 +44,7 @@ at b = standing (redex b.term)
 -- what a local step makes of a redex. Each form that is served later adds its case.
 abbrev pub contract : Kernel → Kernel
 contract (bind empty body) = body
-contract (bind (binding n (const v) bs) body) = bind (put_bindings n v bs) (put n v body)
+contract (bind (binding n t bs) body) = bind (put_bindings n (value_of t) bs) (put n (value_of t) body)
 contract (seq none) = const nil
 contract (seq (item t none)) = t
 contract (seq (item t (item u us))) = seq (item u us)

@@ -5,3 +5,7 @@ pub mod State
 pub mod Steps
 pub mod Legal
 pub mod Parts
+pub mod Served
+pub mod Size
+pub mod BodyParts
+pub mod BodyViews

@@ -1,5 +1,5 @@
 -- Tests of the parts of a term that the code makes.
-use Rattle.std.specs.Prelude.{ℕ, suc, Bool, true, false, not, cond}
+use Rattle.std.specs.Prelude.{ℕ, suc, Bool, false, not, cond}
 use Rattle.ca_term.specs.Kernel.{Kernels, none, item}
 use Rattle.ca_meaning.specs.Redex.{is_value}
 

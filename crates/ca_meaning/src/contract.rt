@@ -2,9 +2,12 @@ ghost use Rattle.std.specs.Prelude.{◌≡◌, IfOk};
 ghost use Rattle.ca_value.specs.Seq.{list};
 ghost use Rattle.ca_term.specs.Kernel.{bind, seq};
 ghost use Rattle.ca_term.specs.View.{kernel, kernels, bindings};
+ghost use Rattle.ca_value.specs.View.{view};
+ghost use Rattle.ca_value.specs.Tree.{nil as nil_tree};
+ghost use Rattle.ca_meaning.specs.Redex.{value_of};
 ghost use Rattle.ca_meaning.specs.Body.{contract};
 
-use ca_term::copy::{copy_bindings, copy_terms};
+use ca_term::copy::copy_terms;
 use ca_term::put::bindings_with;
 use ca_term::term::{Binding, Term};
 use ca_value::memory::OutOfMemory;
@@ -30,16 +33,21 @@ fn contracted_let(alloc: Global, rest: &Seq<Binding>, body: &Term) -> Result<Ter
     let Some((first, later)) = rest.as_slice().split_first() else {
         return body.copy(alloc);
     };
-    match &first.term {
-        Term::Const(value) => {
-            let later = bindings_with(alloc, later, first.name, value)?;
-            let body = body.with(alloc, first.name, value)?;
-            Ok(Term::Let(later, Box::new(alloc, body)?))
-        }
-        _ => {
-            let rest = copy_bindings(alloc, rest)?;
-            Ok(Term::Let(rest, Box::new(alloc, body.copy(alloc)?)?))
-        }
+    let nil = Value::Nil;
+    let value = value_or(&first.term, &nil);
+    let later = bindings_with(alloc, later, first.name, value)?;
+    let body = body.with(alloc, first.name, value)?;
+    Ok(Term::Let(later, Box::new(alloc, body)?))
+}
+
+// The value of a term that is one.
+fn value_or<'a>(term: &'a Term, nil: &'a Value) -> &'a Value
+    requires { view nil.now ≡ nil_tree }
+    ensures { view result.now ≡ value_of (kernel term.now) }
+{
+    match term {
+        Term::Const(value) => value,
+        _ => nil,
     }
 }
 

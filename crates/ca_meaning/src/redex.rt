@@ -62,13 +62,7 @@ pub fn redex(term: &Term) -> &Term
 {
     match term {
         Term::Const(_) | Term::Var(_) => term,
-        Term::If(test, _, _) => {
-            if is_value(test) {
-                term
-            } else {
-                redex(test)
-            }
-        }
+        Term::If(test, _, _) => { if is_value(test) { term } else { redex(test) } }
         Term::Let(rest, _) => redex_of_bindings(rest, term),
         Term::Loop(_, rest, _) => redex_of_bindings(rest, term),
         Term::Do(terms) => {
@@ -78,13 +72,7 @@ pub fn redex(term: &Term) -> &Term
                 term
             }
         }
-        Term::Frame(body) => {
-            if is_value(body) {
-                term
-            } else {
-                redex(body)
-            }
-        }
+        Term::Frame(body) => { if is_value(body) { term } else { redex(body) } }
         Term::Turn(_, _, now) => {
             if is_value(now) || is_ready_recur(now) {
                 term

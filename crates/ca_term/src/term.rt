@@ -1,3 +1,6 @@
+ghost use Rattle.std.specs.Prelude.{◌≡◌};
+ghost use Rattle.ca_term.specs.View.{kernel, named};
+
 use crate::head::Head;
 use crate::place::Place;
 use ca_value::seq::Seq;
@@ -39,4 +42,12 @@ pub struct Binding {
 pub struct Found {
     pub name: u64,
     pub value: Value,
+}
+
+impl Binding {
+    pub fn new(name: u64, term: Term) -> Binding
+        ensures { named result ≡ (name, kernel term) }
+    {
+        Binding { name, term }
+    }
 }

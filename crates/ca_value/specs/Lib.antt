@@ -5,3 +5,13 @@ pub mod Pairs
 pub mod Measure
 pub mod Equality
 pub mod Printed
+pub mod IsValue
+pub mod Outcome
+pub mod Kinds
+pub mod Numbers
+pub mod Operations
+pub mod Tests
+pub mod Texts
+pub mod Vectors
+pub mod Maps
+pub mod Builtins

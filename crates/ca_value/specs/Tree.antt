@@ -29,3 +29,12 @@ trees_of (t ∷ ts) = item t (trees_of ts)
 abbrev pub pairs_of : List (Tree × Tree) → TreePairs
 pairs_of [] = empty
 pairs_of (p ∷ ps) = pair p.0 p.1 (pairs_of ps)
+
+-- the same trees and pairs as lists
+abbrev pub items_of : Trees → List Tree
+items_of none = []
+items_of (item t ts) = t ∷ items_of ts
+
+abbrev pub entries_of : TreePairs → List (Tree × Tree)
+entries_of empty = []
+entries_of (pair k v ps) = (k, v) ∷ entries_of ps

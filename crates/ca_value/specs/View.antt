@@ -38,3 +38,10 @@ trees vs = trees_of (map_list view vs)
 
 abbrev pub tree_pairs : List Pair → TreePairs
 tree_pairs ps = pairs_of (map_list pair_view ps)
+
+-- the same as lists of trees
+abbrev pub views : List Value → List Tree
+views vs = map_list view vs
+
+abbrev pub pair_views : List Pair → List (Tree × Tree)
+pair_views ps = map_list pair_view ps

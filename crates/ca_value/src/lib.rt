@@ -4,12 +4,17 @@
 //! contracts speak of trees; addresses and spare capacity are no part of one. Lists are `Seq`, seen as
 //! a list and, beside it, the number of items that fit with no growth.
 //!
-//! Stands on std and `itoa` alone. Start with `seq`, then `value`.
+//! Stands on std and `itoa` alone. Start with `seq`, then `value`, then a call of your choice: `copy`,
+//! `equal`, `measure` (weight and depth), `plain` and `readable` (the two printers).
 #![tactic(auto)]
 
 pub mod builtin;
 pub mod copy;
+pub mod equal;
+pub mod fault;
+pub mod measure;
 pub mod memory;
 pub mod plain;
+pub mod readable;
 pub mod seq;
 pub mod value;

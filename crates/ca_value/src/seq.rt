@@ -1,8 +1,9 @@
-ghost use Rattle.std.specs.Prelude.{◌≡◌, ◌+◌, ◌<◌, ◌≤◌, [], ◌∷◌, ◌++◌, ◌↔◌, IsTrue, length, OnOk, OnErr, IfOk, IfSome, None, slice_get, option_map};
+ghost use Rattle.std.specs.Prelude.{◌≡◌, ◌+◌, ◌<◌, ◌≤◌, [], ◌∷◌, ◌++◌, ◌↔◌, IsTrue, length, take, OnOk, OnErr, IfOk, IfSome, None, slice_get, slice_range, slice_set, option_map};
 ghost use Rattle.ca_value.specs.Seq.{list, spare};
 
 use crate::memory::OutOfMemory;
 use std::alloc::Global;
+use std::mem;
 
 /// A list that grows only where it is asked to: a push needs room that `reserve` made before.
 ///
@@ -58,11 +59,73 @@ impl<T> Seq<T> {
         self.items.pop()
     }
 
+    /// Keeps the first `n` items, or all where there are fewer.
+    pub fn truncate(&mut self, n: u64)
+    where
+        T: Drop,
+        ensures first { list self.new ≡ take n (list self.old) }
+        ensures spare { spare self.old ≤ spare self.new }
+    {
+        self.items.truncate(n as usize);
+    }
+
     /// The item at the place, or None past the last one.
     pub fn get(&self, place: u64) -> Option<&T>
         ensures { option_map (λ x. x.now) result ≡ slice_get (list self.now) place }
     {
         self.items.get(place as usize)
+    }
+
+    /// The item at the place alone, or None past the last one. The other items are let go.
+    pub fn into_item(self, place: u64) -> Option<T>
+    where
+        T: Drop,
+        ensures { result ≡ slice_get (list self) place }
+    {
+        let Seq { mut items } = self;
+        if place < items.len() as u64 {
+            Some(items.swap_remove(place as usize))
+        } else {
+            None
+        }
+    }
+
+    /// The items from one place up to, not including, another, in the same memory.
+    pub fn into_range(self, start: u64, end: u64) -> Seq<T>
+    where
+        T: Drop,
+        requires order { start ≤ end }
+        requires within { end ≤ length (list self) }
+        ensures { list result ≡ slice_range (list self) start end }
+    {
+        let Seq { mut items } = self;
+        items.truncate(end as usize);
+        // What stands before the start falls off the end of the reversed list.
+        items.reverse();
+        items.truncate((end - start) as usize);
+        items.reverse();
+        Seq { items }
+    }
+
+    /// Puts the item at a place within the list.
+    pub fn set(&mut self, place: u64, item: T)
+    where
+        T: Drop,
+        requires { place < length (list self.old) }
+        ensures set { list self.new ≡ slice_set (list self.old) place item }
+        ensures spare { spare self.old ≤ spare self.new }
+    {
+        self.items[place as usize] = item;
+    }
+
+    /// Puts the item at a place within the list, and gives the one that stood there.
+    pub fn replace(&mut self, place: u64, item: T) -> T
+        requires { place < length (list self.old) }
+        ensures old { slice_get (list self.old) place ≡ Some result }
+        ensures set { list self.new ≡ slice_set (list self.old) place item }
+        ensures spare { spare self.old ≤ spare self.new }
+    {
+        mem::replace(&mut self.items[place as usize], item)
     }
 
     pub fn len(&self) -> u64

@@ -1,7 +1,8 @@
-ghost use Rattle.std.specs.Prelude.{◌≡◌, ◌+◌, ◌<◌, ◌≤◌, [], ◌∷◌, ◌++◌, false, length, OnOk, IfSome, None, slice_get, option_map};
+ghost use Rattle.std.specs.Prelude.{◌≡◌, ◌+◌, ◌<◌, ◌≤◌, [], ◌∷◌, ◌++◌, false, length, OnOk, IfSome, None, slice_get, slice_set, slice_index_or, remove, option_map};
 ghost use Rattle.ca_value.specs.Seq.{list};
 ghost use Rattle.ca_value.specs.Pairs.{pairs_list, pairs_spare};
-ghost use Rattle.ca_value.specs.View.{view, pair_view, pairs_view};
+ghost use Rattle.ca_value.specs.Tree.{nil};
+ghost use Rattle.ca_value.specs.View.{view, pair_view, pair_views, pairs_view};
 ghost use Rattle.ca_value.specs.Equality.{has_key};
 
 use crate::memory::OutOfMemory;
@@ -44,6 +45,36 @@ pub enum Value {
     Vector(Items),
     Map(Pairs),
     Port(PortId),
+}
+
+impl Pair {
+    pub fn new(key: Value, value: Value) -> Pair
+        ensures { pair_view result ≡ (view key, view value) }
+    {
+        Pair { key, value }
+    }
+
+    /// The pair with another value.
+    pub fn with_value(self, value: Value) -> Pair
+        ensures { pair_view result ≡ ((pair_view self).0, view value) }
+    {
+        let Pair { key, value: _ } = self;
+        Pair { key, value }
+    }
+
+    pub fn into_key(self) -> Value
+        ensures { view result ≡ (pair_view self).0 }
+    {
+        let Pair { key, value: _ } = self;
+        key
+    }
+
+    pub fn into_value(self) -> Value
+        ensures { view result ≡ (pair_view self).1 }
+    {
+        let Pair { key: _, value } = self;
+        value
+    }
 }
 
 impl Pairs {
@@ -101,6 +132,39 @@ impl Pairs {
         ensures { result.now ≡ pairs_list self.now }
     {
         self.pairs.as_slice()
+    }
+
+    /// The pairs as a list, with no copy.
+    pub fn into_seq(self) -> Seq<Pair>
+        ensures { list result ≡ pairs_list self }
+    {
+        let Pairs { pairs } = self;
+        pairs
+    }
+
+    /// The pairs with another value at the place of a pair.
+    pub fn with_value(self, place: u64, value: Value) -> Pairs
+        requires { place < length (pairs_list self) }
+        ensures set { let pairs = pair_views (pairs_list self) in pair_views (pairs_list result) ≡ slice_set pairs place ((slice_index_or pairs place (nil, nil)).0, view value) }
+        ensures spare { pairs_spare self ≤ pairs_spare result }
+    {
+        let Pairs { mut pairs } = self;
+        let pair = pairs.replace(place, Pair::new(Value::Nil, Value::Nil));
+        pairs.set(place, pair.with_value(value));
+        Pairs { pairs }
+    }
+
+    /// The pairs without that at the place.
+    pub fn without(self, place: u64) -> Pairs
+        requires { place < length (pairs_list self) }
+        ensures { pairs_list result ≡ remove (pairs_list self) place }
+    {
+        let Pairs { pairs } = self;
+        let mut pairs = pairs.into_vec();
+        pairs.remove(place as usize);
+        Pairs {
+            pairs: Seq::from_vec(pairs),
+        }
     }
 
     // These pairs, whose keys are distinct.

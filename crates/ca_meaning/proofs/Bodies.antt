@@ -1,0 +1,60 @@
+-- A body keeps what holds of every body, and stands somewhere.
+use Rattle.std.proofs.Common.{◌≡◌, ◌≢◌, [], refl, true}
+use Rattle.ca_value.specs.Tree.{Tree}
+use Rattle.ca_term.specs.declared.head.Head.TheVariants.{Print}
+use Rattle.ca_term.specs.Operation.{WantView}
+use Rattle.ca_term.specs.Kernel.{Kernel, const, var, branch, bind, loop, seq, frame, turn, apply}
+use Rattle.ca_term.specs.Closed.{IsClosed}
+use Rattle.ca_meaning.specs.Redex.{redex, replace}
+use Rattle.ca_meaning.specs.Body.{At, local, at_op, ended, faulted, nowhere, standing, contract}
+use Rattle.ca_meaning.specs.BodyViews.{IsBody, stand_of, is_at_op}
+use Rattle.ca_meaning.specs.Served.{IsServed}
+use Rattle.ca_meaning.specs.declared.body.Stand.TheVariants.{Local, AtOp}
+use Rattle.ca_meaning.proofs.Closed.{redex-closed, contract-closed, replace-closed}
+use Rattle.ca_meaning.proofs.Served.{redex-served, contract-served, replace-served}
+
+somewhere : (t : Kernel) → IsClosed [] t → IsServed t → standing t ≢ nowhere
+somewhere (const v) h s e = cc
+somewhere (var n) h s e = h
+somewhere (branch c a b) h s e = s
+somewhere (bind bs body) h s e = cc
+somewhere (loop fs bs body) h s e = s
+somewhere (seq ts) h s e = cc
+somewhere (frame body) h s e = s
+somewhere (turn ns text now) h s e = s
+somewhere (apply Print ts p) h s e = cc
+somewhere (apply f ts p) h s e = s
+
+pub never_nowhere : (t : Kernel) → IsBody t → standing (redex t) ≢ nowhere
+never_nowhere t b = somewhere (redex t) (redex-closed t b.bound) (redex-served t b.served)
+
+pub step_body : (t : Kernel) → IsBody t → IsBody (replace (contract (redex t)) t)
+step_body t b = record {
+  bound = replace-closed (contract (redex t)) t (contract-closed (redex t) (redex-closed t b.bound)) b.bound;
+  served = replace-served (contract (redex t)) t (contract-served (redex t) (redex-served t b.served)) b.served;
+}
+
+pub fill_body : (v : Tree) (t : Kernel) → IsBody t → IsBody (replace (const v) t)
+fill_body v t b = record { bound = replace-closed (const v) t tt b.bound; served = replace-served (const v) t tt b.served }
+
+-- what a test tells of where a body stands
+pub op_when : (a : At) → is_at_op a ≡ true → (w : WantView) × (a ≡ at_op w)
+op_when (at_op w) h = (w, refl)
+op_when local h = cc
+op_when (ended v) h = cc
+op_when (faulted f p) h = cc
+op_when nowhere h = cc
+
+pub local_when : (a : At) → stand_of a ≡ Local → a ≡ local
+local_when local h = refl
+local_when (at_op w) h = cc
+local_when (ended v) h = cc
+local_when (faulted f p) h = cc
+local_when nowhere h = cc
+
+pub op_stands : (a : At) → stand_of a ≡ AtOp → is_at_op a ≡ true
+op_stands (at_op w) h = refl
+op_stands local h = cc
+op_stands (ended v) h = cc
+op_stands (faulted f p) h = cc
+op_stands nowhere h = cc

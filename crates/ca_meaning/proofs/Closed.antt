@@ -1,0 +1,118 @@
+-- A closed term stays closed.
+use Rattle.std.proofs.Common.{◌≡◌, ℕ, List, [], ◌∷◌, ◌⊎◌, inl, inr, refl, sym, ◌∙◌, Bool, true, false, cond, not, ◌==◌, eq-eqb}
+use Rattle.std.proofs.lemmas.Bool.{false≢true}
+use Rattle.ca_value.specs.Tree.{Tree}
+use Rattle.ca_term.specs.Kernel.{Kernel, Kernels, Bindings, Founds, const, var, branch, bind, loop, seq, frame, turn, apply, none, item, empty, binding, put, put_items, put_bindings}
+use Rattle.ca_term.specs.Closed.{IsIn, behind, behind_found, IsClosed, AreClosed, AreClosedBindings}
+use Rattle.ca_meaning.specs.Redex.{redex, redex_items, replace, replace_items, is_value, value_of, all_values, is_ready_recur}
+use Rattle.ca_meaning.specs.Body.{contract}
+
+-- the names of ms but n are in ns
+abbrev Covers : ℕ → List ℕ → List ℕ → Type 0
+Covers n ms ns = (m : ℕ) → IsIn m ms → (m ≡ n) ⊎ IsIn m ns
+
+covers_more : (n k : ℕ) (ms ns : List ℕ) → Covers n ms ns → Covers n (k ∷ ms) (k ∷ ns)
+covers_more n k ms ns c m (inl e) = inr (inl e)
+covers_more n k ms ns c m (inr i) = by (c m i)
+  where
+    by : (m ≡ n) ⊎ IsIn m ns → (m ≡ n) ⊎ IsIn m (k ∷ ns)
+    by (inl e) = inl e
+    by (inr j) = inr (inr j)
+
+covers_behind : (n : ℕ) (v : Tree) (bs : Bindings) (ms ns : List ℕ) → Covers n ms ns → Covers n (behind bs ms) (behind (put_bindings n v bs) ns)
+covers_behind n v empty ms ns c = c
+covers_behind n v (binding k t bs) ms ns c = covers_behind n v bs (k ∷ ms) (k ∷ ns) (covers_more n k ms ns c)
+
+covers_found : (n : ℕ) (fs : Founds) (ms ns : List ℕ) → Covers n ms ns → Covers n (behind_found fs ms) (behind_found fs ns)
+covers_found n [] ms ns c = c
+covers_found n (f ∷ fs) ms ns c = covers_found n fs (f.0 ∷ ms) (f.0 ∷ ns) (covers_more n f.0 ms ns c)
+
+put-var : (n : ℕ) (v : Tree) (m : ℕ) (ns : List ℕ) (b : Bool) → (m == n) ≡ b → (m ≡ n) ⊎ IsIn m ns → IsClosed ns (cond b (const v) (var m))
+put-var n v m ns true e i = tt
+put-var n v m ns false e (inl h) = absurd (false≢true (sym e ∙ eq-eqb m n h))
+put-var n v m ns false e (inr j) = j
+
+mutual
+  put-closed : (n : ℕ) (v : Tree) (t : Kernel) (ms ns : List ℕ) → Covers n ms ns → IsClosed ms t → IsClosed ns (put n v t)
+  put-closed n v (const w) ms ns c h = tt
+  put-closed n v (var m) ms ns c h = put-var n v m ns (m == n) refl (c m h)
+  put-closed n v (branch t a b) ms ns c h = (put-closed n v t ms ns c h.0, put-closed n v a ms ns c h.1, put-closed n v b ms ns c h.2)
+  put-closed n v (bind bs body) ms ns c h = (put-bindings n v bs ms ns c h.0, put-closed n v body (behind bs ms) (behind (put_bindings n v bs) ns) (covers_behind n v bs ms ns c) h.1)
+  put-closed n v (loop fs bs body) ms ns c h = (put-bindings n v bs ms ns c h.0, put-closed n v body (behind bs (behind_found fs ms)) (behind (put_bindings n v bs) (behind_found fs ns)) (covers_behind n v bs (behind_found fs ms) (behind_found fs ns) (covers_found n fs ms ns c)) h.1)
+  put-closed n v (seq ts) ms ns c h = put-items n v ts ms ns c h
+  put-closed n v (frame body) ms ns c h = h
+  put-closed n v (turn names text now) ms ns c h = h
+  put-closed n v (apply f ts p) ms ns c h = put-items n v ts ms ns c h
+
+  put-items : (n : ℕ) (v : Tree) (ts : Kernels) (ms ns : List ℕ) → Covers n ms ns → AreClosed ms ts → AreClosed ns (put_items n v ts)
+  put-items n v none ms ns c h = tt
+  put-items n v (item t ts) ms ns c h = (put-closed n v t ms ns c h.0, put-items n v ts ms ns c h.1)
+
+  put-bindings : (n : ℕ) (v : Tree) (bs : Bindings) (ms ns : List ℕ) → Covers n ms ns → AreClosedBindings ms bs → AreClosedBindings ns (put_bindings n v bs)
+  put-bindings n v empty ms ns c h = tt
+  put-bindings n v (binding k t bs) ms ns c h = (put-closed n v t ms ns c h.0, put-bindings n v bs (k ∷ ms) (k ∷ ns) (covers_more n k ms ns c) h.1)
+
+choose : (b : Bool) (x y : Kernel) → IsClosed [] x → IsClosed [] y → IsClosed [] (cond b x y)
+choose true x y g h = g
+choose false x y g h = h
+
+choose-items : (b : Bool) (x y : Kernels) → AreClosed [] x → AreClosed [] y → AreClosed [] (cond b x y)
+choose-items true x y g h = g
+choose-items false x y g h = h
+
+-- the redex of a closed term is closed
+mutual
+  pub redex-closed : (t : Kernel) → IsClosed [] t → IsClosed [] (redex t)
+  redex-closed (const v) h = tt
+  redex-closed (var n) h = h
+  redex-closed (branch c a b) h = choose (is_value c) (branch c a b) (redex c) h (redex-closed c h.0)
+  redex-closed (bind empty body) h = h
+  redex-closed (bind (binding n t bs) body) h = choose (is_value t) (bind (binding n t bs) body) (redex t) h (redex-closed t h.0.0)
+  redex-closed (loop fs empty body) h = h
+  redex-closed (loop fs (binding n t bs) body) h = choose (is_value t) (loop fs (binding n t bs) body) (redex t) h (redex-closed t h.0.0)
+  redex-closed (seq none) h = h
+  redex-closed (seq (item t none)) h = h
+  redex-closed (seq (item t (item u us))) h = choose (is_value t) (seq (item t (item u us))) (redex t) h (redex-closed t h.0)
+  redex-closed (frame body) h = choose (is_value body) (frame body) (redex body) h (redex-closed body h)
+  redex-closed (turn ns text now) h = choose (is_value now) (turn ns text now) (cond (is_ready_recur now) (turn ns text now) (redex now)) h (choose (is_ready_recur now) (turn ns text now) (redex now) h (redex-closed now h.1))
+  redex-closed (apply f ts p) h = redex-items ts (apply f ts p) h h
+
+  redex-items : (ts : Kernels) (here : Kernel) → AreClosed [] ts → IsClosed [] here → IsClosed [] (redex_items ts here)
+  redex-items none here h g = g
+  redex-items (item t ts) here h g = choose (is_value t) (redex_items ts here) (redex t) (redex-items ts here h.1 g) (redex-closed t h.0)
+
+pub contract-closed : (t : Kernel) → IsClosed [] t → IsClosed [] (contract t)
+contract-closed (const v) h = tt
+contract-closed (var n) h = h
+contract-closed (branch c a b) h = h
+contract-closed (bind empty body) h = h.1
+contract-closed (bind (binding n t bs) body) h =
+    let c : Covers n (n ∷ []) [] = λ m i. i in
+    (put-bindings n (value_of t) bs (n ∷ []) [] c h.0.1, put-closed n (value_of t) body (behind bs (n ∷ [])) (behind (put_bindings n (value_of t) bs) []) (covers_behind n (value_of t) bs (n ∷ []) [] c) h.1)
+contract-closed (loop fs bs body) h = h
+contract-closed (seq none) h = tt
+contract-closed (seq (item t none)) h = h.0
+contract-closed (seq (item t (item u us))) h = h.1
+contract-closed (frame body) h = h
+contract-closed (turn ns text now) h = h
+contract-closed (apply f ts p) h = h
+
+mutual
+  pub replace-closed : (u t : Kernel) → IsClosed [] u → IsClosed [] t → IsClosed [] (replace u t)
+  replace-closed u (const v) g h = g
+  replace-closed u (var n) g h = g
+  replace-closed u (branch c a b) g h = choose (is_value c) u (branch (replace u c) a b) g (replace-closed u c g h.0, h.1, h.2)
+  replace-closed u (bind empty body) g h = g
+  replace-closed u (bind (binding n t bs) body) g h = choose (not (is_value t)) (bind (binding n (replace u t) bs) body) u ((replace-closed u t g h.0.0, h.0.1), h.1) g
+  replace-closed u (loop fs empty body) g h = g
+  replace-closed u (loop fs (binding n t bs) body) g h = choose (not (is_value t)) (loop fs (binding n (replace u t) bs) body) u ((replace-closed u t g h.0.0, h.0.1), h.1) g
+  replace-closed u (seq none) g h = g
+  replace-closed u (seq (item t none)) g h = g
+  replace-closed u (seq (item t (item v vs))) g h = choose (is_value t) u (seq (item (replace u t) (item v vs))) g (replace-closed u t g h.0, h.1)
+  replace-closed u (frame body) g h = choose (is_value body) u (frame (replace u body)) g (replace-closed u body g h)
+  replace-closed u (turn ns text now) g h = choose (is_value now) u (cond (is_ready_recur now) u (turn ns text (replace u now))) g (choose (is_ready_recur now) u (turn ns text (replace u now)) g (h.0, replace-closed u now g h.1))
+  replace-closed u (apply f ts p) g h = choose (all_values ts) u (apply f (replace_items u ts) p) g (replace-items u ts g h)
+
+  replace-items : (u : Kernel) (ts : Kernels) → IsClosed [] u → AreClosed [] ts → AreClosed [] (replace_items u ts)
+  replace-items u none g h = tt
+  replace-items u (item t ts) g h = choose-items (is_value t) (item t (replace_items u ts)) (item (replace u t) ts) (h.0, replace-items u ts g h.1) (replace-closed u t g h.0, h.1)

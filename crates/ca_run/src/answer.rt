@@ -1,0 +1,87 @@
+ghost use Rattle.std.specs.Prelude.{◌≡◌, IfOk};
+ghost use Rattle.ca_value.specs.Seq.{list};
+ghost use Rattle.ca_run.specs.Top.{error_line};
+ghost use Rattle.ca_run.specs.Answers.{answer_text, refusal_line, Judged};
+
+use crate::early::{EarlyError, early};
+use crate::run::{Journal, output, run_main};
+use ca_reader::error::{ReadError, ReadErrorKind};
+use ca_reader::read::read;
+use ca_term::place::Place;
+use ca_value::memory::OutOfMemory;
+use ca_value::seq::Text;
+use std::alloc::Global;
+
+/// Why a script is refused.
+#[derive(Clone, Copy, PartialEq, Eq, Debug)]
+pub enum Refusal {
+    /// More bytes than a script may have.
+    TooLong,
+    /// The first fault of the text, and its place.
+    Fault(ReadErrorKind, Place),
+    /// A form that isn't served yet.
+    NotYet,
+}
+
+/// What the words and the input come to.
+#[derive(Drop)]
+pub enum Answer {
+    Usage,
+    Refused(Refusal),
+    Ran(Journal),
+}
+
+/// The run of a text, or why it is refused.
+pub fn judge_text(alloc: Global, input: &[u8]) -> Result<Answer, OutOfMemory>
+    ensures { IfOk result (λ a. Judged input.now a) }
+{
+    let forms = match read(alloc, input) {
+        Ok(forms) => forms,
+        Err(ReadError::Fault(kind, place)) => return Ok(Answer::Refused(Refusal::Fault(kind, place))),
+        Err(ReadError::OutOfMemory) => return Err(OutOfMemory),
+    };
+    let program = match early(alloc, &forms) {
+        Ok(program) => program,
+        Err(EarlyError::NotYet) => return Ok(Answer::Refused(Refusal::NotYet)),
+        Err(EarlyError::OutOfMemory) => return Err(OutOfMemory),
+    };
+    Ok(Answer::Ran(run_main(alloc, &program)?.journal))
+}
+
+/// The text that is written for the answer.
+pub fn text_of(alloc: Global, answer: &Answer) -> Result<Text, OutOfMemory>
+    ensures { IfOk result (λ t. list t ≡ answer_text answer.now) }
+{
+    match answer {
+        Answer::Usage => Text::from_bytes(
+            alloc,
+            b"usage: run [--workers N] [--budget N] [--journal] / check / load N [--workers N]\n",
+        ),
+        Answer::Refused(refusal) => line_of(alloc, *refusal),
+        Answer::Ran(journal) => output(alloc, journal),
+    }
+}
+
+fn line_of(alloc: Global, refusal: Refusal) -> Result<Text, OutOfMemory>
+    ensures { IfOk result (λ t. list t ≡ refusal_line refusal) }
+{
+    let first = Place { line: 1, column: 1 };
+    match refusal {
+        Refusal::TooLong => error_line(alloc, "TooLong", first),
+        Refusal::Fault(kind, place) => error_line(alloc, kind.name(), place),
+        Refusal::NotYet => error_line(alloc, "NotYet", first),
+    }
+}
+
+fn error_line(alloc: Global, name: &str, place: Place) -> Result<Text, OutOfMemory>
+    ensures { IfOk result (λ t. list t ≡ error_line name.now place) }
+{
+    let mut text = Text::from_bytes(alloc, b"error ")?;
+    text.append(name.as_bytes())?;
+    text.append(b" at ")?;
+    text.append(itoa::Buffer::new().format(place.line).as_bytes())?;
+    text.append(b":")?;
+    text.append(itoa::Buffer::new().format(place.column).as_bytes())?;
+    text.append(b"\n")?;
+    Ok(text)
+}

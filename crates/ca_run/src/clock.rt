@@ -1,0 +1,53 @@
+ghost use Rattle.std.specs.Prelude.{◌≡◌, ◌+◌, ◌<◌, ◌≤◌, ◌^◌, ℕ, List, Option, OnOk, OnErr, IfOk};
+ghost use Rattle.ca_run.specs.Causes.{HasCause};
+ghost use Rattle.ca_run.specs.Readings.{Tells, StaysTold};
+
+use crate::device::Failed;
+use ca_value::memory::OutOfMemory;
+
+/// Where moments come from: milliseconds below 2^62 that never fall.
+pub trait Clock {
+    /// A moment that no later answer is below; it never falls.
+    ghost least: { Self → ℕ };
+
+    /// How many more askings there is room for.
+    ghost spare: { Self → ℕ };
+
+    /// How often it has failed; it never falls.
+    ghost faults: { Self → ℕ };
+
+    /// All answers so far, where the clock tells them.
+    ghost readings: { Self → Option (List ℕ) };
+
+    /// Makes room for an asking, asks nothing and changes nothing else.
+    fn reserve(&mut self) -> Result<(), OutOfMemory>
+        ensures spare { OnOk result (0 < spare self.new) }
+        ensures least { least self.new ≡ least self.old }
+        ensures faults { faults self.new ≡ faults self.old }
+        ensures readings { readings self.new ≡ readings self.old };
+
+    /// The moment.
+    fn now(&mut self) -> u64
+        requires { 0 < spare self.old }
+        ensures bound { result < 2 ^ 62 }
+        ensures later { least self.old ≤ result }
+        ensures least { least self.new ≡ result }
+        ensures spare { spare self.old ≤ spare self.new + 1 }
+        ensures faults { faults self.new ≡ faults self.old }
+        ensures readings { Tells (readings self.old) (readings self.new) result };
+
+    /// Waits until a moment that is no less than the asked one, and answers it.
+    fn wait_until(&mut self, ask: u64) -> Result<u64, Failed>
+        requires room { 0 < spare self.old }
+        requires bound { ask < 2 ^ 62 }
+        ensures bound { IfOk result (λ m. m < 2 ^ 62) }
+        ensures reached { IfOk result (λ m. ask ≤ m) }
+        ensures later { IfOk result (λ m. least self.old ≤ m) }
+        ensures least { IfOk result (λ m. least self.new ≡ m) }
+        ensures never_falls { least self.old ≤ least self.new }
+        ensures spare { spare self.old ≤ spare self.new + 1 }
+        ensures steady { OnOk result (faults self.new ≡ faults self.old) }
+        ensures cause { HasCause (faults self.old) (faults self.new) result }
+        ensures readings { IfOk result (λ m. Tells (readings self.old) (readings self.new) m) }
+        ensures silent { OnErr result (StaysTold (readings self.old) (readings self.new)) };
+}

@@ -1,0 +1,82 @@
+-- What a builtin answers: a value or a fault.
+use Rattle.std.specs.Prelude.{◌≡◌, ℤ, Bool, if◌then◌else◌, nat_le, List, [], ◌∷◌, Option, Some, None, Result, Ok, Err}
+use Rattle.ca_value.specs.declared.value.Value.{Value}
+use Rattle.ca_value.specs.declared.value.Pairs.{Pairs}
+use Rattle.ca_value.specs.declared.seq.Seq.{Seq}
+use Rattle.ca_value.specs.declared.fault.ApplyError.{ApplyError}
+use Rattle.ca_value.specs.declared.fault.ValueFault.{ValueFault}
+use Rattle.ca_value.specs.declared.fault.ValueFault.TheVariants.{WrongKind, TooHeavy, TooNested}
+use Rattle.ca_value.specs.Tree.{Tree, int, bool}
+use Rattle.ca_value.specs.Measure.{weight_of, depth_of}
+use Rattle.ca_value.specs.Seq.{list}
+use Rattle.ca_value.specs.Pairs.{pairs_list}
+use Rattle.ca_value.specs.View.{view, views, pair_views}
+
+abbrev pub Answer : Type 0 → Type 0
+Answer A = Result A ValueFault
+
+abbrev pub Outcome : Type 0
+Outcome = Answer Tree
+
+-- goes on with the answer, if there is one
+infixl 10 ◌>>=◌
+abbrev pub ◌>>=◌ : {A B : Type 0} → Answer A → (A → Answer B) → Answer B
+Ok x >>= f = f x
+Err e >>= f = Err e
+
+abbrev pub number : Answer ℤ → Outcome
+number (Ok z) = Ok (int z)
+number (Err f) = Err f
+
+abbrev pub truth : Answer Bool → Outcome
+truth (Ok b) = Ok (bool b)
+truth (Err f) = Err f
+
+-- a result weighs at most 65,536 and is at most 64 deep; the weight is tested first
+abbrev pub judged : Outcome → Outcome
+judged (Ok t) =
+    if nat_le (weight_of t) 65536
+    then (if nat_le (depth_of t) 64 then Ok t else Err TooNested)
+    else Err TooHeavy
+judged (Err f) = Err f
+
+-- by the number of arguments; a list of another length has no meaning
+abbrev pub one : List Tree → (Tree → Outcome) → Outcome
+one (a ∷ []) f = f a
+one ts f = Err WrongKind
+
+abbrev pub two : List Tree → (Tree → Tree → Outcome) → Outcome
+two (a ∷ b ∷ []) f = f a b
+two ts f = Err WrongKind
+
+abbrev pub one_or_two : List Tree → (Tree → Option Tree → Outcome) → Outcome
+one_or_two (a ∷ []) f = f a None
+one_or_two (a ∷ b ∷ []) f = f a (Some b)
+one_or_two ts f = Err WrongKind
+
+abbrev pub two_or_three : List Tree → (Tree → Tree → Option Tree → Outcome) → Outcome
+two_or_three (a ∷ b ∷ []) f = f a b None
+two_or_three (a ∷ b ∷ c ∷ []) f = f a b (Some c)
+two_or_three ts f = Err WrongKind
+
+abbrev pub one_and_more : List Tree → (Tree → List Tree → Outcome) → Outcome
+one_and_more (a ∷ ts) f = f a ts
+one_and_more [] f = Err WrongKind
+
+-- the outcome that the code's answer stands for
+abbrev pub outcome : Answer Value → Outcome
+outcome (Ok v) = Ok (view v)
+outcome (Err f) = Err f
+
+abbrev pub items_outcome : Answer (Seq Value) → Answer (List Tree)
+items_outcome (Ok s) = Ok (views (list s))
+items_outcome (Err f) = Err f
+
+abbrev pub pairs_outcome : Answer Pairs → Answer (List (Tree × Tree))
+pairs_outcome (Ok s) = Ok (pair_views (pairs_list s))
+pairs_outcome (Err f) = Err f
+
+-- the error is this outcome's fault; want of memory says nothing
+abbrev pub IsFault : ApplyError → Outcome → Type 0
+IsFault (ApplyError.Fault f) o = o ≡ Err f
+IsFault ApplyError.OutOfMemory o = Unit {0}
