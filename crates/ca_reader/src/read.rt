@@ -20,7 +20,7 @@ use std::alloc::Global;
 
 /// The forms of a script, or the first fault in it; `OutOfMemory` at any time.
 ///
-/// One pass over the bytes, in time linear in their number.
+/// Goes through the bytes once, piece by piece, in time linear in their number.
 pub fn read(alloc: Global, bytes: &[u8]) -> Result<Forms, ReadError>
     ensures forms { IfOk result (λ fs. Reads bytes.now (form_trees (list fs))) }
     ensures fault { IfErr result (λ e. IsFaultOf bytes.now e) }
