@@ -12,6 +12,7 @@ use Rattle.ca_turns.specs.declared.rule.View.{View}
 use Rattle.ca_turns.specs.Views.{stands, idle, right_view}
 use Rattle.ca_turns.specs.Hands.{Held, is_there, there, places, one_if, how_many, times, Emptied, IsListed, IsHand, IsSettled, IsWithout, SameBut, IsFresh}
 use Rattle.ca_turns.proofs.Lists.{in_range, none_some}
+use Rattle.ca_turns.proofs.Looks.{there_at}
 use Rattle.ca_turns.proofs.Taken.{times_moved, length_moved}
 
 pub alike_at : {A B : Type 0} (xs : List (Option A)) (ys : List (Option B)) → there xs ≡ there ys → (i : ℕ) (a : Option A) → get_elem? xs i ≡ some a → (b : Option B) × (get_elem? ys i ≡ some b) × (is_there b ≡ is_there a)
@@ -61,11 +62,6 @@ fewer [] i e = absurd (some-ne-none false (sym e))
 fewer (b ∷ bs) zero e = let h : one_if b ≡ 0 = ap one_if (some-injective b false e) in let m = at_most bs in omega arith
 fewer (true ∷ bs) (suc i) e = let h = fewer bs i e in omega arith
 fewer (false ∷ bs) (suc i) e = let h = fewer bs i e in omega arith
-
-pub there_at : {A : Type 0} (xs : List (Option A)) (i : ℕ) (a : Option A) → get_elem? xs i ≡ some a → get_elem? (there xs) i ≡ some (is_there a)
-there_at [] i a e = absurd (some-ne-none a (sym e))
-there_at (x ∷ xs) zero a e = ap some (ap is_there (some-injective x a e))
-there_at (x ∷ xs) (suc i) a e = there_at xs i a e
 
 pub listed_more : (bs : List Bool) (order : List ℕ) (i : ℕ) → IsListed bs order → IsListed (set bs i true) (i ∷ order)
 listed_more bs order i old j e = elim (ℕ_discrete j i) [

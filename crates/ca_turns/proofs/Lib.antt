@@ -13,3 +13,4 @@ pub mod Taken
 pub mod Looks
 pub mod Rows
 pub mod Keeping
+pub mod Callers

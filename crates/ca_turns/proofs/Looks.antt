@@ -49,6 +49,15 @@ written_there h (i ∷ is) (c ∷ cs) a = let same : there (set h i (Some c)) �
     again (b ∷ bs) zero e = ap (λ z. z ∷ bs) (sym e)
     again (b ∷ bs) (suc i) e = ap (λ z. b ∷ z) (again bs i e)
 
+pub there_at : {A : Type 0} (xs : List (Option A)) (i : ℕ) (a : Option A) → get_elem? xs i ≡ some a → get_elem? (there xs) i ≡ some (is_there a)
+there_at [] i a e = absurd (some-ne-none a (sym e))
+there_at (x ∷ xs) zero a e = ap some (ap is_there (some-injective x a e))
+there_at (x ∷ xs) (suc i) a e = there_at xs i a e
+
+pub all_there : {A : Type 0} (h : List (Option A)) (is : List ℕ) → AllIn (λ i. (x : A) × (get_elem? h i ≡ some (Some x))) is → AllThere h is
+all_there h [] a = tt
+all_there h (i ∷ is) a = (read_at (there h) i true false (there_at h i (Some a.0.0) a.0.1), all_there h is a.1)
+
 at_there : {A : Type 0} (h : List (Option A)) (i : ℕ) → get_or (there h) i false ≡ true → (x : A) × (get_elem? h i ≡ some (Some x))
 at_there [] i e = absurd (let b : one_if false ≡ one_if true = ap one_if e in omega arith)
 at_there (None ∷ h) zero e = absurd (let b : one_if false ≡ one_if true = ap one_if e in omega arith)

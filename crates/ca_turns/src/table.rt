@@ -39,6 +39,7 @@ impl<O: Object> Model for Table<O> {
 }
 
 /// What a table gives when it closes.
+#[derive(Drop)]
 pub struct Closed<O: Object> {
     /// The parts as the drawn events left them, in the memory of the vector that the table was opened with.
     pub parts: Vec<O::Part>,

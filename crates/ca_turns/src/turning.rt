@@ -5,7 +5,8 @@ ghost use lib.ListN.{get_elem?};
 ghost use Rattle.ca_turns.specs.declared.rule.Turn.{Turn};
 ghost use Rattle.ca_turns.specs.Views.{turn, stands, holding, missing, having_missed, drawing};
 ghost use Rattle.ca_turns.specs.Steps.{SeesOne};
-ghost use Rattle.ca_turns.specs.Hands.{AllThere, look, IsNone, IsHolding, IsWithout, IsSettled, SameBut, IsTableId};
+ghost use Rattle.ca_turns.specs.Places.{AllIn};
+ghost use Rattle.ca_turns.specs.Hands.{look, IsHolding, IsNone, IsWithout, IsSettled, SameBut, IsTableId};
 
 use crate::errors::Busy;
 use crate::hand::Hand;
@@ -88,7 +89,7 @@ impl<O: Object> Table<O> {
     /// They are settled from then on.
     pub fn draw(&self, hand: &mut Hand<O>, event: &O::Event) -> u64
         requires table { hand.old.table ≡ self.now.id }
-        requires touched { AllThere hand.old.parts (O.touches event.now) }
+        requires touched { AllIn (IsHolding hand.old) (O.touches event.now) }
         requires allowed { (i : ℕ) → IsHolding hand.old i → IsNone (O.touches event.now) i → O.allows event.now i }
         requires moves { O.moves event.now (look hand.old.view.held (O.touches event.now)) (map O.content (look hand.old.parts (O.touches event.now))) }
         requires room { length hand.old.view.turns < 2 ^ 59 }

@@ -4,7 +4,8 @@ use mathlib.Core.Option.{some}
 use lib.ListN.{get_elem?}
 use Rattle.ca_turns.specs.Hands.{there, places, Emptied, IsListed, how_many}
 use Rattle.ca_turns.proofs.Lists.{in_range, read_at, both_some, none_some}
-use Rattle.ca_turns.proofs.Keeping.{departed, there_at, settled_here, near_here, same_but, gone}
+use Rattle.ca_turns.proofs.Looks.{there_at}
+use Rattle.ca_turns.proofs.Keeping.{departed, settled_here, near_here, same_but, gone}
 use Rattle.ca_turns.proofs.table.Table.give_back.Given.{Over}
 use Rattle.ca_turns.proofs.table.Table.give_back.Goals.{In-Some}
 use Rattle.ca_turns.proofs.table.Table.give_back.Goals as goal

@@ -2,7 +2,8 @@ use Rattle.std.proofs.Common.{◌≡◌, ◌<◌, ◌≤◌, ℕ, sym, refl, ap,
 use lib.ListN.{length-map}
 use Rattle.std.specs.Prelude.{Some}
 use Rattle.ca_turns.specs.Hands.{there, how_many}
-use Rattle.ca_turns.proofs.Keeping.{free_at, arrived, fewer, there_at, free_here, same_but, settled_in}
+use Rattle.ca_turns.proofs.Looks.{there_at}
+use Rattle.ca_turns.proofs.Keeping.{free_at, arrived, fewer, free_here, same_but, settled_in}
 use Rattle.ca_turns.proofs.table.Table.try_hold.Goals as goal
 
 pub take_out-requires-clause-free : goal.take_out-requires-clause-free
