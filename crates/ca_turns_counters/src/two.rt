@@ -1,4 +1,4 @@
-ghost use Rattle.std.specs.Prelude.{◌≡◌, IfOk};
+ghost use Rattle.std.specs.Prelude.{◌≡◌, IfOk, length};
 ghost use Rattle.ca_turns_counters.specs.Turning.{IsOneOfTwo};
 
 use crate::counters::Counters;
@@ -20,7 +20,7 @@ pub fn open_two(
 
 /// The counters once both hands are done.
 pub fn close_two(table: Table<Counters>, first: Hand<Counters>, second: Hand<Counters>) -> Vec<u64>
-    requires { IsOneOfTwo table.id 1 first × IsOneOfTwo table.id 1 second }
+    requires { IsOneOfTwo table.id (length first.view.turns) first × IsOneOfTwo table.id (length second.view.turns) second }
 {
     let mut all = first;
     table.join_hands(&mut all, second);
