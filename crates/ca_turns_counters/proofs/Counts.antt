@@ -1,7 +1,7 @@
 -- What the workers of a table come to, all together.
 use Rattle.std.proofs.Common.{◌≡◌, ℕ, zero, suc, ◌+◌, ◌-◌, ◌<◌, List, [], ◌∷◌, ◌++◌, map, length, get_or, replicate, refl, ap, arith}
 use Rattle.std.specs.Prelude.{All, None}
-use Rattle.atomic_table.specs.Seated.{TableId}
+use Rattle.ca_turns.specs.Hands.{TableId}
 use Rattle.ca_turns.specs.Places.{total}
 use Rattle.ca_turns.specs.Views.{stands}
 use Rattle.ca_turns.proofs.Lists.{in_range}

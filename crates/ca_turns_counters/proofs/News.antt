@@ -2,10 +2,9 @@
 use Rattle.std.proofs.Common.{◌≡◌, ◌∙◌, ℕ, ◌≤◌, List, length, sym, refl, ap, subst, arith}
 use Rattle.std.specs.Prelude.{Option, Some, None, IfSome, vec_len, vec_capacity, option_to_list}
 use lib.ListN.{get_elem?}
-use Rattle.atomic_table.specs.Seated.{TableId}
+use Rattle.ca_turns.specs.Hands.{TableId, IsFresh}
 use Rattle.ca_turns.specs.Places.{total}
 use Rattle.ca_turns.specs.Views.{stands}
-use Rattle.ca_turns.specs.Hands.{IsFresh}
 use Rattle.ca_turns.proofs.Lists.{no_part}
 use Rattle.ca_turns_counters.specs.declared.workers.Worker.{Worker}
 use Rattle.ca_turns_counters.specs.Turning.{Counting, IsOneOfTwo}

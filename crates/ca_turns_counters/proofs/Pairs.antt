@@ -3,7 +3,7 @@ use Rattle.std.proofs.Common.{◌≡◌, ◌≢◌, ◌+◌, ◌∙◌, ℕ, Lis
 use mathlib.Core.Option.{some}
 use lib.ListN.{get_elem?}
 use Rattle.std.specs.Prelude.{Option, Some}
-use Rattle.atomic_table.proofs.Lists.{set_here, set_else}
+use Rattle.ca_turns.proofs.Callers.{set_here, set_else}
 use Rattle.ca_turns.proofs.Lists.{in_range}
 
 pub apart : (low : ℕ) → low + 1 ≢ low

@@ -1,8 +1,7 @@
 -- What a hand of a table of counters is between its turns.
 use Rattle.std.specs.Prelude.{◌≡◌, ◌≢◌, ℕ, ◌+◌, List, [], ◌∷◌, ◌++◌, length}
-use Rattle.atomic_table.specs.Seated.{TableId}
+use Rattle.ca_turns.specs.Hands.{TableId, Held, HoldsNothing, IsSettled, IsWithout}
 use Rattle.ca_turns.specs.Views.{turn, stands}
-use Rattle.ca_turns.specs.Hands.{Held, HoldsNothing, IsSettled, IsWithout}
 use Rattle.ca_turns_counters.specs.declared.counters.Event.{Event}
 
 abbrev pub Counting : Type 0

@@ -2,10 +2,9 @@
 use Rattle.std.specs.Prelude.{◌≡◌, ℕ, ◌+◌, ◌*◌, ◌≤◌, List, length, Option, Some, None, IfSome, vec_len, vec_capacity}
 use mathlib.Core.Option.{some}
 use lib.ListN.{get_elem?}
-use Rattle.atomic_table.specs.Seated.{TableId}
+use Rattle.ca_turns.specs.Hands.{TableId, HoldsNothing}
 use Rattle.ca_turns.specs.declared.rule.Turn.{Turn}
 use Rattle.ca_turns.specs.Views.{stands}
-use Rattle.ca_turns.specs.Hands.{HoldsNothing}
 use Rattle.ca_turns_counters.specs.declared.counters.Event.{Event}
 use Rattle.ca_turns_counters.specs.declared.workers.Worker.{Worker}
 use Rattle.ca_turns_counters.specs.Turning.{Counting}

@@ -1,8 +1,7 @@
 ghost use Rattle.std.specs.Prelude.{◌≡◌, ℕ, ◌+◌, ◌<◌, ◌≤◌, List, All, IfOk, length, None, ◌++◌, vec_len, vec_capacity, option_to_list};
-ghost use Rattle.atomic_table.specs.Seated.{TableId};
+ghost use Rattle.ca_turns.specs.Hands.{TableId, IsFresh};
 ghost use Rattle.ca_turns.specs.Places.{total};
 ghost use Rattle.ca_turns.specs.Views.{stands};
-ghost use Rattle.ca_turns.specs.Hands.{IsFresh};
 ghost use Rattle.ca_turns_counters.specs.declared.counters.Event.{Event};
 ghost use Rattle.ca_turns_counters.specs.Working.{IsNew, IsReady, Repeats, stand, drew};
 

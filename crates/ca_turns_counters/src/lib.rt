@@ -1,9 +1,9 @@
 //! Counters that workers add to by turns: the smallest user of `ca_turns`, and its tests.
 //!
 //! The object is a row of counters. An event adds 1 to one of them, or to two that stand side by
-//! side. The crate stands on `ca_turns`, and its specs name a table as `atomic_table` does. Start
-//! with `counters.rt`, the object; `adding.rt` has one turn of a hand, and `workers.rt` many turns
-//! of many hands in threads.
+//! side. The crate stands on `ca_turns` alone. Start with `counters.rt`, the object; `adding.rt` has
+//! one turn of a hand, `working.rt` many turns of many hands in threads, and `counting.rt` a table
+//! from its opening to its close, with the theorem on what it counts.
 #![tactic(auto)]
 
 mod adding;

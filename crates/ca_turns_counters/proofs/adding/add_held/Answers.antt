@@ -1,9 +1,8 @@
 use Rattle.std.proofs.Common.{◌≡◌, ◌∙◌, ℕ, [], ◌∷◌, map, sym, refl, ap}
 use lib.ListN.{get_elem?}
 use Rattle.std.specs.Prelude.{Some}
-use Rattle.atomic_table.proofs.Lists.{set_here, set_else}
+use Rattle.ca_turns.proofs.Callers.{set_here, set_else, look_at, nothing_left}
 use Rattle.ca_turns.proofs.Lists.{in_range, both_some}
-use Rattle.ca_turns.proofs.Callers.{look_at, nothing_left}
 use Rattle.ca_turns_counters.specs.Adding.{one_more}
 use Rattle.ca_turns_counters.proofs.adding.add_held.Goals as goal
 

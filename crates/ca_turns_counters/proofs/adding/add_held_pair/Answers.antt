@@ -2,10 +2,9 @@ use Rattle.std.proofs.Common.{◌≡◌, ◌+◌, ◌∙◌, ℕ, [], ◌∷◌,
 use native.Mathlib.Decide.{ℕ_discrete}
 use lib.ListN.{get_elem?}
 use Rattle.std.specs.Prelude.{Some}
-use Rattle.atomic_table.proofs.Lists.{set_else}
+use Rattle.ca_turns.proofs.Callers.{set_else, look_at, nothing_left}
 use Rattle.ca_turns.proofs.Lists.{both_some}
 use Rattle.ca_turns.specs.Hands.{IsWithout}
-use Rattle.ca_turns.proofs.Callers.{look_at, nothing_left}
 use Rattle.ca_turns_counters.specs.Adding.{one_more}
 use Rattle.ca_turns_counters.proofs.Pairs.{apart, first_written, second_written, same_else}
 use Rattle.ca_turns_counters.proofs.adding.add_held_pair.Goals as goal

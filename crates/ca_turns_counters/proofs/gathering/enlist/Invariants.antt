@@ -1,9 +1,8 @@
 use Rattle.std.proofs.Common.{◌≡◌, ℕ, ◌+◌, ◌<◌, List, ◌++◌, length}
 use Rattle.std.specs.Prelude.{All}
-use Rattle.atomic_table.specs.Seated.{TableId}
+use Rattle.ca_turns.specs.Hands.{TableId, IsFresh}
 use Rattle.ca_turns.specs.Places.{total}
 use Rattle.ca_turns.specs.Views.{stands}
-use Rattle.ca_turns.specs.Hands.{IsFresh}
 use Rattle.ca_turns_counters.specs.Turning.{Counting}
 use Rattle.ca_turns_counters.specs.Working.{IsNew, stand}
 use Rattle.ca_turns_counters.proofs.gathering.enlist.Given as goal
