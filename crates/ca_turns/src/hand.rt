@@ -21,6 +21,7 @@ pub struct HandOf<P, C, E> {
     pub(crate) parts: Vec<Option<P>>,
     // The parts held, the one taken last first.
     pub(crate) order: Vec<usize>,
+    // The length of the list of events that it drew.
     pub(crate) drawn: u64,
 }
 

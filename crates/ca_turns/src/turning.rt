@@ -62,8 +62,9 @@ impl<O: Object> Table<O> {
         }
     }
 
-    /// Tries again until the part is held, and sleeps between two tries. A hand takes its parts in
-    /// ascending order, so no hands wait for one another in a circle.
+    /// Tries again until the part is held, and sleeps between two tries. It may wait for ever. That a
+    /// hand takes its parts in ascending order is to keep hands from waiting for one another in a
+    /// circle; nothing is proved of it.
     pub fn hold<R: Wait>(&self, rt: &R, hand: &mut Hand<O>, part: u64)
         requires table { hand.old.table ≡ self.now.id }
         requires range { part < self.now.id.slots }
