@@ -71,15 +71,17 @@ pub data Pieces : Type 0 where
   stop : ReadErrorKind → Place → Pieces
   piece : Piece → Place → Pieces → Pieces
 
--- the first n pieces of a text whose first byte is at p
+-- the pieces of a text whose first byte is at p, by what it begins with, where more says what pieces are
+abbrev pub pieces_step : (Place → List ℕ → Pieces) → Place → List ℕ → First → Pieces
+pieces_step more p bs over = end
+pieces_step more p bs (blank m) = more (past p (take m bs)) (drop m bs)
+pieces_step more p bs (found x m) = piece x p (more (past p (take m bs)) (drop m bs))
+pieces_step more p bs (wrong k m) = stop k (past p (take m bs))
+
+-- the first n pieces, counting separators and comments
 unfoldable pub pieces_within : ℕ → Place → List ℕ → Pieces
 pieces_within zero p bs = end
-pieces_within (suc n) p bs = elim (first bs) [
-  | over ↦ end
-  | blank m ↦ pieces_within n (past p (take m bs)) (drop m bs)
-  | found x m ↦ piece x p (pieces_within n (past p (take m bs)) (drop m bs))
-  | wrong k m ↦ stop k (past p (take m bs))
-]
+pieces_within (suc n) p bs = pieces_step (pieces_within n) p bs (first bs)
 
 -- a text has no more pieces than bytes
 abbrev pub pieces_from : Place → List ℕ → Pieces

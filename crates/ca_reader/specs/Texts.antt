@@ -70,15 +70,17 @@ further x m (closed xs n) = closed (x ++ xs) (m + n)
 further x m unclosed = unclosed
 further x m (broken k n) = broken k (m + n)
 
+-- a text by its first letter, where more says what a text is
+abbrev pub text_step : (List ℕ → TextCut) → List ℕ → Letter → TextCut
+text_step more bs (says x m) = further x m (more (drop m bs))
+text_step more bs quote = closed [] 1
+text_step more bs missing = unclosed
+text_step more bs (bad k) = broken k 0
+
 -- the text of less than n letters
 unfoldable pub text_within : ℕ → List ℕ → TextCut
 text_within zero bs = unclosed
-text_within (suc n) bs = elim (letter bs) [
-  | says x m ↦ further x m (text_within n (drop m bs))
-  | quote ↦ closed [] 1
-  | missing ↦ unclosed
-  | bad k ↦ broken k 0
-]
+text_within (suc n) bs = text_step (text_within n) bs (letter bs)
 
 -- a text has no more letters than bytes
 abbrev pub text_cut : List ℕ → TextCut

@@ -4,6 +4,8 @@ ghost use Rattle.ca_value.specs.Seq.{list};
 ghost use Rattle.ca_reader.specs.declared.error.ReadErrorKind.{ReadErrorKind};
 ghost use Rattle.ca_reader.specs.Form.{FormTrees};
 ghost use Rattle.ca_reader.specs.View.{form_trees};
+ghost use Rattle.ca_reader.specs.Texts.{letter, text_step, text_cut};
+ghost use Rattle.ca_reader.specs.Pieces.{first, pieces_step, pieces_from};
 ghost use Rattle.ca_reader.specs.Reads.{Reads, ReadFault, IsFaultOf};
 ghost use Rattle.ca_reader.specs.Printed.{ReadsAside};
 
@@ -56,4 +58,10 @@ pub fn one_reading()
         → (j ≡ k) × (p ≡ q) }
     ensures not_both { (bytes : List ℕ) (fs : FormTrees) (k : ReadErrorKind) (p : Place) → Reads bytes fs
         → ReadFault bytes k p → ⊥ }
+{}
+
+/// A text and its pieces go on as their first letter and piece say, however long they are.
+pub fn cuts_go_on()
+    ensures text { (bytes : List ℕ) → text_cut bytes ≡ text_step text_cut bytes (letter bytes) }
+    ensures pieces { (p : Place) (bytes : List ℕ) → pieces_from p bytes ≡ pieces_step pieces_from p bytes (first bytes) }
 {}
