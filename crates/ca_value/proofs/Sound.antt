@@ -1,11 +1,11 @@
 -- Lists of trees in which every map has distinct keys, and what keeps them so.
-use Rattle.std.proofs.Common.{◌≡◌, ℕ, zero, suc, ℤ, pos, negsuc, Bool, true, false, cond, List, [], ◌∷◌, ◌++◌, take, drop, map, Option, Some, None, Ok, Err}
+use Rattle.std.proofs.Common.{ℕ, zero, suc, ℤ, Bool, true, false, cond, List, [], ◌∷◌, ◌++◌, take, drop, Option, Some, None, Ok, Err}
 use Rattle.std.specs.Prelude.{slice_get, slice_set, unwrap_or, ok_or}
 use Rattle.ca_value.specs.declared.fault.ValueFault.{ValueFault}
-use Rattle.ca_value.specs.Tree.{Tree, Trees, TreePairs, nil, bool, int, text, key, vector, map as map_tree, port, none, item, empty, pair, trees_of, pairs_of, items_of, entries_of}
-use Rattle.ca_value.specs.IsValue.{HasDistinctKeys, HaveDistinctKeys, PairsHaveDistinctKeys, KeysDiffer}
+use Rattle.ca_value.specs.Tree.{Tree, Trees, TreePairs, vector, map as map_tree, none, item, empty, pair, trees_of, pairs_of, items_of, entries_of}
+use Rattle.ca_value.specs.IsValue.{HasDistinctKeys, HaveDistinctKeys, PairsHaveDistinctKeys}
 use Rattle.ca_value.specs.Outcome.{Answer, Outcome, ◌>>=◌, number, truth}
-use Rattle.ca_value.specs.Kinds.{vector_of, sequence_of, mapping_of, vector_from}
+use Rattle.ca_value.specs.Kinds.{vector_of, sequence_of, mapping_of}
 
 abbrev pub AreSound : List Tree → Type 0
 AreSound [] = Unit {0}

@@ -1,5 +1,5 @@
 -- Every builtin keeps the keys of each map distinct, and its result is a value.
-use Rattle.std.proofs.Common.{◌≡◌, ℕ, ℤ, pos, ◌≤◌, ◌+ℤ◌, ◌-ℤ◌, Bool, true, false, cond, List, [], ◌∷◌, Option, Some, None, Ok, Err, refl, subst, arith}
+use Rattle.std.proofs.Common.{◌≡◌, Bool, true, false, List, [], ◌∷◌, Option, Some, None, Ok, Err, refl, subst, arith}
 use Rattle.std.specs.Prelude.{nat_le, if◌then◌else◌, unwrap_or}
 use Rattle.std.proofs.lemmas.Bool.Decides.{nat_tests}
 use Rattle.ca_value.specs.declared.builtin.Builtin.{Builtin}
@@ -7,10 +7,9 @@ use Rattle.ca_value.specs.declared.fault.ValueFault.TheVariants.{TooHeavy, TooNe
 use Rattle.ca_value.specs.Tree.{Tree, Trees, nil, none, item, items_of}
 use Rattle.ca_value.specs.Measure.{weight_of, depth_of}
 use Rattle.ca_value.specs.IsValue.{HasDistinctKeys, IsValue, AreValues}
-use Rattle.ca_value.specs.Outcome.{Answer, Outcome, judged, one, two, one_or_two, two_or_three, one_and_more}
-use Rattle.ca_value.specs.Kinds.{vector_from}
+use Rattle.ca_value.specs.Outcome.{Outcome, judged, one, two, one_or_two, two_or_three, one_and_more}
 use Rattle.ca_value.specs.Builtins.{answer, builtin_result}
-use Rattle.ca_value.proofs.Sound.{AreSound, IsSoundOption, AnswerIs, IsSound, number_sound, truth_sound, trees_sound, unwrap_sound}
+use Rattle.ca_value.proofs.Sound.{AreSound, IsSoundOption, IsSound, number_sound, truth_sound, trees_sound, unwrap_sound}
 use Rattle.ca_value.proofs.SoundVectors.{appended_sound, nth_sound, first_sound, last_sound, popped_sound, subvec_sound, range_sound, part_sound}
 use Rattle.ca_value.proofs.SoundMaps.{hash_map_sound, get_of_sound, assoc_sound, dissoc_sound, keys_sound, values_sound, walked_sound}
 

@@ -1,18 +1,17 @@
 -- The builtins on maps keep the keys of each map distinct.
 use Rattle.std.proofs.Common.{◌≡◌, ℕ, ◌+◌, ◌<◌, zero, suc, ℤ, pos, negsuc, Bool, true, false, List, [], ◌∷◌, ◌++◌, length, map, take, drop, Option, Some, None, Ok, Err, refl, sym, ap, ◌∙◌, subst, arith}
-use Rattle.std.specs.Prelude.{slice_get, slice_set, slice_index_or, remove, unwrap_or, AllPairs, MatchOption, nat_lt, ◌==◌}
+use Rattle.std.specs.Prelude.{slice_set, slice_index_or, remove, AllPairs, nat_lt, ◌==◌}
 use Rattle.std.proofs.lemmas.List.{map_push, map-set, set-get_or, get_or-map, length-map, map-append, take-map, drop-map}
 use Rattle.std.proofs.lemmas.Option.{none-some}
 use Rattle.std.proofs.lemmas.List.Quantifiers.{all_pairs_push, all_pairs_remove}
 use Rattle.ca_value.specs.declared.fault.ValueFault.TheVariants.{OutOfRange}
-use Rattle.ca_value.specs.Tree.{Tree, nil, int, text, vector, map as map_tree, items_of, entries_of, pairs_of}
+use Rattle.ca_value.specs.Tree.{Tree, nil, int, text, vector, map as map_tree, items_of, entries_of}
 use Rattle.ca_value.specs.Equality.{equals}
 use Rattle.ca_value.specs.IsValue.{HasDistinctKeys, KeysDiffer}
-use Rattle.ca_value.specs.Outcome.{Answer, Outcome, ◌>>=◌}
 use Rattle.ca_value.specs.Kinds.{integer_of, mapping_of, vector_from, map_from}
 use Rattle.ca_value.specs.Maps.{place_of, value_at, put, put_all, without, without_all, paired, item_under, get_of, item_set, all_set, places_of, items_assoc, assoc_of, dissoc_of, vector_or_nil, keys_of, values_of, pair_vector, walked}
 use Rattle.ca_value.proofs.Lists.{entries_of_pairs_of}
-use Rattle.ca_value.proofs.MapLaws.{IsAtPlace, IsAbsent, at_place, absent}
+use Rattle.ca_value.proofs.MapLaws.{IsAtPlace, at_place, absent}
 use Rattle.ca_value.proofs.Sound.{AreSound, PairsAreSound, IsSoundOption, AnswerIs, IsSound, goes_on, goes_on_any, choice_sound, trees_sound, items_sound, pairs_sound, entries_sound, mapping_of_sound, append_sound, set_sound, unwrap_sound}
 use Rattle.ca_value.proofs.SoundVectors.{item_at_sound}
 

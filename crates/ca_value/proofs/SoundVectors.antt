@@ -1,14 +1,12 @@
 -- The builtins on vectors keep the keys of each map distinct.
-use Rattle.std.proofs.Common.{◌≡◌, ℕ, ℤ, pos, negsuc, ◌-◌, List, [], ◌∷◌, ◌++◌, length, take, drop, map, Option, Some, None, Ok, Err}
-use Rattle.std.specs.Prelude.{slice_get, slice_range, unwrap_or, ok_or, unsigned_abs}
-use Rattle.std.specs.List.{range_with_len}
+use Rattle.std.proofs.Common.{ℕ, ℤ, pos, negsuc, ◌-◌, List, [], ◌∷◌, ◌++◌, length, take, drop, map, Option, Some, None, Ok, Err}
+use Rattle.std.specs.Prelude.{slice_get, slice_range, unwrap_or, unsigned_abs}
 use Rattle.ca_value.specs.declared.fault.ValueFault.TheVariants.{OutOfRange}
 use Rattle.ca_value.specs.Tree.{Tree, nil, int, vector, items_of}
 use Rattle.ca_value.specs.IsValue.{HasDistinctKeys}
-use Rattle.ca_value.specs.Outcome.{Answer, Outcome}
 use Rattle.ca_value.specs.Kinds.{integer_of, vector_of, sequence_of, vector_from}
 use Rattle.ca_value.specs.Vectors.{item_at, or_else, appended, nth_at, nth_of, first_of, last_of, shortened, popped, end_of, part_between, subvec_of, bounds_of, range_of, counted, part_of}
-use Rattle.ca_value.proofs.Sound.{AreSound, IsSoundOption, AnswerIs, IsSound, goes_on, goes_on_any, choice_sound, trees_sound, items_sound, vector_of_sound, sequence_of_sound, append_sound, take_sound, drop_sound, get_sound, unwrap_sound, ok_or_sound}
+use Rattle.ca_value.proofs.Sound.{AreSound, IsSoundOption, IsSound, goes_on, goes_on_any, choice_sound, trees_sound, items_sound, vector_of_sound, sequence_of_sound, append_sound, take_sound, drop_sound, get_sound, unwrap_sound, ok_or_sound}
 
 pub item_at_sound : (xs : List Tree) (z : ℤ) → AreSound xs → IsSoundOption (item_at xs z)
 item_at_sound xs (pos n) s = get_sound xs n s

@@ -17,4 +17,6 @@ pub mod memory;
 pub mod plain;
 pub mod readable;
 pub mod seq;
+#[cfg(test)]
+mod tests;
 pub mod value;

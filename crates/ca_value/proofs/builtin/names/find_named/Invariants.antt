@@ -1,4 +1,4 @@
-use Rattle.std.proofs.Common.{◌≡◌, ◌<◌, ℕ, get_or, ◌≢◌}
+use Rattle.std.proofs.Common.{◌<◌, ℕ, get_or, ◌≢◌}
 use Rattle.ca_value.specs.declared.builtin.Builtin.{Builtin}
 use Rattle.ca_value.specs.Names.{name_of}
 use Rattle.ca_value.proofs.builtin.names.find_named.Given as goal
