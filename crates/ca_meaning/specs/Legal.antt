@@ -1,8 +1,7 @@
--- When a list of events is a run of a program, how a run ends, and what it writes.
-use Rattle.std.specs.Prelude.{◌≡◌, ℕ, List, [], ◌∷◌, ◌++◌, Bool, false, ◌==◌}
-use Rattle.ca_term.specs.declared.event.Ending.{Ending}
+-- When a list of events is a run of a program.
+use Rattle.std.specs.Prelude.{◌≡◌, List, [], ◌∷◌, Bool, false, ◌==◌}
 use Rattle.ca_term.specs.Program.{ProgramView}
-use Rattle.ca_term.specs.Event.{EventView, printed, over}
+use Rattle.ca_term.specs.Event.{EventView, over}
 use Rattle.ca_meaning.specs.State.{State, Opening}
 use Rattle.ca_meaning.specs.Steps.{Steps}
 
@@ -21,20 +20,10 @@ GoesOn (e ∷ (f ∷ es)) = (is_end_of_main e ≡ false) × GoesOn (f ∷ es)
 pub record Reaches (program : ProgramView) (journal : List EventView) (s : State) : Type 0 where
   pub opening : State
   pub opens : Opening program opening
-  pub steps : Steps opening journal s
+  pub steps : Steps program opening journal s
 
 -- the journal is a run of the program
 pub record Legal (program : ProgramView) (journal : List EventView) : Type 0 where
   pub state : State
   pub reaches : Reaches program journal state
   pub goes_on : GoesOn journal
-
--- the last event is the end of the main text by its value
-abbrev pub IsEnded : List EventView → Type 0
-IsEnded journal = (before : List EventView) × (journal ≡ before ++ over 0 Ending.Ended ∷ [])
-
--- the printed lines, in order
-abbrev pub output : List EventView → List ℕ
-output [] = []
-output (printed t line ∷ es) = line ++ output es
-output (e ∷ es) = output es

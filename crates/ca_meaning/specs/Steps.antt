@@ -1,32 +1,29 @@
 -- How an event leads from a state to a state.
-use Rattle.std.specs.Prelude.{◌≡◌, ℕ, List, [], ◌∷◌, Some}
-use Rattle.std.specs.Map.{update}
-use Rattle.std.proofs.Math.Dec.{eqb}
-use Rattle.ca_value.specs.Tree.{Tree, nil}
-use Rattle.ca_term.specs.declared.place.Place.{Place}
-use Rattle.ca_term.specs.declared.event.Ending.TheVariants.{Ended}
-use Rattle.ca_term.specs.Operation.{OpView, printing}
-use Rattle.ca_term.specs.Event.{EventView, printed, over as is_over}
-use Rattle.ca_meaning.specs.Body.{BodyView, at, at_op, ended, fill}
-use Rattle.ca_meaning.specs.Rest.{Rest}
-use Rattle.ca_meaning.specs.State.{State, running, over}
+use Rattle.std.specs.Prelude.{◌≡◌, List, [], ◌∷◌, option_map}
+use Rattle.ca_term.specs.declared.event.Ending.TheVariants.{Ended, Faulted}
+use Rattle.ca_term.specs.Program.{ProgramView}
+use Rattle.ca_term.specs.Event.{EventView, made, spawned, done, met, parked, posted, settled, defaulted, closed, registered, printed, ticked, over, port_number}
+use Rattle.ca_meaning.specs.State.{State}
+use Rattle.ca_meaning.specs.ChannelSteps.{DoneStep, MeetStep, ParkStep, PostStep, SettleStep, DefaultStep, CloseStep}
+use Rattle.ca_meaning.specs.TaskSteps.{MakeStep, SpawnStep, RegisterStep, PrintStep, TickStep, EndStep, FaultStep}
 
--- the task runs, and its body stands at the operation
-abbrev pub StandsAt : State → ℕ → OpView → BodyView → Type 0
-StandsAt s t op b = (s.tasks t ≡ Some (running b)) × ((p : Place) × (at b ≡ at_op (record { op = op; place = p })))
-
--- the tasks after task t, whose body is b, has got the answer and gone on
-abbrev pub Goes : State → ℕ → BodyView → Tree → State → Type 0
-Goes s t b answer s2 = (c : BodyView) × Rest (fill answer b) c × (s2 ≡ record { tasks = update eqb s.tasks t (Some (running c)) })
-
--- one event. Each kind that is served later adds its case.
-abbrev pub Step : State → EventView → State → Type 0
-Step s (printed t line) s2 = (b : BodyView) × StandsAt s t (printing line) b × Goes s t b nil s2
-Step s (is_over t Ended) s2 =
-    (b : BodyView) × (s.tasks t ≡ Some (running b)) × ((v : Tree) × (at b ≡ ended v)) × (s2 ≡ record { tasks = update eqb s.tasks t (Some over) })
-Step s e s2 = ⊥
+abbrev pub Step : ProgramView → State → EventView → State → Type 0
+Step program s (made t p what moment) s2 = MakeStep program s t p what moment s2
+Step program s (spawned t u kind result) s2 = SpawnStep program s t u kind result s2
+Step program s (done t k b a) s2 = DoneStep program s t k b a s2
+Step program s (met t k side p v w o) s2 = MeetStep program s t k side p v w o s2
+Step program s (parked t w bs) s2 = ParkStep s t w bs s2
+Step program s (posted t w p v) s2 = PostStep program s t w p v s2
+Step program s (settled w k side p v) s2 = SettleStep program s w k side p v s2
+Step program s (defaulted t v) s2 = DefaultStep program s t v s2
+Step program s (closed t p) s2 = CloseStep program s t p s2
+Step program s (registered t name args v) s2 = RegisterStep program s t name args v s2
+Step program s (printed t line) s2 = PrintStep program s t line s2
+Step program s (ticked m ports) s2 = TickStep s m ports s2
+Step program s (over t Ended) s2 = EndStep s t s2
+Step program s (over t (Faulted fault place result)) s2 = FaultStep s t fault place (option_map port_number result) s2
 
 -- the events lead, one after the other, from a state to a state
-abbrev pub Steps : State → List EventView → State → Type 0
-Steps s [] s2 = s2 ≡ s
-Steps s (e ∷ es) s2 = (mid : State) × Step s e mid × Steps mid es s2
+abbrev pub Steps : ProgramView → State → List EventView → State → Type 0
+Steps program s [] s2 = s2 ≡ s
+Steps program s (e ∷ es) s2 = (mid : State) × Step program s e mid × Steps program mid es s2

@@ -11,6 +11,10 @@
 
 pub mod body;
 pub mod contract;
+pub mod ending;
+pub mod laws;
 pub mod redex;
 pub mod replace;
 pub mod rest;
+pub mod row;
+pub mod text;

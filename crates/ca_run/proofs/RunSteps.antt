@@ -19,7 +19,8 @@ use Rattle.ca_meaning.specs.Body.{BodyView, At, at, local, at_op, ended, faulted
 use Rattle.ca_meaning.specs.BodyViews.{stand_of}
 use Rattle.ca_meaning.specs.declared.body.Stand.TheVariants.{AtOp}
 use Rattle.ca_meaning.specs.Rest.{Rest}
-use Rattle.ca_meaning.specs.Legal.{Legal, IsEnded}
+use Rattle.ca_meaning.specs.Legal.{Legal}
+use Rattle.ca_meaning.specs.Ends.{IsEnded}
 use Rattle.ca_meaning.proofs.Running.{Runs, runs_opening, runs_print, runs_end}
 use Rattle.ca_run.specs.Events.{events}
 use Rattle.ca_run.specs.Printing.{is_printing, printed_line}

@@ -2,7 +2,7 @@
 use Rattle.std.specs.Prelude.{ℕ, List, codes, Option, Some, None}
 use Rattle.ca_value.specs.declared.seq.Seq.{Seq}
 use Rattle.ca_term.specs.declared.event.Event.{Event}
-use Rattle.ca_meaning.specs.Legal.{output}
+use Rattle.ca_meaning.specs.Texts.{output}
 use Rattle.ca_reader.specs.Kind.{kind_name}
 use Rattle.ca_run.specs.declared.answer.Answer.{Answer}
 use Rattle.ca_run.specs.declared.answer.Answer.TheVariants.{Usage, Refused, Ran}

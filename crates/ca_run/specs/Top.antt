@@ -6,7 +6,9 @@ use Rattle.ca_term.specs.declared.place.Place.{Place}
 use Rattle.ca_term.specs.declared.event.Event.{Event}
 use Rattle.ca_term.specs.Program.{ProgramView}
 use Rattle.ca_term.specs.Event.{EventView}
-use Rattle.ca_meaning.specs.Legal.{Legal, IsEnded, output}
+use Rattle.ca_meaning.specs.Legal.{Legal}
+use Rattle.ca_meaning.specs.Ends.{IsEnded}
+use Rattle.ca_meaning.specs.Texts.{output}
 use Rattle.ca_reader.specs.declared.error.ReadErrorKind.{ReadErrorKind}
 use Rattle.ca_reader.specs.Form.{FormTrees}
 use Rattle.ca_reader.specs.Kind.{kind_name}

@@ -1,7 +1,7 @@
 ghost use Rattle.std.specs.Prelude.{◌≡◌, ◌⊎◌, ◌≤◌, ℕ, List, ◌<◌, ◌+◌, ◌^◌, ◌↔◌, true, false, length, None, Some, Ok, Err, IsSome, IsTrue, MatchOption};
 ghost use Rattle.std.specs.Io.KnownBytes.{Appends};
 ghost use Rattle.ca_value.specs.Seq.{list};
-ghost use Rattle.ca_meaning.specs.Legal.{output};
+ghost use Rattle.ca_meaning.specs.Texts.{output};
 ghost use Rattle.ca_run.specs.Causes.{Rose};
 ghost use Rattle.ca_run.specs.Words.{IsRun};
 ghost use Rattle.ca_run.specs.Events.{events};

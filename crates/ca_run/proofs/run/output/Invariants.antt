@@ -1,7 +1,7 @@
 use Rattle.std.proofs.Common.{◌≡◌, ◌++◌, drop, map}
 use Rattle.ca_value.specs.Seq.{list}
 use Rattle.ca_term.specs.Event.{event_view}
-use Rattle.ca_meaning.specs.Legal.{output}
+use Rattle.ca_meaning.specs.Texts.{output}
 use Rattle.ca_run.specs.Events.{events}
 use Rattle.ca_run.proofs.run.output.Given as goal
 

@@ -1,6 +1,6 @@
 use Rattle.std.proofs.Common.{◌≡◌, ◌≢◌, ℕ, take, true, false, is_ok, rules, refl, sym, ap, ◌∙◌, arith, MatchOption}
 use Rattle.std.specs.Io.KnownBytes.{Appends}
-use Rattle.ca_meaning.specs.Legal.{output}
+use Rattle.ca_meaning.specs.Texts.{output}
 use Rattle.ca_run.specs.Events.{events}
 use Rattle.ca_run.specs.Top.{Ran}
 use Rattle.ca_run.specs.Answers.{answer_text, status_of}

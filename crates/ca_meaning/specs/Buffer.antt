@@ -1,0 +1,50 @@
+-- What a channel keeps of the values that it accepts. (core.async API reference: `buffer`,
+-- `dropping-buffer`, `sliding-buffer`, `promise-chan`.)
+use Rattle.std.specs.Prelude.{ℕ, List, [], ◌∷◌, ◌++◌, length, Bool, true, false, cond, not, nat_le}
+use Rattle.ca_value.specs.Tree.{Tree}
+
+pub data Policy : Type 0 where
+  no_buffer : Policy
+  fixed_buffer : Policy
+  dropping_buffer : Policy
+  sliding_buffer : Policy
+  promise_buffer : Policy
+
+abbrev pub is_full : ℕ → List Tree → Bool
+is_full capacity held = nat_le capacity (length held)
+
+-- a channel without a buffer has no room, a fixed buffer has room until it is full, the others always
+abbrev pub room_by : Policy → Bool → Bool
+room_by no_buffer full = false
+room_by fixed_buffer full = not full
+room_by dropping_buffer full = true
+room_by sliding_buffer full = true
+room_by promise_buffer full = true
+
+abbrev pub without_first : List Tree → List Tree
+without_first [] = []
+without_first (v ∷ vs) = vs
+
+abbrev pub only_first : List Tree → Tree → List Tree
+only_first [] v = v ∷ []
+only_first (w ∷ ws) v = w ∷ ws
+
+abbrev pub keep_by : Policy → Bool → List Tree → Tree → List Tree
+keep_by no_buffer full vs v = vs ++ v ∷ []
+keep_by fixed_buffer full vs v = vs ++ v ∷ []
+keep_by dropping_buffer full vs v = cond full vs (vs ++ v ∷ [])
+keep_by sliding_buffer full vs v = cond full (without_first (vs ++ v ∷ [])) (vs ++ v ∷ [])
+keep_by promise_buffer full vs v = only_first vs v
+
+-- the list after a value was accepted: it stands last; a full dropping buffer drops it, a full sliding
+-- buffer drops the oldest, and a promise keeps its first
+abbrev pub keep : Policy → ℕ → List Tree → Tree → List Tree
+keep policy capacity vs v = keep_by policy (is_full capacity vs) vs v
+
+-- the list after its first value was given; a promise gives it ever after
+abbrev pub give : Policy → List Tree → List Tree
+give no_buffer vs = without_first vs
+give fixed_buffer vs = without_first vs
+give dropping_buffer vs = without_first vs
+give sliding_buffer vs = without_first vs
+give promise_buffer vs = vs

@@ -1,0 +1,44 @@
+-- Values as operands. A value that isn't there counts as nil, one that isn't a port as port 0: where
+-- that matters, the operation faults before.
+use Rattle.std.specs.Prelude.{ℕ, suc, List, [], ◌∷◌, Bool, true, false}
+use Rattle.ca_value.specs.Tree.{Tree, Trees, nil, bool, port, none, item}
+
+abbrev pub port_number : Tree → ℕ
+port_number (port n) = n
+port_number v = 0
+
+abbrev pub is_nil : Tree → Bool
+is_nil nil = true
+is_nil v = false
+
+-- nil and false are false, all else is true
+abbrev pub truth : Tree → Bool
+truth nil = false
+truth (bool b) = b
+truth v = true
+
+abbrev pub first_of : Trees → Tree
+first_of none = nil
+first_of (item v vs) = v
+
+abbrev pub rest_of : Trees → Trees
+rest_of none = none
+rest_of (item v vs) = vs
+
+abbrev pub second_of : Trees → Tree
+second_of vs = first_of (rest_of vs)
+
+abbrev pub third_of : Trees → Tree
+third_of vs = second_of (rest_of vs)
+
+abbrev pub count_of : Trees → ℕ
+count_of none = 0
+count_of (item v vs) = suc (count_of vs)
+
+abbrev pub is_pair : Trees → Bool
+is_pair (item a (item b none)) = true
+is_pair vs = false
+
+abbrev pub values_in : Trees → List Tree
+values_in none = []
+values_in (item v vs) = v ∷ values_in vs

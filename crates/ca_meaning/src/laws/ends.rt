@@ -1,0 +1,20 @@
+ghost use Rattle.std.specs.Prelude.{◌≡◌, ◌≢◌, ◌↔◌, ℕ, List, Some};
+ghost use Rattle.ca_term.specs.Program.{ProgramView};
+ghost use Rattle.ca_term.specs.Event.{EventView};
+ghost use Rattle.ca_meaning.specs.Body.{nowhere};
+ghost use Rattle.ca_meaning.specs.Task.{body_at};
+ghost use Rattle.ca_meaning.specs.State.{State, Task, running};
+ghost use Rattle.ca_meaning.specs.Legal.{Reaches};
+ghost use Rattle.ca_meaning.specs.Ends.{IsPossible};
+ghost use Rattle.ca_meaning.specs.EndsLaw.{HasEvent, IsQuiet};
+
+/// In the state of every legal journal each running task has a possible event. (A task that stands at a
+/// form that isn't served yet has none.)
+pub fn running_tasks_have_events()
+    ensures { (program : ProgramView) (journal : List EventView) (s : State) (t : ℕ) (x : Task) → Reaches program journal s → s.tasks t ≡ Some x → x.mode ≡ running → body_at x.body ≢ nowhere → HasEvent program s t }
+{}
+
+/// A run is stuck exactly where no task runs, no channel settles and no deadline is open.
+pub fn stuck_runs_are_quiet()
+    ensures { (program : ProgramView) (journal : List EventView) (s : State) → Reaches program journal s → (IsPossible program s → ⊥) ↔ IsQuiet s }
+{}
