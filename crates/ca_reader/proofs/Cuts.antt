@@ -9,7 +9,7 @@ use Rattle.std.proofs.lemmas.Grind.{common_steps}
 use Rattle.ca_reader.specs.declared.error.ReadErrorKind.{ReadErrorKind}
 use Rattle.ca_reader.specs.declared.error.ReadErrorKind.TheVariants.{UnclosedText, BadByte}
 use Rattle.ca_reader.specs.Form.{text}
-use Rattle.ca_reader.specs.Texts.{Letter, says, quote, missing, bad, escaped, escape_of, escape, character, letter, char_len, is_continuation, may_follow, TextCut, closed, unclosed, broken, further, text_within, text_cut}
+use Rattle.ca_reader.specs.Texts.{Letter, says, quote, missing, bad, escaped, escape_of, escape, character, letter, char_len, is_continuation, may_follow, TextCut, closed, unclosed, broken, further, text_step, text_within, text_cut}
 use Rattle.ca_reader.specs.PieceView.{LetterFits}
 use Rattle.ca_reader.specs.Pieces.{one, First, found, wrong, text_first}
 
@@ -82,24 +82,9 @@ letter_fits (b ∷ bs) =
     (if_fits (b == 92) (suc (length bs)) (escape bs) (character (b ∷ bs) (char_len (b ∷ bs))) (escape_fits bs)
     (character_fits (b ∷ bs) (char_len (b ∷ bs)) (omega arith) (char_len_fits (b ∷ bs) (omega arith))))
 
--- what a text is, by its first letter
-abbrev pub text_step : (List ℕ → TextCut) → List ℕ → Letter → TextCut
-text_step more bs (says x m) = further x m (more (drop m bs))
-text_step more bs quote = closed [] 1
-text_step more bs missing = unclosed
-text_step more bs (bad k) = broken k 0
-
 pub text_within_step : (n : ℕ) (bs : List ℕ) → text_within (suc n) bs ≡ text_step (text_within n) bs (letter bs)
 unfolding text_within
-text_within_step n bs =
-    let by : (l : Letter) → (elim l [
-      | says x m ↦ further x m (text_within n (drop m bs))
-      | quote ↦ closed [] 1
-      | missing ↦ unclosed
-      | bad k ↦ broken k 0
-    ]) ≡ text_step (text_within n) bs l =
-    λ l. elim l [ says x m ↦ refl | quote ↦ refl | missing ↦ refl | bad k ↦ refl ]
-    in by (letter bs)
+text_within_step n bs = refl
 
 pub text_step_same : (f g : List ℕ → TextCut) (bs : List ℕ) (l : Letter) → LetterFits (length bs) l → ((m : ℕ) → 0 < m → m ≤ length bs → f (drop m bs) ≡ g (drop m bs)) → text_step f bs l ≡ text_step g bs l
 text_step_same f g bs (says x m) h same = ap (further x m) (same m h.0 h.1)

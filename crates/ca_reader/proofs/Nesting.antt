@@ -9,8 +9,18 @@ use Rattle.ca_reader.specs.declared.form.Bracket.TheVariants.{Round, Square, Cur
 use Rattle.ca_reader.specs.declared.error.ReadErrorKind.{ReadErrorKind}
 use Rattle.ca_reader.specs.Form.{Atom, FormTree, FormTrees, ShapeTree, form, atom, group, none, item}
 use Rattle.ca_reader.specs.Pieces.{Piece, one, opener, closer, Pieces, end, stop, piece, pieces}
-use Rattle.ca_reader.specs.Reads.{Nest, NestForm, NestShape, Reads, ReadFault, Context, outside, inside, depth, Stands, piece_fault, fault_at, same_bracket, is_paired}
-use Rattle.ca_reader.specs.Steps.{with_last, with_form, next, unless, go}
+use Rattle.ca_reader.specs.Reads.{end_fault, Nest, NestForm, NestShape, Reads, ReadFault, Context, outside, inside, depth, Stands, piece_fault, fault_at, same_bracket, is_paired}
+use Rattle.ca_reader.specs.Steps.{with_last, with_form, next, innermost}
+
+-- a reading from left to right, piece by piece
+abbrev pub unless : {A : Type 0} → Option (ReadErrorKind × Place) → Result A (ReadErrorKind × Place) → Result A (ReadErrorKind × Place)
+unless None r = r
+unless (Some e) r = Err e
+
+unfoldable pub go : Pieces → Context → Result FormTrees (ReadErrorKind × Place)
+go end c = unless (end_fault c) (Ok (innermost c))
+go (stop k p) c = Err (k, p)
+go (piece x p more) c = unless (piece_fault c x p) (go more (next c x p))
 
 abbrev pub Answered : Pieces → Result FormTrees (ReadErrorKind × Place) → Type 0
 Answered whole (Ok fs) = Nest 0 fs whole end

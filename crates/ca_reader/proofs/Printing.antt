@@ -12,10 +12,10 @@ use Rattle.ca_reader.specs.Form.{Atom, FormTree, FormTrees, ShapeTree, form, ato
 use Rattle.ca_reader.specs.Bytes.{past, start, is_token_byte, is_separator}
 use Rattle.ca_reader.specs.Tokens.{meaning}
 use Rattle.ca_reader.specs.Texts.{TextCut, closed, unclosed, broken, text_cut}
-use Rattle.ca_reader.specs.Pieces.{Piece, one, opener, closer, First, over, blank, found, wrong, first, text_first, token_first, bracket_first, token, Pieces, end, stop, piece, pieces_within, pieces_from, pieces}
+use Rattle.ca_reader.specs.Pieces.{Piece, one, opener, closer, First, over, blank, found, wrong, first, text_first, token_first, bracket_first, token, Pieces, end, stop, piece, pieces_step, pieces_within, pieces_from, pieces}
 use Rattle.ca_reader.specs.Reads.{Nest, NestForm, NestShape, Reads, count, is_paired}
 use Rattle.ca_reader.specs.Printed.{atom_text, opening, closing, form_text, shape_text, forms_text, more_text, bare, bare_form, bare_shape, ReadsAside}
-use Rattle.ca_reader.proofs.Readings.{pieces_step, pieces_from_is, pieces_within_step}
+use Rattle.ca_reader.proofs.Readings.{pieces_from_is, pieces_within_step}
 use Rattle.ca_reader.proofs.Spelling.{IsApart, IsSpelt, spelt_token, taken}
 use Rattle.ca_reader.proofs.TextSpelling.{SaysText, text_says, spelt_text}
 

@@ -14,10 +14,10 @@ use Rattle.ca_reader.specs.Bytes.{past}
 use Rattle.ca_reader.specs.Pieces.{Piece, over, blank, found, wrong, first, pieces_from}
 use Rattle.ca_reader.specs.Reads.{Context, Reads, ReadFault, IsFaultOf, end_fault, piece_fault}
 use Rattle.ca_reader.specs.Printed.{ReadsAside}
-use Rattle.ca_reader.specs.Steps.{next, innermost, unless, go}
+use Rattle.ca_reader.specs.Steps.{next, innermost}
 use Rattle.ca_reader.specs.NestView.{Tells}
 use Rattle.ca_reader.proofs.Cuts.{slice_from, slice_from_is}
-use Rattle.ca_reader.proofs.Nesting.{answer, reads_answer, faults_answer}
+use Rattle.ca_reader.proofs.Nesting.{unless, go, answer, reads_answer, faults_answer}
 use Rattle.ca_reader.proofs.Readings.{go_over, go_blank, go_wrong, go_found, go_refused}
 
 -- the rest of the script from a place on, in a context, reads as the whole script

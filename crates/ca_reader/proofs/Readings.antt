@@ -10,12 +10,13 @@ use Rattle.ca_reader.specs.declared.error.ReadErrorKind.{ReadErrorKind}
 use Rattle.ca_reader.specs.Form.{Atom}
 use Rattle.ca_reader.specs.Bytes.{past, is_separator, is_token_byte}
 use Rattle.ca_reader.specs.Tokens.{meaning}
-use Rattle.ca_reader.specs.Texts.{Letter, says, quote, missing, bad, letter, TextCut, closed, unclosed, broken, further, text_within, text_cut}
+use Rattle.ca_reader.specs.Texts.{Letter, says, quote, missing, bad, letter, TextCut, closed, unclosed, broken, further, text_step, text_within, text_cut}
 use Rattle.ca_reader.specs.PieceView.{LetterFits, FirstFits}
-use Rattle.ca_reader.specs.Pieces.{Piece, First, over, blank, found, wrong, first, text_first, token_first, bracket_first, token, Pieces, end, stop, piece, pieces_within, pieces_from}
+use Rattle.ca_reader.specs.Pieces.{Piece, First, over, blank, found, wrong, first, text_first, token_first, bracket_first, token, Pieces, piece, pieces_step, pieces_within, pieces_from}
 use Rattle.ca_reader.specs.Reads.{Context, end_fault, piece_fault}
-use Rattle.ca_reader.specs.Steps.{next, innermost, unless, go}
-use Rattle.ca_reader.proofs.Cuts.{letter_fits, text_step, text_within_step}
+use Rattle.ca_reader.specs.Steps.{next, innermost}
+use Rattle.ca_reader.proofs.Nesting.{unless, go}
+use Rattle.ca_reader.proofs.Cuts.{letter_fits, text_within_step}
 
 abbrev pub TextFits : ℕ → TextCut → Type 0
 TextFits most (closed s n) = n ≤ most
@@ -81,24 +82,9 @@ first_fits (b ∷ bs) =
     token_first_fits (suc (length bs)) (length (token (b ∷ bs))) (meaning (token (b ∷ bs))) (omega arith) (omega arith))
     (λ e. bracket_first_fits (suc (length bs)) b (omega arith)))))
 
--- the pieces of a text, by what it begins with
-abbrev pub pieces_step : (Place → List ℕ → Pieces) → Place → List ℕ → First → Pieces
-pieces_step more p bs over = end
-pieces_step more p bs (blank m) = more (past p (take m bs)) (drop m bs)
-pieces_step more p bs (found x m) = piece x p (more (past p (take m bs)) (drop m bs))
-pieces_step more p bs (wrong k m) = stop k (past p (take m bs))
-
 pub pieces_within_step : (n : ℕ) (p : Place) (bs : List ℕ) → pieces_within (suc n) p bs ≡ pieces_step (pieces_within n) p bs (first bs)
 unfolding pieces_within
-pieces_within_step n p bs =
-    let by : (f : First) → (elim f [
-      | over ↦ end
-      | blank m ↦ pieces_within n (past p (take m bs)) (drop m bs)
-      | found x m ↦ piece x p (pieces_within n (past p (take m bs)) (drop m bs))
-      | wrong k m ↦ stop k (past p (take m bs))
-    ]) ≡ pieces_step (pieces_within n) p bs f =
-    λ f. elim f [ over ↦ refl | blank m ↦ refl | found x m ↦ refl | wrong k m ↦ refl ]
-    in by (first bs)
+pieces_within_step n p bs = refl
 
 pub pieces_step_same : (f g : Place → List ℕ → Pieces) (p : Place) (bs : List ℕ) (x : First) → FirstFits (length bs) x → ((q : Place) (m : ℕ) → 0 < m → m ≤ length bs → f q (drop m bs) ≡ g q (drop m bs)) → pieces_step f p bs x ≡ pieces_step g p bs x
 pieces_step_same f g p bs over h same = refl

@@ -8,9 +8,9 @@ use borrow.Author.Tests.{eqb-true, leb-true, ltb-true}
 use Rattle.ca_value.specs.Printed.{escaped as written, all_escaped, quoted}
 use Rattle.ca_reader.specs.declared.error.ReadErrorKind.TheVariants.{BadByte}
 use Rattle.ca_reader.specs.Form.{text}
-use Rattle.ca_reader.specs.Texts.{Letter, says, quote, missing, bad, escaped, escape_of, escape, character, letter, char_len, is_continuation, may_follow, TextCut, closed, unclosed, broken, further, text_within, text_cut}
+use Rattle.ca_reader.specs.Texts.{Letter, says, quote, missing, bad, escaped, escape_of, escape, character, letter, char_len, is_continuation, may_follow, TextCut, closed, unclosed, broken, further, text_step, text_within, text_cut}
 use Rattle.ca_reader.specs.Pieces.{one, found, first, text_first}
-use Rattle.ca_reader.proofs.Cuts.{text_step, text_within_step, text_cut_step, char_len_fits, not_zero}
+use Rattle.ca_reader.proofs.Cuts.{text_within_step, text_cut_step, char_len_fits, not_zero}
 use Rattle.ca_reader.proofs.Spelling.{IsSpelt, passed_over, eqb_apart}
 use Rattle.ca_reader.proofs.Numbers.{both}
 

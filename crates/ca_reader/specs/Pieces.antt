@@ -8,7 +8,7 @@ use Rattle.ca_reader.specs.declared.error.ReadErrorKind.{ReadErrorKind}
 use Rattle.ca_reader.specs.declared.error.ReadErrorKind.TheVariants.{BadByte, UnclosedText}
 use Rattle.ca_reader.specs.Form.{Atom, text}
 use Rattle.ca_reader.specs.Bytes.{is_separator, is_token_byte, start, past}
-use Rattle.ca_reader.specs.Tokens.{meaning, keyword}
+use Rattle.ca_reader.specs.Tokens.{meaning}
 use Rattle.ca_reader.specs.Texts.{TextCut, closed, unclosed, broken, text_cut}
 
 -- a text or a token, an opening bracket or a closing one
@@ -31,14 +31,12 @@ text_first (closed s n) = found (one (text s)) (suc n)
 text_first unclosed = wrong UnclosedText 0
 text_first (broken k n) = wrong k (suc n)
 
+-- a token of n bytes, by what it says; its fault stands at its first byte
 abbrev pub token_first : ℕ → Result Atom ReadErrorKind → First
 token_first n (Ok a) = found (one a) n
 token_first n (Err k) = wrong k 0
 
--- a token of these bytes that begins with a colon
-abbrev pub keyword_first : List ℕ → First
-keyword_first t = token_first (length t) (keyword t)
-
+-- ( ) [ ] { }
 abbrev pub bracket_first : ℕ → First
 bracket_first b =
     if b == 40 then found (opener Round) 1
@@ -56,6 +54,7 @@ comment_len bs = position_or_len (λ b. b == 10) bs
 abbrev pub token : List ℕ → List ℕ
 token bs = take_while is_token_byte bs
 
+-- a comment begins with a semicolon (byte 59), a text with a quote (byte 34)
 unfoldable pub first : List ℕ → First
 first [] = over
 first (b ∷ bs) =
@@ -71,15 +70,17 @@ pub data Pieces : Type 0 where
   stop : ReadErrorKind → Place → Pieces
   piece : Piece → Place → Pieces → Pieces
 
--- the first n pieces of a text whose first byte is at p
+-- the pieces of a text whose first byte is at p, by what it begins with, where more says what pieces are
+abbrev pub pieces_step : (Place → List ℕ → Pieces) → Place → List ℕ → First → Pieces
+pieces_step more p bs over = end
+pieces_step more p bs (blank m) = more (past p (take m bs)) (drop m bs)
+pieces_step more p bs (found x m) = piece x p (more (past p (take m bs)) (drop m bs))
+pieces_step more p bs (wrong k m) = stop k (past p (take m bs))
+
+-- the first n pieces, counting separators and comments
 unfoldable pub pieces_within : ℕ → Place → List ℕ → Pieces
 pieces_within zero p bs = end
-pieces_within (suc n) p bs = elim (first bs) [
-  | over ↦ end
-  | blank m ↦ pieces_within n (past p (take m bs)) (drop m bs)
-  | found x m ↦ piece x p (pieces_within n (past p (take m bs)) (drop m bs))
-  | wrong k m ↦ stop k (past p (take m bs))
-]
+pieces_within (suc n) p bs = pieces_step (pieces_within n) p bs (first bs)
 
 -- a text has no more pieces than bytes
 abbrev pub pieces_from : Place → List ℕ → Pieces

@@ -35,6 +35,7 @@ abbrev mutual
       (d < 200) × (is_paired b fs ≡ true)
       × (inner : Pieces) × (q : Place) × (ps ≡ piece (opener b) p inner) × Nest (suc d) fs inner (piece (closer b) q rest)
 
+-- the text has these forms
 abbrev pub Reads : List ℕ → FormTrees → Type 0
 Reads bytes fs = Nest 0 fs (pieces bytes) end
 
@@ -48,7 +49,7 @@ abbrev pub depth : Context → ℕ
 depth (outside fs) = 0
 depth (inside c b p fs) = suc (depth c)
 
--- a reading of ps can come to rest, and stands there
+-- a reading of ps can come to where rest is left, and stands there
 abbrev pub Stands : Context → Pieces → Pieces → Type 0
 Stands (outside fs) ps rest = Nest 0 fs ps rest
 Stands (inside c b p fs) ps rest =
@@ -66,6 +67,7 @@ closing_fault (outside fs) b q = Some (StrayClose, q)
 closing_fault (inside c a p fs) b q =
     if same_bracket a b then (if is_paired b fs then None else Some (OddMap, p)) else Some (StrayClose, q)
 
+-- what is wrong if the text ends here
 abbrev pub end_fault : Context → Option (ReadErrorKind × Place)
 end_fault (outside fs) = None
 end_fault (inside c b p fs) = Some (UnclosedList, p)
@@ -82,7 +84,8 @@ fault_at c end = end_fault c
 fault_at c (stop k q) = Some (k, q)
 fault_at c (piece x q more) = piece_fault c x q
 
--- a reading comes as far as some piece, or to the end, and there is this fault
+-- a reading of the text can come somewhere, and can't go on there for this fault; as each text has exactly
+-- one reading, that is the first fault from the left
 abbrev pub ReadFault : List ℕ → ReadErrorKind → Place → Type 0
 ReadFault bytes k p = (c : Context) × (rest : Pieces) × Stands c (pieces bytes) rest × (fault_at c rest ≡ Some (k, p))
 

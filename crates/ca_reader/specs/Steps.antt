@@ -1,10 +1,8 @@
--- A reading from left to right, piece by piece. What it answers is proved to be `Reads` and `ReadFault`.
-use Rattle.std.specs.Prelude.{Option, Some, None, Result, Ok, Err}
+-- How a piece changes where a reading stands.
 use Rattle.ca_term.specs.declared.place.Place.{Place}
-use Rattle.ca_reader.specs.declared.error.ReadErrorKind.{ReadErrorKind}
 use Rattle.ca_reader.specs.Form.{FormTree, FormTrees, form, atom, group, none, item}
-use Rattle.ca_reader.specs.Pieces.{Piece, one, opener, closer, Pieces, end, stop, piece}
-use Rattle.ca_reader.specs.Reads.{Context, outside, inside, end_fault, piece_fault}
+use Rattle.ca_reader.specs.Pieces.{Piece, one, opener, closer}
+use Rattle.ca_reader.specs.Reads.{Context, outside, inside}
 
 abbrev pub with_last : FormTrees → FormTree → FormTrees
 with_last none f = item f none
@@ -29,12 +27,3 @@ next c (closer b) p = shut c
 abbrev pub innermost : Context → FormTrees
 innermost (outside fs) = fs
 innermost (inside c b p fs) = fs
-
-abbrev pub unless : {A : Type 0} → Option (ReadErrorKind × Place) → Result A (ReadErrorKind × Place) → Result A (ReadErrorKind × Place)
-unless None r = r
-unless (Some e) r = Err e
-
-unfoldable pub go : Pieces → Context → Result FormTrees (ReadErrorKind × Place)
-go end c = unless (end_fault c) (Ok (innermost c))
-go (stop k p) c = Err (k, p)
-go (piece x p more) c = unless (piece_fault c x p) (go more (next c x p))

@@ -1,4 +1,4 @@
--- Texts between quotes, letter by letter.
+-- Texts between quotes, letter by letter. The quote is byte 34, the backslash 92.
 use Rattle.std.specs.Prelude.{ℕ, zero, suc, ◌+◌, List, [], ◌∷◌, ◌++◌, Bool, ◌&&◌, ◌==◌, nat_lt, length, take, drop, slice_index, if◌then◌else◌, Option, Some, None}
 use Rattle.std.specs.Int.{is_in_range}
 use Rattle.ca_reader.specs.declared.error.ReadErrorKind.{ReadErrorKind}
@@ -31,7 +31,8 @@ pub data Letter : Type 0 where
   missing : Letter
   bad : ReadErrorKind → Letter
 
--- the byte that a backslash and this byte stand for
+-- the byte that a backslash and this byte stand for: quote, backslash, and n, t and r for line feed, tab
+-- and carriage return
 abbrev pub escaped : ℕ → Option ℕ
 escaped c =
     if c == 34 then Some 34
@@ -48,6 +49,7 @@ abbrev pub escape : List ℕ → Letter
 escape [] = missing
 escape (c ∷ bs) = escape_of (escaped c)
 
+-- a character of n bytes, if there is one
 abbrev pub character : List ℕ → ℕ → Letter
 character bs n = if n == 0 then bad BadByte else says (take n bs) n
 
@@ -70,15 +72,17 @@ further x m (closed xs n) = closed (x ++ xs) (m + n)
 further x m unclosed = unclosed
 further x m (broken k n) = broken k (m + n)
 
+-- a text by its first letter, where more says what a text is
+abbrev pub text_step : (List ℕ → TextCut) → List ℕ → Letter → TextCut
+text_step more bs (says x m) = further x m (more (drop m bs))
+text_step more bs quote = closed [] 1
+text_step more bs missing = unclosed
+text_step more bs (bad k) = broken k 0
+
 -- the text of less than n letters
 unfoldable pub text_within : ℕ → List ℕ → TextCut
 text_within zero bs = unclosed
-text_within (suc n) bs = elim (letter bs) [
-  | says x m ↦ further x m (text_within n (drop m bs))
-  | quote ↦ closed [] 1
-  | missing ↦ unclosed
-  | bad k ↦ broken k 0
-]
+text_within (suc n) bs = text_step (text_within n) bs (letter bs)
 
 -- a text has no more letters than bytes
 abbrev pub text_cut : List ℕ → TextCut

@@ -8,7 +8,7 @@ use Rattle.ca_reader.specs.declared.error.ReadErrorKind.TheVariants.{BadByte, Ba
 use Rattle.ca_reader.specs.Form.{Atom, nil, bool, int, key, symbol}
 use Rattle.ca_reader.specs.Bytes.{has_byte, is_digit}
 
--- the token without the sign that it may begin with
+-- the token without the sign, + or - (bytes 43 and 45), that it may begin with
 abbrev pub unsigned : List ℕ → List ℕ
 unsigned t = if slice_index t 0 == 43 || slice_index t 0 == 45 then drop 1 t else t
 
@@ -16,7 +16,7 @@ unsigned t = if slice_index t 0 == 43 || slice_index t 0 == 45 then drop 1 t els
 abbrev pub is_numeral : List ℕ → Bool
 is_numeral t = is_digit (slice_index (unsigned t) 0)
 
--- digits that begin with `0` are that one alone
+-- digits that begin with `0` (byte 48) are that one alone
 abbrev pub is_decimal : List ℕ → Bool
 is_decimal ds = if slice_index ds 0 == 48 then length ds == 1 else list_all is_digit ds
 
@@ -25,6 +25,7 @@ abbrev pub with_sign : Bool → ℕ → Option ℤ
 with_sign true n = if nat_le n (2 ^ 63) then Some (neg_ℤ (pos n)) else None
 with_sign false n = if nat_lt n (2 ^ 63) then Some (pos n) else None
 
+-- the number that a token writes
 abbrev pub number : List ℕ → Option ℤ
 number t = if is_decimal (unsigned t) then with_sign (slice_index t 0 == 45) (digits_value 10 (unsigned t)) else None
 
@@ -32,10 +33,11 @@ abbrev pub or_bad_number : Option ℤ → Result Atom ReadErrorKind
 or_bad_number (Some z) = Ok (int z)
 or_bad_number None = Err BadNumber
 
--- a colon, and then something without one
+-- a colon (byte 58), and then something without one
 abbrev pub keyword : List ℕ → Result Atom ReadErrorKind
 keyword t = if nat_lt 1 (length t) && not (has_byte 58 (drop 1 t)) then Ok (key (drop 1 t)) else Err BadByte
 
+-- what a token says that is neither number nor keyword
 abbrev pub word : List ℕ → Atom
 word t =
     if bytes_eq t (codes "nil") then nil

@@ -1,6 +1,5 @@
 ghost use Rattle.std.specs.Prelude.{◌≡◌, ◌∷◌, ◌++◌, List, ℕ, OnOk, IfOk};
 ghost use Rattle.ca_value.specs.Seq.{list};
-ghost use Rattle.ca_value.specs.Printed.{quoted, escaped};
 ghost use Rattle.ca_reader.specs.View.{form_tree, form_trees};
 ghost use Rattle.ca_reader.specs.Printed.{form_text, forms_text, opening, closing, ReadsAside};
 
@@ -46,7 +45,7 @@ fn append_form(form: &Form, into: &mut Text) -> Result<(), OutOfMemory>
         Shape::Bool(true) => into.append(b"true"),
         Shape::Bool(false) => into.append(b"false"),
         Shape::Int(number) => into.append(itoa::Buffer::new().format(*number).as_bytes()),
-        Shape::Text(text) => append_quoted(text.as_slice(), into),
+        Shape::Text(text) => into.append_quoted(text.as_slice()),
         Shape::Key(name) => {
             into.append(b":")?;
             into.append(name.as_slice())
@@ -67,30 +66,5 @@ fn append_form(form: &Form, into: &mut Text) -> Result<(), OutOfMemory>
             append_forms(forms, into)?;
             into.append(b"}")
         }
-    }
-}
-
-/// Appends the bytes between quotes, with their escapes.
-fn append_quoted(bytes: &[u8], into: &mut Text) -> Result<(), OutOfMemory>
-    ensures { OnOk result (list into.new ≡ list into.old ++ quoted bytes.now) }
-{
-    into.append(b"\"")?;
-    for byte in bytes {
-        append_escaped(*byte, into)?;
-    }
-    into.append(b"\"")
-}
-
-/// Appends a byte as it stands between quotes.
-fn append_escaped(byte: u8, into: &mut Text) -> Result<(), OutOfMemory>
-    ensures { OnOk result (list into.new ≡ list into.old ++ escaped byte) }
-{
-    match byte {
-        b'"' => into.append(b"\\\""),
-        b'\\' => into.append(b"\\\\"),
-        b'\n' => into.append(b"\\n"),
-        b'\t' => into.append(b"\\t"),
-        b'\r' => into.append(b"\\r"),
-        _ => into.append(&[byte]),
     }
 }

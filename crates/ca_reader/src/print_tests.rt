@@ -1,10 +1,9 @@
 //! Scripts that are read, printed and read again.
 
 use crate::error::ReadError;
-use crate::form::{Form, Shape};
 use crate::print::print;
 use crate::read::read;
-use ca_value::memory::OutOfMemory;
+use crate::tests::describe_forms;
 use ca_value::seq::Text;
 use std::alloc::Global;
 use std::test::Fail;
@@ -34,44 +33,16 @@ const SCRIPTS: [&[u8]; 21] = [
     b"(println (max 3) (quot -7 2) (nth [1] -1 :d) (quot -9223372036854775808 2))\n(println (get [1 2] -1 :d) (when-not nil 1 2) (let [[a b] nil] [a b]) \"a\\tb\")\n(println (let [x 1] (let [x (+ x 1)] (let [x (* x 10)] x))) (if-some [x nil] 1) (nth [nil] 0 :d) (subvec [1 2 3] 0 0))\n",
 ];
 
-/// Whether both lists have the same forms, places aside.
-#[cycle(same)]
-fn are_same(left: &[Form], right: &[Form]) -> bool {
-    if left.len() != right.len() {
-        return false;
-    }
-    for (index, form) in left.iter().enumerate() {
-        if !is_same(&form.shape, &right[index].shape) {
-            return false;
-        }
-    }
-    true
-}
-
-#[cycle(same)]
-fn is_same(left: &Shape, right: &Shape) -> bool {
-    match (left, right) {
-        (Shape::Nil, Shape::Nil) => true,
-        (Shape::Bool(left), Shape::Bool(right)) => left == right,
-        (Shape::Int(left), Shape::Int(right)) => left == right,
-        (Shape::Text(left), Shape::Text(right)) => left.as_slice() == right.as_slice(),
-        (Shape::Key(left), Shape::Key(right)) => left.as_slice() == right.as_slice(),
-        (Shape::Symbol(left), Shape::Symbol(right)) => left.as_slice() == right.as_slice(),
-        (Shape::List(left), Shape::List(right)) => are_same(left.as_slice(), right.as_slice()),
-        (Shape::Vector(left), Shape::Vector(right)) => {
-            are_same(left.as_slice(), right.as_slice())
-        }
-        (Shape::Map(left), Shape::Map(right)) => are_same(left.as_slice(), right.as_slice()),
-        _ => false,
-    }
-}
-
 /// Reads the script, prints its forms and reads these again: whether they are the same.
 fn comes_back(alloc: Global, script: &[u8]) -> Result<bool, ReadError> {
     let forms = read(alloc, script)?;
     let text = print(alloc, &forms)?;
     let again = read(alloc, text.as_slice())?;
-    Ok(are_same(forms.as_slice(), again.as_slice()))
+    let mut first = Text::new(alloc);
+    describe_forms(alloc, forms.as_slice(), false, &mut first)?;
+    let mut second = Text::new(alloc);
+    describe_forms(alloc, again.as_slice(), false, &mut second)?;
+    Ok(!first.is_empty() && first.as_slice() == second.as_slice())
 }
 
 #[test]

@@ -4,6 +4,8 @@ ghost use Rattle.ca_value.specs.Seq.{list};
 ghost use Rattle.ca_reader.specs.declared.error.ReadErrorKind.{ReadErrorKind};
 ghost use Rattle.ca_reader.specs.Form.{FormTrees};
 ghost use Rattle.ca_reader.specs.View.{form_trees};
+ghost use Rattle.ca_reader.specs.Texts.{letter, text_step, text_cut};
+ghost use Rattle.ca_reader.specs.Pieces.{first, pieces_step, pieces_from};
 ghost use Rattle.ca_reader.specs.Reads.{Reads, ReadFault, IsFaultOf};
 ghost use Rattle.ca_reader.specs.Printed.{ReadsAside};
 
@@ -18,7 +20,7 @@ use std::alloc::Global;
 
 /// The forms of a script, or the first fault in it; `OutOfMemory` at any time.
 ///
-/// One pass over the bytes, in time linear in their number.
+/// Goes through the bytes once, piece by piece, in time linear in their number.
 pub fn read(alloc: Global, bytes: &[u8]) -> Result<Forms, ReadError>
     ensures forms { IfOk result (λ fs. Reads bytes.now (form_trees (list fs))) }
     ensures fault { IfErr result (λ e. IsFaultOf bytes.now e) }
@@ -56,4 +58,10 @@ pub fn one_reading()
         → (j ≡ k) × (p ≡ q) }
     ensures not_both { (bytes : List ℕ) (fs : FormTrees) (k : ReadErrorKind) (p : Place) → Reads bytes fs
         → ReadFault bytes k p → ⊥ }
+{}
+
+/// A text and its pieces go on as their first letter and piece say, however long they are.
+pub fn cuts_go_on()
+    ensures text { (bytes : List ℕ) → text_cut bytes ≡ text_step text_cut bytes (letter bytes) }
+    ensures pieces { (p : Place) (bytes : List ℕ) → pieces_from p bytes ≡ pieces_step pieces_from p bytes (first bytes) }
 {}

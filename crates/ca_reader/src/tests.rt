@@ -15,7 +15,7 @@ use std::test::Fail;
 /// Adds what a reading answered to the text.
 fn describe(alloc: Global, bytes: &[u8], into: &mut Text) -> Result<(), OutOfMemory> {
     match read(alloc, bytes) {
-        Ok(forms) => describe_forms(alloc, forms.as_slice(), into),
+        Ok(forms) => describe_forms(alloc, forms.as_slice(), true, into),
         Err(ReadError::Fault(kind, place)) => {
             into.append(kind.name().as_bytes())?;
             into.append(b" ")?;
@@ -31,21 +31,32 @@ fn describe_place(alloc: Global, place: Place, into: &mut Text) -> Result<(), Ou
     into.append(format!(in alloc; "{line}:{column}")?.as_bytes())
 }
 
+/// Adds the forms to the text, with their places or without.
 #[cycle(describe)]
-fn describe_forms(alloc: Global, forms: &[Form], into: &mut Text) -> Result<(), OutOfMemory> {
+pub fn describe_forms(
+    alloc: Global,
+    forms: &[Form],
+    places: bool,
+    into: &mut Text,
+) -> Result<(), OutOfMemory> {
     let mut first = true;
     for form in forms {
         if !first {
             into.append(b" ")?;
         }
         first = false;
-        describe_form(alloc, form, into)?;
+        describe_form(alloc, form, places, into)?;
     }
     Ok(())
 }
 
 #[cycle(describe)]
-fn describe_form(alloc: Global, form: &Form, into: &mut Text) -> Result<(), OutOfMemory> {
+fn describe_form(
+    alloc: Global,
+    form: &Form,
+    places: bool,
+    into: &mut Text,
+) -> Result<(), OutOfMemory> {
     match &form.shape {
         Shape::Nil => into.append(b"nil")?,
         Shape::Bool(true) => into.append(b"true")?,
@@ -66,19 +77,22 @@ fn describe_form(alloc: Global, form: &Form, into: &mut Text) -> Result<(), OutO
         }
         Shape::List(forms) => {
             into.append(b"(")?;
-            describe_forms(alloc, forms.as_slice(), into)?;
+            describe_forms(alloc, forms.as_slice(), places, into)?;
             into.append(b")")?;
         }
         Shape::Vector(forms) => {
             into.append(b"[")?;
-            describe_forms(alloc, forms.as_slice(), into)?;
+            describe_forms(alloc, forms.as_slice(), places, into)?;
             into.append(b"]")?;
         }
         Shape::Map(forms) => {
             into.append(b"{")?;
-            describe_forms(alloc, forms.as_slice(), into)?;
+            describe_forms(alloc, forms.as_slice(), places, into)?;
             into.append(b"}")?;
         }
+    }
+    if !places {
+        return Ok(());
     }
     into.append(b"@")?;
     describe_place(alloc, form.place, into)
@@ -148,7 +162,7 @@ fn tokens(rt: HostRuntime) -> Result<(), Fail> {
 
 #[test]
 fn texts(rt: HostRuntime) -> Result<(), Fail> {
-    let rows: [(&[u8], &[u8]); 28] = [
+    let rows: [(&[u8], &[u8]); 30] = [
         (b"\"\"", b"\"\"@1:1"),
         (b"\"a\\\"b\\\\c\\n\\t\\r\"", b"\"a\"b\\c\n\t\r\"@1:1"),
         (b"a\"b\"c", b"'a@1:1 \"b\"@1:2 'c@1:5"),
@@ -158,6 +172,8 @@ fn texts(rt: HostRuntime) -> Result<(), Fail> {
         (b"\"\\\xc3\xa9\"", b"BadEscape 1:2"),
         (b"\"\n\\u0041\"", b"BadEscape 2:1"),
         (b"\"ab", b"UnclosedText 1:1"),
+        (b"x \"", b"UnclosedText 1:3"),
+        (b"\"\\q", b"BadEscape 1:2"),
         (b"x \"ab\\", b"UnclosedText 1:3"),
         (b"\n\"a\\\"", b"UnclosedText 2:1"),
         (b"(println \"ab", b"UnclosedText 1:10"),
@@ -193,7 +209,7 @@ fn texts(rt: HostRuntime) -> Result<(), Fail> {
 
 #[test]
 fn brackets(rt: HostRuntime) -> Result<(), Fail> {
-    let rows: [(&[u8], &[u8]); 26] = [
+    let rows: [(&[u8], &[u8]); 27] = [
         (b"() [] {}", b"()@1:1 []@1:4 {}@1:7"),
         (b"(a\n b)", b"('a@1:2 'b@2:2)@1:1"),
         (
@@ -214,6 +230,7 @@ fn brackets(rt: HostRuntime) -> Result<(), Fail> {
         (b"\n{1", b"UnclosedList 2:1"),
         (b"{1}", b"OddMap 1:1"),
         (b"({1})", b"OddMap 1:2"),
+        (b"a {1}", b"OddMap 1:3"),
         (b"{1 2 3}", b"OddMap 1:1"),
         (b"{1 2 {3}", b"OddMap 1:6"),
         (b"{1 \"\\q\"}", b"BadEscape 1:5"),
@@ -231,24 +248,33 @@ fn brackets(rt: HostRuntime) -> Result<(), Fail> {
     Ok(())
 }
 
-/// `count` opening brackets, then as many closing ones.
-fn nested(alloc: Global, count: u64) -> Result<Text, OutOfMemory> {
+/// The opening bracket so many times, then the closing one.
+fn nested(
+    alloc: Global,
+    opening: &[u8],
+    openings: u64,
+    closing: &[u8],
+    closings: u64,
+) -> Result<Text, OutOfMemory> {
     let mut script = Text::new(alloc);
-    for _ in 0..count {
-        script.append(b"[")?;
+    for _ in 0..openings {
+        script.append(opening)?;
     }
-    for _ in 0..count {
-        script.append(b"]")?;
+    for _ in 0..closings {
+        script.append(closing)?;
     }
     Ok(script)
 }
 
 #[test]
 fn depth(rt: HostRuntime) -> Result<(), Fail> {
-    let deepest = nested(rt.alloc(), 200)?;
+    let deepest = nested(rt.alloc(), b"[", 200, b"]", 200)?;
     assert!(rt; read(rt.alloc(), deepest.as_slice()).is_ok());
-    let too_deep = nested(rt.alloc(), 201)?;
-    let found = reads_as(rt.alloc(), too_deep.as_slice(), b"TooDeep 1:201")?;
-    assert!(rt; found);
+    let unclosed = nested(rt.alloc(), b"(", 200, b")", 199)?;
+    assert!(rt; reads_as(rt.alloc(), unclosed.as_slice(), b"UnclosedList 1:1")?);
+    let too_deep = nested(rt.alloc(), b"[", 201, b"]", 201)?;
+    assert!(rt; reads_as(rt.alloc(), too_deep.as_slice(), b"TooDeep 1:201")?);
+    let at_the_end = nested(rt.alloc(), b"{", 201, b"", 0)?;
+    assert!(rt; reads_as(rt.alloc(), at_the_end.as_slice(), b"TooDeep 1:201")?);
     Ok(())
 }

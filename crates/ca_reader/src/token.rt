@@ -1,8 +1,8 @@
 ghost use Rattle.std.specs.Prelude.{◌≡◌, ◌≤◌, ◌^◌, ◌<◌, length, None, IfSome, IfOk, true};
 ghost use Rattle.std.specs.List.{list_all};
 ghost use Rattle.std.specs.Str.Parse.{digits_value};
-ghost use Rattle.ca_reader.specs.Tokens.{with_sign, unsigned, is_numeral, is_decimal, number, word, meaning};
-ghost use Rattle.ca_reader.specs.Pieces.{token_first, keyword_first};
+ghost use Rattle.ca_reader.specs.Tokens.{with_sign, unsigned, is_numeral, is_decimal, number, keyword, word, meaning};
+ghost use Rattle.ca_reader.specs.Pieces.{token_first};
 ghost use Rattle.ca_reader.specs.PieceView.{atom_view, first_view};
 ghost use Rattle.ca_reader.specs.Bytes.{is_digit};
 
@@ -36,7 +36,7 @@ pub fn token(alloc: Global, token: &[u8]) -> Result<First, OutOfMemory>
 /// What a token that begins with a colon says.
 #[tactic(auto, unfolding(crate::specs::Tokens::meaning))]
 fn keyword(alloc: Global, token: &[u8]) -> Result<First, OutOfMemory>
-    ensures { IfOk result (λ f. first_view f ≡ keyword_first token.now) }
+    ensures { IfOk result (λ f. first_view f ≡ token_first (length token.now) (keyword token.now)) }
 {
     let Some((_, name)) = token.split_first() else {
         return Ok(First::Wrong(ReadErrorKind::BadByte, 0));

@@ -1,4 +1,14 @@
-//! The top call.
+//! The outside, and the one public call that the program makes.
+//!
+//! The one model: a source tells the bytes still to come and a sink the bytes taken, where they tell them,
+//! and each counts its faults. `main_call` reads the words and the source, runs the script, and writes
+//! what it prints; its clauses are the headline and the cause of each status.
+//!
+//! Here also stands what serves until crates of its own do: which scripts are served (`early`), the run
+//! of a main text alone (`run`), journals, clocks and gates.
+//!
+//! Stands on `ca_value`, `ca_term`, `ca_meaning`, `ca_reader` and `itoa`. Start with `top` and
+//! `specs/Top.antt`, then `answer` and `run`.
 #![tactic(auto)]
 
 pub mod answer;
@@ -10,4 +20,7 @@ pub mod gate;
 pub mod memory;
 pub mod run;
 pub mod small;
+pub mod standard;
+#[cfg(test)]
+mod tests;
 pub mod top;

@@ -33,3 +33,8 @@ pub record IsValue (t : Tree) : Type 0 where
   pub distinct : HasDistinctKeys t
   pub light : weight_of t ≤ 131072
   pub shallow : depth_of t ≤ 80
+
+-- each of them is a value
+abbrev pub AreValues : Trees → Type 0
+AreValues none = Unit {0}
+AreValues (item t ts) = IsValue t × AreValues ts

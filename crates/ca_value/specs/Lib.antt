@@ -15,3 +15,4 @@ pub mod Texts
 pub mod Vectors
 pub mod Maps
 pub mod Builtins
+pub mod Names

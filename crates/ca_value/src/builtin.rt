@@ -2,11 +2,13 @@ ghost use Rattle.std.specs.Prelude.{◌≡◌, IfOk, IfErr, IsTrue, length};
 ghost use Rattle.ca_value.specs.Seq.{list};
 ghost use Rattle.ca_value.specs.View.{view, views, trees};
 ghost use Rattle.ca_value.specs.Outcome.{outcome, judged, IsFault};
+ghost use Rattle.ca_value.specs.IsValue.{IsValue, AreValues};
 ghost use Rattle.ca_value.specs.Builtins.{answer, builtin_result, admits};
 
 mod judge;
 mod kinds;
 mod maps;
+mod names;
 mod numbers;
 mod predicates;
 mod range;
@@ -82,6 +84,7 @@ pub fn apply_builtin(alloc: Global, builtin: Builtin, args: Items) -> Result<Val
     requires { IsTrue (admits builtin (length (list args))) }
     ensures value { IfOk result (λ v. builtin_result builtin (trees (list args)) ≡ Ok (view v)) }
     ensures fault { IfErr result (λ e. IsFault e (builtin_result builtin (trees (list args)))) }
+    ensures sound { AreValues (trees (list args)) → IfOk result (λ v. IsValue (view v)) }
 {
     match evaluate(alloc, builtin, args) {
         Ok(Ok(value)) => Ok(value),

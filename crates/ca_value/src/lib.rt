@@ -5,7 +5,8 @@
 //! a list and, beside it, the number of items that fit with no growth.
 //!
 //! Stands on std and `itoa` alone. Start with `seq`, then `value`, then a call of your choice: `copy`,
-//! `equal`, `measure` (weight and depth), `plain` and `readable` (the two printers).
+//! `equal`, `measure` (weight and depth), `plain` and `readable` (the two printers). `builtin` has the
+//! builtins; their table, a row for each, is the definition `answer` of `specs/Builtins.antt`.
 #![tactic(auto)]
 
 pub mod builtin;
@@ -17,4 +18,6 @@ pub mod memory;
 pub mod plain;
 pub mod readable;
 pub mod seq;
+#[cfg(test)]
+mod tests;
 pub mod value;

@@ -100,8 +100,8 @@ impl Pair {
 }
 
 impl Seq<u8> {
-    // The bytes between quotes, with their escapes.
-    fn append_quoted(&mut self, bytes: &[u8]) -> Result<(), OutOfMemory>
+    /// Adds the bytes between quotes, with their escapes; after a refusal a part of it may stand at the end.
+    pub fn append_quoted(&mut self, bytes: &[u8]) -> Result<(), OutOfMemory>
         ensures { OnOk result (list self.new ≡ list self.old ++ quoted bytes.now) }
     {
         self.append(b"\"")?;

@@ -1,8 +1,7 @@
 use Rattle.std.proofs.Common.{◌≡◌, ◌+◌, ◌≤◌, length}
 use Rattle.ca_reader.specs.Pieces.{pieces_from}
-use Rattle.ca_reader.specs.Steps.{go}
 use Rattle.ca_reader.specs.NestView.{context, IsNest}
-use Rattle.ca_reader.proofs.Nesting.{answer}
+use Rattle.ca_reader.proofs.Nesting.{go, answer}
 use Rattle.ca_reader.proofs.read.read.Given as goal
 
 abbrev pub invariant-pieces : goal.invariant-pieces

@@ -1,0 +1,40 @@
+//! The program `runzolev`: the top call over standard input, standard output and the system's steady
+//! clock. What it does is what `ca_run::top::main_call` does.
+#![tactic(auto)]
+
+use ca_run::gate::OpenGate;
+use ca_run::standard::{ReaderSource, SteadyClock, WriterSink};
+use ca_run::top::main_call;
+use std::process::ExitCode;
+use std::{env, io};
+
+/// The exit status of want of memory.
+const OUT_OF_MEMORY: u8 = 8;
+
+// The words after the program's name.
+fn words<R: env::Env + AllocGlobal>(rt: &R) -> io::Result<Vec<String>> {
+    let mut words = Vec::new(rt.alloc());
+    for word in env::args(rt)?.skip(1) {
+        words.push(word)?;
+    }
+    Ok(words)
+}
+
+fn main(rt: HostRuntime) -> ExitCode {
+    let Ok(words) = words(&rt) else {
+        return ExitCode::from(OUT_OF_MEMORY);
+    };
+    let mut source = ReaderSource::new(rt.reader());
+    let mut sink = WriterSink::new(io::writer(&rt));
+    let mut clock = SteadyClock::new(&rt);
+    let finish = main_call(
+        &rt,
+        rt.alloc(),
+        words.as_slice(),
+        &mut source,
+        &mut sink,
+        &mut clock,
+        &OpenGate,
+    );
+    ExitCode::from(finish.status)
+}

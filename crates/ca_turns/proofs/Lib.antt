@@ -1,0 +1,16 @@
+pub mod Lists
+pub mod Runs
+pub mod Ruled
+pub mod Parts
+pub mod Draws
+pub mod Joins
+pub mod Lasts
+pub mod Law
+pub mod Bridge
+pub mod Allowed
+pub mod Endings
+pub mod Taken
+pub mod Looks
+pub mod Rows
+pub mod Keeping
+pub mod Callers

@@ -1,0 +1,33 @@
+-- Lists that are read and written at places.
+use Rattle.std.specs.Prelude.{◌≡◌, ◌≢◌, ℕ, ◌+◌, List, [], ◌∷◌, slice_set}
+use mathlib.Core.Option.{some}
+use lib.ListN.{get_elem?}
+
+module _ {A : Type 0} where
+  -- the list with these values at these places
+  abbrev pub write : List A → List ℕ → List A → List A
+  write s [] cs = s
+  write s (i ∷ is) [] = s
+  write s (i ∷ is) (c ∷ cs) = write (slice_set s i c) is cs
+
+  -- the values at these places are these
+  abbrev pub Reads : List A → List ℕ → List A → Type 0
+  Reads s [] [] = Unit {0}
+  Reads s [] (c ∷ cs) = ⊥
+  Reads s (i ∷ is) [] = ⊥
+  Reads s (i ∷ is) (c ∷ cs) = (get_elem? s i ≡ some c) × Reads s is cs
+
+  -- what f counts, of all of them together
+  abbrev pub total : (A → ℕ) → List A → ℕ
+  total f [] = 0
+  total f (v ∷ vs) = f v + total f vs
+
+-- each of these places is such
+abbrev pub AllIn : (ℕ → Type 0) → List ℕ → Type 0
+AllIn K [] = Unit {0}
+AllIn K (i ∷ is) = K i × AllIn K is
+
+-- no place is named twice
+abbrev pub IsDistinct : List ℕ → Type 0
+IsDistinct [] = Unit {0}
+IsDistinct (i ∷ is) = AllIn (λ j. i ≢ j) is × IsDistinct is

@@ -1,0 +1,128 @@
+// The calls of a worker: it holds parts, draws events and gives parts back.
+ghost use Rattle.std.specs.Prelude.{◌≡◌, ℕ, ◌<◌, List, length, Some, None, IfOk, IfErr, slice_set, map, ◌^◌};
+ghost use mathlib.Core.Option.{some};
+ghost use lib.ListN.{get_elem?};
+ghost use Rattle.ca_turns.specs.declared.rule.Turn.{Turn};
+ghost use Rattle.ca_turns.specs.Views.{turn, stands, holding, missing, having_missed, drawing};
+ghost use Rattle.ca_turns.specs.Steps.{SeesOne};
+ghost use Rattle.ca_turns.specs.Places.{AllIn};
+ghost use Rattle.ca_turns.specs.Hands.{look, IsHolding, IsNone, IsWithout, IsSettled, SameBut, IsTableId};
+
+use crate::errors::Busy;
+use crate::hand::Hand;
+use crate::object::Object;
+use crate::order::{bring_to_front, enlist};
+use crate::steps::{Words, draw_as, put_in, take_out};
+use crate::table::Table;
+use std::marker::Brand;
+use std::sync::Wait;
+use std::sync::atomic::{AtomicU64, Ordering};
+
+// Sleeps while the part's word is 1, until a wake. The count is raised before, so a `give_back` that
+// frees the part from then on reads it as more than 0 and wakes one.
+fn wait_for<O: Object, R: Wait>(rt: &R, words: &Words<O>, waiters: &AtomicU64, part: usize)
+    requires { (part < words.now.table_id.slots) × IsTableId words.now.table_id }
+{
+    waiters.fetch_add(1, Ordering::SeqCst);
+    words.park(rt, part + 1, 1);
+    waiters.fetch_sub(1, Ordering::SeqCst);
+}
+
+// A wake is a system call, so it is made only where someone waits.
+fn wake_one<O: Object>(words: &Words<O>, waiters: &AtomicU64, part: usize)
+    requires { (part < words.now.table_id.slots) × IsTableId words.now.table_id }
+{
+    if waiters.load(Ordering::SeqCst) > 0 {
+        words.wake_one(part + 1);
+    }
+}
+
+impl<O: Object> Table<O> {
+    /// Tries once to hold a part, by one compare and exchange on its word. `Busy` where another hand
+    /// held it at that moment.
+    pub fn try_hold(&self, hand: &mut Hand<O>, part: u64) -> Result<(), Busy>
+        requires table { hand.old.table ≡ self.now.id }
+        requires range { part < self.now.id.slots }
+        requires free { IsWithout hand.old part }
+        ensures table { hand.new.table ≡ hand.old.table }
+        ensures held { IfOk result (λ _. (x : O.Part) × (hand.new.parts ≡ slice_set hand.old.parts part (Some x)) × (hand.new.view ≡ holding hand.old.view part (Some (O.content x)))) }
+        ensures settled { IfOk result (λ _. IsSettled O.content hand.new part) }
+        ensures history { IfOk result (λ _. SeesOne O.touches O.moves hand.new.view) }
+        ensures busy { IfErr result (λ _. (hand.new.parts ≡ hand.old.parts) × (hand.new.view ≡ missing hand.old.view part) × (stands hand.old.view < hand.old.view.hands)) }
+        ensures others { SameBut part hand.old hand.new }
+    {
+        let at = part as usize;
+        match take_out::<O>(&self.owned.shared, &mut hand.seat, at) {
+            None => Err(Busy),
+            Some(x) => {
+                hand.parts[at] = Some(x);
+                enlist(&mut hand.order, at);
+                Ok(())
+            }
+        }
+    }
+
+    /// Tries again until the part is held, and sleeps between two tries. It may wait for ever. That a
+    /// hand takes its parts in ascending order is to keep hands from waiting for one another in a
+    /// circle; nothing is proved of it.
+    pub fn hold<R: Wait>(&self, rt: &R, hand: &mut Hand<O>, part: u64)
+        requires table { hand.old.table ≡ self.now.id }
+        requires range { part < self.now.id.slots }
+        requires ascending { (i : ℕ) → IsHolding hand.old i → i < part }
+        ensures table { hand.new.table ≡ hand.old.table }
+        ensures held { (x : O.Part) × (missed : List ℕ) × (hand.new.parts ≡ slice_set hand.old.parts part (Some x)) × (hand.new.view ≡ holding (having_missed hand.old.view missed) part (Some (O.content x))) }
+        ensures settled { IsSettled O.content hand.new part }
+        ensures history { SeesOne O.touches O.moves hand.new.view }
+        ensures others { SameBut part hand.old hand.new }
+    {
+        for _ in rt.forever() {
+            match self.try_hold(hand, part) {
+                Ok(()) => return,
+                Err(Busy) => {
+                    wait_for::<O, R>(rt, &self.owned.shared, &self.waiters, part as usize)
+                }
+            }
+        }
+        unreachable!()
+    }
+
+    /// Draws the number of an event, whose changes the hand has made to the parts that it touches.
+    /// They are settled from then on.
+    pub fn draw(&self, hand: &mut Hand<O>, event: &O::Event) -> u64
+        requires table { hand.old.table ≡ self.now.id }
+        requires touched { AllIn (IsHolding hand.old) (O.touches event.now) }
+        requires allowed { (i : ℕ) → IsHolding hand.old i → IsNone (O.touches event.now) i → O.allows event.now i }
+        requires moves { O.moves event.now (look hand.old.view.held (O.touches event.now)) (map O.content (look hand.old.parts (O.touches event.now))) }
+        requires room { length hand.old.view.turns < 2 ^ 59 }
+        ensures table { hand.new.table ≡ hand.old.table }
+        ensures parts { hand.new.parts ≡ hand.old.parts }
+        ensures drew { hand.new.view ≡ drawing hand.old.view (O.touches event.now) (turn result event.now (look hand.old.view.held (O.touches event.now)) (map O.content (look hand.old.parts (O.touches event.now)))) }
+        ensures later { (k : ℕ) (t : Turn O.Content O.Event) → get_elem? hand.old.view.turns k ≡ some t → t.number < result }
+        ensures settled { (m i : ℕ) → get_elem? (O.touches event.now) m ≡ some i → IsSettled O.content hand.new i }
+        ensures others { (i : ℕ) → IsNone (O.touches event.now) i → get_elem? hand.new.view.held i ≡ get_elem? hand.old.view.held i }
+    {
+        let number = draw_as::<O, Brand>(&self.owned.shared, &mut hand.seat, &hand.parts, event);
+        hand.drawn += 1;
+        number
+    }
+
+    /// Gives back a part whose content is as last settled, and wakes one who waits for it.
+    pub fn give_back(&self, hand: &mut Hand<O>, part: u64)
+        requires table { hand.old.table ≡ self.now.id }
+        requires settled { IsSettled O.content hand.old part }
+        ensures table { hand.new.table ≡ hand.old.table }
+        ensures parts { hand.new.parts ≡ slice_set hand.old.parts part None }
+        ensures given { hand.new.view ≡ holding hand.old.view part None }
+        ensures without { IsWithout hand.new part }
+        ensures others { SameBut part hand.old hand.new }
+    {
+        let at = part as usize;
+        bring_to_front::<O>(&mut hand.seat, &mut hand.order, at);
+        let _ = hand.order.remove(0);
+        match hand.parts[at].take() {
+            Some(x) => put_in::<O>(&self.owned.shared, &mut hand.seat, at, x),
+            None => unreachable!(),
+        }
+        wake_one::<O>(&self.owned.shared, &self.waiters, at);
+    }
+}

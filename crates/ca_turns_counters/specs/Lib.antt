@@ -1,0 +1,4 @@
+pub mod Adding
+pub mod Turning
+pub mod Apart
+pub mod Working

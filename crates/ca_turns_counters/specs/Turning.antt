@@ -1,0 +1,35 @@
+-- What a hand of a table of counters is between its turns.
+use Rattle.std.specs.Prelude.{◌≡◌, ◌≢◌, ℕ, ◌+◌, List, [], ◌∷◌, ◌++◌, length}
+use Rattle.ca_turns.specs.Hands.{TableId, Held, HoldsNothing, IsSettled, IsWithout}
+use Rattle.ca_turns.specs.Views.{turn, stands}
+use Rattle.ca_turns_counters.specs.declared.counters.Event.{Event}
+
+abbrev pub Counting : Type 0
+Counting = Held ℕ ℕ Event
+
+-- the hand holds this part, as last settled, and no other
+abbrev pub HoldsOnly : ℕ → Counting → Type 0
+HoldsOnly part h = IsSettled (λ n. n) h part × ((i : ℕ) → i ≢ part → IsWithout h i)
+
+-- the hand holds this part and the next, as last settled, and no other
+abbrev pub HoldsPair : ℕ → Counting → Type 0
+HoldsPair low h = IsSettled (λ n. n) h low × IsSettled (λ n. n) h (low + 1) × ((i : ℕ) → i ≢ low → i ≢ low + 1 → IsWithout h i)
+
+-- the same hand of the same table
+pub record Same (old new : Counting) : Type 0 where
+  pub table : new.table ≡ old.table
+  pub opening : new.view.opening ≡ old.view.opening
+  pub opened_for : new.view.hands ≡ old.view.hands
+  pub stands_for : new.view.stands_for ≡ old.view.stands_for
+
+-- it drew one event more, at this number
+abbrev pub Drew : Event → ℕ → Counting → Counting → Type 0
+Drew e n old new = (before : List ℕ) × (after : List ℕ) × (new.view.turns ≡ old.view.turns ++ turn n e before after ∷ [])
+
+-- one of the two hands of a table, which holds nothing and drew that many events
+pub record IsOneOfTwo (id : TableId) (drawn : ℕ) (h : Counting) : Type 0 where
+  pub table : h.table ≡ id
+  pub nothing : HoldsNothing h
+  pub opened_for : h.view.hands ≡ 2
+  pub stands_for_one : stands h.view ≡ 1
+  pub turns : length h.view.turns ≡ drawn

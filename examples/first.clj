@@ -1,0 +1,1 @@
+(let [x 3] (println x 4))
