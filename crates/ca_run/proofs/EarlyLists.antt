@@ -167,9 +167,11 @@ bindings_extend names (form_item f (form_item e fs)) r h = by (letter_in f) h (�
         let found = ih s refl in
         let e : bound (length names) k s ≡ r = cc in
         ((Letter c ∷ []) ++ found.0, ap (λ (p : Bindings × List Name). p.1) (sym e) ∙ extends names s.1 (Letter c ∷ []) found.0 found.1)
+
     term : (c : ℕ) (o : Option Kernel) → when o (λ k. when (early_bindings (names ++ Letter c ∷ []) fs) (λ r2. Some (bound (length names) k r2))) ≡ Some r → ((s : Bindings × List Name) → early_bindings (names ++ Letter c ∷ []) fs ≡ Some s → (more : List Name) × (s.1 ≡ (names ++ Letter c ∷ []) ++ more)) → (more : List Name) × (r.1 ≡ names ++ more)
     term c None g ih = cc
     term c (Some k) g ih = behind c k (early_bindings (names ++ Letter c ∷ []) fs) refl g ih
+
     by : (o : Option ℕ) → when o (λ c. when (early_term names e) (λ k. when (early_bindings (names ++ Letter c ∷ []) fs) (λ r2. Some (bound (length names) k r2)))) ≡ Some r → ((c : ℕ) (s : Bindings × List Name) → early_bindings (names ++ Letter c ∷ []) fs ≡ Some s → (more : List Name) × (s.1 ≡ (names ++ Letter c ∷ []) ++ more)) → (more : List Name) × (r.1 ≡ names ++ more)
     by None g ih = cc
     by (Some c) g ih = term c (early_term names e) g (ih c)
@@ -188,7 +190,7 @@ main_step names fs i f made b h is t n =
     ∙ ap (λ o. when (when o (λ k. when rest (λ bs. Some (binding (length names) k bs)))) (λ bs. Some (joined_bindings (bindings made) bs))) t
     ∙ when-when rest (λ bs. Some (binding (length names) (named b).1 bs)) (λ bs. Some (joined_bindings (bindings made) bs))
     ∙ when-same rest (λ bs. Some (joined_bindings (bindings made) (binding (length names) (named b).1 bs))) (λ bs. Some (joined_bindings (bindings (made ++ b ∷ [])) bs))
-        (λ bs. ap (λ k. Some k) (ap (λ m. joined_bindings (bindings made) (binding m (named b).1 bs)) (sym n) ∙ sym (joined_bindings-push made b bs)))
+    (λ bs. ap (λ k. Some k) (ap (λ m. joined_bindings (bindings made) (binding m (named b).1 bs)) (sym n) ∙ sym (joined_bindings-push made b bs)))
 
 pub main_wrong : (names : List Name) (fs : List Form) (i : ℕ) (f : Form) (made : List Binding) → i < length fs → f ≡ get_or fs i f → early_term names (form_tree f) ≡ None → rest_of_main names made (form_trees (drop i fs)) ≡ None
 main_wrong names fs i f made h is t =

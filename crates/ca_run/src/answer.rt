@@ -37,7 +37,9 @@ pub fn judge_text(alloc: Global, input: &[u8]) -> Result<Answer, OutOfMemory>
 {
     let forms = match read(alloc, input) {
         Ok(forms) => forms,
-        Err(ReadError::Fault(kind, place)) => return Ok(Answer::Refused(Refusal::Fault(kind, place))),
+        Err(ReadError::Fault(kind, place)) => return Ok(Answer::Refused(Refusal::Fault(
+            kind, place,
+        ))),
         Err(ReadError::OutOfMemory) => return Err(OutOfMemory),
     };
     let program = match early(alloc, &forms) {

@@ -81,8 +81,8 @@ terms-loop-place-preserved t c =
     let lt : c.loop-place.place < length fs = omega arith in
     let pushed : list c.push.new.self ≡ made ++ c.in_ok-term.term ∷ [] = search rules in
     let here : early_terms names (form_trees (drop c.args.from fs)) ≡ rest_of_terms names (list c.push.new.self) rest =
-        c.loop-place.invariant.same ∙ terms_step names fs c.loop-place.place c.index-items-place.result made c.in_ok-term.term lt c.index-items-place.is c.in_ok-term.ensures.ok
-        ∙ ap (λ m. rest_of_terms names m rest) (sym pushed) in
+    c.loop-place.invariant.same ∙ terms_step names fs c.loop-place.place c.index-items-place.result made c.in_ok-term.term lt c.index-items-place.is c.in_ok-term.ensures.ok
+    ∙ ap (λ m. rest_of_terms names m rest) (sym pushed) in
     record {
       names = c.in_ok-term.ensures.names ∙ c.loop-place.invariant.names;
       same = subst (λ n. early_terms n (form_trees (drop c.args.from fs)) ≡ rest_of_terms n (list c.push.new.self) rest) (sym c.in_ok-term.ensures.names) here;
@@ -95,7 +95,7 @@ terms-returns-clause-ok t c =
     let made = list c.loop-place.made in
     let le : length fs ≤ c.loop-place.place = omega arith in
     let here : early_terms names (form_trees (drop c.args.from fs)) ≡ Some (kernels made) =
-        c.loop-place.invariant.same ∙ terms_end names fs c.loop-place.place made le in
+    c.loop-place.invariant.same ∙ terms_end names fs c.loop-place.place made le in
     subst (λ n. early_terms n (form_trees (drop c.args.from (list c.args.forms.now))) ≡ Some (kernels made)) c.loop-place.invariant.names
     (subst (λ (l : List Form). early_terms names (form_trees (drop c.args.from l)) ≡ Some (kernels made)) c.as_slice-items.ensures here)
 

@@ -22,8 +22,8 @@ loop-form-preserved c =
     let name : (named b).0 ≡ length names = search rules in
     record {
       same = c.loop-form.invariant.same ∙ main_step names fs c.loop-form.form-index c.form-item.result made b lt c.form-item.is term name
-        ∙ ap (λ m. rest_of_main (names ++ Hidden ∷ []) m rest) (sym pushed)
-        ∙ ap (λ n. rest_of_main n (list c.push.new.self) rest) (sym entered);
+          ∙ ap (λ m. rest_of_main (names ++ Hidden ∷ []) m rest) (sym pushed)
+          ∙ ap (λ n. rest_of_main n (list c.push.new.self) rest) (sym entered);
       room = omega (arith, c.push.ensures.spare, c.loop-form.invariant.room);
     }
 

@@ -32,7 +32,7 @@ loop-alloc-preserved c =
     let pushed : list c.push.new.self ≡ list c.loop-alloc.journal ++ c.event_of.result ∷ [] = search rules in
     record {
       runs = prints_on (program_view c.args.program.now) c.loop-alloc.journal c.push.new.self c.event_of.result b (body_view c.fill.new.self) (body_view c.rest-in-loop-alloc.new.self) (want_view c.in_ok-want.want) (view Nil)
-        c.loop-alloc.invariant.runs c.in_ok-want.ensures pushed c.event_of.ensures view-Nil c.fill.ensures.filled c.in_ok-rest-2.ensures.rest;
+          c.loop-alloc.invariant.runs c.in_ok-want.ensures pushed c.event_of.ensures view-Nil c.fill.ensures.filled c.in_ok-rest-2.ensures.rest;
       rested = c.in_ok-rest-2.ensures.rest.over;
     }
 
