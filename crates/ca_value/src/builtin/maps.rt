@@ -56,7 +56,7 @@ fn set_value(mut pairs: Pairs, key: Value, value: Value) -> Pairs
 fn set_values(mut pairs: Pairs, args: Items) -> Result<Pairs, OutOfMemory>
     ensures { IfOk result (λ s. pair_views (pairs_list s) ≡ put_all (pair_views (pairs_list pairs)) (paired (views (list args)))) }
 {
-    pairs.reserve(args.len())?;
+    pairs.reserve(args.len() / 2)?;
     let mut rest = args.into_vec().into_iter();
     while let Some(key) = rest.next() {
         let Some(value) = rest.next() else {
@@ -167,7 +167,7 @@ pub fn is_empty(collection: &Value) -> Answer<bool>
     Ok(count(collection)? == 0)
 }
 
-/// Which half of each pair is wanted.
+/// One half of a pair.
 #[derive(Clone, Copy)]
 pub enum Half {
     Key,
@@ -195,6 +195,7 @@ fn vector_or_none(items: Items) -> Value
     }
 }
 
+// That half of each pair, in order.
 fn half_items(alloc: Global, pairs: Pairs, half: Half) -> Result<Items, OutOfMemory>
     ensures { IfOk result (λ s. views (list s) ≡ map_list (half_of half) (pair_views (pairs_list pairs))) }
 {
@@ -268,7 +269,7 @@ pub fn assoc(alloc: Global, collection: Value, args: Items) -> Result<Answer<Val
 fn set_items(mut items: Items, args: Items) -> Result<Answer<Value>, OutOfMemory>
     ensures { IfOk result (λ r. outcome r ≡ items_assoc (views (list items)) (paired (views (list args)))) }
 {
-    items.reserve(args.len())?;
+    items.reserve(args.len() / 2)?;
     let mut fits = true;
     let mut rest = args.into_vec().into_iter();
     while let Some(key) = rest.next() {
