@@ -112,4 +112,5 @@ values_sound_list none v = tt
 values_sound_list (item t ts) v = (v.0.distinct, values_sound_list ts v.1)
 
 pub result_is_value : (b : Builtin) (ts : Trees) (t : Tree) → AreValues ts → builtin_result b ts ≡ Ok t → IsValue t
+unfolding builtin_result
 result_is_value b ts t v e = judged_value (answer b (items_of ts)) t (answer_sound b (items_of ts) (values_sound_list ts v)) e

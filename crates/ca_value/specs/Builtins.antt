@@ -77,8 +77,9 @@ answer Builtin.Part ts = two ts part_of
 answer Builtin.Items ts = one ts walked
 answer Builtin.WorkerCount ts = one ts (λ a. number (with_integer worker_count_of a))
 
--- the value or the fault of a builtin: a result that is too heavy or too nested is a fault
-abbrev pub builtin_result : Builtin → Trees → Outcome
+-- the value or the fault of a builtin: a result that is too heavy or too nested is a fault. It opens
+-- only where a proof says so, since callers rarely know which builtin it is
+unfoldable pub builtin_result : Builtin → Trees → Outcome
 builtin_result b ts = judged (answer b (items_of ts))
 
 -- the numbers of arguments that each builtin takes

@@ -101,11 +101,15 @@ abbrev pub vector_or_nil : List Tree → Tree
 vector_or_nil [] = nil
 vector_or_nil (t ∷ ts) = vector_from (t ∷ ts)
 
+-- one half of each pair, in order
+abbrev pub halves_of : (Tree × Tree → Tree) → Tree → Outcome
+halves_of f c = mapping_of c >>= λ ps. Ok (vector_or_nil (map_list f ps))
+
 abbrev pub keys_of : Tree → Outcome
-keys_of c = mapping_of c >>= λ ps. Ok (vector_or_nil (map_list (λ p. p.0) ps))
+keys_of c = halves_of (λ p. p.0) c
 
 abbrev pub values_of : Tree → Outcome
-values_of c = mapping_of c >>= λ ps. Ok (vector_or_nil (map_list (λ p. p.1) ps))
+values_of c = halves_of (λ p. p.1) c
 
 abbrev pub pair_vector : Tree × Tree → Tree
 pair_vector p = vector_from (p.0 ∷ p.1 ∷ [])

@@ -3,6 +3,8 @@ use Rattle.std.specs.Prelude.{ℤ, ◌+ℤ◌, ◌-ℤ◌, ◌*ℤ◌, int_lt, i
 use Rattle.std.specs.Int.{int_min, int_max}
 use Rattle.ca_value.specs.declared.builtin.numbers.Operation.{Operation}
 use Rattle.ca_value.specs.declared.builtin.numbers.Choice.{Choice}
+use Rattle.ca_value.specs.declared.builtin.maps.Half.{Half}
+use Rattle.ca_value.specs.Tree.{Tree}
 use Rattle.ca_value.specs.declared.builtin.numbers.Order.{Order}
 
 abbrev pub operation_of : Operation → ℤ → ℤ → ℤ
@@ -19,3 +21,7 @@ order_of Order.Less = int_lt
 order_of Order.Greater = λ x y. int_lt y x
 order_of Order.LessOrEqual = int_le
 order_of Order.GreaterOrEqual = λ x y. int_le y x
+
+abbrev pub half_of : Half → Tree × Tree → Tree
+half_of Half.Key p = p.0
+half_of Half.Value p = p.1

@@ -20,6 +20,7 @@ use crate::memory::OutOfMemory;
 use crate::value::{Items, Value};
 use judge::{bool_value, int_value, judge};
 use kinds::{Answer, both, first_and_rest, one_and_option, only, two_and_option};
+use maps::Half;
 use numbers::{Choice, Operation, Order};
 use predicates::Test;
 use std::alloc::Global;
@@ -179,8 +180,8 @@ fn evaluate(alloc: Global, builtin: Builtin, args: Items) -> Result<Answer<Value
             let (first, rest) = first_and_rest(args);
             Ok(judge(maps::dissoc(first, rest.as_slice())))
         }
-        Builtin::Keys => Ok(judge(maps::keys(alloc, only(args))?)),
-        Builtin::Vals => Ok(judge(maps::vals(alloc, only(args))?)),
+        Builtin::Keys => Ok(judge(maps::halves(alloc, only(args), Half::Key)?)),
+        Builtin::Vals => Ok(judge(maps::halves(alloc, only(args), Half::Value)?)),
         Builtin::Contains => {
             let (collection, key) = both(args);
             Ok(bool_value(maps::contains(&collection, &key)))

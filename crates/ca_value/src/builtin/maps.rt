@@ -5,7 +5,8 @@ ghost use Rattle.ca_value.specs.Pairs.{pairs_list, pairs_spare};
 ghost use Rattle.ca_value.specs.View.{view, views, pair_view, pair_views};
 ghost use Rattle.ca_value.specs.Outcome.{outcome};
 ghost use Rattle.ca_value.specs.Kinds.{map_from};
-ghost use Rattle.ca_value.specs.Maps.{place_of, value_at, put, put_all, without, without_all, paired, item_under, get_of, contains_of, count_of, is_empty_of, item_set, items_assoc, assoc_of, dissoc_of, vector_or_nil, keys_of, values_of, pair_vector, walked};
+ghost use Rattle.ca_value.specs.Operations.{half_of};
+ghost use Rattle.ca_value.specs.Maps.{place_of, value_at, put, put_all, without, without_all, paired, item_under, get_of, contains_of, count_of, is_empty_of, item_set, items_assoc, assoc_of, dissoc_of, vector_or_nil, halves_of, pair_vector, walked};
 
 use super::kinds::{Answer, integer, mapping};
 use super::vectors::take_item;
@@ -55,7 +56,7 @@ fn set_value(mut pairs: Pairs, key: Value, value: Value) -> Pairs
 fn set_values(mut pairs: Pairs, args: Items) -> Result<Pairs, OutOfMemory>
     ensures { IfOk result (λ s. pair_views (pairs_list s) ≡ put_all (pair_views (pairs_list pairs)) (paired (views (list args)))) }
 {
-    pairs.reserve(args.len())?;
+    pairs.reserve(args.len() / 2)?;
     let mut rest = args.into_vec().into_iter();
     while let Some(key) = rest.next() {
         let Some(value) = rest.next() else {
@@ -166,22 +167,19 @@ pub fn is_empty(collection: &Value) -> Answer<bool>
     Ok(count(collection)? == 0)
 }
 
-/// The keys of a map in order, or nil.
-pub fn keys(alloc: Global, collection: Value) -> Result<Answer<Value>, OutOfMemory>
-    ensures { IfOk result (λ r. outcome r ≡ keys_of (view collection)) }
-{
-    match mapping(alloc, collection) {
-        Ok(pairs) => Ok(Ok(vector_or_none(key_items(alloc, pairs)?))),
-        Err(fault) => Ok(Err(fault)),
-    }
+/// One half of a pair.
+#[derive(Clone, Copy)]
+pub enum Half {
+    Key,
+    Value,
 }
 
-/// The values of a map in order, or nil.
-pub fn vals(alloc: Global, collection: Value) -> Result<Answer<Value>, OutOfMemory>
-    ensures { IfOk result (λ r. outcome r ≡ values_of (view collection)) }
+/// The keys, or the values, of a map in order, or nil.
+pub fn halves(alloc: Global, collection: Value, half: Half) -> Result<Answer<Value>, OutOfMemory>
+    ensures { IfOk result (λ r. outcome r ≡ halves_of (half_of half) (view collection)) }
 {
     match mapping(alloc, collection) {
-        Ok(pairs) => Ok(Ok(vector_or_none(value_items(alloc, pairs)?))),
+        Ok(pairs) => Ok(Ok(vector_or_none(half_items(alloc, pairs, half)?))),
         Err(fault) => Ok(Err(fault)),
     }
 }
@@ -197,26 +195,25 @@ fn vector_or_none(items: Items) -> Value
     }
 }
 
-fn key_items(alloc: Global, pairs: Pairs) -> Result<Items, OutOfMemory>
-    ensures { IfOk result (λ s. views (list s) ≡ map_list (λ p. p.0) (pair_views (pairs_list pairs))) }
+// That half of each pair, in order.
+fn half_items(alloc: Global, pairs: Pairs, half: Half) -> Result<Items, OutOfMemory>
+    ensures { IfOk result (λ s. views (list s) ≡ map_list (half_of half) (pair_views (pairs_list pairs))) }
 {
-    let mut keys = Items::new(alloc);
-    keys.reserve(pairs.len())?;
+    let mut items = Items::new(alloc);
+    items.reserve(pairs.len())?;
     for pair in pairs.into_seq().into_vec() {
-        keys.push(pair.into_key());
+        items.push(one_half(pair, half));
     }
-    Ok(keys)
+    Ok(items)
 }
 
-fn value_items(alloc: Global, pairs: Pairs) -> Result<Items, OutOfMemory>
-    ensures { IfOk result (λ s. views (list s) ≡ map_list (λ p. p.1) (pair_views (pairs_list pairs))) }
+fn one_half(pair: Pair, half: Half) -> Value
+    ensures { view result ≡ half_of half (pair_view pair) }
 {
-    let mut values = Items::new(alloc);
-    values.reserve(pairs.len())?;
-    for pair in pairs.into_seq().into_vec() {
-        values.push(pair.into_value());
+    match half {
+        Half::Key => pair.into_key(),
+        Half::Value => pair.into_value(),
     }
-    Ok(values)
 }
 
 /// What a walk over the collection meets: the items of a vector, the pairs of a map as vectors.
@@ -272,7 +269,7 @@ pub fn assoc(alloc: Global, collection: Value, args: Items) -> Result<Answer<Val
 fn set_items(mut items: Items, args: Items) -> Result<Answer<Value>, OutOfMemory>
     ensures { IfOk result (λ r. outcome r ≡ items_assoc (views (list items)) (paired (views (list args)))) }
 {
-    items.reserve(args.len())?;
+    items.reserve(args.len() / 2)?;
     let mut fits = true;
     let mut rest = args.into_vec().into_iter();
     while let Some(key) = rest.next() {
