@@ -1,5 +1,5 @@
 -- The program of an early script has no free name, and served forms alone.
-use Rattle.std.proofs.Common.{◌≡◌, ℕ, zero, suc, ◌+◌, ◌<◌, ◌≤◌, List, [], ◌∷◌, ◌++◌, length, length-append, Option, Some, None, refl, sym, ap, ◌∙◌, subst, arith, rules, Bool, true, false, cond, ◌==◌, nat_le, inl, inr, ◌≢◌}
+use Rattle.std.proofs.Common.{◌≡◌, ℕ, zero, suc, ◌+◌, ◌<◌, List, [], ◌∷◌, ◌++◌, length, Option, Some, None, refl, sym, ap, subst, arith, Bool, true, false, cond, ◌==◌, nat_le, inl, inr, ◌≢◌}
 use Rattle.std.proofs.lemmas.Bool.{eqb-true, eqb-false}
 use Rattle.ca_value.specs.Tree.{nil as nil_value}
 use Rattle.ca_term.specs.declared.place.Place.{Place}
@@ -9,7 +9,7 @@ use Rattle.ca_term.specs.Program.{ProgramView, IsBound}
 use Rattle.ca_term.specs.Closed.{IsIn, behind, IsClosed, AreClosed, AreClosedBindings}
 use Rattle.ca_meaning.specs.Served.{IsServed, AreServed, AreServedBindings}
 use Rattle.ca_reader.specs.declared.form.Bracket.TheVariants.{Round, Square, Curly}
-use Rattle.ca_reader.specs.Form.{FormTree, FormTrees, ShapeTree, form, atom, group, nil, bool, int, text, key, symbol, none, item}
+use Rattle.ca_reader.specs.Form.{FormTree, FormTrees, form, atom, group, nil, bool, int, text, key, symbol, none, item}
 use Rattle.ca_reader.specs.Reads.{count}
 use Rattle.ca_run.specs.declared.early.Name.{Name}
 use Rattle.ca_run.specs.declared.early.Name.TheVariants.{Letter, Hidden}

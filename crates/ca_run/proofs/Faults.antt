@@ -1,5 +1,5 @@
 -- Faults of a device beside those of a list of calls.
-use Rattle.std.proofs.Common.{◌≡◌, ℕ, ◌+◌, ◌-◌, ◌^◌, ◌≤◌, min, Result, Err, arith}
+use Rattle.std.proofs.Common.{◌≡◌, ℕ, ◌+◌, ◌≤◌, Err, arith}
 use Rattle.ca_run.specs.Causes.{Rose, HasCause}
 
 pub rose_beside : {T E : Type 0} (d e a b : ℕ) (x : E) → e ≡ d → a ≤ b → Rose a b → HasCause {T = T} {E = E} (d + a) (e + b) (Err x)

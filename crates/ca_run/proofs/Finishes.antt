@@ -1,5 +1,5 @@
 -- How a call ends, by its answer.
-use Rattle.std.proofs.Common.{◌≡◌, ◌≢◌, ℕ, List, take, Option, Some, None, Result, Ok, Err, Bool, true, false, refl, sym, ◌∙◌, inl, inr, OnOk, OnErr, is_ok, MatchOption, arith, ◌<◌}
+use Rattle.std.proofs.Common.{◌≡◌, ◌≢◌, ℕ, List, take, Option, Result, Ok, Err, Bool, true, false, refl, sym, ◌∙◌, inl, inr, OnOk, OnErr, is_ok, MatchOption, arith, ◌<◌}
 use Rattle.std.specs.Io.KnownBytes.{Appends}
 use Rattle.ca_meaning.specs.Texts.{output}
 use Rattle.ca_run.specs.declared.answer.Answer.{Answer}

@@ -1,5 +1,5 @@
 -- The journal that the code makes, event by event.
-use Rattle.std.proofs.Common.{◌≡◌, ◌≢◌, ℕ, List, [], ◌∷◌, ◌++◌, map, refl, sym, ap, ◌∙◌, subst, rules, Bool, true, false}
+use Rattle.std.proofs.Common.{◌≡◌, ◌≢◌, List, [], ◌∷◌, ◌++◌, map, refl, sym, ap, ◌∙◌, subst, rules, Bool, true}
 use Rattle.ca_value.specs.Seq.{list}
 use Rattle.ca_value.specs.declared.seq.Seq.{Seq}
 use Rattle.ca_value.specs.Tree.{Tree, nil}
@@ -13,7 +13,7 @@ use Rattle.ca_term.specs.declared.event.Ending.TheVariants.{Ended}
 use Rattle.ca_term.specs.Kernel.{Kernel, const, var, branch, bind, loop, seq, frame, turn, apply}
 use Rattle.ca_term.specs.Program.{ProgramView}
 use Rattle.ca_term.specs.Operation.{OpView, WantView, printing, taking, putting, choosing, making, spawning, closing, registering, posting}
-use Rattle.ca_term.specs.Event.{EventView, event_view, printed, over}
+use Rattle.ca_term.specs.Event.{event_view, printed, over}
 use Rattle.ca_meaning.specs.Redex.{redex}
 use Rattle.ca_meaning.specs.Body.{BodyView, At, at, local, at_op, ended, faulted, nowhere, standing, fill, new_body}
 use Rattle.ca_meaning.specs.BodyViews.{stand_of}

@@ -3,7 +3,7 @@
 -- An early script has integers, names of one letter that an enclosing `let` binds, and the forms
 -- `(println e ..)`, `(do e ..)` and `(let [x e ..] e ..)` with at most 64 bindings; it has at most 1,000
 -- forms, parts of forms among them, and at most 50 brackets are open at once.
-use Rattle.std.specs.Prelude.{◌≡◌, ℕ, ◌+◌, ◌-◌, suc, max, List, [], ◌∷◌, ◌++◌, length, Bool, true, false, cond, ◌&&◌, ◌==◌, nat_lt, nat_le, Option, Some, None, codes}
+use Rattle.std.specs.Prelude.{ℕ, ◌+◌, suc, max, List, [], ◌∷◌, ◌++◌, length, Bool, cond, ◌&&◌, ◌==◌, nat_le, Option, Some, None, codes}
 use Rattle.std.specs.Str.{bytes_eq}
 use Rattle.ca_value.specs.Tree.{nil as nil_value, int as int_value}
 use Rattle.ca_term.specs.declared.place.Place.{Place}

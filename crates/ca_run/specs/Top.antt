@@ -1,5 +1,5 @@
 -- What the top call answers.
-use Rattle.std.specs.Prelude.{◌≡◌, ℕ, ◌+◌, ◌≤◌, ◌<◌, ◌⊎◌, List, [], ◌∷◌, ◌++◌, length, take, codes, decimal, Option, Some, None, MatchOption}
+use Rattle.std.specs.Prelude.{◌≡◌, ℕ, ◌≤◌, ◌<◌, ◌⊎◌, List, [], ◌∷◌, ◌++◌, length, take, codes, decimal, Option, Some, None, MatchOption}
 use Rattle.std.specs.Io.KnownBytes.{Consumes, Appends, IsAtEnd}
 use Rattle.ca_value.specs.declared.seq.Seq.{Seq}
 use Rattle.ca_term.specs.declared.place.Place.{Place}
@@ -29,11 +29,12 @@ pub record RunOf (input : List ℕ) (journal : List EventView) : Type 0 where
   pub legal : Legal program journal
   pub ended : IsEnded journal
 
--- the source was read to its end, and the events are a run of what was read
+-- the source was read to its end, is short enough, and the events are a run of what was read
 pub record Ran (before after : Option (List ℕ)) (journal : List EventView) : Type 0 where
   pub input : List ℕ
   pub read : Consumes before after input
   pub whole : IsAtEnd after
+  pub short : length input ≤ greatest_length
   pub run : RunOf input journal
 
 -- a line that names an error and its place
@@ -49,11 +50,11 @@ RefusedFor input line =
     ((k : ReadErrorKind) × (p : Place) × ReadFault input k p × (line ≡ error_line (kind_name k) p))
     ⊎ ((forms : FormTrees) × Reads input forms × (early_program forms ≡ None) × (line ≡ error_line (codes "NotYet") first_place))
 
--- what was read is refused with this line: it is too long, or it is the whole source and is refused
+-- what was read is refused with this line: it is too long, or it is the whole source, short enough, and is refused
 pub record Refused (before after : Option (List ℕ)) (line : List ℕ) : Type 0 where
   pub input : List ℕ
   pub read : Consumes before after input
-  pub cause : ((greatest_length < length input) × (line ≡ error_line (codes "TooLong") first_place)) ⊎ (IsAtEnd after × RefusedFor input line)
+  pub cause : ((greatest_length < length input) × (line ≡ error_line (codes "TooLong") first_place)) ⊎ (IsAtEnd after × (length input ≤ greatest_length) × RefusedFor input line)
 
 -- the line that says which words are admitted
 abbrev pub usage : List ℕ

@@ -1,16 +1,16 @@
-use Rattle.std.proofs.Common.{◌≡◌, ◌+◌, ◌<◌, ◌≤◌, List, [], ◌∷◌, ◌++◌, length, drop, take, get_or, Some, None, Err, refl, sym, ap, ◌∙◌, subst, arith, rules, IfOk}
+use Rattle.std.proofs.Common.{◌≡◌, ◌+◌, ◌<◌, ◌≤◌, List, [], ◌∷◌, ◌++◌, length, drop, take, get_or, Some, None, sym, ap, ◌∙◌, subst, arith, rules, IfOk}
 use Rattle.std.specs.Prelude.{slice_get}
 use Rattle.ca_value.specs.Seq.{list}
 use Rattle.ca_term.specs.declared.head.Head.TheVariants.{Print}
-use Rattle.ca_term.specs.Kernel.{Kernel, apply, seq, bind}
+use Rattle.ca_term.specs.Kernel.{seq, bind}
 use Rattle.ca_term.specs.View.{kernel, kernels, bindings, named}
 use Rattle.ca_reader.specs.declared.form.Form.{Form}
 use Rattle.ca_run.specs.declared.early.Name.TheVariants.{Letter}
 use Rattle.ca_reader.specs.View.{form_tree, form_trees}
 use Rattle.ca_reader.specs.Form.{form, group}
-use Rattle.ca_reader.specs.declared.form.Bracket.TheVariants.{Round, Square}
+use Rattle.ca_reader.specs.declared.form.Bracket.TheVariants.{Square}
 use Rattle.ca_run.specs.declared.early.Word.TheVariants.{Println, Do, Let}
-use Rattle.ca_run.specs.Early.{when, list_term, word_in, letter_in, early_term, early_terms, early_let, early_bindings}
+use Rattle.ca_run.specs.Early.{when, list_term, word_in, early_term, early_terms, early_let, early_bindings}
 use Rattle.ca_run.proofs.EarlyLists.{early_term-list, kernel-Apply, kernel-Do, rest_of_terms, terms_step, terms_end, rest_of_bindings, bindings_no_term, bindings_step, bindings_end, bindings_extend, early_let-vector, count-form_trees, kernel-Let, too_many, not_too_many, take-append, form_tree-Vector}
 use Rattle.ca_reader.specs.Reads.{count}
 use Rattle.ca_run.proofs.early.+walk.Goals as goal

@@ -1,6 +1,6 @@
 use Rattle.std.proofs.Common.{◌≡◌, ◌+◌, ◌<◌, ◌≤◌, List, [], ◌∷◌, ◌++◌, length, drop, Some, sym, ap, ◌∙◌, arith, rules}
-use Rattle.ca_value.specs.Seq.{list, spare}
-use Rattle.ca_term.specs.View.{named, bindings}
+use Rattle.ca_value.specs.Seq.{list}
+use Rattle.ca_term.specs.View.{named}
 use Rattle.ca_reader.specs.declared.form.Form.{Form}
 use Rattle.ca_reader.specs.View.{form_tree, form_trees}
 use Rattle.ca_run.specs.declared.early.Name.TheVariants.{Hidden}

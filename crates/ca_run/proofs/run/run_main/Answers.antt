@@ -1,15 +1,12 @@
-use Rattle.std.proofs.Common.{◌≡◌, ◌≢◌, [], ◌∷◌, ◌++◌, refl, sym, ap, ◌∙◌, rules, true}
+use Rattle.std.proofs.Common.{◌≡◌, ◌≢◌, [], ◌∷◌, ◌++◌, refl, ap, ◌∙◌, rules}
 use Rattle.ca_value.specs.Seq.{list}
 use Rattle.ca_value.specs.View.{view}
-use Rattle.ca_value.specs.Tree.{nil}
 use Rattle.ca_value.specs.declared.value.Value.{Nil}
-use Rattle.ca_term.specs.View.{kernel}
 use Rattle.ca_term.specs.Program.{program_view}
 use Rattle.ca_term.specs.Operation.{want_view}
-use Rattle.ca_term.specs.Event.{event_view, printed, over}
 use Rattle.ca_term.specs.declared.event.Ending.TheVariants.{Ended}
 use Rattle.ca_term.specs.declared.event.Event.TheVariants.{End}
-use Rattle.ca_meaning.specs.Body.{new_body, fill, at, at_op}
+use Rattle.ca_meaning.specs.Body.{new_body, at}
 use Rattle.ca_meaning.specs.BodyViews.{body_view, stand_of}
 use Rattle.ca_meaning.specs.declared.body.Stand.TheVariants.{AtOp}
 use Rattle.ca_run.proofs.RunSteps.{begins, prints_at, prints_on, ends, view-Nil}

@@ -1,4 +1,4 @@
-use Rattle.std.proofs.Common.{◌≡◌, ◌≤◌, ◌↔◌, drop}
+use Rattle.std.proofs.Common.{◌≤◌, ◌↔◌, drop}
 use Rattle.ca_reader.specs.View.{form_trees}
 use Rattle.ca_run.specs.Early.{form_depths}
 use Rattle.ca_run.proofs.small.+nesting.Given as goal

@@ -1,8 +1,5 @@
-use Rattle.std.proofs.Common.{◌≡◌, ◌≢◌, ℕ, take, true, false, is_ok, rules, refl, sym, ap, ◌∙◌, arith, MatchOption}
+use Rattle.std.proofs.Common.{◌≡◌, ℕ, take, true, false, is_ok, rules, refl, sym, ◌∙◌, arith}
 use Rattle.std.specs.Io.KnownBytes.{Appends}
-use Rattle.ca_meaning.specs.Texts.{output}
-use Rattle.ca_run.specs.Events.{events}
-use Rattle.ca_run.specs.Top.{Ran}
 use Rattle.ca_run.specs.Answers.{answer_text, status_of}
 use Rattle.ca_run.proofs.Finishes.{on_ok, on_err, differ, written_when, unwritten_when, ended_of, refused_of, partly_of}
 use Rattle.ca_run.proofs.top.main_call.Goals as goal

@@ -1,4 +1,4 @@
-use Rattle.std.proofs.Common.{◌≡◌, ap, rules}
+use Rattle.std.proofs.Common.{ap, rules}
 use Rattle.ca_run.proofs.Faults.{rose_beside}
 use Rattle.ca_run.proofs.failing.FailingClock.wait_until.Goals as goal
 

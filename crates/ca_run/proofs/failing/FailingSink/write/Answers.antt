@@ -1,4 +1,4 @@
-use Rattle.std.proofs.Common.{◌≡◌, ap, rules}
+use Rattle.std.proofs.Common.{ap, rules}
 use Rattle.ca_run.proofs.Faults.{rose_beside}
 use Rattle.ca_run.proofs.failing.FailingSink.write.Goals as goal
 
