@@ -28,6 +28,9 @@ somewhere (apply f ts p) h s e = s
 pub never_nowhere : (t : Kernel) → IsBody t → standing (redex t) ≢ nowhere
 never_nowhere t b = somewhere (redex t) (redex-closed t b.bound) (redex-served t b.served)
 
+pub redex_is_served : (t : Kernel) → IsBody t → IsServed (redex t)
+redex_is_served t b = redex-served t b.served
+
 pub step_body : (t : Kernel) → IsBody t → IsBody (replace (contract (redex t)) t)
 step_body t b = record {
   bound = replace-closed (contract (redex t)) t (contract-closed (redex t) (redex-closed t b.bound)) b.bound;

@@ -2,9 +2,11 @@
 use Rattle.std.proofs.Common.{◌≡◌, ℕ, List, [], ◌∷◌, ◌⊎◌, inl, inr, refl, sym, ◌∙◌, Bool, true, false, cond, not, ◌==◌, eq-eqb}
 use Rattle.std.proofs.lemmas.Bool.{false≢true}
 use Rattle.ca_value.specs.Tree.{Tree}
+use Rattle.ca_term.specs.declared.head.Head.TheVariants.{Builtin}
 use Rattle.ca_term.specs.Kernel.{Kernel, Kernels, Bindings, Founds, const, var, branch, bind, loop, seq, frame, turn, apply, none, item, empty, binding, put, put_items, put_bindings}
 use Rattle.ca_term.specs.Closed.{IsIn, behind, behind_found, IsClosed, AreClosed, AreClosedBindings}
 use Rattle.ca_meaning.specs.Redex.{redex, redex_items, replace, replace_items, is_value, value_of, all_values, is_ready_recur}
+use Rattle.ca_meaning.specs.Operands.{truth}
 use Rattle.ca_meaning.specs.Body.{contract}
 
 -- the names of ms but n are in ns
@@ -84,7 +86,7 @@ mutual
 pub contract-closed : (t : Kernel) → IsClosed [] t → IsClosed [] (contract t)
 contract-closed (const v) h = tt
 contract-closed (var n) h = h
-contract-closed (branch c a b) h = h
+contract-closed (branch c a b) h = choose (truth (value_of c)) a b h.1 h.2
 contract-closed (bind empty body) h = h.1
 contract-closed (bind (binding n t bs) body) h =
     let c : Covers n (n ∷ []) [] = λ m i. i in
@@ -95,6 +97,7 @@ contract-closed (seq (item t none)) h = h.0
 contract-closed (seq (item t (item u us))) h = h.1
 contract-closed (frame body) h = h
 contract-closed (turn ns text now) h = h
+contract-closed (apply (Builtin b) ts p) h = tt
 contract-closed (apply f ts p) h = h
 
 mutual

@@ -14,6 +14,12 @@ pub mod Channels
 pub mod Tasks
 pub mod Soundness
 pub mod Running
+pub mod Walks
+pub mod PuttingOnce
+pub mod TimingOut
+pub mod Faulting
+pub mod PuttingLate
+pub mod TakingTwice
 pub mod Worked
 pub mod Journals
 pub mod Histories

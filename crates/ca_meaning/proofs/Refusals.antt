@@ -5,12 +5,12 @@ use Rattle.ca_term.specs.declared.fault.Fault.{Fault}
 use Rattle.ca_term.specs.declared.fault.Fault.TheVariants.{NotAPort, NilPut, NoPorts, TooManyPorts}
 use Rattle.ca_term.specs.Operation.{OpView, taking, putting, choosing, making, spawning, closing, registering, printing, posting}
 use Rattle.ca_term.specs.Event.{BranchView, take_of, put_of}
-use Rattle.ca_meaning.specs.Operands.{port_number, is_nil, first_of, second_of, values_in, count_of, is_pair}
+use Rattle.ca_meaning.specs.Operands.{or_else, port_number, is_nil, first_of, second_of, values_in, count_of, is_pair}
 use Rattle.ca_meaning.specs.Channel.{Channel}
 use Rattle.ca_meaning.specs.Wait.{port_of}
 use Rattle.ca_meaning.specs.State.{State, Channels}
 use Rattle.ca_meaning.specs.Choice.{branch_of, branches_of}
-use Rattle.ca_meaning.specs.Refusal.{or_else, is_channel, not_a_channel, nil_put, bad_port, bad_ports, bad_choice, unfit, too_many, refusal}
+use Rattle.ca_meaning.specs.Refusal.{is_channel, not_a_channel, nil_put, bad_port, bad_ports, bad_choice, unfit, too_many, refusal}
 use Rattle.ca_meaning.specs.Sound.{Each, IsNotNil}
 
 abbrev pub Brings : BranchView → Type 0

@@ -64,7 +64,8 @@ contract-served (bind (binding n t bs) body) h = (put-bindings n (value_of t) bs
 contract-served (seq none) h = tt
 contract-served (seq (item t none)) h = h.0
 contract-served (seq (item t (item u us))) h = h.1
-contract-served t h = h
+contract-served (apply Print ts p) h = h
+contract-served t h = absurd h
 
 mutual
   pub replace-served : (u t : Kernel) → IsServed u → IsServed t → IsServed (replace u t)

@@ -1,13 +1,16 @@
 -- What a step does to the size of a term.
-use Rattle.std.proofs.Common.{◌≡◌, ℕ, ◌+◌, ◌<◌, suc, refl, ap, Bool, true, false, cond, not, ◌&&◌, arith}
+use Rattle.std.proofs.Common.{◌≡◌, ℕ, ◌+◌, ◌<◌, suc, refl, ap, Bool, true, false, cond, not, ◌&&◌, arith, Option, Some, None, Result, Ok, Err}
 use Rattle.ca_value.specs.Tree.{Tree}
 use Rattle.ca_term.specs.declared.place.Place.{Place}
 use Rattle.ca_term.specs.declared.head.Head.{Head}
-use Rattle.ca_term.specs.declared.head.Head.TheVariants.{Print}
+use Rattle.ca_term.specs.declared.head.Head.TheVariants.{Recur, Builtin, Call, Take, Put, Alts, Make, Spawn, Close, Register, Print, Post}
+use Rattle.ca_term.specs.declared.fault.Fault.{Fault}
 use Rattle.ca_term.specs.Kernel.{Kernel, Kernels, Bindings, Founds, const, var, branch, bind, loop, seq, frame, turn, apply, none, item, empty, binding, put, put_items, put_bindings}
-use Rattle.ca_term.specs.Operation.{WantView}
-use Rattle.ca_meaning.specs.Redex.{redex, redex_items, replace, replace_items, is_value, value_of, all_values, is_ready_recur}
-use Rattle.ca_meaning.specs.Body.{local, at_op, contract, standing}
+use Rattle.ca_term.specs.Operation.{WantView, OpView, WhatView, putting, posting, spawning, registering}
+use Rattle.ca_meaning.specs.Redex.{redex, redex_items, replace, replace_items, is_value, value_of, values_of, all_values, is_ready_recur}
+use Rattle.ca_meaning.specs.Operands.{truth, first_of, second_of}
+use Rattle.ca_meaning.specs.Asking.{too_large, bad_alts, alts_of, made_of, bad_operands, seed_of, bad_arguments}
+use Rattle.ca_meaning.specs.Body.{local, at_op, asking, asking_to_make, contract, standing}
 use Rattle.ca_meaning.specs.Size.{size_of, size_of_items, size_of_bindings}
 
 size-cond : (b : Bool) (n : ℕ) (v : Tree) → size_of (cond b (const v) (var n)) ≡ 1
@@ -113,6 +116,19 @@ size-pos (frame body) = omega arith
 size-pos (turn ns text now) = omega arith
 size-pos (apply h ts p) = omega arith
 
+size-choice : (v : Bool) (c a b : Kernel) → size_of (cond v a b) < suc (size_of c + size_of a + size_of b)
+size-choice true c a b = omega arith
+size-choice false c a b = omega arith
+
+-- an operation is no local step
+never-asks : {P : Type 0} (p : Place) (f : Option Fault) (op : OpView) → asking p f op ≡ local → P
+never-asks p None op h = cc
+never-asks p (Some f) op h = cc
+
+never-makes : {P : Type 0} (p : Place) (r : Result WhatView Fault) → asking_to_make p r ≡ local → P
+never-makes p (Ok what) h = cc
+never-makes p (Err f) h = cc
+
 size-contract : (t : Kernel) → standing t ≡ local → size_of (contract t) < size_of t
 size-contract (bind empty body) h = omega arith
 size-contract (bind (binding n t bs) body) h = omega (arith, size-pos t, size-put n (value_of t) body, size_bindings-put n (value_of t) bs)
@@ -121,12 +137,22 @@ size-contract (seq (item t none)) h = omega arith
 size-contract (seq (item t (item u us))) h = omega (arith, size-pos t)
 size-contract (const v) h = cc
 size-contract (var n) h = cc
-size-contract (branch c a b) h = cc
+size-contract (branch c a b) h = size-choice (truth (value_of c)) c a b
 size-contract (loop fs bs body) h = cc
 size-contract (frame body) h = cc
 size-contract (turn ns text now) h = cc
+size-contract (apply (Builtin b) ts p) h = omega arith
+size-contract (apply Recur ts p) h = cc
+size-contract (apply (Call n) ts p) h = cc
+size-contract (apply Take ts p) h = cc
+size-contract (apply Put ts p) h = never-asks p (too_large (second_of (values_of ts))) (putting (first_of (values_of ts)) (second_of (values_of ts))) h
+size-contract (apply (Alts options) ts p) h = never-asks p (bad_alts options (values_of ts)) (alts_of options (values_of ts)) h
+size-contract (apply (Make kind) ts p) h = never-makes p (made_of kind (values_of ts)) h
+size-contract (apply (Spawn kind) ts p) h = never-asks p (bad_operands kind (values_of ts)) (spawning (seed_of kind (values_of ts) p)) h
+size-contract (apply Close ts p) h = cc
+size-contract (apply (Register name) ts p) h = never-asks p (bad_arguments name (values_of ts)) (registering name (values_of ts)) h
 size-contract (apply Print ts p) h = cc
-size-contract (apply f ts p) h = cc
+size-contract (apply Post ts p) h = never-asks p (too_large (second_of (values_of ts))) (posting (first_of (values_of ts)) (second_of (values_of ts))) h
 
 -- a local step makes a term smaller
 pub size-step : (t : Kernel) → standing (redex t) ≡ local → size_of (replace (contract (redex t)) t) < size_of t

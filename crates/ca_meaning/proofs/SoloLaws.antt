@@ -206,7 +206,7 @@ steps_of program (e ∷ es) s f d i x = (x.0, x.2, steps_of program es x.0 f x.1
 
 no_further : (program : ProgramView) (budget : ℕ) (es hs : List EventView) (f : State) (a b : RunEnd) → Reaches program es f → GoesOn hs → HasEnd program budget es a → HasEnd program budget hs b → GoesFurther program f es hs → ⊥
 no_further program budget es hs f ended b r g x y l = ends_last x.1.0 _ l.0 l.1 refl (subst GoesOn (l.3 ∙ ap (λ z. z ++ l.0 ∷ l.1) x.1.1) g)
-no_further program budget es hs f faulted b r g x y l = ends_last x.1.2.0 _ l.0 l.1 refl (subst GoesOn (l.3 ∙ ap (λ z. z ++ l.0 ∷ l.1) x.1.2.1) g)
+no_further program budget es hs f faulted b r g x y l = ends_last x.1.3.0 _ l.0 l.1 refl (subst GoesOn (l.3 ∙ ap (λ z. z ++ l.0 ∷ l.1) x.1.3.1) g)
 no_further program budget es hs f limit b r g x y l =
     let w : cost (but_last hs) < budget = within b y in
     let k : cost es ≤ cost (but_last hs) = subst (λ z. cost es ≤ cost (but_last z)) (sym l.3) (cost_before es l.0 l.1) in

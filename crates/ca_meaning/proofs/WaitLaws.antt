@@ -195,12 +195,12 @@ module _ (program : ProgramView) (s s2 : State) (sound : Sound s) (t : ℕ) (x :
   step_told (printed u line) k =
       alone program s s2 sound (printed u line) t x there u k.0 (runs k.0.result k.3.0) refl (λ w. refl) k.2.0 k.2.1 (at_chooses k.0 (printing line) false k.2.2 refl, went k.0 _ s.tasks k.1 u k.3) (tasks_of k.4 ∙ k.3.2)
   step_told (ticked m ports) k = silent program s s2 sound (ticked m ports) t x there refl (λ w. refl) (tasks_of k.4)
-  step_told (is_over u Ended) k = alone program s s2 sound (is_over u Ended) t x there u k.0 (record k.0 { mode = over }) refl (λ w. refl) k.2.0 k.2.1 refl (tasks_of k.4)
+  step_told (is_over u Ended) k = alone program s s2 sound (is_over u Ended) t x there u k.0 (record k.0 { mode = over }) refl (λ w. refl) k.2.0 k.2.1 (ap chooses k.3, refl) (tasks_of k.4)
   step_told (is_over u (Faulted fault place result)) k = alone program s s2 sound (is_over u (Faulted fault place result)) t x there u k.0 (record k.0 { mode = over }) refl (λ w. refl) k.1.0 k.1.1 refl (tasks_of k.4)
 
-lives : (program : ProgramView) (es : List EventView) (s s2 : State) (t : ℕ) (x : Task) → Sound s → s.tasks t ≡ Some x → Steps program s es s2 → Lives program t x es
+lives : (program : ProgramView) (es : List EventView) (s s2 : State) (t : ℕ) (x : Task) → Sound s → s.tasks t ≡ Some x → Steps program s es s2 → Lives program t s x es
 lives program [] s s2 t x sound there k = tt
-lives program (e ∷ es) s s2 t x sound there k = let y = step_told program s k.0 sound t x there e k.1 in (y.0, y.2, lives program es k.0 s2 t y.0 (step_sound program s k.0 e k.1 sound) y.1 k.2)
+lives program (e ∷ es) s s2 t x sound there k = let y = step_told program s k.0 sound t x there e k.1 in (k.0, y.0, k.1, y.1, y.2, lives program es k.0 s2 t y.0 (step_sound program s k.0 e k.1 sound) y.1 k.2)
 
 -- the branch that an event completes was named
 some_parts : (w k x j : ℕ) (b c : BranchView) → ◌≡◌ {A = Option (ℕ × ℕ × BranchView)} (Some (w, k, b)) (Some (x, j, c)) → (w ≡ x) × (k ≡ j) × (b ≡ c)

@@ -1,5 +1,6 @@
 -- How a run ends, and which of its ends a journal has for a budget.
-use Rattle.std.specs.Prelude.{◌≡◌, ℕ, ◌<◌, ◌≤◌, List, [], ◌∷◌, ◌++◌, None}
+use Rattle.std.specs.Prelude.{◌≡◌, ℕ, ◌<◌, ◌≤◌, List, [], ◌∷◌, ◌++◌, Option}
+use Rattle.ca_value.specs.declared.value.PortId.{PortId}
 use Rattle.ca_term.specs.declared.place.Place.{Place}
 use Rattle.ca_term.specs.declared.fault.Fault.{Fault}
 use Rattle.ca_term.specs.declared.event.Ending.TheVariants.{Ended, Faulted}
@@ -17,9 +18,9 @@ EndsWith journal e = (before : List EventView) × (journal ≡ before ++ e ∷ [
 abbrev pub IsEnded : List EventView → Type 0
 IsEnded journal = EndsWith journal (over 0 Ended)
 
--- the last event is a fault of the main text, which has no result port
+-- the last event is a fault of the main text
 abbrev pub IsFaulted : List EventView → Type 0
-IsFaulted journal = (fault : Fault) × (place : Place) × EndsWith journal (over 0 (Faulted fault place None))
+IsFaulted journal = (fault : Fault) × (place : Place) × (result : Option PortId) × EndsWith journal (over 0 (Faulted fault place result))
 
 abbrev pub IsPossible : ProgramView → State → Type 0
 IsPossible program s = (e : EventView) × (s2 : State) × Step program s e s2
@@ -48,7 +49,8 @@ pub data RunEnd : Type 0 where
 abbrev pub IsOpen : List EventView → Type 0
 IsOpen journal = (IsEnded journal → ⊥) × (IsFaulted journal → ⊥)
 
--- the journal has this end for the budget
+-- The journal has this end for the budget. This is read off the events; that they are a run of the program
+-- (`Legal`) is said beside it.
 abbrev pub HasEnd : ProgramView → ℕ → List EventView → RunEnd → Type 0
 HasEnd program budget journal ended = IsWithin budget journal × IsEnded journal
 HasEnd program budget journal faulted = IsWithin budget journal × IsFaulted journal

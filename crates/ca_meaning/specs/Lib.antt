@@ -1,4 +1,6 @@
 pub mod Redex
+pub mod Operands
+pub mod Asking
 pub mod Body
 pub mod Rest
 pub mod Parts
@@ -10,7 +12,6 @@ pub mod Buffer
 pub mod Channel
 pub mod Wait
 pub mod Row
-pub mod Operands
 pub mod Registry
 pub mod Task
 pub mod State
@@ -30,6 +31,7 @@ pub mod EndsLaw
 pub mod WaitLaw
 pub mod Solo
 pub mod RowViews
+pub mod Scripts
 pub mod Worked
 pub mod Texts
 pub mod Journal

@@ -1,7 +1,13 @@
 -- Values as operands. A value that isn't there counts as nil, one that isn't a port as port 0: where
 -- that matters, the operation faults before.
-use Rattle.std.specs.Prelude.{ℕ, suc, List, [], ◌∷◌, Bool, true, false}
+use Rattle.std.specs.Prelude.{ℕ, suc, List, [], ◌∷◌, Bool, true, false, Option, Some, None}
 use Rattle.ca_value.specs.Tree.{Tree, Trees, nil, bool, port, none, item}
+use Rattle.ca_term.specs.declared.fault.Fault.{Fault}
+
+-- the first fault of several that are judged in order
+abbrev pub or_else : Option Fault → Option Fault → Option Fault
+or_else (Some f) g = Some f
+or_else None g = g
 
 abbrev pub port_number : Tree → ℕ
 port_number (port n) = n
@@ -30,6 +36,16 @@ second_of vs = first_of (rest_of vs)
 
 abbrev pub third_of : Trees → Tree
 third_of vs = second_of (rest_of vs)
+
+abbrev pub last_of : Trees → Tree
+last_of none = nil
+last_of (item v none) = v
+last_of (item v (item w ws)) = last_of (item w ws)
+
+abbrev pub without_last : Trees → Trees
+without_last none = none
+without_last (item v none) = none
+without_last (item v (item w ws)) = item v (without_last (item w ws))
 
 abbrev pub count_of : Trees → ℕ
 count_of none = 0

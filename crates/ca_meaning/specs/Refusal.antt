@@ -14,15 +14,11 @@ use Rattle.ca_term.specs.declared.head.SystemTask.TheVariants.{Mult, Deliver, Mi
 use Rattle.ca_term.specs.Operation.{OpView, taking, putting, choosing, making, spawning, closing, registering, printing, posting, WhatView, mult, mix, publication, SeedView, go, system}
 use Rattle.ca_term.specs.Event.{BranchView}
 use Rattle.ca_meaning.specs.Body.{At, local, at_op, ended, faulted, nowhere}
-use Rattle.ca_meaning.specs.Operands.{port_number, is_nil, first_of, second_of, rest_of, count_of, is_pair}
+use Rattle.ca_meaning.specs.Operands.{or_else, port_number, is_nil, first_of, second_of, rest_of, count_of, is_pair}
 use Rattle.ca_meaning.specs.Registry.{Registry, a_mult, a_mix, a_publication, register, Registered, answers, refuses}
 use Rattle.ca_meaning.specs.Wait.{side_of, port_of, pending}
 use Rattle.ca_meaning.specs.State.{State}
 use Rattle.ca_meaning.specs.Choice.{branches_of, any_ready}
-
-abbrev pub or_else : Option Fault → Option Fault → Option Fault
-or_else (Some f) g = Some f
-or_else None g = g
 
 -- what an operand has to be
 pub data Need : Type 0 where

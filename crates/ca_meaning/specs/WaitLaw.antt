@@ -3,11 +3,13 @@
 use Rattle.std.specs.Prelude.{◌≡◌, ℕ, ◌≤◌, List, [], ◌∷◌, ◌++◌, Some, Bool, true, false}
 use Rattle.ca_value.specs.Tree.{Tree}
 use Rattle.ca_term.specs.Operation.{OpView, taking, putting, choosing, posting, making, spawning, closing, registering, printing}
+use Rattle.ca_term.specs.declared.event.Ending.TheVariants.{Ended, Faulted}
 use Rattle.ca_term.specs.Program.{ProgramView}
 use Rattle.ca_term.specs.Event.{BranchView, EventView, made, spawned, done, met, parked, posted, settled, defaulted, closed, registered, printed, ticked, over as is_over}
 use Rattle.ca_meaning.specs.Body.{At, local, at_op, ended, faulted, nowhere}
 use Rattle.ca_meaning.specs.Task.{TaskBody, body_at, body_fill, BodyRest}
 use Rattle.ca_meaning.specs.State.{State, Task, Mode, running, waiting, over, runs}
+use Rattle.ca_meaning.specs.Steps.{Step}
 use Rattle.ca_meaning.specs.Legal.{Reaches}
 use Rattle.ca_meaning.specs.History.{MakesBranch, completed_by, completes, makes, count}
 use Rattle.ca_meaning.specs.EndsLaw.{is_of}
@@ -49,8 +51,9 @@ OwnEvent program x (spawned t u kind result) y = (chooses (body_at x.body) ≡ f
 OwnEvent program x (closed t p) y = (chooses (body_at x.body) ≡ false) × WentOn program x y
 OwnEvent program x (registered t name args v) y = (chooses (body_at x.body) ≡ false) × WentOn program x y
 OwnEvent program x (printed t line) y = (chooses (body_at x.body) ≡ false) × WentOn program x y
--- an end, or a fault, at whatever operation
-OwnEvent program x (is_over t how) y = y ≡ record x { mode = over }
+-- no operation that takes, puts or chooses ends its task but by a fault
+OwnEvent program x (is_over t Ended) y = (chooses (body_at x.body) ≡ false) × (y ≡ record x { mode = over })
+OwnEvent program x (is_over t (Faulted fault place result)) y = y ≡ record x { mode = over }
 OwnEvent program x (settled w k side p v) y = ⊥
 OwnEvent program x (ticked m ports) y = ⊥
 
@@ -63,11 +66,11 @@ Told program t (waiting w) x e y = (is_of t e ≡ false) × (completes w e ≡ f
 -- a task that is over has no event
 Told program t over x e y = (is_of t e ≡ false) × (y ≡ x)
 
--- task t, which is x, through the events: each of its operations has exactly one event, or at most one
--- if the task still stands at it at the end
-abbrev pub Lives : ProgramView → ℕ → Task → List EventView → Type 0
-Lives program t x [] = Unit {0}
-Lives program t x (e ∷ es) = (y : Task) × Told program t x.mode x e y × Lives program t y es
+-- task t, which is x in the state s, through the events and the states that they lead to: each of its
+-- operations has exactly one event, or at most one if the task still stands at it at the end
+abbrev pub Lives : ProgramView → ℕ → State → Task → List EventView → Type 0
+Lives program t s x [] = Unit {0}
+Lives program t s x (e ∷ es) = (s2 : State) × (y : Task) × Step program s e s2 × (s2.tasks t ≡ Some y) × Told program t x.mode x e y × Lives program t s2 y es
 
 pub record WaitLaw (program : ProgramView) (journal : List EventView) : Type 0 where
   -- each wait number is made by one Park or Post at most
@@ -78,4 +81,4 @@ pub record WaitLaw (program : ProgramView) (journal : List EventView) : Type 0 w
   pub named : (before after : List EventView) (e : EventView) (w k : ℕ) (b : BranchView) → journal ≡ before ++ e ∷ after → completed_by e ≡ Some (w, k, b)
       → (early : List EventView) × (offer : EventView) × (late : List EventView) × (before ≡ early ++ offer ∷ late) × MakesBranch w k b offer
   -- from each place of the journal on, each task that is there lives so
-  pub operations : (before after : List EventView) → journal ≡ before ++ after → (s : State) × Reaches program before s × ((t : ℕ) (x : Task) → s.tasks t ≡ Some x → Lives program t x after)
+  pub operations : (before after : List EventView) → journal ≡ before ++ after → (s : State) × Reaches program before s × ((t : ℕ) (x : Task) → s.tasks t ≡ Some x → Lives program t s x after)

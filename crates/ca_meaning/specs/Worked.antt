@@ -1,5 +1,5 @@
 -- Worked journals, and the moments in them that a wrong rule would spoil.
-use Rattle.std.specs.Prelude.{◌≡◌, ℕ, List, [], ◌∷◌, ◌++◌, Some, None, true, pos, codes}
+use Rattle.std.specs.Prelude.{◌≡◌, ℕ, List, [], ◌∷◌, ◌++◌, take, Some, None, true, false, pos, codes}
 use Rattle.ca_value.specs.Tree.{nil, bool, int, port}
 use Rattle.ca_meaning.specs.Buffer.{no_buffer}
 use Rattle.ca_term.specs.declared.place.Place.{Place}
@@ -9,6 +9,7 @@ use Rattle.ca_term.specs.declared.event.Side.TheVariants.{Take, Put}
 use Rattle.ca_term.specs.declared.event.Ending.TheVariants.{Ended, Faulted}
 use Rattle.ca_term.specs.declared.head.SeedKind.TheVariants.{Go}
 use Rattle.ca_term.specs.Operation.{unbuffered, fixed, timeout, putting}
+use Rattle.ca_term.specs.Program.{ProgramView}
 use Rattle.ca_term.specs.Event.{take_of, put_of, EventView, made, spawned, done, met, parked, settled, closed, printed, ticked, over}
 use Rattle.ca_meaning.specs.Channel.{Channel, new_channel, shut}
 use Rattle.ca_meaning.specs.Body.{faulted}
@@ -16,6 +17,7 @@ use Rattle.ca_meaning.specs.Task.{body_at}
 use Rattle.ca_meaning.specs.Wait.{Wait}
 use Rattle.ca_meaning.specs.State.{State, Task, waiting}
 use Rattle.ca_meaning.specs.Going.{Runs, Stands}
+use Rattle.ca_meaning.specs.Legal.{Legal}
 
 abbrev pub line : List ℕ → List ℕ
 line s = s ++ 10 ∷ []
@@ -98,6 +100,56 @@ go_faulted_lines =
     ∷ codes "5 print t0 \"nil\\n\""
     ∷ codes "6 end t0"
     ∷ []
+
+-- `(def c (chan)) (close! c) (println (>!! c 1))`
+abbrev pub put_late : List EventView
+put_late =
+    made 0 1 unbuffered None
+    ∷ closed 0 1
+    ∷ done 0 0 (put_of 1 (int (pos 1))) (bool false)
+    ∷ printed 0 (line (codes "false"))
+    ∷ over 0 Ended
+    ∷ []
+
+abbrev pub put_late_lines : List (List ℕ)
+put_late_lines =
+    codes "0 make t0 p1 chan none"
+    ∷ codes "1 close t0 p1"
+    ∷ codes "2 done t0 0 put p1 1 false"
+    ∷ codes "3 print t0 \"false\\n\""
+    ∷ codes "4 end t0"
+    ∷ []
+
+-- `(def c (chan)) (go (<! c)) (go (<! c)) (>!! c 42)`
+abbrev pub first_taker : List EventView
+first_taker =
+    made 0 1 unbuffered None
+    ∷ made 0 2 (fixed 1) None
+    ∷ spawned 0 1 (Go 0) (Some 2)
+    ∷ made 0 3 (fixed 1) None
+    ∷ spawned 0 2 (Go 1) (Some 3)
+    ∷ parked 1 1 (take_of 1 ∷ [])
+    ∷ parked 2 2 (take_of 1 ∷ [])
+    ∷ met 0 0 Put 1 (int (pos 42)) 1 0
+    ∷ over 0 Ended
+    ∷ []
+
+abbrev pub first_taker_lines : List (List ℕ)
+first_taker_lines =
+    codes "0 make t0 p1 chan none"
+    ∷ codes "1 make t0 p2 chan fixed 1"
+    ∷ codes "2 spawn t0 t1 go p2"
+    ∷ codes "3 make t0 p3 chan fixed 1"
+    ∷ codes "4 spawn t0 t2 go p3"
+    ∷ codes "5 park t1 w1 take p1"
+    ∷ codes "6 park t2 w2 take p1"
+    ∷ codes "7 meet t0 0 put p1 42 w1 0"
+    ∷ codes "8 end t0"
+    ∷ []
+
+-- after its first n events a run of the program can't go on so
+abbrev pub Never : ProgramView → ℕ → List EventView → EventView → Type 0
+Never program n journal e = (rest : List EventView) → Legal program (take n journal ++ e ∷ rest) → ⊥
 
 -- task u's wait w to take from channel 1
 abbrev pub takes_one : ℕ → ℕ → Wait

@@ -6,10 +6,11 @@ ghost use Rattle.ca_term.specs.View.{kernel, kernels};
 ghost use Rattle.ca_term.specs.Operation.{want_view};
 ghost use Rattle.ca_term.specs.Kernel.{Kernels, apply};
 ghost use Rattle.ca_term.specs.declared.place.Place.{Place as PlaceView};
-ghost use Rattle.ca_meaning.specs.Redex.{value_of};
+ghost use Rattle.ca_meaning.specs.Redex.{value_of, values_of};
 ghost use Rattle.ca_meaning.specs.Body.{at, local, at_op, nowhere, standing, step, fill, new_body, line_of};
 ghost use Rattle.ca_meaning.specs.BodyViews.{body_view, stand_of, is_at_op, IsBody};
 ghost use Rattle.ca_meaning.specs.Rest.{Rest};
+ghost use Rattle.ca_meaning.specs.Served.{IsServed};
 ghost use Rattle.ca_meaning.specs.Size.{size_of};
 
 use crate::contract::contracted;
@@ -75,7 +76,7 @@ impl Body {
     }
 
     /// Where the body stands.
-    #[tactic(auto, using(crate::proofs::Bodies::never_nowhere))]
+    #[tactic(auto, using(crate::proofs::Bodies::never_nowhere, crate::proofs::Bodies::redex_is_served))]
     pub fn at(&self) -> Stand
         ensures stand { result ≡ stand_of (at (body_view self.now)) }
         ensures bound { at (body_view self.now) ≢ nowhere }
@@ -84,20 +85,16 @@ impl Body {
     }
 
     /// The operation that the body stands at, with its values.
+    #[tactic(auto, using(crate::proofs::Bodies::redex_is_served))]
     pub fn want(&self, alloc: Global) -> Result<Want, OutOfMemory>
         requires { is_at_op (at (body_view self.now)) ≡ true }
         ensures { IfOk result (λ w. at (body_view self.now) ≡ at_op (want_view w)) }
     {
-        match redex(&self.term) {
-            Term::Apply(Head::Print, operands, place) => Ok(Want {
-                op: Op::Print(line(alloc, operands)?),
-                place: *place,
-            }),
-            _ => unreachable!(),
-        }
+        want_of(alloc, redex(&self.term))
     }
 
     /// One local step; a refusal leaves the body as it was.
+    #[tactic(auto, using(crate::proofs::Bodies::redex_is_served))]
     pub fn step(&mut self, alloc: Global) -> Result<(), OutOfMemory>
         requires { at (body_view self.old) ≡ local }
         ensures ok { OnOk result (body_view self.new ≡ step (body_view self.old)) }
@@ -140,8 +137,9 @@ impl Body {
     }
 }
 
-// Where a term stands whose redex is the whole of it. Forms that aren't served never come here.
+// Where a served term stands whose redex is the whole of it.
 fn standing(redex: &Term) -> Stand
+    requires { IsServed (kernel redex.now) }
     ensures { result ≡ stand_of (standing (kernel redex.now)) }
 {
     match redex {
@@ -157,9 +155,9 @@ fn standing(redex: &Term) -> Stand
     }
 }
 
-// Where a term with that head stands whose operands are values.
+// Where a served term with that head stands whose operands are values.
 fn standing_at(head: Head) -> Stand
-    ensures { (ts : Kernels) → (p : PlaceView) → result ≡ stand_of (standing (apply head ts p)) }
+    ensures { (ts : Kernels) → (p : PlaceView) → IsServed (apply head ts p) → result ≡ stand_of (standing (apply head ts p)) }
 {
     match head {
         Head::Print => Stand::AtOp,
@@ -177,9 +175,24 @@ fn standing_at(head: Head) -> Stand
     }
 }
 
+// The operation at which a served term stands whose redex is the whole of it.
+fn want_of(alloc: Global, redex: &Term) -> Result<Want, OutOfMemory>
+    requires served { IsServed (kernel redex.now) }
+    requires stands { is_at_op (standing (kernel redex.now)) ≡ true }
+    ensures { IfOk result (λ w. standing (kernel redex.now) ≡ at_op (want_view w)) }
+{
+    match redex {
+        Term::Apply(Head::Print, operands, place) => Ok(Want {
+            op: Op::Print(line(alloc, operands)?),
+            place: *place,
+        }),
+        _ => unreachable!(),
+    }
+}
+
 // The values' plain texts joined by a space, and a line feed.
 fn line(alloc: Global, operands: &Seq<Term>) -> Result<Text, OutOfMemory>
-    ensures { IfOk result (λ t. list t ≡ line_of (kernels (list operands.now))) }
+    ensures { IfOk result (λ t. list t ≡ line_of (values_of (kernels (list operands.now)))) }
 {
     let mut text = Text::new(alloc);
     if let Some((first, rest)) = operands.as_slice().split_first() {

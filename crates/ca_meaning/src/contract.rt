@@ -6,6 +6,7 @@ ghost use Rattle.ca_value.specs.View.{view};
 ghost use Rattle.ca_value.specs.Tree.{nil as nil_tree};
 ghost use Rattle.ca_meaning.specs.Redex.{value_of};
 ghost use Rattle.ca_meaning.specs.Body.{contract};
+ghost use Rattle.ca_meaning.specs.Served.{IsServed};
 
 use ca_term::copy::copy_terms;
 use ca_term::put::bindings_with;
@@ -15,8 +16,9 @@ use ca_value::seq::Seq;
 use ca_value::value::Value;
 use std::alloc::Global;
 
-/// What a local step makes of a redex, in memory of its own.
+/// What a local step makes of a redex that is served, in memory of its own.
 pub fn contracted(alloc: Global, redex: &Term) -> Result<Term, OutOfMemory>
+    requires { IsServed (kernel redex.now) }
     ensures { IfOk result (λ t. kernel t ≡ contract (kernel redex.now)) }
 {
     match redex {
