@@ -1,32 +1,32 @@
 -- A body keeps what holds of every body, and stands somewhere.
-use Rattle.std.proofs.Common.{◌≡◌, ◌≢◌, [], refl, true}
+use Rattle.std.proofs.Common.{◌≡◌, [], refl, true}
 use Rattle.ca_value.specs.Tree.{Tree}
 use Rattle.ca_term.specs.declared.head.Head.TheVariants.{Print}
 use Rattle.ca_term.specs.Operation.{WantView}
 use Rattle.ca_term.specs.Kernel.{Kernel, const, var, branch, bind, loop, seq, frame, turn, apply}
 use Rattle.ca_term.specs.Closed.{IsClosed}
-use Rattle.ca_meaning.specs.Redex.{redex, replace}
-use Rattle.ca_meaning.specs.Body.{At, local, at_op, ended, faulted, nowhere, standing, contract}
+use Rattle.ca_meaning.specs.Redex.{redex, replace, values_of}
+use Rattle.ca_meaning.specs.Body.{At, local, at_op, ended, faulted, nowhere, line_of, standing, contract}
 use Rattle.ca_meaning.specs.BodyViews.{IsBody, stand_of, is_at_op}
-use Rattle.ca_meaning.specs.Served.{IsServed}
+use Rattle.ca_meaning.specs.Served.{IsServed, IsServedAt}
 use Rattle.ca_meaning.specs.declared.body.Stand.TheVariants.{Local, AtOp}
 use Rattle.ca_meaning.proofs.Closed.{redex-closed, contract-closed, replace-closed}
 use Rattle.ca_meaning.proofs.Served.{redex-served, contract-served, replace-served}
 
-somewhere : (t : Kernel) → IsClosed [] t → IsServed t → standing t ≢ nowhere
-somewhere (const v) h s e = cc
-somewhere (var n) h s e = h
-somewhere (branch c a b) h s e = s
-somewhere (bind bs body) h s e = cc
-somewhere (loop fs bs body) h s e = s
-somewhere (seq ts) h s e = cc
-somewhere (frame body) h s e = s
-somewhere (turn ns text now) h s e = s
-somewhere (apply Print ts p) h s e = cc
-somewhere (apply f ts p) h s e = s
+stands_well : (t : Kernel) → IsClosed [] t → IsServed t → IsServedAt (standing t)
+stands_well (const v) h s = tt
+stands_well (var n) h s = absurd h
+stands_well (branch c a b) h s = absurd s
+stands_well (bind bs body) h s = tt
+stands_well (loop fs bs body) h s = absurd s
+stands_well (seq ts) h s = tt
+stands_well (frame body) h s = absurd s
+stands_well (turn ns text now) h s = absurd s
+stands_well (apply Print ts p) h s = (line_of (values_of ts), refl)
+stands_well (apply f ts p) h s = absurd s
 
-pub never_nowhere : (t : Kernel) → IsBody t → standing (redex t) ≢ nowhere
-never_nowhere t b = somewhere (redex t) (redex-closed t b.bound) (redex-served t b.served)
+pub stands_served : (t : Kernel) → IsBody t → IsServedAt (standing (redex t))
+stands_served t b = stands_well (redex t) (redex-closed t b.bound) (redex-served t b.served)
 
 pub redex_is_served : (t : Kernel) → IsBody t → IsServed (redex t)
 redex_is_served t b = redex-served t b.served

@@ -37,7 +37,7 @@ mutual
   size_bindings-put n v empty = refl
   size_bindings-put n v (binding m t bs) = rw (size-put n v t, size_bindings-put n v bs) refl
 
-redex_items-values : (ts : Kernels) (here : Kernel) → all_values ts ≡ true → redex_items ts here ≡ here
+pub redex_items-values : (ts : Kernels) (here : Kernel) → all_values ts ≡ true → redex_items ts here ≡ here
 redex_items-values none here h = refl
 redex_items-values (item t ts) here h = by (is_value t) h (redex_items-values ts here)
   where

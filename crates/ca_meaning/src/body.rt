@@ -1,4 +1,4 @@
-ghost use Rattle.std.specs.Prelude.{◌≡◌, ◌≢◌, ◌<◌, ◌≤◌, ◌++◌, true, OnOk, OnErr, IfOk, IsTrue, ◌↔◌};
+ghost use Rattle.std.specs.Prelude.{◌≡◌, ◌<◌, ◌≤◌, ◌++◌, true, OnOk, OnErr, IfOk, IsTrue, ◌↔◌};
 ghost use Rattle.ca_value.specs.Seq.{list};
 ghost use Rattle.ca_value.specs.View.{view};
 ghost use Rattle.ca_value.specs.Printed.{plain_text};
@@ -7,10 +7,10 @@ ghost use Rattle.ca_term.specs.Operation.{want_view};
 ghost use Rattle.ca_term.specs.Kernel.{Kernels, apply};
 ghost use Rattle.ca_term.specs.declared.place.Place.{Place as PlaceView};
 ghost use Rattle.ca_meaning.specs.Redex.{value_of, values_of};
-ghost use Rattle.ca_meaning.specs.Body.{at, local, at_op, nowhere, standing, step, fill, new_body, line_of};
+ghost use Rattle.ca_meaning.specs.Body.{at, local, at_op, standing, step, fill, new_body, line_of};
 ghost use Rattle.ca_meaning.specs.BodyViews.{body_view, stand_of, is_at_op, IsBody};
 ghost use Rattle.ca_meaning.specs.Rest.{Rest};
-ghost use Rattle.ca_meaning.specs.Served.{IsServed};
+ghost use Rattle.ca_meaning.specs.Served.{IsServed, IsServedAt};
 ghost use Rattle.ca_meaning.specs.Size.{size_of};
 
 use crate::contract::contracted;
@@ -76,10 +76,10 @@ impl Body {
     }
 
     /// Where the body stands.
-    #[tactic(auto, using(crate::proofs::Bodies::never_nowhere, crate::proofs::Bodies::redex_is_served))]
+    #[tactic(auto, using(crate::proofs::Bodies::stands_served, crate::proofs::Bodies::redex_is_served))]
     pub fn at(&self) -> Stand
         ensures stand { result ≡ stand_of (at (body_view self.now)) }
-        ensures bound { at (body_view self.now) ≢ nowhere }
+        ensures served { IsServedAt (at (body_view self.now)) }
     {
         standing(redex(&self.term))
     }

@@ -1,8 +1,8 @@
-ghost use Rattle.std.specs.Prelude.{◌≡◌};
+ghost use Rattle.std.specs.Prelude.{◌≡◌, false};
 ghost use Rattle.ca_value.specs.Seq.{list};
 ghost use Rattle.ca_term.specs.View.{kernel, kernels, bindings};
 ghost use Rattle.ca_meaning.specs.Redex.{redex, redex_items, redex_binding, is_value, all_values, is_open, is_ready_recur};
-ghost use Rattle.ca_meaning.specs.Parts.{is_open_sequence};
+ghost use Rattle.ca_meaning.specs.Parts.{is_open_sequence, is_whole};
 
 use ca_term::head::Head;
 use ca_term::term::{Binding, Term};
@@ -55,31 +55,47 @@ pub(crate) fn is_ready_recur(term: &Term) -> bool
     }
 }
 
+// The redex of the term is the whole of it.
+pub(crate) fn is_whole(term: &Term) -> bool
+    ensures { result ≡ is_whole (kernel term.now) }
+{
+    match term {
+        Term::Const(_) | Term::Var(_) => true,
+        Term::If(test, _, _) => is_value(test),
+        Term::Let(rest, _) => !is_open_binding(rest),
+        Term::Loop(_, rest, _) => !is_open_binding(rest),
+        Term::Do(terms) => !is_open_sequence(terms),
+        Term::Frame(body) => is_value(body),
+        Term::Turn(_, _, now) => is_value(now) || is_ready_recur(now),
+        Term::Apply(_, operands, _) => are_values(operands),
+    }
+}
+
 /// The leftmost innermost place that isn't a value: where the term goes on.
 #[cycle(redex)]
 pub fn redex(term: &Term) -> &Term
     ensures { kernel result.now ≡ redex (kernel term.now) }
 {
+    if is_whole(term) {
+        term
+    } else {
+        redex_inside(term)
+    }
+}
+
+// The same where it is a part of the term.
+#[cycle(redex)]
+fn redex_inside(term: &Term) -> &Term
+    requires { is_whole (kernel term.now) ≡ false }
+    ensures { kernel result.now ≡ redex (kernel term.now) }
+{
     match term {
         Term::Const(_) | Term::Var(_) => term,
-        Term::If(test, _, _) => { if is_value(test) { term } else { redex(test) } }
-        Term::Let(rest, _) => redex_of_bindings(rest, term),
-        Term::Loop(_, rest, _) => redex_of_bindings(rest, term),
-        Term::Do(terms) => {
-            if is_open_sequence(terms) {
-                redex_of_terms(terms, term)
-            } else {
-                term
-            }
-        }
-        Term::Frame(body) => { if is_value(body) { term } else { redex(body) } }
-        Term::Turn(_, _, now) => {
-            if is_value(now) || is_ready_recur(now) {
-                term
-            } else {
-                redex(now)
-            }
-        }
+        Term::If(test, _, _) => redex(test),
+        Term::Let(rest, _) | Term::Loop(_, rest, _) => redex_of_bindings(rest, term),
+        Term::Do(terms) => redex_of_terms(terms, term),
+        Term::Frame(body) => redex(body),
+        Term::Turn(_, _, now) => redex(now),
         Term::Apply(_, operands, _) => redex_of_terms(operands, term),
     }
 }

@@ -2,9 +2,9 @@ ghost use Rattle.std.specs.Prelude.{◌≡◌, ◌<◌, ◌+◌, true, false, le
 ghost use Rattle.ca_value.specs.Seq.{list};
 ghost use Rattle.ca_term.specs.View.{kernel, kernels, bindings};
 ghost use Rattle.ca_meaning.specs.Redex.{replace, replace_items, replace_binding, all_values, is_open};
-ghost use Rattle.ca_meaning.specs.Parts.{is_open_sequence, first_open};
+ghost use Rattle.ca_meaning.specs.Parts.{is_whole, first_open};
 
-use crate::redex::{are_values, is_open_binding, is_open_sequence, is_ready_recur, is_value};
+use crate::redex::{is_value, is_whole};
 use ca_term::term::{Binding, Term};
 use ca_value::seq::Seq;
 use std::mem;
@@ -14,57 +14,32 @@ use std::mem;
 pub fn replaced(term: Term, new: Term) -> Term
     ensures { kernel result ≡ replace (kernel new) (kernel term) }
 {
+    if is_whole(&term) {
+        new
+    } else {
+        replaced_inside(term, new)
+    }
+}
+
+// The same where the redex is a part of the term.
+#[cycle(replaced)]
+fn replaced_inside(term: Term, new: Term) -> Term
+    requires { is_whole (kernel term) ≡ false }
+    ensures { kernel result ≡ replace (kernel new) (kernel term) }
+{
     match term {
         Term::Const(_) => new,
         Term::Var(_) => new,
-        Term::If(test, then, otherwise) => {
-            if is_value(&test) {
-                new
-            } else {
-                Term::If(replaced_in_box(test, new), then, otherwise)
-            }
-        }
-        Term::Let(rest, body) => {
-            if is_open_binding(&rest) {
-                Term::Let(replaced_in_bindings(rest, new), body)
-            } else {
-                new
-            }
-        }
+        Term::If(test, then, otherwise) => { Term::If(replaced_in_box(test, new), then, otherwise) }
+        Term::Let(rest, body) => Term::Let(replaced_in_bindings(rest, new), body),
         Term::Loop(known, rest, body) => {
-            if is_open_binding(&rest) {
-                Term::Loop(known, replaced_in_bindings(rest, new), body)
-            } else {
-                new
-            }
+            Term::Loop(known, replaced_in_bindings(rest, new), body)
         }
-        Term::Do(terms) => {
-            if is_open_sequence(&terms) {
-                Term::Do(replaced_in_terms(terms, new))
-            } else {
-                new
-            }
-        }
-        Term::Frame(body) => {
-            if is_value(&body) {
-                new
-            } else {
-                Term::Frame(replaced_in_box(body, new))
-            }
-        }
-        Term::Turn(names, text, now) => {
-            if is_value(&now) || is_ready_recur(&now) {
-                new
-            } else {
-                Term::Turn(names, text, replaced_in_box(now, new))
-            }
-        }
+        Term::Do(terms) => Term::Do(replaced_in_terms(terms, new)),
+        Term::Frame(body) => Term::Frame(replaced_in_box(body, new)),
+        Term::Turn(names, text, now) => Term::Turn(names, text, replaced_in_box(now, new)),
         Term::Apply(head, operands, place) => {
-            if are_values(&operands) {
-                new
-            } else {
-                Term::Apply(head, replaced_in_terms(operands, new), place)
-            }
+            Term::Apply(head, replaced_in_terms(operands, new), place)
         }
     }
 }

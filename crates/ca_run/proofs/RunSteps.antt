@@ -16,6 +16,7 @@ use Rattle.ca_term.specs.Operation.{OpView, WantView, printing, taking, putting,
 use Rattle.ca_term.specs.Event.{event_view, printed, over}
 use Rattle.ca_meaning.specs.Redex.{redex}
 use Rattle.ca_meaning.specs.Body.{BodyView, At, at, local, at_op, ended, faulted, nowhere, standing, fill, new_body}
+use Rattle.ca_meaning.specs.Served.{IsServedAt}
 use Rattle.ca_meaning.specs.BodyViews.{stand_of}
 use Rattle.ca_meaning.specs.declared.body.Stand.TheVariants.{AtOp}
 use Rattle.ca_meaning.specs.Rest.{Rest}
@@ -35,25 +36,9 @@ events-push j k e h = ap (map event_view) h ∙ map-snoc (list j) e
 pub view-Nil : view Nil ≡ nil
 view-Nil = search (rules, the_lemmas)
 
--- a body stands at no operation but a Print
-prints : (t : Kernel) (w : WantView) → standing t ≡ at_op w → is_printing w.op ≡ true
-prints (apply Print ts p) w h = ap (λ a. op_in a) (sym h)
-  where
-    op_in : At → Bool
-    op_in (at_op v) = is_printing v.op
-    op_in a = true
-prints (apply f ts p) w h = cc
-prints (const v) w h = cc
-prints (var n) w h = cc
-prints (branch c a b) w h = cc
-prints (bind bs body) w h = cc
-prints (loop fs bs body) w h = cc
-prints (seq ts) w h = cc
-prints (frame body) w h = cc
-prints (turn ns text now) w h = cc
-
-pub prints_at : (b : BodyView) (w : WantView) → at b ≡ at_op w → is_printing w.op ≡ true
-prints_at b w h = prints (redex b.term) w h
+-- a body of served forms stands at no operation but a Print
+pub prints_at : (b : BodyView) (w : WantView) → IsServedAt (at b) → at b ≡ at_op w → is_printing w.op ≡ true
+prints_at b w s h = let k : IsServedAt (at_op w) = subst IsServedAt h s in ap is_printing k.1
 
 printing-line : (op : OpView) → is_printing op ≡ true → op ≡ printing (printed_line op)
 printing-line (printing line) h = refl
@@ -70,35 +55,22 @@ pub begins : (program : ProgramView) (start b : BodyView) (j : Seq Event) → li
 begins program start b j e s r =
     subst (λ es. Runs program es b) (sym (ap (map event_view) e)) (runs_opening program b (subst (λ x. Rest x b) s r))
 
-pub prints_on : (program : ProgramView) (j k : Seq Event) (e : Event) (b filled c : BodyView) (w : WantView) (answer : Tree) → Runs program (events j) b → at b ≡ at_op w → list k ≡ list j ++ e ∷ [] → event_view e ≡ printed 0 (printed_line w.op) → answer ≡ nil → filled ≡ fill answer b → Rest filled c → Runs program (events k) c
-prints_on program j k e b filled c w answer runs here push is nothing fills rest =
-    let op : w.op ≡ printing (printed_line w.op) = printing-line w.op (prints_at b w here) in
+pub prints_on : (program : ProgramView) (j k : Seq Event) (e : Event) (b filled c : BodyView) (w : WantView) (answer : Tree) → Runs program (events j) b → IsServedAt (at b) → at b ≡ at_op w → list k ≡ list j ++ e ∷ [] → event_view e ≡ printed 0 (printed_line w.op) → answer ≡ nil → filled ≡ fill answer b → Rest filled c → Runs program (events k) c
+prints_on program j k e b filled c w answer runs served here push is nothing fills rest =
+    let op : w.op ≡ printing (printed_line w.op) = printing-line w.op (prints_at b w served here) in
     let stands : at b ≡ at_op (record { op = printing (printed_line w.op); place = w.place }) = here ∙ ap (λ o. at_op (record { op = o; place = w.place })) op in
     let rested : Rest (fill nil b) c = subst (λ x. Rest x c) (fills ∙ ap (λ a. fill a b) nothing) rest in
     subst (λ es. Runs program es c) (sym (events-push j k e push ∙ ap (λ x. events j ++ x ∷ []) is))
     (runs_print program (events j) b c (printed_line w.op) w.place runs stands rested)
 
-ended_when : (a : At) → a ≢ local → a ≢ nowhere → stand_of a ≢ AtOp → ((f : Fault) (p : Place) → a ≢ faulted f p) → (v : Tree) × (a ≡ ended v)
-ended_when local h k g f = absurd (h refl)
-ended_when (at_op w) h k g f = absurd (g refl)
-ended_when (ended v) h k g f = (v, refl)
-ended_when (faulted x p) h k g f = absurd (f x p refl)
-ended_when nowhere h k g f = absurd (k refl)
+ended_when : (a : At) → a ≢ local → IsServedAt a → stand_of a ≢ AtOp → (v : Tree) × (a ≡ ended v)
+ended_when local h k g = absurd (h refl)
+ended_when (at_op w) h k g = absurd (g refl)
+ended_when (ended v) h k g = (v, refl)
+ended_when (faulted x p) h k g = absurd k
+ended_when nowhere h k g = absurd k
 
--- no form that is served faults
-no_fault : (t : Kernel) (f : Fault) (p : Place) → standing t ≢ faulted f p
-no_fault (const v) f p e = cc
-no_fault (var n) f p e = cc
-no_fault (branch c a b) f p e = cc
-no_fault (bind bs body) f p e = cc
-no_fault (loop fs bs body) f p e = cc
-no_fault (seq ts) f p e = cc
-no_fault (frame body) f p e = cc
-no_fault (turn ns text now) f p e = cc
-no_fault (apply Print ts q) f p e = cc
-no_fault (apply h ts q) f p e = cc
-
-pub ends : (program : ProgramView) (j k : Seq Event) (e : Event) (b : BodyView) → Runs program (events j) b → at b ≢ local → at b ≢ nowhere → stand_of (at b) ≢ AtOp → list k ≡ list j ++ e ∷ [] → event_view e ≡ over 0 Ended → Legal program (events k) × IsEnded (events k)
-ends program j k e b runs rested bound no_op push is =
-    let v = ended_when (at b) rested bound no_op (no_fault (redex b.term)) in
+pub ends : (program : ProgramView) (j k : Seq Event) (e : Event) (b : BodyView) → Runs program (events j) b → at b ≢ local → IsServedAt (at b) → stand_of (at b) ≢ AtOp → list k ≡ list j ++ e ∷ [] → event_view e ≡ over 0 Ended → Legal program (events k) × IsEnded (events k)
+ends program j k e b runs rested served no_op push is =
+    let v = ended_when (at b) rested served no_op in
     subst (λ es. Legal program es × IsEnded es) (sym (events-push j k e push ∙ ap (λ x. events j ++ x ∷ []) is)) (runs_end program (events j) b v.0 runs v.1)

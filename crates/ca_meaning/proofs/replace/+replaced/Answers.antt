@@ -5,15 +5,15 @@ use Rattle.ca_value.specs.Seq.{list}
 use Rattle.ca_term.specs.Kernel.{seq}
 use Rattle.ca_term.specs.View.{kernel, kernels}
 use Rattle.ca_meaning.specs.Redex.{replace}
-use Rattle.ca_meaning.specs.Parts.{is_open_sequence}
-use Rattle.ca_meaning.proofs.Redexes.{replace-open_sequence, kernel-Do}
+use Rattle.ca_meaning.specs.Parts.{is_open_sequence, is_whole}
+use Rattle.ca_meaning.proofs.Redexes.{replace-open_sequence, kernel-Do, not-false}
 use Rattle.ca_meaning.proofs.OpenTerms.{replaced_at_open}
 use Rattle.ca_meaning.proofs.replace.+replaced.Goals as goal
 
-pub replaced-returns-then-is_open_sequence : goal.replaced-returns-then-is_open_sequence
-replaced-returns-then-is_open_sequence t c =
+pub replaced_inside-returns-in-Do : goal.replaced_inside-returns-in-Do
+replaced_inside-returns-in-Do t c =
     let here : kernel c.args.term ≡ seq (kernels (list c.in-Do.terms)) = ap kernel c.in-Do.is ∙ kernel-Do c.in-Do.terms in
-    let several : is_open_sequence (kernels (list c.in-Do.terms)) ≡ true = search rules in
+    let several : is_open_sequence (kernels (list c.in-Do.terms)) ≡ true = not-false (is_open_sequence (kernels (list c.in-Do.terms))) (sym (ap is_whole here) ∙ c.requires) in
     kernel-Do c.replaced_in_terms.result ∙ ap seq c.replaced_in_terms.ensures
     ∙ sym (ap (replace (kernel c.args.new)) here ∙ replace-open_sequence (kernel c.args.new) (kernels (list c.in-Do.terms)) several)
 

@@ -21,7 +21,7 @@ loop-alloc-init c =
     }
 
 pub event_of-requires : goal.event_of-requires
-event_of-requires c = prints_at (body_view c.loop-alloc.body) (want_view c.in_ok-want.want) c.in_ok-want.ensures
+event_of-requires c = prints_at (body_view c.loop-alloc.body) (want_view c.in_ok-want.want) c.at.ensures.served c.in_ok-want.ensures
 
 pub loop-alloc-preserved : goal.loop-alloc-preserved
 loop-alloc-preserved c =
@@ -29,7 +29,7 @@ loop-alloc-preserved c =
     let pushed : list c.push.new.self ≡ list c.loop-alloc.journal ++ c.event_of.result ∷ [] = search rules in
     record {
       runs = prints_on (program_view c.args.program.now) c.loop-alloc.journal c.push.new.self c.event_of.result b (body_view c.fill.new.self) (body_view c.rest-in-loop-alloc.new.self) (want_view c.in_ok-want.want) (view Nil)
-          c.loop-alloc.invariant.runs c.in_ok-want.ensures pushed c.event_of.ensures view-Nil c.fill.ensures.filled c.in_ok-rest-2.ensures.rest;
+          c.loop-alloc.invariant.runs c.at.ensures.served c.in_ok-want.ensures pushed c.event_of.ensures view-Nil c.fill.ensures.filled c.in_ok-rest-2.ensures.rest;
       rested = c.in_ok-rest-2.ensures.rest.over;
     }
 
@@ -37,10 +37,10 @@ pub returns-clause-legal : goal.returns-clause-legal
 returns-clause-legal c =
     let pushed : list c.push-2.new.self ≡ list c.loop-alloc.journal ++ End 0 Ended ∷ [] = c.push-2.ensures.added ∙ ap (λ l. l ++ End 0 Ended ∷ []) c.in_ok-reserve-2.ensures.same in
     let no_op : stand_of (at (body_view c.loop-alloc.body)) ≢ AtOp = search rules in
-    (ends (program_view c.args.program.now) c.loop-alloc.journal c.push-2.new.self (End 0 Ended) (body_view c.loop-alloc.body) c.loop-alloc.invariant.runs c.loop-alloc.invariant.rested c.at.ensures.bound no_op pushed refl).0
+    (ends (program_view c.args.program.now) c.loop-alloc.journal c.push-2.new.self (End 0 Ended) (body_view c.loop-alloc.body) c.loop-alloc.invariant.runs c.loop-alloc.invariant.rested c.at.ensures.served no_op pushed refl).0
 
 pub returns-clause-ended : goal.returns-clause-ended
 returns-clause-ended c =
     let pushed : list c.push-2.new.self ≡ list c.loop-alloc.journal ++ End 0 Ended ∷ [] = c.push-2.ensures.added ∙ ap (λ l. l ++ End 0 Ended ∷ []) c.in_ok-reserve-2.ensures.same in
     let no_op : stand_of (at (body_view c.loop-alloc.body)) ≢ AtOp = search rules in
-    (ends (program_view c.args.program.now) c.loop-alloc.journal c.push-2.new.self (End 0 Ended) (body_view c.loop-alloc.body) c.loop-alloc.invariant.runs c.loop-alloc.invariant.rested c.at.ensures.bound no_op pushed refl).1
+    (ends (program_view c.args.program.now) c.loop-alloc.journal c.push-2.new.self (End 0 Ended) (body_view c.loop-alloc.body) c.loop-alloc.invariant.runs c.loop-alloc.invariant.rested c.at.ensures.served no_op pushed refl).1
