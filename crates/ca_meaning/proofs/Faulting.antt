@@ -23,62 +23,62 @@ use Rattle.ca_meaning.specs.Scripts.{faulting}
 use Rattle.ca_meaning.proofs.Walks.{later, walk, goes, at_column, main_task, go_task, body_of, settles_only, settles_not, faults_only, faults_not_ends, not_number, impossible}
 
 -- the main text as it comes to rest, time after time
-abbrev main0 : BodyView
+abbrev pub main0 : BodyView
 main0 = new_body faulting.main
 
-abbrev main1 : BodyView
+abbrev pub main1 : BodyView
 main1 = later 2 (fill (port 1) main0)
 
-abbrev main2 : BodyView
+abbrev pub main2 : BodyView
 main2 = later 3 (fill nil main1)
 
-abbrev main3 : BodyView
+abbrev pub main3 : BodyView
 main3 = fill nil main2
 
-abbrev main4 : BodyView
+abbrev pub main4 : BodyView
 main4 = later 2 (fill nil main3)
 
 abbrev seed : SeedView
 seed = go 0 none 1 (at_column 8)
 
-abbrev task0 : BodyView
+abbrev pub task0 : BodyView
 task0 = later 1 (body_of (new_task faulting seed))
 
-abbrev r : Channel
+abbrev pub r : Channel
 r = new_channel fixed_buffer 1
 
 -- the states
-abbrev s0 : State
+abbrev pub s0 : State
 s0 = opening_state (script main0)
 
-abbrev s1 : State
+abbrev pub s1 : State
 s1 = record s0 { tasks = update eqb s0.tasks 0 (Some (main_task main1)); channels = update eqb s0.channels 1 (Some r); registries = update eqb s0.registries 1 None }
 
-abbrev s2 : State
+abbrev pub s2 : State
 s2 = record s1 { tasks = update eqb (update eqb s1.tasks 0 (Some (main_task main2))) 1 (Some (go_task 1 task0)) }
 
-abbrev s3 : State
+abbrev pub s3 : State
 s3 = record s2 { tasks = update eqb s2.tasks 0 (Some (record (main_task main2) { mode = waiting 1 })); waits = record { number = 1; owner = Some 0; branches = take_of 1 ∷ [] } ∷ []; used = 1 ∷ [] }
 
-abbrev s4 : State
+abbrev pub s4 : State
 s4 = record s3 { tasks = update eqb s3.tasks 1 (Some (record (go_task 1 task0) { mode = over })); channels = shut_at 1 s3.channels }
 
-abbrev s5 : State
+abbrev pub s5 : State
 s5 = record s4 { tasks = update eqb s4.tasks 0 (Some (main_task main3)); channels = update eqb s4.channels 1 (Some (shut r)); waits = [] }
 
-abbrev s6 : State
+abbrev pub s6 : State
 s6 = record s5 { tasks = update eqb s5.tasks 0 (Some (main_task main4)) }
 
-abbrev s7 : State
+abbrev pub s7 : State
 s7 = record s6 { tasks = update eqb s6.tasks 0 (Some (record (main_task main4) { mode = over })) }
 
-opens : Opening faulting s0
+pub opens : Opening faulting s0
 opens = (script main0, (main0, walk 0 main0 refl, refl), refl)
 
-makes : Step faulting s0 (made 0 1 (fixed 1) None) s1
+pub makes : Step faulting s0 (made 0 1 (fixed 1) None) s1
 makes = (main_task main0, s1.tasks, (refl, refl, (at_column 8, refl), refl), refl, refl, refl, goes faulting s0.tasks 0 (main_task main0) main0 (port 1) 2 refl (refl, (refl, refl)), refl)
 
-starts : Step faulting s1 (spawned 0 1 (Go 0) (Some 1)) s2
+pub starts : Step faulting s1 (spawned 0 1 (Go 0) (Some 1)) s2
 unfolding builtin_result
 starts = (
   main_task main1,
@@ -94,14 +94,14 @@ starts = (
   refl,
 )
 
-waits : Step faulting s2 (parked 0 1 (take_of 1 ∷ [])) s3
+pub waits : Step faulting s2 (parked 0 1 (take_of 1 ∷ [])) s3
 waits = (main_task main2, taking (port 1), (refl, refl, (at_column 34, refl), refl), refl, refl, refl, refl, refl, refl)
 
-faults : Step faulting s3 (is_over 1 (Faulted ZeroDivisor (at_column 12) (Some (record { n = 1 })))) s4
+pub faults : Step faulting s3 (is_over 1 (Faulted ZeroDivisor (at_column 12) (Some (record { n = 1 })))) s4
 unfolding builtin_result
 faults = (go_task 1 task0, (refl, refl), refl, refl, refl)
 
-settles_r : Step faulting s4 (settled 1 0 Take 1 nil) s5
+pub settles_r : Step faulting s4 (settled 1 0 Take 1 nil) s5
 settles_r = (
   shut r,
   shut r,
@@ -115,10 +115,10 @@ settles_r = (
   refl,
 )
 
-prints : Step faulting s5 (printed 0 (line (codes "nil"))) s6
+pub prints : Step faulting s5 (printed 0 (line (codes "nil"))) s6
 prints = (main_task main3, s6.tasks, (refl, refl, (at_column 25, refl), refl), goes faulting s5.tasks 0 (main_task main3) main3 nil 2 refl (refl, (refl, refl)), refl)
 
-ends : Step faulting s6 (is_over 0 Ended) s7
+pub ends : Step faulting s6 (is_over 0 Ended) s7
 ends = (main_task main4, nil, (refl, refl), refl, refl)
 
 pub legal : Legal faulting go_faulted

@@ -15,10 +15,15 @@ pub mod Tasks
 pub mod Soundness
 pub mod Running
 pub mod Walks
+pub mod Desks
 pub mod PuttingOnce
+pub mod PuttingOnceSolo
 pub mod TimingOut
+pub mod TimingOutSolo
 pub mod Faulting
+pub mod FaultingSolo
 pub mod PuttingLate
+pub mod PuttingLateSolo
 pub mod TakingTwice
 pub mod Worked
 pub mod Journals

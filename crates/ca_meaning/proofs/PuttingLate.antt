@@ -19,68 +19,68 @@ use Rattle.ca_meaning.specs.Scripts.{putting_late}
 use Rattle.ca_meaning.proofs.Walks.{later, walk, goes, at_column, main_task, done_only, parks_unready, other_number, impossible}
 
 -- the main text as it comes to rest, time after time
-abbrev main0 : BodyView
+abbrev pub main0 : BodyView
 main0 = new_body putting_late.main
 
-abbrev main1 : BodyView
+abbrev pub main1 : BodyView
 main1 = later 1 (fill (port 1) main0)
 
-abbrev main2 : BodyView
+abbrev pub main2 : BodyView
 main2 = later 1 (fill nil main1)
 
-abbrev main3 : BodyView
+abbrev pub main3 : BodyView
 main3 = fill (bool false) main2
 
-abbrev main4 : BodyView
+abbrev pub main4 : BodyView
 main4 = later 2 (fill nil main3)
 
-abbrev c : Channel
+abbrev pub c : Channel
 c = new_channel no_buffer 0
 
 -- the states
-abbrev s0 : State
+abbrev pub s0 : State
 s0 = opening_state (script main0)
 
-abbrev s1 : State
+abbrev pub s1 : State
 s1 = record s0 { tasks = update eqb s0.tasks 0 (Some (main_task main1)); channels = update eqb s0.channels 1 (Some c); registries = update eqb s0.registries 1 None }
 
-abbrev s2 : State
+abbrev pub s2 : State
 s2 = record s1 { tasks = update eqb s1.tasks 0 (Some (main_task main2)); channels = shut_at 1 s1.channels }
 
-abbrev s3 : State
+abbrev pub s3 : State
 s3 = record s2 { tasks = update eqb s2.tasks 0 (Some (main_task main3)); channels = update eqb s2.channels 1 (Some (shut c)) }
 
-abbrev s4 : State
+abbrev pub s4 : State
 s4 = record s3 { tasks = update eqb s3.tasks 0 (Some (main_task main4)) }
 
-abbrev s5 : State
+abbrev pub s5 : State
 s5 = record s4 { tasks = update eqb s4.tasks 0 (Some (record (main_task main4) { mode = over })) }
 
-abbrev op : OpView
+abbrev pub op : OpView
 op = putting (port 1) (int (pos 1))
 
-abbrev put : BranchView
+abbrev pub put : BranchView
 put = put_of 1 (int (pos 1))
 
-opens : Opening putting_late s0
+pub opens : Opening putting_late s0
 opens = (script main0, (main0, walk 0 main0 refl, refl), refl)
 
-makes : Step putting_late s0 (made 0 1 unbuffered None) s1
+pub makes : Step putting_late s0 (made 0 1 unbuffered None) s1
 makes = (main_task main0, s1.tasks, (refl, refl, (at_column 8, refl), refl), refl, refl, refl, goes putting_late s0.tasks 0 (main_task main0) main0 (port 1) 1 refl (refl, refl), refl)
 
-closes : Step putting_late s1 (closed 0 1) s2
+pub closes : Step putting_late s1 (closed 0 1) s2
 closes = (main_task main1, s2.tasks, (refl, refl, (at_column 16, refl), refl), goes putting_late s1.tasks 0 (main_task main1) main1 nil 1 refl (refl, refl), refl)
 
-puts_there : Stands s2 0 op (main_task main2)
+pub puts_there : Stands s2 0 op (main_task main2)
 puts_there = (refl, refl, (at_column 36, refl), refl)
 
-puts_it : Step putting_late s2 (done 0 0 put (bool false)) s3
+pub puts_it : Step putting_late s2 (done 0 0 put (bool false)) s3
 puts_it = (main_task main2, op, s3.tasks, shut c, puts_there, (refl, λ e. absurd (let k : false ≡ true = e in cc)), refl, goes putting_late s2.tasks 0 (main_task main2) main2 (bool false) 0 refl refl, refl)
 
-prints : Step putting_late s3 (printed 0 (line (codes "false"))) s4
+pub prints : Step putting_late s3 (printed 0 (line (codes "false"))) s4
 prints = (main_task main3, s4.tasks, (refl, refl, (at_column 27, refl), refl), goes putting_late s3.tasks 0 (main_task main3) main3 nil 2 refl (refl, (refl, refl)), refl)
 
-ends : Step putting_late s4 (is_over 0 Ended) s5
+pub ends : Step putting_late s4 (is_over 0 Ended) s5
 ends = (main_task main4, nil, (refl, refl), refl, refl)
 
 pub legal : Legal putting_late put_late

@@ -23,90 +23,90 @@ use Rattle.ca_meaning.specs.Scripts.{putting_once}
 use Rattle.ca_meaning.proofs.Walks.{later, walk, goes, at_column, main_task, go_task, body_of, meets_only, meets_not_done, other_number, impossible}
 
 -- the main text as it comes to rest, time after time
-abbrev main0 : BodyView
+abbrev pub main0 : BodyView
 main0 = new_body putting_once.main
 
-abbrev main1 : BodyView
+abbrev pub main1 : BodyView
 main1 = later 1 (fill (port 1) main0)
 
-abbrev main2 : BodyView
+abbrev pub main2 : BodyView
 main2 = later 2 (fill (port 2) main1)
 
-abbrev main3 : BodyView
+abbrev pub main3 : BodyView
 main3 = later 3 (fill nil main2)
 
-abbrev main4 : BodyView
+abbrev pub main4 : BodyView
 main4 = fill (int (pos 42)) main3
 
-abbrev main5 : BodyView
+abbrev pub main5 : BodyView
 main5 = later 2 (fill nil main4)
 
-abbrev seed : SeedView
+abbrev pub seed : SeedView
 seed = go 0 (item (port 1) none) 2 (at_column 16)
 
 -- the go block's task, likewise
-abbrev task0 : BodyView
+abbrev pub task0 : BodyView
 task0 = later 1 (body_of (new_task putting_once seed))
 
-abbrev task1 : BodyView
+abbrev pub task1 : BodyView
 task1 = later 4 (fill (bool true) task0)
 
-abbrev task2 : BodyView
+abbrev pub task2 : BodyView
 task2 = later 2 (fill (bool true) task1)
 
-abbrev task3 : BodyView
+abbrev pub task3 : BodyView
 task3 = fill nil task2
 
-abbrev c : Channel
+abbrev pub c : Channel
 c = new_channel no_buffer 0
 
-abbrev r : Channel
+abbrev pub r : Channel
 r = new_channel fixed_buffer 1
 
-abbrev r_done : Channel
+abbrev pub r_done : Channel
 r_done = record r { held = bool true ∷ [] }
 
 -- the states
-abbrev s0 : State
+abbrev pub s0 : State
 s0 = opening_state (script main0)
 
-abbrev s1 : State
+abbrev pub s1 : State
 s1 = record s0 { tasks = update eqb s0.tasks 0 (Some (main_task main1)); channels = update eqb s0.channels 1 (Some c); registries = update eqb s0.registries 1 None }
 
-abbrev s2 : State
+abbrev pub s2 : State
 s2 = record s1 { tasks = update eqb s1.tasks 0 (Some (main_task main2)); channels = update eqb s1.channels 2 (Some r); registries = update eqb s1.registries 2 None }
 
-abbrev s3 : State
+abbrev pub s3 : State
 s3 = record s2 { tasks = update eqb (update eqb s2.tasks 0 (Some (main_task main3))) 1 (Some (go_task 2 task0)) }
 
-abbrev s4 : State
+abbrev pub s4 : State
 s4 = record s3 { tasks = update eqb s3.tasks 0 (Some (record (main_task main3) { mode = waiting 1 })); waits = record { number = 1; owner = Some 0; branches = take_of 1 ∷ [] } ∷ []; used = 1 ∷ [] }
 
-abbrev s5 : State
+abbrev pub s5 : State
 s5 = record s4 { tasks = update eqb (update eqb s4.tasks 1 (Some (go_task 2 task1))) 0 (Some (main_task main4)); waits = [] }
 
-abbrev s6 : State
+abbrev pub s6 : State
 s6 = record s5 { tasks = update eqb s5.tasks 1 (Some (go_task 2 task2)); channels = update eqb s5.channels 2 (Some r_done) }
 
-abbrev s7 : State
+abbrev pub s7 : State
 s7 = record s6 { tasks = update eqb s6.tasks 1 (Some (go_task 2 task3)); channels = shut_at 2 s6.channels }
 
-abbrev s8 : State
+abbrev pub s8 : State
 s8 = record s7 { tasks = update eqb s7.tasks 1 (Some (record (go_task 2 task3) { mode = over })) }
 
-abbrev s9 : State
+abbrev pub s9 : State
 s9 = record s8 { tasks = update eqb s8.tasks 0 (Some (main_task main5)) }
 
-abbrev s10 : State
+abbrev pub s10 : State
 s10 = record s9 { tasks = update eqb s9.tasks 0 (Some (record (main_task main5) { mode = over })) }
 
-makes_c : Step putting_once s0 (made 0 1 unbuffered None) s1
+pub makes_c : Step putting_once s0 (made 0 1 unbuffered None) s1
 makes_c = (main_task main0, s1.tasks, (refl, refl, (at_column 8, refl), refl), refl, refl, refl, goes putting_once s0.tasks 0 (main_task main0) main0 (port 1) 1 refl (refl, refl), refl)
 
-makes_r : Step putting_once s1 (made 0 2 (fixed 1) None) s2
+pub makes_r : Step putting_once s1 (made 0 2 (fixed 1) None) s2
 makes_r = (main_task main1, s2.tasks, (refl, refl, (at_column 16, refl), refl), refl, refl, refl, goes putting_once s1.tasks 0 (main_task main1) main1 (port 2) 2 refl (refl, (refl, refl)), refl)
 
-starts : Step putting_once s2 (spawned 0 1 (Go 0) (Some 2)) s3
+pub starts : Step putting_once s2 (spawned 0 1 (Go 0) (Some 2)) s3
 starts = (
   main_task main2,
   seed,
@@ -121,10 +121,10 @@ starts = (
   refl,
 )
 
-waits : Step putting_once s3 (parked 0 1 (take_of 1 ∷ [])) s4
+pub waits : Step putting_once s3 (parked 0 1 (take_of 1 ∷ [])) s4
 waits = (main_task main3, taking (port 1), (refl, refl, (at_column 40, refl), refl), refl, refl, refl, refl, refl, refl)
 
-meets_it : Step putting_once s4 (met 1 0 Put 1 (int (pos 42)) 1 0) s5
+pub meets_it : Step putting_once s4 (met 1 0 Put 1 (int (pos 42)) 1 0) s5
 unfolding builtin_result
 meets_it = (
   go_task 2 task0,
@@ -145,7 +145,7 @@ meets_it = (
   refl,
 )
 
-puts_result : Step putting_once s5 (done 1 0 (put_of 2 (bool true)) (bool true)) s6
+pub puts_result : Step putting_once s5 (done 1 0 (put_of 2 (bool true)) (bool true)) s6
 unfolding builtin_result
 puts_result = (
   go_task 2 task1,
@@ -159,23 +159,23 @@ puts_result = (
   refl,
 )
 
-closes : Step putting_once s6 (closed 1 2) s7
+pub closes : Step putting_once s6 (closed 1 2) s7
 unfolding builtin_result
 closes = (go_task 2 task2, s7.tasks, (refl, refl, (at_column 16, refl), refl), goes putting_once s6.tasks 1 (go_task 2 task2) task2 nil 0 refl refl, refl)
 
-ends : Step putting_once s7 (is_over 1 Ended) s8
+pub ends : Step putting_once s7 (is_over 1 Ended) s8
 unfolding builtin_result
 ends = (go_task 2 task3, nil, (refl, refl), refl, refl)
 
-prints : Step putting_once s8 (printed 0 (line (codes "42"))) s9
+pub prints : Step putting_once s8 (printed 0 (line (codes "42"))) s9
 unfolding digits builtin_result
 prints = (main_task main4, s9.tasks, (refl, refl, (at_column 31, refl), refl), goes putting_once s8.tasks 0 (main_task main4) main4 nil 2 refl (refl, (refl, refl)), refl)
 
-main_ends : Step putting_once s9 (is_over 0 Ended) s10
+pub main_ends : Step putting_once s9 (is_over 0 Ended) s10
 unfolding builtin_result
 main_ends = (main_task main5, nil, (refl, refl), refl, refl)
 
-opens : Opening putting_once s0
+pub opens : Opening putting_once s0
 opens = (script main0, (main0, walk 0 main0 refl, refl), refl)
 
 pub legal : Legal putting_once put_and_take
@@ -193,10 +193,10 @@ legal = record {
 until_wait : Reaches putting_once (take 4 put_and_take) s4
 until_wait = record { opening = s0; opens = opens; steps = (s1, makes_c, (s2, makes_r, (s3, starts, (s4, waits, refl)))) }
 
-puts_there : Stands s4 1 (putting (port 1) (int (pos 42))) (go_task 2 task0)
+pub puts_there : Stands s4 1 (putting (port 1) (int (pos 42))) (go_task 2 task0)
 puts_there = (refl, refl, (at_column 20, refl), refl)
 
-abbrev put : BranchView
+abbrev pub put : BranchView
 put = put_of 1 (int (pos 42))
 
 abbrev waiting_take : Handler

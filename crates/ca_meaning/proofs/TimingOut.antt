@@ -21,70 +21,70 @@ use Rattle.ca_meaning.specs.Scripts.{timing_out}
 use Rattle.ca_meaning.proofs.Walks.{later, walk, goes, at_column, main_task, settles_only, settles_not, ticks_when_due, impossible}
 
 -- the main text as it comes to rest, time after time
-abbrev main0 : BodyView
+abbrev pub main0 : BodyView
 main0 = new_body timing_out.main
 
-abbrev main1 : BodyView
+abbrev pub main1 : BodyView
 main1 = later 1 (fill (port 1) main0)
 
-abbrev main2 : BodyView
+abbrev pub main2 : BodyView
 main2 = later 1 (fill (port 2) main1)
 
-abbrev main3 : BodyView
+abbrev pub main3 : BodyView
 main3 = later 4 (fill (vector (item nil (item (port 1) none))) main2)
 
-abbrev main4 : BodyView
+abbrev pub main4 : BodyView
 main4 = later 2 (fill nil main3)
 
-abbrev c : Channel
+abbrev pub c : Channel
 c = new_channel no_buffer 0
 
 -- the states
-abbrev s0 : State
+abbrev pub s0 : State
 s0 = opening_state (script main0)
 
-abbrev s1 : State
+abbrev pub s1 : State
 s1 = record s0 { tasks = update eqb s0.tasks 0 (Some (main_task main1)); channels = update eqb s0.channels 1 (Some c); registries = update eqb s0.registries 1 None; deadlines = record { moment = 100; port = 1 } ∷ []; now = 0 }
 
-abbrev s2 : State
+abbrev pub s2 : State
 s2 = record s1 { tasks = update eqb s1.tasks 0 (Some (main_task main2)); channels = update eqb s1.channels 2 (Some c); registries = update eqb s1.registries 2 None }
 
-abbrev s3 : State
+abbrev pub s3 : State
 s3 = record s2 { tasks = update eqb s2.tasks 0 (Some (record (main_task main2) { mode = waiting 1 })); waits = record { number = 1; owner = Some 0; branches = take_of 2 ∷ take_of 1 ∷ [] } ∷ []; used = 1 ∷ [] }
 
-abbrev s4 : State
+abbrev pub s4 : State
 s4 = record s3 { channels = shut_at 1 s3.channels; deadlines = []; now = 100 }
 
-abbrev s5 : State
+abbrev pub s5 : State
 s5 = record s4 { tasks = update eqb s4.tasks 0 (Some (main_task main3)); channels = update eqb s4.channels 1 (Some (shut c)); waits = [] }
 
-abbrev s6 : State
+abbrev pub s6 : State
 s6 = record s5 { tasks = update eqb s5.tasks 0 (Some (main_task main4)) }
 
-abbrev s7 : State
+abbrev pub s7 : State
 s7 = record s6 { tasks = update eqb s6.tasks 0 (Some (record (main_task main4) { mode = over })) }
 
-abbrev alts : OpView
+abbrev pub alts : OpView
 alts = choosing (item (port 2) (item (port 1) none)) false None
 
-opens : Opening timing_out s0
+pub opens : Opening timing_out s0
 opens = (script main0, (main0, walk 0 main0 refl, refl), refl)
 
-makes_t : Step timing_out s0 (made 0 1 (timeout 100) (Some 0)) s1
+pub makes_t : Step timing_out s0 (made 0 1 (timeout 100) (Some 0)) s1
 makes_t = (main_task main0, s1.tasks, (refl, refl, (at_column 8, refl), refl), refl, refl, (omega arith, omega arith), goes timing_out s0.tasks 0 (main_task main0) main0 (port 1) 1 refl (refl, refl), refl)
 
-makes_c : Step timing_out s1 (made 0 2 unbuffered None) s2
+pub makes_c : Step timing_out s1 (made 0 2 unbuffered None) s2
 unfolding builtin_result
 makes_c = (main_task main1, s2.tasks, (refl, refl, (at_column 39, refl), refl), refl, refl, refl, goes timing_out s1.tasks 0 (main_task main1) main1 (port 2) 1 refl (refl, refl), refl)
 
-waits : Step timing_out s2 (parked 0 1 (take_of 2 ∷ take_of 1 ∷ [])) s3
+pub waits : Step timing_out s2 (parked 0 1 (take_of 2 ∷ take_of 1 ∷ [])) s3
 unfolding builtin_result
 waits = (main_task main2, alts, (refl, refl, (at_column 30, refl), refl), refl, refl, refl, refl, refl, refl)
 
-ticks : Step timing_out s3 (ticked 100 (1 ∷ [])) s4
+pub ticks : Step timing_out s3 (ticked 100 (1 ∷ [])) s4
 ticks = (omega arith, omega arith, refl, λ e. cc, refl)
 
-settles_t : Step timing_out s4 (settled 1 1 Take 1 nil) s5
+pub settles_t : Step timing_out s4 (settled 1 1 Take 1 nil) s5
 unfolding builtin_result
 settles_t = (
   shut c,
@@ -99,11 +99,11 @@ settles_t = (
   refl,
 )
 
-prints : Step timing_out s5 (printed 0 (line (codes "nil true"))) s6
+pub prints : Step timing_out s5 (printed 0 (line (codes "nil true"))) s6
 unfolding digits builtin_result
 prints = (main_task main3, s6.tasks, (refl, refl, (at_column 51, refl), refl), goes timing_out s5.tasks 0 (main_task main3) main3 nil 2 refl (refl, (refl, refl)), refl)
 
-ends : Step timing_out s6 (is_over 0 Ended) s7
+pub ends : Step timing_out s6 (is_over 0 Ended) s7
 unfolding builtin_result
 ends = (main_task main4, nil, (refl, refl), refl, refl)
 

@@ -18,6 +18,7 @@ ghost use Rattle.ca_meaning.specs.Steps.{Step};
 ghost use Rattle.ca_meaning.specs.Texts.{output};
 ghost use Rattle.ca_meaning.specs.Journal.{journal_text};
 ghost use Rattle.ca_meaning.specs.History.{channel_in};
+ghost use Rattle.ca_meaning.specs.Solo.{Solo};
 ghost use Rattle.ca_meaning.specs.Scripts.{putting_once, timing_out, faulting, putting_late, taking_twice};
 ghost use Rattle.ca_meaning.specs.Worked.{lines, put_and_take, put_and_take_lines, timed_out, timed_out_lines, go_faulted, go_faulted_lines, put_late, put_late_lines, first_taker, first_taker_lines, Never, AtMeeting, AtClosed, AtTimeout, AtFault};
 
@@ -38,6 +39,7 @@ pub fn worked_journals()
 /// Done in place of the Meet.
 pub fn worked_put_and_take()
     ensures legal { Legal putting_once put_and_take }
+    ensures one_worker { Solo putting_once [] put_and_take }
     ensures other_value { Never putting_once 4 put_and_take (met 1 0 Put 1 (int (pos 43)) 1 0) }
     ensures other_wait { Never putting_once 4 put_and_take (met 1 0 Put 1 (int (pos 42)) 2 0) }
     ensures no_done { Never putting_once 4 put_and_take (done 1 0 (put_of 1 (int (pos 42))) (bool true)) }
@@ -48,6 +50,7 @@ pub fn worked_put_and_take()
 /// the other branch of the alts, or with another answer.
 pub fn worked_timed_out()
     ensures legal { Legal timing_out timed_out }
+    ensures one_worker { Solo timing_out (0 ∷ 100 ∷ []) timed_out }
     ensures too_early { Never timing_out 3 timed_out (ticked 99 (1 ∷ [])) }
     ensures before_tick { Never timing_out 3 timed_out (settled 1 1 Take 1 nil) }
     ensures other_branch { Never timing_out 4 timed_out (settled 1 0 Take 2 nil) }
@@ -58,6 +61,7 @@ pub fn worked_timed_out()
 /// task's result port, and the task has no other end; who waits for the result gets nil, and not before.
 pub fn worked_go_faulted()
     ensures legal { Legal faulting go_faulted }
+    ensures one_worker { Solo faulting [] go_faulted }
     ensures no_port { Never faulting 3 go_faulted (over 1 (Faulted ZeroDivisor (record { line = 1; column = 12 }) None)) }
     ensures no_value { Never faulting 3 go_faulted (over 1 Ended) }
     ensures before_fault { Never faulting 3 go_faulted (settled 1 0 Take 1 nil) }
@@ -68,6 +72,7 @@ pub fn worked_go_faulted()
 /// put isn't answered true, puts no other value, and doesn't wait.
 pub fn worked_put_late()
     ensures legal { Legal putting_late put_late }
+    ensures one_worker { Solo putting_late [] put_late }
     ensures put_true { Never putting_late 2 put_late (done 0 0 (put_of 1 (int (pos 1))) (bool true)) }
     ensures other_value { Never putting_late 2 put_late (done 0 0 (put_of 1 (int (pos 2))) (bool false)) }
     ensures no_wait { Never putting_late 2 put_late (parked 0 1 (put_of 1 (int (pos 1)) ∷ [])) }
