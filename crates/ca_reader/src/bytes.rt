@@ -31,6 +31,7 @@ pub fn is_token_byte(byte: u8) -> bool
     TOKEN_BYTES[byte as usize]
 }
 
+/// An ASCII digit, `0` to `9`.
 pub fn is_digit(byte: u8) -> bool
     ensures { result ≡ is_digit byte }
 {

@@ -16,6 +16,7 @@ pub struct Form {
 /// Forms in order: a whole script, or what stands between two brackets.
 pub type Forms = Seq<Form>;
 
+/// The kind of a form, with what it is made of.
 #[cycle(form)]
 #[derive(Drop)]
 pub enum Shape {
@@ -42,6 +43,7 @@ pub enum Bracket {
 }
 
 impl Form {
+    /// The form of that shape, whose first byte stands at that place.
     pub fn new(shape: Shape, place: Place) -> Form
         ensures { form_tree result ≡ form (shape_tree shape) place }
     {

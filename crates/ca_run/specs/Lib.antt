@@ -3,6 +3,9 @@ pub mod Early
 pub mod Events
 pub mod Printing
 pub mod Readings
+pub mod Memory
+pub mod Failing
+pub mod Standard
 pub mod Words
 pub mod Top
 pub mod Answers

@@ -1,4 +1,9 @@
-ghost use Rattle.std.specs.Prelude.{◌≡◌, ◌<◌, ◌≤◌, ◌^◌, None};
+ghost use Rattle.std.specs.Prelude.{◌≡◌, ◌+◌, ◌-◌, ◌/◌, ◌<◌, ◌≤◌, ◌^◌, None, IfOk, IsOk, OnOk, OnErr, MatchResult, length, min, max};
+ghost use Rattle.std.specs.Duration.{as_nanos};
+ghost use Rattle.std.specs.Io.{ReadsAtMost};
+ghost use Rattle.std.specs.Io.KnownBytes.{ReadConsumes, WriteAppends};
+ghost use Rattle.ca_run.specs.Causes.{HasCause, one_more};
+ghost use Rattle.ca_run.specs.Readings.{Tells, StaysTold};
 
 use crate::clock::Clock;
 use crate::device::{Failed, Sink, Source};
@@ -7,7 +12,7 @@ use std::io::{Read, Write};
 use std::time::Duration;
 use std::{thread, time};
 
-/// A source over a reader, as standard input. It tells no content.
+/// A source over a reader, as standard input. It tells of its content what the reader tells.
 #[derive(Drop)]
 pub struct ReaderSource<R> {
     reader: R,
@@ -15,19 +20,31 @@ pub struct ReaderSource<R> {
 }
 
 impl<R> ReaderSource<R> {
+    ghost use Rattle.ca_run.specs.Standard.{reader_of, read_faults};
+
+    /// The source of what the reader gives from here on. Each error of the reader is a fault.
     pub fn new(reader: R) -> ReaderSource<R>
-        ensures { result.faults ≡ 0 }
+        ensures reader { reader_of result ≡ reader }
+        ensures faults { read_faults result ≡ 0 }
     {
         ReaderSource { reader, faults: 0 }
     }
 }
 
 impl<R: Read> Source for ReaderSource<R> {
-    ghost left = { λ _. None };
+    ghost use Rattle.ca_run.specs.Standard.{reader_of, read_faults};
 
-    ghost faults = { λ s. s.faults };
+    ghost left = { λ s. R.remaining (reader_of s) };
 
-    fn read(&mut self, into: &mut [u8]) -> Result<usize, Failed> {
+    ghost faults = { λ s. read_faults s };
+
+    fn read(&mut self, into: &mut [u8]) -> Result<usize, Failed>
+        ensures bound { ReadsAtMost result into.new }
+        ensures bytes { ReadConsumes (R.remaining (reader_of self.old)) (R.remaining (reader_of self.new)) result into.new }
+        ensures cause { HasCause (read_faults self.old) (read_faults self.new) result }
+        ensures steady { OnOk result (read_faults self.new ≡ read_faults self.old) }
+        ensures fault { OnErr result (read_faults self.new ≡ one_more (read_faults self.old)) }
+    {
         match self.reader.read(into) {
             Ok(count) => Ok(count),
             Err(_) => {
@@ -38,7 +55,8 @@ impl<R: Read> Source for ReaderSource<R> {
     }
 }
 
-/// A sink over a writer, as standard output. It tells no content and takes no memory.
+/// A sink over a writer, as standard output. It tells of its content what the writer tells, and takes no
+/// memory.
 #[derive(Drop)]
 pub struct WriterSink<W> {
     writer: W,
@@ -47,8 +65,13 @@ pub struct WriterSink<W> {
 }
 
 impl<W> WriterSink<W> {
+    ghost use Rattle.ca_run.specs.Standard.{writer_of, write_faults};
+
+    /// The sink that writes to the writer. Each error of the writer is a fault, and so is an answer of 0
+    /// bytes for a piece that isn't empty.
     pub fn new(writer: W) -> WriterSink<W>
-        ensures { result.faults ≡ 0 }
+        ensures writer { writer_of result ≡ writer }
+        ensures faults { write_faults result ≡ 0 }
     {
         WriterSink {
             writer,
@@ -59,18 +82,34 @@ impl<W> WriterSink<W> {
 }
 
 impl<W: Write> Sink for WriterSink<W> {
-    ghost held = { λ _. None };
+    ghost use Rattle.ca_run.specs.Standard.{writer_of, room_asked, write_faults};
 
-    ghost spare = { λ s. s.spare };
+    ghost held = { λ s. W.contents (writer_of s) };
 
-    ghost faults = { λ s. s.faults };
+    ghost spare = { λ s. room_asked s };
 
-    fn reserve(&mut self, n: u64) -> Result<(), OutOfMemory> {
+    ghost faults = { λ s. write_faults s };
+
+    fn reserve(&mut self, n: u64) -> Result<(), OutOfMemory>
+        ensures ok { IsOk result }
+        ensures room { room_asked self.new ≡ max (room_asked self.old) n }
+        ensures writer { writer_of self.new ≡ writer_of self.old }
+        ensures faults { write_faults self.new ≡ write_faults self.old }
+    {
         self.spare = self.spare.max(n);
         Ok(())
     }
 
-    fn write(&mut self, piece: &[u8]) -> Result<usize, Failed> {
+    fn write(&mut self, piece: &[u8]) -> Result<usize, Failed>
+        requires { length piece.now ≤ room_asked self.old }
+        ensures bound { IfOk result (λ n. n ≤ length piece.now) }
+        ensures takes { IfOk result (λ n. 0 < length piece.now → 0 < n) }
+        ensures spare { MatchResult result (λ n. room_asked self.new ≡ room_asked self.old - n) (λ _. room_asked self.new ≡ room_asked self.old) }
+        ensures bytes { WriteAppends (W.contents (writer_of self.old)) (W.contents (writer_of self.new)) result piece.now }
+        ensures cause { HasCause (write_faults self.old) (write_faults self.new) result }
+        ensures steady { OnOk result (write_faults self.new ≡ write_faults self.old) }
+        ensures fault { OnErr result (write_faults self.new ≡ one_more (write_faults self.old)) }
+    {
         match self.writer.write(piece) {
             Ok(count) if count > 0 || piece.is_empty() => {
                 self.spare -= count as u64;
@@ -99,13 +138,16 @@ pub struct SteadyClock<'a, T> {
 }
 
 impl<'a, T: time::Clock> SteadyClock<'a, T> {
+    ghost use Rattle.ca_run.specs.Standard.{last_moment, clock_faults};
+
+    /// A clock that stands at 0 now. Where the system's clock can't be read, it counts from the start of that.
     pub fn new(runtime: &'a T) -> SteadyClock<'a, T>
-        ensures start { result.least ≡ 0 }
-        ensures steady { result.faults ≡ 0 }
+        ensures start { last_moment result ≡ 0 }
+        ensures steady { clock_faults result ≡ 0 }
     {
         SteadyClock {
             runtime,
-            start: milliseconds(runtime).unwrap_or(0),
+            start: reading(runtime).unwrap_or(0),
             least: 0,
             spare: 0,
             faults: 0,
@@ -113,20 +155,26 @@ impl<'a, T: time::Clock> SteadyClock<'a, T> {
     }
 }
 
-// The milliseconds that the system's clock shows, or None where it can't be read.
-fn milliseconds<T: time::Clock>(runtime: &T) -> Option<u64> {
+// What the system's clock shows, in milliseconds, or None where it can't be read.
+fn reading<T: time::Clock>(runtime: &T) -> Option<u64> {
     match runtime.monotonic() {
-        Ok(since) => {
-            let whole = since.as_secs().saturating_mul(1000);
-            Some(whole.saturating_add(u64::from(since.subsec_millis())))
-        }
+        Ok(since) => Some(milliseconds(since)),
         Err(_) => None,
     }
+}
+
+// Whole milliseconds; where 64 bits don't hold them, the greatest number that they hold.
+fn milliseconds(since: Duration) -> u64
+    ensures { result ≡ min (as_nanos since / 1_000_000) (2 ^ 64 - 1) }
+{
+    let whole = since.as_secs().saturating_mul(1000);
+    whole.saturating_add(u64::from(since.subsec_millis()))
 }
 
 // The moment that is shown, within a clock's bounds and no less than an earlier one.
 fn moment_from(shown: u64, start: u64, least: u64) -> u64
     requires { least < 2 ^ 62 }
+    ensures value { result ≡ max (min (shown - start) (2 ^ 62 - 1)) least }
     ensures later { least ≤ result }
     ensures bound { result < 2 ^ 62 }
 {
@@ -134,30 +182,55 @@ fn moment_from(shown: u64, start: u64, least: u64) -> u64
 }
 
 impl<'a, T: time::Clock> Clock for SteadyClock<'a, T> {
-    ghost least = { λ c. c.least };
+    ghost use Rattle.ca_run.specs.Standard.{last_moment, askings_asked, clock_faults};
 
-    ghost spare = { λ c. c.spare };
+    ghost least = { λ c. last_moment c };
 
-    ghost faults = { λ c. c.faults };
+    ghost spare = { λ c. askings_asked c };
+
+    ghost faults = { λ c. clock_faults c };
 
     ghost readings = { λ _. None };
 
-    fn reserve(&mut self) -> Result<(), OutOfMemory> {
+    fn reserve(&mut self) -> Result<(), OutOfMemory>
+        ensures ok { IsOk result }
+        ensures spare { OnOk result (0 < askings_asked self.new) }
+        ensures room { askings_asked self.new ≡ max (askings_asked self.old) 1 }
+        ensures moment { last_moment self.new ≡ last_moment self.old }
+        ensures faults { clock_faults self.new ≡ clock_faults self.old }
+    {
         self.spare = self.spare.max(1);
         Ok(())
     }
 
     fn now(&mut self) -> u64 {
         self.spare -= 1;
-        if let Some(shown) = milliseconds(self.runtime) {
+        if let Some(shown) = reading(self.runtime) {
             self.least = moment_from(shown, self.start, self.least);
         }
         self.least
     }
 
-    fn wait_until(&mut self, ask: u64) -> Result<u64, Failed> {
+    fn wait_until(&mut self, ask: u64) -> Result<u64, Failed>
+        requires room { 0 < askings_asked self.old }
+        requires bound { ask < 2 ^ 62 }
+        ensures bound { IfOk result (λ m. m < 2 ^ 62) }
+        ensures reached { IfOk result (λ m. ask ≤ m) }
+        ensures later { IfOk result (λ m. last_moment self.old ≤ m) }
+        ensures least { IfOk result (λ m. last_moment self.new ≡ m) }
+        ensures stands { OnErr result (last_moment self.new ≡ last_moment self.old) }
+        ensures never_falls { last_moment self.old ≤ last_moment self.new }
+        ensures spare { askings_asked self.old ≤ askings_asked self.new + 1 }
+        ensures steady { OnOk result (clock_faults self.new ≡ clock_faults self.old) }
+        ensures fault { OnErr result (clock_faults self.new ≡ one_more (clock_faults self.old)) }
+        ensures cause { HasCause (clock_faults self.old) (clock_faults self.new) result }
+
+        // It tells no answers.
+        ensures readings { IfOk result (λ m. Tells None None m) }
+        ensures silent { OnErr result (StaysTold None None) }
+    {
         self.spare -= 1;
-        let Some(shown) = milliseconds(self.runtime) else {
+        let Some(shown) = reading(self.runtime) else {
             self.faults = self.faults.saturating_add(1);
             return Err(Failed);
         };

@@ -45,6 +45,7 @@ pub struct Found {
 }
 
 impl Binding {
+    /// The binding of that name to that term.
     pub fn new(name: u64, term: Term) -> Binding
         ensures { named result ≡ (name, kernel term) }
     {

@@ -4,6 +4,7 @@ use Rattle.ca_run.proofs.memory.MemorySinkSink.write.Given as goal
 
 abbrev pub invariant-loop-byte : goal.invariant-loop-byte
 invariant-loop-byte l = record {
+  most : l.self.most ≡ l.initial.self.most;
   taken : list l.self.text ≡ list l.initial.self.text ++ take l.byte-index l.byte-items;
   room : length l.byte-items ≤ spare l.self.text + l.byte-index;
   less : spare l.initial.self.text ≤ spare l.self.text + l.byte-index;
