@@ -161,6 +161,8 @@ pub fn count(collection: &Value) -> Answer<i64>
     }
 }
 
+// Whether there are no items, or pairs. A text has no count: it is WrongKind, as anything else that is
+// no vector, map or nil.
 pub fn is_empty(collection: &Value) -> Answer<bool>
     ensures { result ≡ is_empty_of (view collection.now) }
 {
@@ -207,6 +209,7 @@ fn half_items(alloc: Global, pairs: Pairs, half: Half) -> Result<Items, OutOfMem
     Ok(items)
 }
 
+// That half of one pair; the other half is let go.
 fn one_half(pair: Pair, half: Half) -> Value
     ensures { view result ≡ half_of half (pair_view pair) }
 {

@@ -17,6 +17,7 @@ pub enum Operation {
 }
 
 impl Operation {
+    // The result, or Overflow where it leaves 64 bits.
     pub fn apply(self, a: i64, b: i64) -> Answer<i64>
         ensures { result ≡ in_range (operation_of self a b) }
     {
@@ -37,6 +38,7 @@ pub enum Choice {
 }
 
 impl Choice {
+    // The one that the choice keeps.
     fn pick(self, a: i64, b: i64) -> i64
         ensures { result ≡ choice_of self a b }
     {
@@ -57,6 +59,7 @@ pub enum Order {
 }
 
 impl Order {
+    // Whether the two stand in this order.
     fn holds(self, a: i64, b: i64) -> bool
         ensures { result ≡ order_of self a b }
     {

@@ -18,6 +18,7 @@ pub fn is_false_like(value: &Value) -> bool
     }
 }
 
+// Whether the value is nil; false is not.
 pub fn is_nil_value(value: &Value) -> bool
     ensures { result ≡ is_nil (view value.now) }
 {
@@ -62,6 +63,7 @@ pub enum Test {
 }
 
 impl Test {
+    // Whether the integer passes.
     fn passes(self, n: i64) -> bool
         ensures { result ≡ test_of self n }
     {
