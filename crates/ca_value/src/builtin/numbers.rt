@@ -139,7 +139,7 @@ pub fn step(operation: Operation, value: &Value) -> Answer<i64>
     operation.apply(integer(value)?, 1)
 }
 
-// The two integers; where neither is one, the fault is the same.
+// The two operands, or WrongKind where one of them is no integer.
 fn integers(operands: (Value, Value)) -> Answer<(i64, i64)>
     ensures { result ≡ with_two (λ x y. Ok (x, y)) (view operands.0) (view operands.1) }
 {
