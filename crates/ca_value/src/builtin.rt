@@ -105,36 +105,15 @@ fn evaluate(alloc: Global, builtin: Builtin, args: Items) -> Result<Answer<Value
         Builtin::Subtract => Ok(int_value(numbers::difference(args.as_slice()))),
         Builtin::Inc => Ok(int_value(numbers::step(Operation::Sum, &only(args)))),
         Builtin::Dec => Ok(int_value(numbers::step(Operation::Difference, &only(args)))),
-        Builtin::Quot => {
-            let (a, b) = both(args);
-            Ok(int_value(numbers::quotient(&a, &b)))
-        }
-        Builtin::Rem => {
-            let (a, b) = both(args);
-            Ok(int_value(numbers::remainder(&a, &b)))
-        }
-        Builtin::Mod => {
-            let (a, b) = both(args);
-            Ok(int_value(numbers::modulus(&a, &b)))
-        }
-        Builtin::Equal => {
-            let (first, rest) = first_and_rest(args);
-            let equal = predicates::are_equal(&first, rest.as_slice());
-            Ok(Ok(Value::Bool(equal)))
-        }
-        Builtin::NotEqual => {
-            let (first, rest) = first_and_rest(args);
-            let equal = predicates::are_equal(&first, rest.as_slice());
-            Ok(Ok(Value::Bool(!equal)))
-        }
-        Builtin::Less => Ok(bool_value(numbers::compare(Order::Less, args.as_slice()))),
-        Builtin::Greater => Ok(bool_value(numbers::compare(Order::Greater, args.as_slice()))),
-        Builtin::LessOrEqual => {
-            Ok(bool_value(numbers::compare(Order::LessOrEqual, args.as_slice())))
-        }
-        Builtin::GreaterOrEqual => {
-            Ok(bool_value(numbers::compare(Order::GreaterOrEqual, args.as_slice())))
-        }
+        Builtin::Quot => Ok(int_value(numbers::quotient(both(args)))),
+        Builtin::Rem => Ok(int_value(numbers::remainder(both(args)))),
+        Builtin::Mod => Ok(int_value(numbers::modulus(both(args)))),
+        Builtin::Equal => Ok(Ok(Value::Bool(predicates::are_equal(first_and_rest(args))))),
+        Builtin::NotEqual => Ok(Ok(Value::Bool(!predicates::are_equal(first_and_rest(args))))),
+        Builtin::Less => Ok(bool_value(numbers::compare(Order::Less, args))),
+        Builtin::Greater => Ok(bool_value(numbers::compare(Order::Greater, args))),
+        Builtin::LessOrEqual => Ok(bool_value(numbers::compare(Order::LessOrEqual, args))),
+        Builtin::GreaterOrEqual => Ok(bool_value(numbers::compare(Order::GreaterOrEqual, args))),
         Builtin::Min => Ok(int_value(numbers::choose(Choice::Least, args.as_slice()))),
         Builtin::Max => Ok(int_value(numbers::choose(Choice::Greatest, args.as_slice()))),
         Builtin::Not => Ok(Ok(Value::Bool(predicates::is_false_like(&only(args))))),
@@ -150,50 +129,23 @@ fn evaluate(alloc: Global, builtin: Builtin, args: Items) -> Result<Answer<Value
         Builtin::Str => Ok(judge(Ok(Value::Text(text::str(alloc, args.as_slice())?)))),
         Builtin::Vector => Ok(judge(Ok(Value::Vector(args)))),
         Builtin::HashMap => Ok(judge(Ok(maps::hash_map(alloc, args)?))),
-        Builtin::Conj => {
-            let (first, rest) = first_and_rest(args);
-            Ok(judge(vectors::conj(first, rest)?))
-        }
-        Builtin::Nth => {
-            let (collection, index, default) = two_and_option(args);
-            Ok(judge(vectors::nth(collection, &index, default)))
-        }
-        Builtin::Get => {
-            let (collection, key, default) = two_and_option(args);
-            Ok(judge(maps::get(collection, &key, default.unwrap_or(Value::Nil))))
-        }
+        Builtin::Conj => Ok(judge(vectors::conj(first_and_rest(args))?)),
+        Builtin::Nth => Ok(judge(vectors::nth(two_and_option(args)))),
+        Builtin::Get => Ok(judge(maps::get(two_and_option(args)))),
         Builtin::Count => Ok(int_value(maps::count(&only(args)))),
         Builtin::IsEmpty => Ok(bool_value(maps::is_empty(&only(args)))),
         Builtin::First => Ok(judge(vectors::first(alloc, only(args)))),
         Builtin::Last => Ok(judge(vectors::last(alloc, only(args)))),
         Builtin::Peek => Ok(judge(vectors::last(alloc, only(args)))),
         Builtin::Pop => Ok(judge(vectors::pop(only(args)))),
-        Builtin::Subvec => {
-            let (collection, start, end) = two_and_option(args);
-            Ok(judge(vectors::subvec(collection, &start, end)))
-        }
-        Builtin::Assoc => {
-            let (first, rest) = first_and_rest(args);
-            Ok(judge(maps::assoc(alloc, first, rest)?))
-        }
-        Builtin::Dissoc => {
-            let (first, rest) = first_and_rest(args);
-            Ok(judge(maps::dissoc(first, rest.as_slice())))
-        }
+        Builtin::Subvec => Ok(judge(vectors::subvec(two_and_option(args)))),
+        Builtin::Assoc => Ok(judge(maps::assoc(alloc, first_and_rest(args))?)),
+        Builtin::Dissoc => Ok(judge(maps::dissoc(first_and_rest(args)))),
         Builtin::Keys => Ok(judge(maps::halves(alloc, only(args), Half::Key)?)),
         Builtin::Vals => Ok(judge(maps::halves(alloc, only(args), Half::Value)?)),
-        Builtin::Contains => {
-            let (collection, key) = both(args);
-            Ok(bool_value(maps::contains(&collection, &key)))
-        }
-        Builtin::Range => {
-            let (first, second) = one_and_option(args);
-            range::range(alloc, &first, second)
-        }
-        Builtin::Part => {
-            let (collection, index) = both(args);
-            Ok(judge(vectors::part(alloc, collection, &index)))
-        }
+        Builtin::Contains => Ok(bool_value(maps::contains(both(args)))),
+        Builtin::Range => range::range(alloc, one_and_option(args)),
+        Builtin::Part => Ok(judge(vectors::part(alloc, both(args)))),
         Builtin::Items => Ok(judge(maps::items(alloc, only(args))?)),
         Builtin::WorkerCount => Ok(int_value(numbers::worker_count(&only(args)))),
     }

@@ -18,6 +18,8 @@ pub enum ValueFault {
 /// Why a builtin gives no value.
 #[derive(Clone, Copy, PartialEq, Eq, Debug)]
 pub enum ApplyError {
+    /// The arguments are at fault.
     Fault(ValueFault),
+    /// Memory that the result needs was refused.
     OutOfMemory,
 }

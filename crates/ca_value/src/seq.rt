@@ -128,18 +128,21 @@ impl<T> Seq<T> {
         mem::replace(&mut self.items[place as usize], item)
     }
 
+    /// How many items there are, in items and not in bytes. Spare room does not count.
     pub fn len(&self) -> u64
         ensures { result ≡ length (list self.now) }
     {
         self.items.len() as u64
     }
 
+    /// Whether there is no item; there may be room for some.
     pub fn is_empty(&self) -> bool
         ensures { IsTrue result ↔ (list self.now ≡ []) }
     {
         self.items.is_empty()
     }
 
+    /// The items in order, borrowed where they lie, with no copy.
     pub fn as_slice(&self) -> &[T]
         ensures { result.now ≡ list self.now }
     {

@@ -12,6 +12,7 @@ use std::alloc::Global;
 /// The number that names a port: a channel, a mult, a mix or a publication.
 #[derive(Clone, Copy, PartialEq, Eq, Debug)]
 pub struct PortId {
+    /// Any number: what it names is not a value's concern.
     pub n: u64,
 }
 
@@ -48,6 +49,7 @@ pub enum Value {
 }
 
 impl Pair {
+    /// The pair of the two, which it takes over with no copy. Any value may be a key.
     pub fn new(key: Value, value: Value) -> Pair
         ensures { pair_view result ≡ (view key, view value) }
     {
@@ -62,6 +64,7 @@ impl Pair {
         Pair { key, value }
     }
 
+    /// The key alone, with no copy; the value is let go.
     pub fn into_key(self) -> Value
         ensures { view result ≡ (pair_view self).0 }
     {
@@ -69,6 +72,7 @@ impl Pair {
         key
     }
 
+    /// The value alone, with no copy; the key is let go.
     pub fn into_value(self) -> Value
         ensures { view result ≡ (pair_view self).1 }
     {
@@ -122,12 +126,14 @@ impl Pairs {
         self.pairs.get(place)
     }
 
+    /// How many pairs there are, which is how many distinct keys. Spare room does not count.
     pub fn len(&self) -> u64
         ensures { result ≡ length (pairs_list self.now) }
     {
         self.pairs.len()
     }
 
+    /// The pairs in order of insertion, borrowed where they lie, with no copy.
     pub fn as_slice(&self) -> &[Pair]
         ensures { result.now ≡ pairs_list self.now }
     {

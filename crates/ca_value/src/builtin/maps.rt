@@ -1,7 +1,8 @@
-ghost use Rattle.std.specs.Prelude.{◌≡◌, ◌<◌, ◌+◌, ◌≤◌, [], IfOk, is_some, option_map, map as map_list};
+ghost use Rattle.std.specs.Prelude.{◌≡◌, ◌<◌, ◌+◌, ◌≤◌, [], IfOk, is_some, option_map, unwrap_or, map as map_list};
 ghost use Rattle.std.specs.Bool.{OnTrue, OnFalse};
 ghost use Rattle.ca_value.specs.Seq.{list, spare};
 ghost use Rattle.ca_value.specs.Pairs.{pairs_list, pairs_spare};
+ghost use Rattle.ca_value.specs.Tree.{nil};
 ghost use Rattle.ca_value.specs.View.{view, views, pair_view, pair_views};
 ghost use Rattle.ca_value.specs.Outcome.{outcome};
 ghost use Rattle.ca_value.specs.Kinds.{map_from};
@@ -85,11 +86,12 @@ fn without_key(pairs: Pairs, key: &Value) -> Pairs
 }
 
 /// The map without the keys; of nil nil.
-pub fn dissoc(collection: Value, keys: &[Value]) -> Answer<Value>
-    ensures { outcome result ≡ dissoc_of (view collection) (views keys.now) }
+pub fn dissoc(args: (Value, Items)) -> Answer<Value>
+    ensures { outcome result ≡ dissoc_of (view args.0) (views (list args.1)) }
 {
+    let (collection, keys) = args;
     match collection {
-        Value::Map(pairs) => Ok(Value::Map(without_keys(pairs, keys))),
+        Value::Map(pairs) => Ok(Value::Map(without_keys(pairs, keys.as_slice()))),
         Value::Nil => Ok(Value::Nil),
         _ => Err(ValueFault::WrongKind),
     }
@@ -105,8 +107,17 @@ fn without_keys(mut pairs: Pairs, keys: &[Value]) -> Pairs
     pairs
 }
 
-/// The value of a key of a map, or the item of a vector at an index; else the default.
-pub fn get(collection: Value, key: &Value, default: Value) -> Answer<Value>
+/// The value of a key of a map, or the item of a vector at an index; else the default, which is nil
+/// where none is given.
+pub fn get(args: (Value, Value, Option<Value>)) -> Answer<Value>
+    ensures { outcome result ≡ get_of (view args.0) (view args.1) (unwrap_or (option_map view args.2) nil) }
+{
+    let (collection, key, default) = args;
+    get_or(collection, &key, default.unwrap_or(Value::Nil))
+}
+
+// The same, with the default at hand.
+fn get_or(collection: Value, key: &Value, default: Value) -> Answer<Value>
     ensures { outcome result ≡ get_of (view collection) (view key.now) (view default) }
 {
     match collection {
@@ -128,12 +139,13 @@ fn take_under(items: Items, key: &Value) -> Option<Value>
 }
 
 /// Whether the key of a map, or the index of a vector, is there.
-pub fn contains(collection: &Value, key: &Value) -> Answer<bool>
-    ensures { result ≡ contains_of (view collection.now) (view key.now) }
+pub fn contains(args: (Value, Value)) -> Answer<bool>
+    ensures { result ≡ contains_of (view args.0) (view args.1) }
 {
+    let (collection, key) = args;
     match collection {
-        Value::Map(pairs) => Ok(find(pairs, key).is_some()),
-        Value::Vector(items) => Ok(has_index(items, key)),
+        Value::Map(pairs) => Ok(find(&pairs, &key).is_some()),
+        Value::Vector(items) => Ok(has_index(&items, &key)),
         Value::Nil => Ok(false),
         _ => Err(ValueFault::WrongKind),
     }
@@ -161,6 +173,8 @@ pub fn count(collection: &Value) -> Answer<i64>
     }
 }
 
+// Whether there are no items, or pairs. A text has no count: it is WrongKind, as anything else that is
+// no vector, map or nil.
 pub fn is_empty(collection: &Value) -> Answer<bool>
     ensures { result ≡ is_empty_of (view collection.now) }
 {
@@ -207,6 +221,7 @@ fn half_items(alloc: Global, pairs: Pairs, half: Half) -> Result<Items, OutOfMem
     Ok(items)
 }
 
+// That half of one pair; the other half is let go.
 fn one_half(pair: Pair, half: Half) -> Value
     ensures { view result ≡ half_of half (pair_view pair) }
 {
@@ -253,13 +268,14 @@ fn as_vector(alloc: Global, pair: Pair) -> Result<Value, OutOfMemory>
 }
 
 /// The collection with keys or places set, in order.
-pub fn assoc(alloc: Global, collection: Value, args: Items) -> Result<Answer<Value>, OutOfMemory>
-    ensures { IfOk result (λ r. outcome r ≡ assoc_of (view collection) (views (list args))) }
+pub fn assoc(alloc: Global, args: (Value, Items)) -> Result<Answer<Value>, OutOfMemory>
+    ensures { IfOk result (λ r. outcome r ≡ assoc_of (view args.0) (views (list args.1))) }
 {
+    let (collection, settings) = args;
     match collection {
-        Value::Map(pairs) => Ok(Ok(Value::Map(set_values(pairs, args)?))),
-        Value::Nil => Ok(Ok(hash_map(alloc, args)?)),
-        Value::Vector(items) => set_items(items, args),
+        Value::Map(pairs) => Ok(Ok(Value::Map(set_values(pairs, settings)?))),
+        Value::Nil => Ok(Ok(hash_map(alloc, settings)?)),
+        Value::Vector(items) => set_items(items, settings),
         _ => Ok(Err(ValueFault::WrongKind)),
     }
 }

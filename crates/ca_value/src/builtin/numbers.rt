@@ -1,4 +1,5 @@
 ghost use Rattle.std.specs.Prelude.{◌≡◌, ◌≢◌, pos, int_rem};
+ghost use Rattle.ca_value.specs.Seq.{list};
 ghost use Rattle.ca_value.specs.View.{view, views};
 ghost use Rattle.ca_value.specs.Kinds.{with_integer, with_two, with_integers};
 ghost use Rattle.ca_value.specs.Numbers.{in_range, running, difference_of, quotient_of, remainder_of, modulus_of, floored, chosen, in_order, worker_count_of};
@@ -6,7 +7,7 @@ ghost use Rattle.ca_value.specs.Operations.{operation_of, choice_of, order_of};
 
 use super::kinds::{Answer, integer};
 use crate::fault::ValueFault;
-use crate::value::Value;
+use crate::value::{Items, Value};
 
 /// An operation of two integers whose result may leave 64 bits.
 #[derive(Clone, Copy)]
@@ -17,6 +18,7 @@ pub enum Operation {
 }
 
 impl Operation {
+    // The result, or Overflow where it leaves 64 bits.
     pub fn apply(self, a: i64, b: i64) -> Answer<i64>
         ensures { result ≡ in_range (operation_of self a b) }
     {
@@ -37,6 +39,7 @@ pub enum Choice {
 }
 
 impl Choice {
+    // The one that the choice keeps.
     fn pick(self, a: i64, b: i64) -> i64
         ensures { result ≡ choice_of self a b }
     {
@@ -57,6 +60,7 @@ pub enum Order {
 }
 
 impl Order {
+    // Whether the two stand in this order.
     fn holds(self, a: i64, b: i64) -> bool
         ensures { result ≡ order_of self a b }
     {
@@ -112,10 +116,10 @@ pub fn choose(choice: Choice, args: &[Value]) -> Answer<i64>
 }
 
 /// Whether each integer and the next stand in this order.
-pub fn compare(order: Order, args: &[Value]) -> Answer<bool>
-    ensures { result ≡ with_integers (in_order (order_of order)) (views args.now) }
+pub fn compare(order: Order, args: Items) -> Answer<bool>
+    ensures { result ≡ with_integers (in_order (order_of order)) (views (list args)) }
 {
-    let Some((first, rest)) = args.split_first() else {
+    let Some((first, rest)) = args.as_slice().split_first() else {
         return Err(ValueFault::WrongKind);
     };
     let mut last = integer(first)?;
@@ -135,36 +139,41 @@ pub fn step(operation: Operation, value: &Value) -> Answer<i64>
     operation.apply(integer(value)?, 1)
 }
 
-/// The quotient, cut toward zero.
-pub fn quotient(dividend: &Value, divisor: &Value) -> Answer<i64>
-    ensures { result ≡ with_two quotient_of (view dividend.now) (view divisor.now) }
+// The two operands, or WrongKind where one of them is no integer.
+fn integers(operands: (Value, Value)) -> Answer<(i64, i64)>
+    ensures { result ≡ with_two (λ x y. Ok (x, y)) (view operands.0) (view operands.1) }
 {
-    let dividend = integer(dividend)?;
-    let divisor = integer(divisor)?;
+    let (first, second) = operands;
+    Ok((integer(&first)?, integer(&second)?))
+}
+
+/// The quotient of a dividend by a divisor, cut toward zero.
+pub fn quotient(operands: (Value, Value)) -> Answer<i64>
+    ensures { result ≡ with_two quotient_of (view operands.0) (view operands.1) }
+{
+    let (dividend, divisor) = integers(operands)?;
     if divisor == 0 {
         return Err(ValueFault::ZeroDivisor);
     }
     dividend.checked_div(divisor).ok_or(ValueFault::Overflow)
 }
 
-/// The remainder, with the dividend's sign.
-pub fn remainder(dividend: &Value, divisor: &Value) -> Answer<i64>
-    ensures { result ≡ with_two remainder_of (view dividend.now) (view divisor.now) }
+/// The remainder of a dividend by a divisor, with the dividend's sign.
+pub fn remainder(operands: (Value, Value)) -> Answer<i64>
+    ensures { result ≡ with_two remainder_of (view operands.0) (view operands.1) }
 {
-    let dividend = integer(dividend)?;
-    let divisor = integer(divisor)?;
+    let (dividend, divisor) = integers(operands)?;
     if divisor == 0 {
         return Err(ValueFault::ZeroDivisor);
     }
     Ok(remainder_by(dividend, divisor))
 }
 
-/// The remainder with the divisor's sign.
-pub fn modulus(dividend: &Value, divisor: &Value) -> Answer<i64>
-    ensures { result ≡ with_two modulus_of (view dividend.now) (view divisor.now) }
+/// The remainder of a dividend by a divisor, with the divisor's sign.
+pub fn modulus(operands: (Value, Value)) -> Answer<i64>
+    ensures { result ≡ with_two modulus_of (view operands.0) (view operands.1) }
 {
-    let dividend = integer(dividend)?;
-    let divisor = integer(divisor)?;
+    let (dividend, divisor) = integers(operands)?;
     if divisor == 0 {
         return Err(ValueFault::ZeroDivisor);
     }

@@ -1,11 +1,12 @@
 ghost use Rattle.std.specs.Prelude.{◌≡◌, pos, int_lt, not};
+ghost use Rattle.ca_value.specs.Seq.{list};
 ghost use Rattle.ca_value.specs.View.{view, views};
 ghost use Rattle.ca_value.specs.Kinds.{with_integer};
 ghost use Rattle.ca_value.specs.Numbers.{is_zero, is_even};
 ghost use Rattle.ca_value.specs.Tests.{is_falsy, is_nil, is_the_bool, all_equal, test_of};
 
 use super::kinds::{Answer, integer};
-use crate::value::Value;
+use crate::value::{Items, Value};
 
 /// Whether the value is false or nil.
 pub fn is_false_like(value: &Value) -> bool
@@ -18,6 +19,7 @@ pub fn is_false_like(value: &Value) -> bool
     }
 }
 
+// Whether the value is nil; false is not.
 pub fn is_nil_value(value: &Value) -> bool
     ensures { result ≡ is_nil (view value.now) }
 {
@@ -38,7 +40,15 @@ pub fn is_bool(wanted: bool, value: &Value) -> bool
 }
 
 /// Whether the first is equal to the next, and each of these to the one after it.
-pub fn are_equal(first: &Value, rest: &[Value]) -> bool
+pub fn are_equal(args: (Value, Items)) -> bool
+    ensures { result ≡ all_equal (view args.0) (views (list args.1)) }
+{
+    let (first, rest) = args;
+    is_equal_to_all(&first, rest.as_slice())
+}
+
+// The same, with the values borrowed.
+fn is_equal_to_all(first: &Value, rest: &[Value]) -> bool
     ensures { result ≡ all_equal (view first.now) (views rest.now) }
 {
     let mut last = first;
@@ -62,6 +72,7 @@ pub enum Test {
 }
 
 impl Test {
+    // Whether the integer passes.
     fn passes(self, n: i64) -> bool
         ensures { result ≡ test_of self n }
     {

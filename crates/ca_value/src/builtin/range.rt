@@ -15,14 +15,11 @@ use std::alloc::Global;
 
 /// The integers from 0 up to one bound, or from one bound up to another, which is left out. What would
 /// be too heavy is never built.
-pub fn range(
-    alloc: Global,
-    first: &Value,
-    second: Option<Value>,
-) -> Result<Answer<Value>, OutOfMemory>
-    ensures { IfOk result (λ r. outcome r ≡ judged (range_of (view first.now) (option_map view second))) }
+pub fn range(alloc: Global, args: (Value, Option<Value>)) -> Result<Answer<Value>, OutOfMemory>
+    ensures { IfOk result (λ r. outcome r ≡ judged (range_of (view args.0) (option_map view args.1))) }
 {
-    match bounds(first, second) {
+    let (first, second) = args;
+    match bounds(&first, second) {
         Ok((low, high)) => between(alloc, low, high),
         Err(fault) => Ok(Err(fault)),
     }

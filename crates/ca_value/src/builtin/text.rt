@@ -31,6 +31,7 @@ fn bytes_of_texts(args: &[Value]) -> u64 {
     bytes
 }
 
+// Adds the text that the argument has in `str`; after a refusal a part of it may stand at the end.
 fn append_str(value: &Value, into: &mut Text) -> Result<(), OutOfMemory>
     ensures { OnOk result (list into.new ≡ list into.old ++ str_text (view value.now)) }
 {

@@ -2,7 +2,7 @@ ghost use Rattle.std.specs.Prelude.{◌≡◌, IfOk, option_map};
 ghost use Rattle.ca_value.specs.Seq.{list};
 ghost use Rattle.ca_value.specs.View.{view, views};
 ghost use Rattle.ca_value.specs.Outcome.{outcome};
-ghost use Rattle.ca_value.specs.Vectors.{item_at, appended, nth_of, first_of, last_of, popped, shortened, subvec_of, end_of, part_between, part_of};
+ghost use Rattle.ca_value.specs.Vectors.{item_at, appended, nth_at, nth_of, first_of, last_of, popped, shortened, subvec_of, end_of, part_between, part_of};
 
 use super::kinds::{Answer, integer, sequence, vector};
 use crate::fault::ValueFault;
@@ -21,9 +21,10 @@ pub fn take_item(items: Items, place: i64) -> Option<Value>
 }
 
 /// The vector with more items at its end, in its own memory if there is room.
-pub fn conj(collection: Value, more: Items) -> Result<Answer<Value>, OutOfMemory>
-    ensures { IfOk result (λ r. outcome r ≡ appended (view collection) (views (list more))) }
+pub fn conj(args: (Value, Items)) -> Result<Answer<Value>, OutOfMemory>
+    ensures { IfOk result (λ r. outcome r ≡ appended (view args.0) (views (list args.1))) }
 {
+    let (collection, more) = args;
     let mut items = match vector(collection) {
         Ok(items) => items,
         Err(fault) => return Ok(Err(fault)),
@@ -35,12 +36,20 @@ pub fn conj(collection: Value, more: Items) -> Result<Answer<Value>, OutOfMemory
     Ok(Ok(Value::Vector(items)))
 }
 
-/// The item at an index. Outside a vector it is the default; of nil the default or nil.
-#[tactic(auto, using(crate::proofs::VectorLaws::nth_at_view))]
-pub fn nth(collection: Value, index: &Value, default: Option<Value>) -> Answer<Value>
-    ensures { outcome result ≡ nth_of (view collection) (view index.now) (option_map view default) }
+/// The item of a collection at an index, with a default. Outside a vector it is the default; of nil the
+/// default or nil.
+pub fn nth(args: (Value, Value, Option<Value>)) -> Answer<Value>
+    ensures { outcome result ≡ nth_of (view args.0) (view args.1) (option_map view args.2) }
 {
-    let index = integer(index)?;
+    let (collection, index, default) = args;
+    item_or(collection, integer(&index)?, default)
+}
+
+// The same, at an index that is an integer.
+#[tactic(auto, using(crate::proofs::VectorLaws::nth_at_view))]
+fn item_or(collection: Value, index: i64, default: Option<Value>) -> Answer<Value>
+    ensures { outcome result ≡ nth_at (view collection) index (option_map view default) }
+{
     match collection {
         Value::Vector(items) => take_item(items, index)
             .or(default)
@@ -89,11 +98,12 @@ fn without_last(mut items: Items) -> Answer<Value>
 }
 
 /// The items from the start up to, not including, the end, which is the count where none is given.
-pub fn subvec(collection: Value, start: &Value, end: Option<Value>) -> Answer<Value>
-    ensures { outcome result ≡ subvec_of (view collection) (view start.now) (option_map view end) }
+pub fn subvec(args: (Value, Value, Option<Value>)) -> Answer<Value>
+    ensures { outcome result ≡ subvec_of (view args.0) (view args.1) (option_map view args.2) }
 {
+    let (collection, start, end) = args;
     let items = vector(collection)?;
-    let start = integer(start)?;
+    let start = integer(&start)?;
     let end = end_place(&items, end)?;
     between(items, start, end)
 }
@@ -118,11 +128,12 @@ fn between(items: Items, start: i64, end: i64) -> Answer<Value>
     Ok(Value::Vector(items.into_range(start as u64, end as u64)))
 }
 
-/// The item at an index, or nil.
-pub fn part(alloc: Global, collection: Value, index: &Value) -> Answer<Value>
-    ensures { outcome result ≡ part_of (view collection) (view index.now) }
+/// The item of a collection at an index, or nil.
+pub fn part(alloc: Global, args: (Value, Value)) -> Answer<Value>
+    ensures { outcome result ≡ part_of (view args.0) (view args.1) }
 {
+    let (collection, index) = args;
     let items = sequence(alloc, collection)?;
-    let index = integer(index)?;
+    let index = integer(&index)?;
     Ok(take_item(items, index).unwrap_or(Value::Nil))
 }

@@ -3,7 +3,7 @@ use Rattle.std.specs.Prelude.{unwrap_or}
 use Rattle.ca_value.specs.View.{view}
 use Rattle.ca_value.proofs.Cases.{get_map, get_vector}
 use Rattle.ca_value.proofs.VectorLaws.{view_unwrap_or}
-use Rattle.ca_value.proofs.builtin.maps.get.Goals as goal
+use Rattle.ca_value.proofs.builtin.maps.get_or.Goals as goal
 
 pub returns-in-Map : goal.returns-in-Map
 returns-in-Map c =
