@@ -4,8 +4,6 @@ ghost use Rattle.ca_value.specs.View.{view};
 ghost use Rattle.ca_value.specs.Printed.{plain_text};
 ghost use Rattle.ca_term.specs.View.{kernel, kernels};
 ghost use Rattle.ca_term.specs.Operation.{want_view};
-ghost use Rattle.ca_term.specs.Kernel.{Kernels, apply};
-ghost use Rattle.ca_term.specs.declared.place.Place.{Place as PlaceView};
 ghost use Rattle.ca_meaning.specs.Redex.{value_of, values_of};
 ghost use Rattle.ca_meaning.specs.Body.{at, local, at_op, standing, step, fill, new_body, line_of};
 ghost use Rattle.ca_meaning.specs.BodyViews.{body_view, stand_of, is_at_op, IsBody};
@@ -137,41 +135,15 @@ impl Body {
     }
 }
 
-// Where a served term stands whose redex is the whole of it.
+// Where a served term stands whose redex is the whole of it: its one operation is a print.
 fn standing(redex: &Term) -> Stand
     requires { IsServed (kernel redex.now) }
     ensures { result ≡ stand_of (standing (kernel redex.now)) }
 {
     match redex {
-        Term::Const(_) => Stand::Ended,
-        Term::Var(_) => Stand::Ended,
-        Term::If(_, _, _) => Stand::Ended,
-        Term::Let(_, _) => Stand::Local,
-        Term::Loop(_, _, _) => Stand::Ended,
-        Term::Do(_) => Stand::Local,
-        Term::Frame(_) => Stand::Ended,
-        Term::Turn(_, _, _) => Stand::Ended,
-        Term::Apply(head, _, _) => standing_at(*head),
-    }
-}
-
-// Where a served term with that head stands whose operands are values.
-fn standing_at(head: Head) -> Stand
-    ensures { (ts : Kernels) → (p : PlaceView) → IsServed (apply head ts p) → result ≡ stand_of (standing (apply head ts p)) }
-{
-    match head {
-        Head::Print => Stand::AtOp,
-        Head::Recur => Stand::Ended,
-        Head::Builtin(_) => Stand::Ended,
-        Head::Call(_) => Stand::Ended,
-        Head::Take => Stand::Ended,
-        Head::Put => Stand::Ended,
-        Head::Alts(_) => Stand::Ended,
-        Head::Make(_) => Stand::Ended,
-        Head::Spawn(_) => Stand::Ended,
-        Head::Close => Stand::Ended,
-        Head::Register(_) => Stand::Ended,
-        Head::Post => Stand::Ended,
+        Term::Let(_, _) | Term::Do(_) => Stand::Local,
+        Term::Apply(_, _, _) => Stand::AtOp,
+        _ => Stand::Ended,
     }
 }
 
