@@ -2,6 +2,8 @@
 -- readable one with its texts in quotes (Clojure reference, `pr`).
 use Rattle.std.specs.Prelude.{ℕ, List, [], ◌∷◌, ◌++◌, Bool, cond, ◌==◌, codes, decimal}
 use Rattle.std.specs.Fmt.{signed_decimal}
+use Rattle.ca_value.specs.declared.print.Style.{Style}
+use Rattle.ca_value.specs.declared.print.Style.TheVariants.{Plain, Readable}
 use Rattle.ca_value.specs.Tree.{Tree, Trees, TreePairs, nil, bool, int, text, key, vector, map, port, none, item, empty, pair}
 
 abbrev pub bool_text : Bool → List ℕ
@@ -9,35 +11,6 @@ bool_text b = cond b (codes "true") (codes "false")
 
 abbrev pub port_text : ℕ → List ℕ
 port_text n = codes "#port " ++ decimal n
-
-abbrev mutual
-  pub plain_text : Tree → List ℕ
-  plain_text nil = codes "nil"
-  plain_text (bool b) = bool_text b
-  plain_text (int z) = signed_decimal z
-  plain_text (text s) = s
-  plain_text (key s) = 58 ∷ s
-  plain_text (vector ts) = 91 ∷ (plain_items ts ++ 93 ∷ [])
-  plain_text (map ps) = 123 ∷ (plain_pairs ps ++ 125 ∷ [])
-  plain_text (port n) = port_text n
-
-  -- items are joined by a space
-  pub plain_items : Trees → List ℕ
-  plain_items none = []
-  plain_items (item t ts) = plain_text t ++ plain_more ts
-
-  pub plain_more : Trees → List ℕ
-  plain_more none = []
-  plain_more (item t ts) = 32 ∷ (plain_text t ++ plain_more ts)
-
-  -- pairs are joined by a comma and a space
-  pub plain_pairs : TreePairs → List ℕ
-  plain_pairs empty = []
-  plain_pairs (pair k v ps) = plain_text k ++ (32 ∷ (plain_text v ++ plain_more_pairs ps))
-
-  pub plain_more_pairs : TreePairs → List ℕ
-  plain_more_pairs empty = []
-  plain_more_pairs (pair k v ps) = 44 ∷ (32 ∷ (plain_text k ++ (32 ∷ (plain_text v ++ plain_more_pairs ps))))
 
 -- a byte of a text as it stands between quotes: quote, backslash, line feed, tab and carriage return
 -- are escaped, every other byte stands as it is
@@ -56,29 +29,51 @@ all_escaped (b ∷ s) = escaped b ++ all_escaped s
 abbrev pub quoted : List ℕ → List ℕ
 quoted s = 34 ∷ (all_escaped s ++ 34 ∷ [])
 
+-- the two styles differ in their texts alone
+abbrev pub printed_text : Style → List ℕ → List ℕ
+printed_text Plain s = s
+printed_text Readable s = quoted s
+
 abbrev mutual
-  pub readable_text : Tree → List ℕ
-  readable_text nil = codes "nil"
-  readable_text (bool b) = bool_text b
-  readable_text (int z) = signed_decimal z
-  readable_text (text s) = quoted s
-  readable_text (key s) = 58 ∷ s
-  readable_text (vector ts) = 91 ∷ (readable_items ts ++ 93 ∷ [])
-  readable_text (map ps) = 123 ∷ (readable_pairs ps ++ 125 ∷ [])
-  readable_text (port n) = port_text n
+  pub printed : Style → Tree → List ℕ
+  printed style nil = codes "nil"
+  printed style (bool b) = bool_text b
+  printed style (int z) = signed_decimal z
+  printed style (text s) = printed_text style s
+  printed style (key s) = 58 ∷ s
+  printed style (vector ts) = 91 ∷ (printed_items style ts ++ 93 ∷ [])
+  printed style (map ps) = 123 ∷ (printed_pairs style ps ++ 125 ∷ [])
+  printed style (port n) = port_text n
 
-  pub readable_items : Trees → List ℕ
-  readable_items none = []
-  readable_items (item t ts) = readable_text t ++ readable_more ts
+  -- items are joined by a space
+  pub printed_items : Style → Trees → List ℕ
+  printed_items style none = []
+  printed_items style (item t ts) = printed style t ++ printed_more style ts
 
-  pub readable_more : Trees → List ℕ
-  readable_more none = []
-  readable_more (item t ts) = 32 ∷ (readable_text t ++ readable_more ts)
+  pub printed_more : Style → Trees → List ℕ
+  printed_more style none = []
+  printed_more style (item t ts) = 32 ∷ (printed style t ++ printed_more style ts)
 
-  pub readable_pairs : TreePairs → List ℕ
-  readable_pairs empty = []
-  readable_pairs (pair k v ps) = readable_text k ++ (32 ∷ (readable_text v ++ readable_more_pairs ps))
+  -- pairs are joined by a comma and a space
+  pub printed_pairs : Style → TreePairs → List ℕ
+  printed_pairs style empty = []
+  printed_pairs style (pair k v ps) = printed style k ++ (32 ∷ (printed style v ++ printed_more_pairs style ps))
 
-  pub readable_more_pairs : TreePairs → List ℕ
-  readable_more_pairs empty = []
-  readable_more_pairs (pair k v ps) = 44 ∷ (32 ∷ (readable_text k ++ (32 ∷ (readable_text v ++ readable_more_pairs ps))))
+  pub printed_more_pairs : Style → TreePairs → List ℕ
+  printed_more_pairs style empty = []
+  printed_more_pairs style (pair k v ps) = 44 ∷ (32 ∷ (printed style k ++ (32 ∷ (printed style v ++ printed_more_pairs style ps))))
+
+abbrev pub plain_text : Tree → List ℕ
+plain_text t = printed Plain t
+
+abbrev pub plain_items : Trees → List ℕ
+plain_items ts = printed_items Plain ts
+
+abbrev pub plain_more : Trees → List ℕ
+plain_more ts = printed_more Plain ts
+
+abbrev pub readable_text : Tree → List ℕ
+readable_text t = printed Readable t
+
+abbrev pub readable_items : Trees → List ℕ
+readable_items ts = printed_items Readable ts

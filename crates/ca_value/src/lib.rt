@@ -5,7 +5,7 @@
 //! a list and, beside it, the number of items that fit with no growth.
 //!
 //! Stands on std and `itoa` alone. Start with `seq`, then `value`, then a call of your choice: `copy`,
-//! `equal`, `measure` (weight and depth), `plain` and `readable` (the two printers). `builtin` has the
+//! `equal`, `measure` (weight and depth), `print` (the plain and the readable text). `builtin` has the
 //! builtins; their table, a row for each, is the definition `answer` of `specs/Builtins.antt`.
 #![tactic(auto)]
 
@@ -15,8 +15,7 @@ pub mod equal;
 pub mod fault;
 pub mod measure;
 pub mod memory;
-pub mod plain;
-pub mod readable;
+pub mod print;
 pub mod seq;
 #[cfg(test)]
 mod tests;
