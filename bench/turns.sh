@@ -8,7 +8,7 @@ set -eu
 turns=${1:-20000000}
 cd "$(dirname "$0")/../crates/ca_turns_bench"
 program=out/ca_turns_bench
-[ -x "$program" ] || rt run >/dev/null
+rt run >/dev/null 2>&1 </dev/null
 
 # The best of five runs, in nanoseconds.
 best() {
