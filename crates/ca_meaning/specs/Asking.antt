@@ -49,13 +49,12 @@ abbrev pub too_large_branches : Trees → Option Fault
 too_large_branches none = None
 too_large_branches (item v vs) = or_else (too_large_branch v) (too_large_branches vs)
 
-abbrev pub bad_branches : Tree → Option Fault
-bad_branches (vector vs) = too_large_branches vs
-bad_branches v = Some WrongKind
-
 abbrev pub ports_in : Tree → Trees
 ports_in (vector vs) = vs
 ports_in v = none
+
+abbrev pub bad_branches : Tree → Option Fault
+bad_branches v = or_else (not_a_vector v) (too_large_branches (ports_in v))
 
 abbrev pub priority_in : AltsOptions → Trees → Bool
 priority_in AltsOptions.None vs = false

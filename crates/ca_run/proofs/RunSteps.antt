@@ -1,21 +1,16 @@
 -- The journal that the code makes, event by event.
-use Rattle.std.proofs.Common.{◌≡◌, ◌≢◌, List, [], ◌∷◌, ◌++◌, map, refl, sym, ap, ◌∙◌, subst, rules, Bool, true}
+use Rattle.std.proofs.Common.{◌≡◌, ◌≢◌, List, [], ◌∷◌, ◌++◌, map, refl, sym, ap, ◌∙◌, subst, rules, true}
 use Rattle.ca_value.specs.Seq.{list}
 use Rattle.ca_value.specs.declared.seq.Seq.{Seq}
 use Rattle.ca_value.specs.Tree.{Tree, nil}
 use Rattle.ca_value.specs.View.{view}
 use Rattle.ca_value.specs.declared.value.Value.{Nil, the_lemmas}
-use Rattle.ca_term.specs.declared.place.Place.{Place}
-use Rattle.ca_term.specs.declared.fault.Fault.{Fault}
-use Rattle.ca_term.specs.declared.head.Head.TheVariants.{Print}
 use Rattle.ca_term.specs.declared.event.Event.{Event}
 use Rattle.ca_term.specs.declared.event.Ending.TheVariants.{Ended}
-use Rattle.ca_term.specs.Kernel.{Kernel, const, var, branch, bind, loop, seq, frame, turn, apply}
 use Rattle.ca_term.specs.Program.{ProgramView}
 use Rattle.ca_term.specs.Operation.{OpView, WantView, printing, taking, putting, choosing, making, spawning, closing, registering, posting}
 use Rattle.ca_term.specs.Event.{event_view, printed, over}
-use Rattle.ca_meaning.specs.Redex.{redex}
-use Rattle.ca_meaning.specs.Body.{BodyView, At, at, local, at_op, ended, faulted, nowhere, standing, fill, new_body}
+use Rattle.ca_meaning.specs.Body.{BodyView, At, at, local, at_op, ended, faulted, nowhere, fill, new_body}
 use Rattle.ca_meaning.specs.Served.{IsServedAt}
 use Rattle.ca_meaning.specs.BodyViews.{stand_of}
 use Rattle.ca_meaning.specs.declared.body.Stand.TheVariants.{AtOp}
