@@ -16,8 +16,8 @@ use ca_value::seq::Seq;
 use ca_value::value::Value;
 use std::alloc::Global;
 
-/// What a local step makes of a redex that is served, in memory of its own.
-pub fn contracted(alloc: Global, redex: &Term) -> Result<Term, OutOfMemory>
+// What a local step makes of a redex that is served, in memory of its own.
+pub(crate) fn contracted(alloc: Global, redex: &Term) -> Result<Term, OutOfMemory>
     requires { IsServed (kernel redex.now) }
     ensures { IfOk result (λ t. kernel t ≡ contract (kernel redex.now)) }
 {

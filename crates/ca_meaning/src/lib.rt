@@ -10,7 +10,7 @@
 #![tactic(auto)]
 
 pub mod body;
-pub mod contract;
+mod contract;
 pub mod ending;
 pub mod laws;
 pub mod redex;
