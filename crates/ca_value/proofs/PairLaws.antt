@@ -10,7 +10,6 @@ use Rattle.ca_value.specs.Tree.{Tree, nil, pairs_of}
 use Rattle.ca_value.specs.View.{pair_view, pair_views, pairs_view}
 use Rattle.ca_value.specs.Maps.{place_of, value_at}
 use Rattle.ca_value.proofs.MapLaws.{at_place}
-use Rattle.ca_value.proofs.Views.{pairs_view-is}
 
 -- a pair put in the place of another, whose key it keeps
 pub pair_views_set : (xs : List Pair) (i : ℕ) (old vacant new : Pair) (v : Tree) → i < length xs → slice_get xs i ≡ Some old →
@@ -29,7 +28,7 @@ pair_views_remove xs i =
     ∙ ap (λ ys. take i (pair_views xs) ++ ys) (sym (drop-map pair_view (suc i) xs))
 
 pub pairs_view_of : (s : Pairs) → pairs_view s ≡ pairs_of (pair_views (pairs_list s))
-pairs_view_of s = pairs_view-is s
+pairs_view_of s = refl
 
 -- the value at the place of a key
 second : (o : Option Pair) → option_map (λ (p : Tree × Tree). p.1) (option_map pair_view o) ≡ option_map (λ q. (pair_view q).1) o

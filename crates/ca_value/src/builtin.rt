@@ -3,6 +3,8 @@ ghost use Rattle.ca_value.specs.Seq.{list};
 ghost use Rattle.ca_value.specs.View.{view, views, trees};
 ghost use Rattle.ca_value.specs.Outcome.{outcome, judged, IsFault};
 ghost use Rattle.ca_value.specs.IsValue.{IsValue, AreValues};
+ghost use Rattle.ca_value.specs.Maps.{contains_of};
+ghost use Rattle.ca_value.specs.Vectors.{part_of};
 ghost use Rattle.ca_value.specs.Builtins.{answer, builtin_result, admits};
 
 mod judge;
@@ -13,6 +15,7 @@ mod numbers;
 mod predicates;
 mod range;
 mod text;
+pub mod two;
 mod vectors;
 
 use crate::fault::ApplyError;
@@ -126,27 +129,41 @@ fn evaluate(alloc: Global, builtin: Builtin, args: Items) -> Result<Answer<Value
         Builtin::IsNeg => Ok(bool_value(Test::Negative.passes_value(&only(args)))),
         Builtin::IsEven => Ok(bool_value(Test::Even.passes_value(&only(args)))),
         Builtin::IsOdd => Ok(bool_value(Test::Odd.passes_value(&only(args)))),
-        Builtin::Str => Ok(judge(Ok(Value::Text(text::str(alloc, args.as_slice())?)))),
-        Builtin::Vector => Ok(judge(Ok(Value::Vector(args)))),
+        Builtin::Str => Ok(judge(Ok(Value::text(alloc, text::str(alloc, args.as_slice())?)?))),
+        Builtin::Vector => Ok(judge(Ok(Value::vector(alloc, args)?))),
         Builtin::HashMap => Ok(judge(Ok(maps::hash_map(alloc, args)?))),
-        Builtin::Conj => Ok(judge(vectors::conj(first_and_rest(args))?)),
-        Builtin::Nth => Ok(judge(vectors::nth(two_and_option(args)))),
-        Builtin::Get => Ok(judge(maps::get(two_and_option(args)))),
+        Builtin::Conj => Ok(judge(vectors::conj(alloc, first_and_rest(args))?)),
+        Builtin::Nth => Ok(judge(vectors::nth(alloc, two_and_option(args))?)),
+        Builtin::Get => Ok(judge(maps::get(alloc, two_and_option(args))?)),
         Builtin::Count => Ok(int_value(maps::count(&only(args)))),
-        Builtin::IsEmpty => Ok(bool_value(maps::is_empty(&only(args)))),
-        Builtin::First => Ok(judge(vectors::first(alloc, only(args)))),
-        Builtin::Last => Ok(judge(vectors::last(alloc, only(args)))),
-        Builtin::Peek => Ok(judge(vectors::last(alloc, only(args)))),
-        Builtin::Pop => Ok(judge(vectors::pop(only(args)))),
-        Builtin::Subvec => Ok(judge(vectors::subvec(two_and_option(args)))),
-        Builtin::Assoc => Ok(judge(maps::assoc(alloc, first_and_rest(args))?)),
-        Builtin::Dissoc => Ok(judge(maps::dissoc(first_and_rest(args)))),
-        Builtin::Keys => Ok(judge(maps::halves(alloc, only(args), Half::Key)?)),
-        Builtin::Vals => Ok(judge(maps::halves(alloc, only(args), Half::Value)?)),
-        Builtin::Contains => Ok(bool_value(maps::contains(both(args)))),
-        Builtin::Range => range::range(alloc, one_and_option(args)),
-        Builtin::Part => Ok(judge(vectors::part(alloc, both(args)))),
-        Builtin::Items => Ok(judge(maps::items(alloc, only(args))?)),
         Builtin::WorkerCount => Ok(int_value(numbers::worker_count(&only(args)))),
+        Builtin::Assoc => Ok(judge(maps::assoc(alloc, first_and_rest(args))?)),
+        Builtin::IsEmpty => Ok(bool_value(maps::is_empty(&only(args)))),
+        Builtin::First => Ok(judge(vectors::first(alloc, &only(args))?)),
+        Builtin::Last => Ok(judge(vectors::last(alloc, &only(args))?)),
+        Builtin::Peek => Ok(judge(vectors::last(alloc, &only(args))?)),
+        Builtin::Pop => Ok(judge(vectors::pop(alloc, only(args))?)),
+        Builtin::Dissoc => Ok(judge(maps::dissoc(alloc, first_and_rest(args))?)),
+        Builtin::Keys => Ok(judge(maps::halves(alloc, &only(args), Half::Key)?)),
+        Builtin::Vals => Ok(judge(maps::halves(alloc, &only(args), Half::Value)?)),
+        Builtin::Range => range::range(alloc, one_and_option(args)),
+        Builtin::Subvec => Ok(judge(vectors::subvec(alloc, two_and_option(args))?)),
+        Builtin::Contains => Ok(bool_value(contains(both(args)))),
+        Builtin::Part => Ok(judge(part(alloc, both(args))?)),
+        Builtin::Items => Ok(judge(maps::items(alloc, only(args))?)),
     }
+}
+
+// `contains` of two values that are let go.
+fn contains(args: (Value, Value)) -> Answer<bool>
+    ensures { result ≡ contains_of (view args.0) (view args.1) }
+{
+    maps::contains(&args.0, &args.1)
+}
+
+// `part` of two values that are let go.
+fn part(alloc: Global, args: (Value, Value)) -> Result<Answer<Value>, OutOfMemory>
+    ensures { IfOk result (λ r. outcome r ≡ part_of (view args.0) (view args.1)) }
+{
+    vectors::part(alloc, &args.0, &args.1)
 }

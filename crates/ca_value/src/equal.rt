@@ -1,11 +1,11 @@
 ghost use Rattle.std.specs.Prelude.{◌≡◌};
 ghost use Rattle.ca_value.specs.Seq.{list};
-ghost use Rattle.ca_value.specs.Tree.{map};
-ghost use Rattle.ca_value.specs.View.{view, pair_view, pairs_view, trees};
+ghost use Rattle.ca_value.specs.Tree.{map, trees_of, pairs_of};
+ghost use Rattle.ca_value.specs.View.{view, pair_view, pairs_view, trees, vector_trees, map_pairs};
 ghost use Rattle.ca_value.specs.Equality.{equals, equal_items, within, has_pair};
 
 use crate::seq::Seq;
-use crate::value::{Pair, Pairs, Value};
+use crate::value::{Map, Pair, Pairs, Spine, Table, Value, Vector};
 
 impl Value {
     /// Whether the two are equal. Maps are, whatever the order of their pairs.
@@ -81,5 +81,27 @@ impl Pair {
             }
         }
         false
+    }
+}
+
+impl Vector {
+    // Whether the items are equal, one by one.
+    #[cycle(equal)]
+    fn equal(&self, other: &Vector) -> bool
+        ensures { result ≡ equal_items (trees_of (vector_trees self.now)) (trees_of (vector_trees other.now)) }
+    {
+        let (one, two): (&Spine, &Spine) = (&self.spine, &other.spine);
+        one.items.equal(&two.items)
+    }
+}
+
+impl Map {
+    // Whether they are equal as maps, whatever their order.
+    #[cycle(equal)]
+    fn equal(&self, other: &Map) -> bool
+        ensures { result ≡ equals (map (pairs_of (map_pairs self.now))) (map (pairs_of (map_pairs other.now))) }
+    {
+        let (one, two): (&Table, &Table) = (&self.spine, &other.spine);
+        one.pairs.equal(&two.pairs)
     }
 }

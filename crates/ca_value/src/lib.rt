@@ -17,6 +17,7 @@ pub mod measure;
 pub mod memory;
 pub mod print;
 pub mod seq;
+pub mod shared;
 #[cfg(test)]
 mod tests;
 pub mod value;

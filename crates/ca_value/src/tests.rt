@@ -32,7 +32,7 @@ fn values_of(alloc: Global, words: &str) -> Result<Items, Fail> {
 
 fn closed(alloc: Global, word: &str, items: Items) -> Result<Value, Fail> {
     if word == "]" {
-        return Ok(Value::Vector(items));
+        return Ok(Value::vector(alloc, items).ok().ok_or("memory")?);
     }
     match answer(alloc, Builtin::HashMap, items) {
         Some(Ok(map)) => Ok(map),
@@ -48,11 +48,19 @@ fn atom(alloc: Global, word: &str) -> Result<Value, Fail> {
         return Ok(Value::Bool(word == "true"));
     }
     if let Some(text) = word.strip_prefix(":") {
-        return Ok(Value::Key(text_of(alloc, text)?));
+        return Ok(
+            Value::key(alloc, text_of(alloc, text)?)
+                .ok()
+                .ok_or("memory")?,
+        );
     }
     if let Some(text) = word.strip_prefix("\"") {
         let text = text.strip_suffix("\"").ok_or("not closed")?;
-        return Ok(Value::Text(text_of(alloc, text)?));
+        return Ok(
+            Value::text(alloc, text_of(alloc, text)?)
+                .ok()
+                .ok_or("memory")?,
+        );
     }
     if let Some(text) = word.strip_prefix("#") {
         let n = text.parse::<u64>().ok().ok_or("no port")?;
@@ -452,7 +460,9 @@ fn one_value(rt: HostRuntime) -> Result<(), Fail> {
         readable.as_slice()
             == b"[-1 \"a\\\\\\n\\t\\r;\" :k nil [1 \"b\"] {:x true, nil #port 3}]".as_slice()
     );
-    let quote = Value::Text(text_of(alloc, "\"")?);
+    let quote = Value::text(alloc, text_of(alloc, "\"")?)
+        .ok()
+        .ok_or("memory")?;
     let readable = quote.print_readable(alloc).ok().ok_or("readable")?;
     assert!(&rt; readable.as_slice() == b"\"\\\"\"".as_slice());
     let copy = value.copy(alloc).ok().ok_or("copy")?;

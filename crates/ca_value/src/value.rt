@@ -8,6 +8,8 @@ ghost use Rattle.ca_value.specs.Equality.{has_key};
 use crate::memory::OutOfMemory;
 use crate::seq::{Seq, Text};
 use std::alloc::Global;
+use std::marker::Model;
+use std::sync::Arc;
 
 /// The number that names a port: a channel, a mult, a mix or a publication.
 #[derive(Clone, Copy, PartialEq, Eq, Debug)]
@@ -34,6 +36,90 @@ pub struct Pairs {
     pairs: Seq<Pair>,
 }
 
+// The items of a vector, with their weight together and the depth of the deepest.
+#[cycle(value)]
+#[derive(Drop)]
+pub(crate) struct Spine {
+    pub(crate) items: Items,
+    pub(crate) weight: u64,
+    pub(crate) depth: u64,
+}
+
+impl Model for Spine {
+    ghost use Rattle.std.specs.Prelude.{List};
+    ghost use Rattle.ca_value.specs.Tree.{Tree, trees_of};
+    ghost use Rattle.ca_value.specs.Measure.{depth_of_items};
+    ghost use Rattle.ca_value.specs.Code.{coded_trees};
+
+    ghost Value = { List Tree };
+
+    ghost coded = { coded_trees };
+
+    ghost use Rattle.ca_value.specs.Seq.{list};
+    ghost use Rattle.ca_value.specs.View.{views};
+    ghost use Rattle.ca_value.specs.Measured.{IsMeasured};
+
+    ghost view = { λ a. views (list a.items) };
+
+    ghost invariant = { λ a. IsMeasured (views (list a.items)) a.weight a.depth };
+
+    ghost size = { λ d. depth_of_items (trees_of d) };
+
+    ghost use Rattle.std.proofs.Common.{arith};
+    ghost use Rattle.ca_value.specs.Falls.{items_fall};
+
+    ghost size_decreases = { λ a h. omega (arith, items_fall (list a.items)) };
+}
+
+// The pairs of a map, with the weight of their keys and values together and the depth of the deepest.
+#[cycle(value)]
+#[derive(Drop)]
+pub(crate) struct Table {
+    pub(crate) pairs: Pairs,
+    pub(crate) weight: u64,
+    pub(crate) depth: u64,
+}
+
+impl Model for Table {
+    ghost use Rattle.std.specs.Prelude.{List};
+    ghost use Rattle.ca_value.specs.Tree.{Tree, pairs_of};
+    ghost use Rattle.ca_value.specs.Measure.{depth_of_pairs};
+    ghost use Rattle.ca_value.specs.Code.{coded_pairs};
+
+    ghost Value = { List (Tree × Tree) };
+
+    ghost coded = { coded_pairs };
+
+    ghost use Rattle.ca_value.specs.Pairs.{pairs_list};
+    ghost use Rattle.ca_value.specs.View.{pair_views};
+    ghost use Rattle.ca_value.specs.Measured.{ArePairsMeasured};
+
+    ghost view = { λ a. pair_views (pairs_list a.pairs) };
+
+    ghost invariant = { λ a. ArePairsMeasured (pair_views (pairs_list a.pairs)) a.weight a.depth };
+
+    ghost size = { λ d. depth_of_pairs (pairs_of d) };
+
+    ghost use Rattle.std.proofs.Common.{arith};
+    ghost use Rattle.ca_value.specs.Falls.{pairs_fall};
+
+    ghost size_decreases = { λ a h. omega (arith, pairs_fall (pairs_list a.pairs)) };
+}
+
+/// The items of a vector, shared by its copies.
+#[cycle(value)]
+#[derive(Drop)]
+pub struct Vector {
+    pub(crate) spine: Arc<Spine>,
+}
+
+/// The pairs of a map, shared by its copies.
+#[cycle(value)]
+#[derive(Drop)]
+pub struct Map {
+    pub(crate) spine: Arc<Table>,
+}
+
 /// A value of the language. `Key` is a keyword, without its colon.
 #[cycle(value)]
 #[derive(Drop)]
@@ -41,10 +127,10 @@ pub enum Value {
     Nil,
     Bool(bool),
     Int(i64),
-    Text(Text),
-    Key(Text),
-    Vector(Items),
-    Map(Pairs),
+    Text(Arc<Text>),
+    Key(Arc<Text>),
+    Vector(Vector),
+    Map(Map),
     Port(PortId),
 }
 

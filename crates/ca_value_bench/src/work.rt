@@ -66,7 +66,8 @@ fn pair(alloc: Global, first: Value, second: Value) -> Option<Items> {
 fn texts(alloc: Global) -> Option<Items> {
     let first = Seq::from_bytes(alloc, b"hello, ").ok()?;
     let second = Seq::from_bytes(alloc, b"world").ok()?;
-    pair(alloc, Value::Text(first), Value::Text(second))
+    let first = Value::text(alloc, first).ok()?;
+    pair(alloc, first, Value::text(alloc, second).ok()?)
 }
 
 // A copy of the map, and its sixth key.
@@ -92,10 +93,10 @@ fn map_of_eight(alloc: Global) -> Value {
 
 // Adds numbers at the end of a vector, which begins anew where it has grown long.
 fn conj_at_end(alloc: Global, count: u64) -> u64 {
-    let mut vector = Value::Vector(Items::new(alloc));
+    let mut vector = empty_vector(alloc);
     for n in 0..count {
         if n % LONGEST == 0 {
-            vector = Value::Vector(Items::new(alloc));
+            vector = empty_vector(alloc);
         }
         let Some(args) = pair(alloc, vector, Value::Int(7)) else {
             return n;
@@ -109,4 +110,9 @@ fn conj_at_end(alloc: Global, count: u64) -> u64 {
         }
     }
     count
+}
+
+// The vector of no items, or nil where memory is refused.
+fn empty_vector(alloc: Global) -> Value {
+    Value::vector(alloc, Items::new(alloc)).unwrap_or(Value::Nil)
 }

@@ -1,4 +1,4 @@
-ghost use Rattle.std.specs.Prelude.{◌≡◌, ◌≢◌, pos, int_rem};
+ghost use Rattle.std.specs.Prelude.{◌≡◌, ◌≢◌, pos, int_rem, [], ◌∷◌};
 ghost use Rattle.ca_value.specs.Seq.{list};
 ghost use Rattle.ca_value.specs.View.{view, views};
 ghost use Rattle.ca_value.specs.Kinds.{with_integer, with_two, with_integers};
@@ -85,6 +85,25 @@ pub fn run(operation: Operation, start: i64, args: &[Value]) -> Answer<i64>
         }
     }
     total
+}
+
+/// The operation over two integers.
+pub fn run_two(operation: Operation, start: i64, a: &Value, b: &Value) -> Answer<i64>
+    ensures { result ≡ with_integers (running (operation_of operation) start) (view a.now ∷ view b.now ∷ []) }
+{
+    let a = integer(a)?;
+    let b = integer(b)?;
+    let first = operation.apply(start, a)?;
+    Ok(operation.apply(first, b)?)
+}
+
+/// Whether the two integers stand in this order.
+pub fn compare_two(order: Order, a: &Value, b: &Value) -> Answer<bool>
+    ensures { result ≡ with_integers (in_order (order_of order)) (view a.now ∷ view b.now ∷ []) }
+{
+    let a = integer(a)?;
+    let b = integer(b)?;
+    Ok(order.holds(a, b))
 }
 
 /// The negation of one integer, or the first less the others.

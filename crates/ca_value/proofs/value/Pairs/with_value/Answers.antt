@@ -1,8 +1,5 @@
-use Rattle.std.proofs.Common.{◌≡◌, ap, ◌∙◌, rules}
+use Rattle.std.proofs.Common.{ap, ◌∙◌}
 use Rattle.std.specs.Prelude.{slice_set}
-use Rattle.ca_value.specs.declared.value.Value.{the_lemmas}
-use Rattle.ca_value.specs.declared.value.Value.TheViews.{roll-Pairs}
-use Rattle.ca_value.specs.Seq.{list}
 use Rattle.ca_value.specs.View.{view, pair_views}
 use Rattle.ca_value.specs.Pairs.{pairs_list}
 use Rattle.ca_value.proofs.PairLaws.{pair_views_set}
@@ -10,7 +7,6 @@ use Rattle.ca_value.proofs.value.Pairs.with_value.Goals as goal
 
 pub returns-clause-set : goal.returns-clause-set
 returns-clause-set c =
-    let rolled : pairs_list (roll-Pairs (record { pairs = c.set.new.self })) ≡ list c.set.new.self = search (rules, the_lemmas) in
-    ap pair_views (rolled ∙ c.set.ensures.set ∙ ap (λ ys. slice_set ys c.args.place c.with_value.result) c.replace-pair.ensures.set)
+    ap pair_views (c.set.ensures.set ∙ ap (λ ys. slice_set ys c.args.place c.with_value.result) c.replace-pair.ensures.set)
     ∙ pair_views_set (pairs_list c.args.self) c.args.place c.replace-pair.result c.new.result c.with_value.result (view c.args.value)
     c.requires c.replace-pair.ensures.old c.with_value.ensures
