@@ -11,13 +11,16 @@ use Rattle.ca_value.specs.View.{pair_view, pair_views, pairs_view}
 use Rattle.ca_value.specs.Maps.{place_of, value_at}
 use Rattle.ca_value.proofs.MapLaws.{at_place}
 
+-- the pair at a place, seen
+pub view_there : (xs : List Pair) (i : ℕ) (p : Pair) → i < length xs → slice_get xs i ≡ Some p → slice_index_or (pair_views xs) i (nil, nil) ≡ pair_view p
+view_there xs i p h at = get_or-map pair_view xs i p (nil, nil) h ∙ ap pair_view (get_or_from_slice_get xs i p p at)
+
 -- a pair put in the place of another, whose key it keeps
 pub pair_views_set : (xs : List Pair) (i : ℕ) (old vacant new : Pair) (v : Tree) → i < length xs → slice_get xs i ≡ Some old →
     pair_view new ≡ ((pair_view old).0, v) →
     pair_views (slice_set (slice_set xs i vacant) i new) ≡ slice_set (pair_views xs) i ((slice_index_or (pair_views xs) i (nil, nil)).0, v)
 pair_views_set xs i old vacant new v h at same =
-    let there : slice_index_or (pair_views xs) i (nil, nil) ≡ pair_view old =
-    get_or-map pair_view xs i old (nil, nil) h ∙ ap pair_view (get_or_from_slice_get xs i old old at) in
+    let there = view_there xs i old h at in
     ap pair_views (set-set xs i vacant new) ∙ map-set pair_view xs i new
     ∙ ap (slice_set (pair_views xs) i) (same ∙ ap (λ (p : Tree × Tree). (p.0, v)) (sym there))
 

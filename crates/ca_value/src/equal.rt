@@ -101,7 +101,7 @@ impl Map {
     fn equal(&self, other: &Map) -> bool
         ensures { result ≡ equals (map (pairs_of (map_pairs self.now))) (map (pairs_of (map_pairs other.now))) }
     {
-        let (one, two): (&Table, &Table) = (&self.spine, &other.spine);
+        let (one, two): (&Table, &Table) = (&self.table, &other.table);
         one.pairs.equal(&two.pairs)
     }
 }
