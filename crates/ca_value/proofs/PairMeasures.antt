@@ -1,5 +1,5 @@
 -- How the measures of pairs go on.
-use Rattle.std.proofs.Common.{◌≡◌, ◌≤◌, ◌<◌, ℕ, zero, suc, length, ◌+◌, List, [], ◌∷◌, ◌++◌, max, ap, arith}
+use Rattle.std.proofs.Common.{◌≡◌, ◌≤◌, ◌<◌, ℕ, zero, suc, length, ◌+◌, List, [], ◌∷◌, ◌++◌, max, arith}
 use Rattle.std.specs.Prelude.{slice_set, slice_index_or}
 use Rattle.std.proofs.lemmas.List.{map_push}
 use Rattle.ca_value.specs.Tree.{Tree, nil, pairs_of}

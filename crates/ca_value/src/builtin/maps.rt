@@ -21,12 +21,22 @@ use std::alloc::Global;
 fn value_copy(alloc: Global, pairs: &[Pair], key: &Value) -> Result<Option<Value>, OutOfMemory>
     ensures { IfOk result (λ o. option_map view o ≡ value_at (pair_views pairs.now) (view key.now)) }
 {
+    match value_under(pairs, key) {
+        Some(value) => Ok(Some(value.copy(alloc)?)),
+        None => Ok(None),
+    }
+}
+
+// The value of the key, where it lies.
+fn value_under<'a>(pairs: &'a [Pair], key: &Value) -> Option<&'a Value>
+    ensures { option_map (λ v. view v.now) result ≡ value_at (pair_views pairs.now) (view key.now) }
+{
     for pair in pairs {
-        if key.equal(&pair.key) {
-            return Ok(Some(pair.value.copy(alloc)?));
+        if key.is_same(&pair.key) {
+            return Some(&pair.value);
         }
     }
-    Ok(None)
+    None
 }
 
 // Sets keys and values that stand in turn.
@@ -330,7 +340,7 @@ fn has_key(pairs: &[Pair], key: &Value) -> bool
     ensures { result ≡ is_some (value_at (pair_views pairs.now) (view key.now)) }
 {
     for pair in pairs {
-        if key.equal(&pair.key) {
+        if key.is_same(&pair.key) {
             return true;
         }
     }

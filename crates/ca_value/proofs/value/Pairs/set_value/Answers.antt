@@ -1,7 +1,6 @@
 use Rattle.std.proofs.Common.{◌≡◌, sym, ap, ◌∙◌}
-use Rattle.std.specs.Prelude.{slice_set, slice_index_or}
+use Rattle.std.specs.Prelude.{slice_set}
 use Rattle.ca_value.specs.Pairs.{pairs_list}
-use Rattle.ca_value.specs.Tree.{nil}
 use Rattle.ca_value.specs.View.{view, pair_view, pair_views}
 use Rattle.ca_value.proofs.PairLaws.{pair_views_set, view_there}
 use Rattle.ca_value.proofs.value.Pairs.set_value.Goals as goal

@@ -1,7 +1,7 @@
-use Rattle.std.proofs.Common.{◌≡◌, ◌++◌, ◌∷◌, [], Some, None, sym, ap, ◌∙◌}
+use Rattle.std.proofs.Common.{◌≡◌, Some, None, sym, ap, ◌∙◌}
 use Rattle.ca_value.specs.Tree.{pairs_of}
 use Rattle.ca_value.specs.Equality.{has_key}
-use Rattle.ca_value.specs.View.{view, pair_view}
+use Rattle.ca_value.specs.View.{view}
 use Rattle.ca_value.specs.Maps.{place_of}
 use Rattle.ca_value.proofs.MapLaws.{at_place, absent}
 use Rattle.ca_value.proofs.value.Table.put.Goals as goal

@@ -1,9 +1,9 @@
-use Rattle.std.proofs.Common.{◌≡◌, ◌<◌, length, ap, ◌∙◌, sym, arith}
+use Rattle.std.proofs.Common.{◌<◌, length, ap, ◌∙◌, arith}
 use Rattle.std.specs.Prelude.{slice_set, slice_index_or}
 use Rattle.ca_value.specs.Pairs.{pairs_list}
 use Rattle.ca_value.specs.Tree.{nil}
 use Rattle.ca_value.specs.View.{view, pair_views}
-use Rattle.ca_value.proofs.PairMeasures.{IsValueSetIn, set_value_in}
+use Rattle.ca_value.proofs.PairMeasures.{set_value_in}
 use Rattle.ca_value.proofs.value.Table.set.Goals as goal
 
 pub invariant_of-self : goal.invariant_of-self
