@@ -8,6 +8,7 @@ pub mod Lasts
 pub mod Law
 pub mod Bridge
 pub mod Allowed
+pub mod Spread
 pub mod Endings
 pub mod Taken
 pub mod Looks

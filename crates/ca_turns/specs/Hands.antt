@@ -6,6 +6,7 @@ use denote.RawPtr.{Ptr}
 pub use Rattle.atomic_table.specs.Seated.{TableId}
 use Rattle.atomic_table.specs.Table.{Me}
 use Rattle.ca_turns.specs.declared.rule.View.{View}
+use Rattle.ca_turns.specs.Lines.{line_of}
 use Rattle.ca_turns.specs.Views.{stands}
 
 -- A table: which one it is, with its number of parts, `id.slots`, and where the vector of parts lies that it was opened with
@@ -13,9 +14,9 @@ pub record Opened : Type 0 where
   pub id : TableId
   pub memory : Ptr
 
--- a table of 1 to 256 parts, with a word for the events and one for each part
+-- a table of 1 to 256 parts, with a word for the events and one for each part, each on a line of its own
 abbrev pub IsTableId : TableId → Type 0
-IsTableId id = (id.words ≡ id.slots + 1) × (id.slots ≤ 256)
+IsTableId id = (id.words ≡ line_of (id.slots + 1)) × (id.slots ≤ 256)
 
 -- A hand: which table it is of, what it knows, and the parts that it holds, as they are now, each at its number
 pub record Held (P C E : Type 0) : Type 0 where

@@ -6,7 +6,7 @@ ghost use Rattle.ca_turns.specs.Hands.{IsHolding, HoldsNothing};
 
 use crate::lend::inside;
 use crate::object::Object;
-use crate::rule::View;
+use crate::rule::{Slot, View};
 use atomic_table::Seat;
 use std::alloc::{AllocError, Global};
 use std::marker::Model;
@@ -16,7 +16,7 @@ use std::marker::Model;
 /// A contract sees a hand as its table, what it knows, and its parts (`Held` in `specs/Hands.antt`).
 /// A hand that is dropped keeps its parts for good, so join it into another.
 pub struct HandOf<P, C, E> {
-    pub(crate) seat: Seat<Option<P>, View<C, E>>,
+    pub(crate) seat: Seat<Slot<P>, View<C, E>>,
     // The part i, if it is held, at i.
     pub(crate) parts: Vec<Option<P>>,
     // The parts held, the one taken last first.
@@ -31,12 +31,13 @@ pub type Hand<O> = HandOf<<O as Object>::Part, <O as Object>::Content, <O as Obj
 impl<P, C, E> Model for HandOf<P, C, E> {
     ghost use Rattle.std.specs.Vec.{vec_capacity};
     ghost use Rattle.ca_turns.specs.Hands.{Held, IsHand};
+    ghost use Rattle.ca_turns.specs.Lines.{bare};
 
     ghost Value = { Held P C E };
 
     ghost view = { λ h. record { table = h.seat.table_id; view = h.seat.me.0; parts = h.parts.items } };
 
-    ghost invariant = { λ h. IsHand h.seat.table_id h.seat.me h.parts.items h.order.items (vec_capacity h.order) h.drawn };
+    ghost invariant = { λ h. IsHand h.seat.table_id (bare h.seat.me) h.parts.items h.order.items (vec_capacity h.order) h.drawn };
 }
 
 impl<P, C, E> HandOf<P, C, E> {
@@ -85,7 +86,7 @@ fn nones<P>(alloc: Global, count: usize) -> Result<Vec<Option<P>>, AllocError>
 // A hand that holds nothing yet.
 pub(crate) fn new_hand<P: Drop, C, E>(
     alloc: Global,
-    seat: Seat<Option<P>, View<C, E>>,
+    seat: Seat<Slot<P>, View<C, E>>,
     count: usize,
 ) -> Result<HandOf<P, C, E>, AllocError>
     requires fits { (count ≡ seat.table_id.slots) × (seat.me.0.held ≡ replicate count None) }
@@ -115,7 +116,7 @@ impl<P: Drop, C, E> Drop for HandOf<P, C, E> {
 }
 
 impl<P: Drop, C, E> HandOf<P, C, E> {
-    pub(crate) fn into_seat(self) -> Seat<Option<P>, View<C, E>>
+    pub(crate) fn into_seat(self) -> Seat<Slot<P>, View<C, E>>
         requires { HoldsNothing self }
         ensures seat { (result.table_id ≡ self.table) × (result.me.0 ≡ self.view) }
         ensures none { (result.me.1 ≡ []) × HoldsNone result.me.0 }

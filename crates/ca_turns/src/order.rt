@@ -5,6 +5,7 @@ ghost use Rattle.atomic_table.specs.Table.{rest};
 ghost use Rattle.std.specs.Prelude.{ℕ, None, drop, take, ◌++◌, ◌≡◌, ◌<◌, ◌∷◌};
 ghost use Rattle.std.specs.Vec.{vec_capacity, vec_len};
 ghost use Rattle.ca_turns.specs.Hands.{places, times, Emptied};
+ghost use Rattle.ca_turns.specs.Lines.{bare};
 
 use crate::object::Object;
 use crate::steps::Place;
@@ -33,14 +34,14 @@ fn place_of(order: &Vec<usize>, part: usize) -> usize
 // Turns the slots that are out until this part's is the first.
 pub(crate) fn bring_to_front<O: Object>(seat: &mut Place<O>, order: &mut Vec<usize>, part: usize)
     requires listed { 0 < times part order.old.items }
-    requires placed { places seat.old.me.1 ≡ order.old.items }
-    requires emptied { Emptied seat.old.me.1 }
+    requires placed { places (bare seat.old.me).1 ≡ order.old.items }
+    requires emptied { Emptied (bare seat.old.me).1 }
     ensures table { seat.new.table_id ≡ seat.old.table_id }
     ensures view { seat.new.me.0 ≡ seat.old.me.0 }
-    ensures front { seat.new.me.1 ≡ (part, None) ∷ rest seat.new.me.1 }
+    ensures front { (bare seat.new.me).1 ≡ (part, None) ∷ rest (bare seat.new.me).1 }
     ensures order { (k : ℕ) × (get_elem? order.old.items k ≡ some part) × (order.new.items ≡ drop k order.old.items ++ take k order.old.items) }
-    ensures placed { places seat.new.me.1 ≡ order.new.items }
-    ensures emptied { Emptied seat.new.me.1 }
+    ensures placed { places (bare seat.new.me).1 ≡ order.new.items }
+    ensures emptied { Emptied (bare seat.new.me).1 }
     ensures room { vec_capacity order.new ≡ vec_capacity order.old }
 {
     let k = place_of(order, part);

@@ -10,7 +10,8 @@ use crate::errors::OutOfMemory;
 use crate::hand::{Hand, new_hand};
 use crate::object::Object;
 use crate::rule::Start;
-use crate::steps::{Place, Words, join_in, split_off, tell_short};
+use crate::steps::{Place, Words, join_in, line, split_off, tell_short};
+use crossbeam_utils::CachePadded;
 use std::alloc::{AllocError, Global};
 use std::marker::Model;
 use std::snapshot::Snapshot;
@@ -24,7 +25,7 @@ pub struct Table<O: Object> {
     // The vector that the parts came in, with nothing in it.
     rest: Vec<O::Part>,
     // How many callers of `hold` wait for a part, or are about to.
-    pub(crate) waiters: AtomicU64,
+    pub(crate) waiters: CachePadded<AtomicU64>,
 }
 
 impl<O: Object> Model for Table<O> {
@@ -88,7 +89,7 @@ impl<O: Object> Table<O> {
             hands,
         };
         let slots = slots_of(alloc, &mut parts)?;
-        let words = Vec::from_elem(alloc, 0u64, count + 1)?;
+        let words = Vec::from_elem(alloc, 0u64, line(count + 1))?;
         let Ok((owned, seat)) = open_slots::<O>(alloc, words.as_slice(), slots, &start) else {
             return Err(OutOfMemory);
         };
@@ -96,7 +97,7 @@ impl<O: Object> Table<O> {
         let table = Table {
             owned,
             rest: parts,
-            waiters: AtomicU64::new(0),
+            waiters: CachePadded::new(AtomicU64::new(0)),
         };
         Ok((table, all))
     }

@@ -12,7 +12,7 @@ use crate::errors::Busy;
 use crate::hand::Hand;
 use crate::object::Object;
 use crate::order::{bring_to_front, enlist};
-use crate::steps::{Words, draw_as, put_in, take_out};
+use crate::steps::{Words, draw_as, line, put_in, take_out};
 use crate::table::Table;
 use std::marker::Brand;
 use std::sync::Wait;
@@ -24,7 +24,7 @@ fn wait_for<O: Object, R: Wait>(rt: &R, words: &Words<O>, waiters: &AtomicU64, p
     requires { (part < words.now.table_id.slots) × IsTableId words.now.table_id }
 {
     waiters.fetch_add(1, Ordering::SeqCst);
-    words.park(rt, part + 1, 1);
+    words.park(rt, line(part + 1), 1);
     waiters.fetch_sub(1, Ordering::SeqCst);
 }
 
@@ -33,7 +33,7 @@ fn wake_one<O: Object>(words: &Words<O>, waiters: &AtomicU64, part: usize)
     requires { (part < words.now.table_id.slots) × IsTableId words.now.table_id }
 {
     if waiters.load(Ordering::SeqCst) > 0 {
-        words.wake_one(part + 1);
+        words.wake_one(line(part + 1));
     }
 }
 

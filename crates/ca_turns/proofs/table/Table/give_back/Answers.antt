@@ -2,6 +2,7 @@ use Rattle.std.proofs.Common.{rules, ◌<◌, ◌≤◌, ◌≡◌, ◌∙◌, �
 use Rattle.std.specs.Prelude.{None, Some}
 use mathlib.Core.Option.{some}
 use lib.ListN.{get_elem?}
+use Rattle.ca_turns.specs.Lines.{bare}
 use Rattle.ca_turns.specs.Hands.{there, places, Emptied, IsListed, how_many}
 use Rattle.ca_turns.proofs.Lists.{in_range, read_at, both_some, none_some}
 use Rattle.ca_turns.proofs.Looks.{there_at}
@@ -49,7 +50,7 @@ returns-clause-others g c = same_but c.hand.inside.parts.items c.args.hand.now c
 
 pub invariant_of-hand : goal.invariant_of-hand
 invariant_of-hand g c = let hand = c.hand.inside in let i = c.hand.invariant in let e = c.bring_to_front.ensures in let s = settled_here hand.parts.items c.args.hand.now c.args.part c.hand.invariant c.hand.view_is g.O.Object.content c.requires.settled in let f = c.put_in.ensures.freed in let at = c.args.part in let none_ = c.take.ensures.after in
-    let d = departed hand.parts.items hand.seat.me.0.held c.bring_to_front.new.seat.me.1 hand.order.items c.bring_to_front.new.order.items c.remove.new.self.items at e.order.0 s.0 s.1 i.alike i.listed i.as_many e.order.2 e.placed e.front e.emptied c.remove.ensures.items in
+    let d = departed hand.parts.items hand.seat.me.0.held (bare c.bring_to_front.new.seat.me).1 hand.order.items c.bring_to_front.new.order.items c.remove.new.self.items at e.order.0 s.0 s.1 i.alike i.listed i.as_many e.order.2 e.placed e.front e.emptied c.remove.ensures.items in
     let parts_are = ap (λ o. set hand.parts.items at o) (sym none_) in record {
       live = subst (λ l. 0 < length l) (sym (ap (λ m. m.0.stands_for) f ∙ ap (λ v. v.stands_for) e.view)) i.live;
       sized = length-set hand.parts.items at c.take.new.self ∙ i.sized ∙ sym (ap (λ z. z.slots) (c.put_in.ensures.table ∙ e.table));
