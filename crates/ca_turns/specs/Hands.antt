@@ -111,8 +111,9 @@ pub record IsHand {P C E : Type 0} (id : TableId) (me : Me (Option P) (View C E)
   pub room : length parts ≤ capacity
   pub counted : count ≡ length me.0.turns
 
--- The vector that the parts came in is empty, with room for all of them
-pub record IsTable {P : Type 0} (id : TableId) (rest : List P) (capacity : ℕ) : Type 0 where
+-- The vector that the parts came in is empty, with room for all of them, and lies in the one slot of another table
+pub record IsTable {P : Type 0} (id keeper : TableId) (rest : List P) (capacity : ℕ) : Type 0 where
   pub sized : IsTableId id
+  pub one : keeper.slots ≡ 1
   pub empty : rest ≡ []
   pub room : id.slots ≤ capacity

@@ -18,6 +18,7 @@
 mod ends;
 mod errors;
 mod hand;
+mod kept;
 mod lend;
 mod object;
 mod order;

@@ -8,6 +8,7 @@ ghost use Rattle.ca_turns.specs.Hands.{HoldsNothing, IsFresh, IsTableId};
 use crate::ends::{Owned, close_slots, emptied, open_slots, slots_of};
 use crate::errors::OutOfMemory;
 use crate::hand::{Hand, new_hand};
+use crate::kept::{Kept, keep, take_back};
 use crate::object::Object;
 use crate::rule::Start;
 use crate::steps::{Place, Words, join_in, line, split_off, tell_short};
@@ -23,7 +24,7 @@ use std::sync::atomic::AtomicU64;
 pub struct Table<O: Object> {
     pub(crate) owned: Owned<O>,
     // The vector that the parts came in, with nothing in it.
-    rest: Vec<O::Part>,
+    rest: Kept<Vec<O::Part>>,
     // How many callers of `hold` wait for a part, or are about to.
     pub(crate) waiters: CachePadded<AtomicU64>,
 }
@@ -34,9 +35,9 @@ impl<O: Object> Model for Table<O> {
 
     ghost Value = { Opened };
 
-    ghost view = { λ t. record { id = t.owned.shared.table_id; memory = vec_ptr t.rest } };
+    ghost view = { λ t. record { id = t.owned.shared.table_id; memory = vec_ptr t.rest.shared.key.value } };
 
-    ghost invariant = { λ t. IsTable t.owned.shared.table_id t.rest.items (vec_capacity t.rest) };
+    ghost invariant = { λ t. IsTable t.owned.shared.table_id t.rest.shared.table_id t.rest.shared.key.value.items (vec_capacity t.rest.shared.key.value) };
 }
 
 /// What a table gives when it closes.
@@ -96,7 +97,7 @@ impl<O: Object> Table<O> {
         let all = deal::<O>(alloc, &owned.shared, seat, count, hands)?;
         let table = Table {
             owned,
-            rest: parts,
+            rest: keep(alloc, parts)?,
             waiters: CachePadded::new(AtomicU64::new(0)),
         };
         Ok((table, all))
@@ -133,7 +134,7 @@ impl<O: Object> Table<O> {
             waiters: _,
         } = self;
         Closed {
-            parts: emptied(close_slots::<O>(owned, hand.into_seat()), rest),
+            parts: emptied(close_slots::<O>(owned, hand.into_seat()), take_back(rest)),
         }
     }
 }
