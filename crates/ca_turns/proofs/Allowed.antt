@@ -10,11 +10,13 @@ use Rattle.ca_turns.specs.declared.rule.View.{View}
 use Rattle.ca_turns.specs.Places.{Reads, IsDistinct}
 use Rattle.ca_turns.specs.Views.{stands, left_view, right_view, both_views, spent_view, HoldsNone}
 use Rattle.ca_turns.specs.OneHistory.{OneHistory}
-use Rattle.ca_turns.specs.Steps.{tried, freed, drew, told_short}
+use Rattle.ca_turns.specs.Steps.{tried, freed, fronted, drew, told_short}
+use Rattle.ca_turns.specs.Hands.{IsOut, places, there, times}
 use Rattle.ca_turns.specs.Lines.{Padded, bare, line_of, InLines, in_lines}
 use Rattle.ca_turns.proofs.Bridge.{through, through_split, through_join}
 use Rattle.ca_turns.proofs.Parts.{tries, frees}
 use Rattle.ca_turns.proofs.Draws.{draws, looks}
+use Rattle.ca_turns.proofs.Fronts.{fronts}
 use Rattle.ca_turns.proofs.Joins.{splits, merges}
 use Rattle.ca_turns.proofs.Spread.{eighth, spread, spread_split, spread_join}
 
@@ -40,6 +42,10 @@ module _ {P C E : Type 0} (content : P → C) (touches : E → List ℕ) (moves 
       → Allows (InLines Rule) n id me w (λ _. 0) (λ _. in_lines freed (step n w 0 0 none) me 0)
   may_free n id i w me x is near out held may = at_word n id (i + 1) w me (λ _. 0) (λ s m _. freed s m 0) 0 0 is (omega arith)
       (through content touches moves opening hands apart n id (bare me) (i + 1) (λ _. 0) (λ _. freed (step n (i + 1) 0 0 none) (bare me) 0) (frees content touches moves opening hands n id i (bare me) x near out held may))
+
+  pub may_front : (n id i w : ℕ) (me : M) → w ≡ line_of (i + 1) → i < n → 0 < times i (places (bare me).1) → IsOut (there me.0.held) (bare me).1 → 0 < stands me.0
+      → Allows (InLines Rule) n id me w (λ y. y) (in_lines fronted (step n w 0 0 none) me)
+  may_front n id i w me is near listed out may = at_word n id (i + 1) w me (λ y. y) fronted 0 0 is (omega arith) (fronts content touches moves opening hands n id i (bare me) listed out may)
 
   pub may_draw : (n id w : ℕ) (me : M) (t : Turn C E) (ts : List (Turn C E)) → w ≡ line_of 0 → ts ≡ t ∷ [] → Reads me.0.held (touches t.event) (map Some t.before) → moves t.event t.before t.after → length t.after ≡ length (touches t.event) → length me.0.turns < 2 ^ 59 → 0 < stands me.0
       → Allows (InLines Rule) n id me w (λ y. (y + 1) % 2 ^ 64) (in_lines (drew touches ts) (step n w 1 0 none) me)

@@ -10,7 +10,7 @@ pub mod Bridge
 pub mod Allowed
 pub mod Spread
 pub mod Endings
-pub mod Taken
+pub mod Fronts
 pub mod Looks
 pub mod Rows
 pub mod Keeping

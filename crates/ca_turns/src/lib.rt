@@ -21,7 +21,6 @@ mod hand;
 mod kept;
 mod lend;
 mod object;
-mod order;
 mod rule;
 mod steps;
 mod table;

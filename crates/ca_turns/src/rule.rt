@@ -84,6 +84,15 @@ impl<P, C, E> Play<Slot<P>, View<C, E>> for Free {
     ghost then = { in_lines freed };
 }
 
+pub(crate) struct ToFront;
+
+impl<P, C, E> Play<Slot<P>, View<C, E>> for ToFront {
+    ghost use Rattle.ca_turns.specs.Lines.{in_lines};
+    ghost use Rattle.ca_turns.specs.Steps.{fronted};
+
+    ghost then = { in_lines fronted };
+}
+
 pub(crate) struct Short;
 
 impl<P, C, E> Play<Slot<P>, View<C, E>> for Short {

@@ -5,13 +5,15 @@ ghost use lib.ListN.{get_elem?};
 ghost use Rattle.atomic_table.specs.Table.{rest};
 ghost use Rattle.ca_turns.specs.declared.rule.Turn.{Turn};
 ghost use Rattle.ca_turns.specs.Lines.{bare, line_of};
-ghost use Rattle.ca_turns.specs.Places.{Reads};
+ghost use Rattle.ca_turns.specs.Places.{Reads, without};
 ghost use Rattle.ca_turns.specs.Views.{turn, stands, holding, drawing, left_view, right_view, both_views, HoldsNone};
 ghost use Rattle.ca_turns.specs.Steps.{SeesOne, Took, Missed, IsGiven};
-ghost use Rattle.ca_turns.specs.Hands.{IsTableId};
+ghost use Rattle.ca_turns.specs.Hands.{IsTableId, IsOut, places, there, times};
 
 use crate::object::Object;
-use crate::rule::{AsOne, Draw, Drawing, Free, OneOff, Short, Slot, Start, Take, Turns, View};
+use crate::rule::{
+    AsOne, Draw, Drawing, Free, OneOff, Short, Slot, Start, Take, ToFront, Turns, View,
+};
 use atomic_table::{Seat, Shared};
 use std::mem;
 use std::ops::DerefMut;
@@ -86,6 +88,18 @@ pub(crate) fn take_out<O: Object>(
         Some(x) => Some(x),
         None => unreachable!(),
     }
+}
+
+// A load in which the slot of the part comes first of those that are out, since only the first can be given back.
+pub(crate) fn bring_to_front<O: Object>(words: &Words<O>, seat: &mut Place<O>, part: usize)
+    requires table { (seat.old.table_id ≡ words.now.table_id) × IsTableId words.now.table_id }
+    requires part { part < words.now.table_id.slots }
+    requires out { IsOut (there seat.old.me.0.held) (bare seat.old.me).1 × (0 < times part (places (bare seat.old.me).1)) × (0 < stands seat.old.me.0) }
+    ensures table { seat.new.table_id ≡ seat.old.table_id }
+    ensures view { seat.new.me.0 ≡ seat.old.me.0 }
+    ensures front { (bare seat.new.me).1 ≡ (part, None) ∷ without part (bare seat.old.me).1 }
+{
+    words.load::<ToFront>(seat, line(part + 1));
 }
 
 fn free<O: Object>(words: &Words<O>, seat: &mut Place<O>, part: usize)

@@ -12,8 +12,7 @@ ghost use Rattle.ca_turns.specs.Hands.{look, IsHolding, IsNone, IsWithout, IsSet
 use crate::errors::Busy;
 use crate::hand::Hand;
 use crate::object::Object;
-use crate::order::{bring_to_front, enlist};
-use crate::steps::{Words, draw_as, line, put_in, take_out};
+use crate::steps::{Words, bring_to_front, draw_as, line, put_in, take_out};
 use crate::table::Table;
 use std::hint::spin_loop;
 use std::marker::Brand;
@@ -75,7 +74,6 @@ impl<O: Object> Table<O> {
             None => Err(Busy),
             Some(x) => {
                 hand.parts[at] = Some(x);
-                enlist(&mut hand.order, at);
                 Ok(())
             }
         }
@@ -154,8 +152,7 @@ impl<O: Object> Table<O> {
         ensures others { SameBut part hand.old hand.new }
     {
         let at = part as usize;
-        bring_to_front::<O>(&mut hand.seat, &mut hand.order, at);
-        let _ = hand.order.remove(0);
+        bring_to_front::<O>(&self.owned.shared, &mut hand.seat, at);
         match hand.parts[at].take() {
             Some(x) => put_in::<O>(&self.owned.shared, &mut hand.seat, at, x),
             None => unreachable!(),

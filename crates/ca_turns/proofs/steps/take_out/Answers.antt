@@ -1,4 +1,4 @@
-use Rattle.ca_turns.proofs.Taken.{front}
+use Rattle.ca_turns.proofs.Fronts.{front}
 use Rattle.ca_turns.proofs.steps.take_out.Goals as goal
 
 pub swap_in-found-requires-clause-out : goal.swap_in-found-requires-clause-out
