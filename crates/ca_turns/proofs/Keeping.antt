@@ -1,19 +1,19 @@
 -- What a hand keeps in memory, when a part comes and goes.
-use Rattle.std.proofs.Common.{◌≡◌, ℕ, zero, suc, ◌+◌, ◌<◌, ◌≤◌, ◌≢◌, List, [], ◌∷◌, ◌++◌, length, get_or, set, drop, take, replicate, sym, refl, ap, ◌∙◌, subst, arith, Bool, true, false, nat_eq, eq-eqb, ne_eqb, length-set, get_or-set_same, get_or-set_other}
+use Rattle.std.proofs.Common.{◌≡◌, ℕ, zero, suc, ◌<◌, ◌≢◌, List, [], ◌∷◌, length, get_or, set, take, replicate, sym, refl, ap, ◌∙◌, subst, arith, Bool, true, false, length-set}
 use mathlib.Core.Option.{some, some-injective, some-ne-none}
-use native.Mathlib.Decide.{ℕ_discrete}
-use lib.ListN.{get_elem?, length-map, length-replicate}
+use lib.ListN.{get_elem?, length-replicate}
 use lib.Seq.{map-set}
-use Rattle.std.specs.Prelude.{Option, Some, None, remove}
+use Rattle.std.specs.Prelude.{Option, Some, None}
 use Rattle.atomic_table.specs.Seated.{TableId}
-use Rattle.atomic_table.specs.Table.{Me, rest}
+use Rattle.atomic_table.specs.Table.{Me}
 use Rattle.atomic_table.proofs.Lists.{set_here, set_else}
 use Rattle.ca_turns.specs.declared.rule.View.{View}
 use Rattle.ca_turns.specs.Views.{stands, idle, right_view}
-use Rattle.ca_turns.specs.Hands.{Held, is_there, there, places, one_if, how_many, times, Emptied, IsListed, IsHand, IsSettled, IsWithout, SameBut, IsFresh}
+use Rattle.ca_turns.specs.Places.{without}
+use Rattle.ca_turns.specs.Hands.{Held, is_there, there, one_if, IsOut, IsHand, IsSettled, IsWithout, SameBut, IsFresh}
 use Rattle.ca_turns.proofs.Lists.{in_range, none_some}
 use Rattle.ca_turns.proofs.Looks.{there_at}
-use Rattle.ca_turns.proofs.Taken.{times_moved, length_moved}
+use Rattle.ca_turns.proofs.Fronts.{at_there, none_out, out_more, out_less}
 
 pub alike_at : {A B : Type 0} (xs : List (Option A)) (ys : List (Option B)) → there xs ≡ there ys → (i : ℕ) (a : Option A) → get_elem? xs i ≡ some a → (b : Option B) × (get_elem? ys i ≡ some b) × (is_there b ≡ is_there a)
 alike_at [] ys same i a e = absurd (some-ne-none a (sym e))
@@ -42,96 +42,47 @@ came xs ys i a b same = map-set is_there xs i (Some a) ∙ ap (λ l. set l i tru
 pub went : {A B : Type 0} (xs : List (Option A)) (ys : List (Option B)) (i : ℕ) → there xs ≡ there ys → there (set xs i None) ≡ there (set ys i None)
 went xs ys i same = map-set is_there xs i None ∙ ap (λ l. set l i false) same ∙ sym (map-set is_there ys i None)
 
-pub one_more : (bs : List Bool) (i : ℕ) → get_elem? bs i ≡ some false → how_many (set bs i true) ≡ how_many bs + 1
-one_more [] i e = absurd (some-ne-none false (sym e))
-one_more (b ∷ bs) zero e = let h : one_if b ≡ 0 = ap one_if (some-injective b false e) in omega arith
-one_more (b ∷ bs) (suc i) e = let h = one_more bs i e in omega arith
-
-pub one_less : (bs : List Bool) (i : ℕ) → get_elem? bs i ≡ some true → how_many (set bs i false) + 1 ≡ how_many bs
-one_less [] i e = absurd (some-ne-none true (sym e))
-one_less (b ∷ bs) zero e = let h : one_if b ≡ 1 = ap one_if (some-injective b true e) in omega arith
-one_less (b ∷ bs) (suc i) e = let h = one_less bs i e in omega arith
-
-at_most : (bs : List Bool) → how_many bs ≤ length bs
-at_most [] = omega arith
-at_most (true ∷ bs) = let h = at_most bs in omega arith
-at_most (false ∷ bs) = let h = at_most bs in omega arith
-
-pub fewer : (bs : List Bool) (i : ℕ) → get_elem? bs i ≡ some false → how_many bs < length bs
-fewer [] i e = absurd (some-ne-none false (sym e))
-fewer (b ∷ bs) zero e = let h : one_if b ≡ 0 = ap one_if (some-injective b false e) in let m = at_most bs in omega arith
-fewer (true ∷ bs) (suc i) e = let h = fewer bs i e in omega arith
-fewer (false ∷ bs) (suc i) e = let h = fewer bs i e in omega arith
-
-pub listed_more : (bs : List Bool) (order : List ℕ) (i : ℕ) → IsListed bs order → IsListed (set bs i true) (i ∷ order)
-listed_more bs order i old j e = elim (ℕ_discrete j i) [
-  | yes is ↦ let h : one_if (nat_eq j i) ≡ 1 = ap one_if (eq-eqb j i is) in omega arith
-  | no ne ↦ let h = old j (sym (get_or-set_other bs i j true false ne) ∙ e) in omega arith
-]
-
-pub emptied_more : {A : Type 0} (xs : List (ℕ × Option A)) (i : ℕ) → Emptied xs → Emptied ((i, None) ∷ xs)
-emptied_more xs i old zero j x e = none_some x (ap (λ (z : ℕ × Option _). z.1) (some-injective _ _ e))
-emptied_more xs i old (suc k) j x e = old k j x e
-
--- A part comes: all that the hand keeps fits
-pub arrived : {P C : Type 0} (parts : List (Option P)) (held held' : List (Option C)) (out out' : List (ℕ × Option P)) (order order' : List ℕ) (at : ℕ) (res : Option P) (x : P) (c : C) → get_elem? parts at ≡ some None
-    → there parts ≡ there held → places out ≡ order → Emptied out → IsListed (there parts) order → length order ≡ how_many (there parts) → res ≡ Some x → held' ≡ set held at (Some c) → out' ≡ (at, None) ∷ out → order' ≡ at ∷ order
-    → (there (set parts at res) ≡ there held') × (places out' ≡ order') × Emptied out' × IsListed (there (set parts at res)) order' × (length order' ≡ how_many (there (set parts at res)))
-arrived parts held held' out out' order order' at res x c free alike placed emptied listed counted is held_is out_is order_is =
-    let bs = there parts in let set_is : there (set parts at res) ≡ set bs at true = ap (λ r. there (set parts at r)) is ∙ map-set is_there parts at (Some x) in let none_there : get_elem? bs at ≡ some false = there_at parts at None free in (
-      ap (λ r. there (set parts at r)) is ∙ came parts held at x c alike ∙ sym (ap there held_is),
-      ap places out_is ∙ ap (λ l. at ∷ l) placed ∙ sym order_is,
-      subst Emptied (sym out_is) (emptied_more out at emptied),
-      subst (λ (z : List Bool × List ℕ). IsListed z.0 z.1) (λ k. (sym set_is k, sym order_is k)) (listed_more bs order at listed),
-      (let a : length order' ≡ suc (length order) = ap length order_is in let b : how_many (there (set parts at res)) ≡ how_many (set bs at true) = ap how_many set_is in let d = one_more bs at none_there in omega arith),
-    )
+-- A part comes
+pub arrived : {P C : Type 0} (parts : List (Option P)) (held held' : List (Option C)) (out out' : List (ℕ × Option P)) (at : ℕ) (res : Option P) (x : P) (c : C) → get_elem? parts at ≡ some None
+    → there parts ≡ there held → IsOut (there parts) out → res ≡ Some x → held' ≡ set held at (Some c) → out' ≡ (at, None) ∷ out → (there (set parts at res) ≡ there held') × IsOut (there (set parts at res)) out'
+arrived {P} parts held held' out out' at res x c free alike o is held_is out_is = let bs = there parts in let set_is : there (set parts at res) ≡ set bs at true = ap (λ r. there (set parts at r)) is ∙ map-set is_there parts at (Some x) in (
+  ap (λ r. there (set parts at r)) is ∙ came parts held at x c alike ∙ sym (ap there held_is),
+  subst (λ (z : List Bool × List (ℕ × Option P)). IsOut z.0 z.1) (λ k. (sym set_is k, sym out_is k)) (out_more bs out at o (there_at parts at None free)),
+)
 
 -- A part goes
-pub departed : {P C : Type 0} (parts : List (Option P)) (held : List (Option C)) (out : List (ℕ × Option P)) (order order' order'' : List ℕ) (at k : ℕ) (x : P) → get_elem? parts at ≡ some (Some x) → there parts ≡ there held → IsListed (there parts) order
-    → length order ≡ how_many (there parts) → order' ≡ drop k order ++ take k order → places out ≡ order' → out ≡ (at, None) ∷ rest out → Emptied out → order'' ≡ remove order' 0
-    → (there (set parts at None) ≡ there (set held at None)) × (places (rest out) ≡ order'') × Emptied (rest out) × IsListed (there (set parts at None)) order'' × (length order'' ≡ how_many (there (set parts at None)))
-departed parts held out order order' order'' at k x here alike listed counted moved placed first emptied less =
-    let bs = there parts in let set_is : there (set parts at None) ≡ set bs at false = map-set is_there parts at None in let is_here : get_elem? bs at ≡ some true = there_at parts at (Some x) here in
-    let split : order' ≡ at ∷ places (rest out) = sym placed ∙ ap places first in let left : order'' ≡ places (rest out) = less ∙ ap (λ l. remove l 0) split in (
-      went parts held at alike,
-      sym left,
-      (λ j i y e. emptied (suc j) i y (ap (λ l. get_elem? l (suc j)) first ∙ e)),
-      subst (λ (z : List Bool × List ℕ). IsListed z.0 z.1) (λ i. (sym set_is i, sym left i)) (λ j e. elim (ℕ_discrete j at) [
-        | yes is ↦ absurd (let b : one_if (get_or (set bs at false) j false) ≡ one_if true = ap one_if e in let c : one_if (get_or (set bs at false) j false) ≡ one_if false = ap one_if (ap (λ m. get_or (set bs at false) m false) is ∙ get_or-set_same bs at false false (in_range bs at true is_here)) in omega arith)
-        | no ne ↦ let o = listed j (sym (get_or-set_other bs at j false false ne) ∙ e) in let t : times j (at ∷ places (rest out)) ≡ times j order = ap (times j) (sym split ∙ moved) ∙ times_moved j k order in let z : one_if (nat_eq j at) ≡ 0 = ap one_if (ne_eqb j at ne) in omega arith
-      ]),
-      (let a : length order' ≡ length order = ap length moved ∙ length_moved k order in let b : length order' ≡ suc (length (places (rest out))) = ap length split in let c : length order'' ≡ length (places (rest out)) = ap length left in
-          let d = one_less bs at is_here in let e : how_many (there (set parts at None)) ≡ how_many (set bs at false) = ap how_many set_is in omega arith),
-    )
+pub departed : {P C : Type 0} (parts : List (Option P)) (held : List (Option C)) (out out' : List (ℕ × Option P)) (at : ℕ) (x : P) → get_elem? parts at ≡ some (Some x) → there parts ≡ there held → IsOut (there parts) out → out' ≡ without at out
+    → (there (set parts at None) ≡ there (set held at None)) × IsOut (there (set parts at None)) out'
+departed {P} parts held out out' at x here alike o out_is = let bs = there parts in (
+  went parts held at alike,
+  subst (λ (z : List Bool × List (ℕ × Option P)). IsOut z.0 z.1) (λ k. (sym (map-set is_there parts at None) k, sym out_is k)) (out_less bs out at o (there_at parts at (Some x) here)),
+)
 
 pub same_there : {A : Type 0} (xs : List (Option A)) (i : ℕ) (x w : A) → get_elem? xs i ≡ some (Some x) → there (set xs i (Some w)) ≡ there xs
 same_there [] i x w e = refl
 same_there (y ∷ xs) zero x w e = ap (λ b. b ∷ there xs) (sym (ap is_there (some-injective y (Some x) e)))
 same_there (y ∷ xs) (suc i) x w e = ap (λ l. is_there y ∷ l) (same_there xs i x w e)
 
-pub rewritten : {P C E : Type 0} {id : TableId} {me : Me (Option P) (View C E)} {order : List ℕ} {cap count : ℕ} (parts : List (Option P)) (i : ℕ) (x w : P) → get_elem? parts i ≡ some (Some x) → IsHand id me parts order cap count → IsHand id me (set parts i (Some w)) order cap count
-rewritten {me = me} {order = order} {cap = cap} parts i x w e h = let same = same_there parts i x w e in record {
+pub rewritten : {P C E : Type 0} {id : TableId} {me : Me (Option P) (View C E)} {count : ℕ} (parts : List (Option P)) (i : ℕ) (x w : P) → get_elem? parts i ≡ some (Some x) → IsHand id me parts count → IsHand id me (set parts i (Some w)) count
+rewritten {me = me} parts i x w e h = let same = same_there parts i x w e in record {
   live = h.live;
   sized = length-set parts i (Some w) ∙ h.sized;
   alike = same ∙ h.alike;
-  placed = h.placed;
-  emptied = h.emptied;
-  listed = subst (λ b. IsListed b order) (sym same) h.listed;
-  as_many = h.as_many ∙ sym (ap how_many same);
-  room = subst (λ n. n ≤ cap) (sym (length-set parts i (Some w))) h.room;
+  out = subst (λ b. IsOut b me.1) (sym same) h.out;
   counted = h.counted;
 }
 
-pub is_new : {P C E : Type 0} (id : TableId) (me : Me (Option P) (View C E)) (n cap : ℕ) → n ≡ id.slots → me.0.held ≡ replicate n None → me.1 ≡ [] → me.0.turns ≡ [] → 0 < stands me.0 → n ≤ cap → IsHand id me (replicate n None) [] cap 0
-is_new {P} {C} id me n cap sized held out none_drawn live room = record {
+pub is_new : {P C E : Type 0} (id : TableId) (me : Me (Option P) (View C E)) (n : ℕ) → n ≡ id.slots → me.0.held ≡ replicate n None → me.1 ≡ [] → me.0.turns ≡ [] → 0 < stands me.0 → IsHand id me (replicate n None) 0
+is_new {P} {C} id me n sized held out none_drawn live = record {
   live = live;
   sized = length-replicate n None ∙ sized;
   alike = both n ∙ sym (ap there held);
-  placed = ap places out;
-  emptied = λ k i x e. some-ne-none (i, Some x) (sym (ap (λ l. get_elem? l k) (sym out) ∙ e));
-  listed = λ i e. absurd (let b : one_if (get_or (there (replicate {A = Option P} n None)) i false) ≡ one_if true = ap one_if e in let c : one_if (get_or (there (replicate {A = Option P} n None)) i false) ≡ one_if false = ap one_if (blank n i) in omega arith);
-  as_many = sym (no_one n);
-  room = subst (λ m. m ≤ cap) (sym (length-replicate n None)) room;
+  out = subst (IsOut (there (replicate {A = Option P} n None))) (sym out) record {
+    emptied = λ k i x e. some-ne-none (i, Some x) (sym e);
+    listed = λ i e. absurd (let b : one_if (get_or (there (replicate {A = Option P} n None)) i false) ≡ one_if true = ap one_if e in let c : one_if (get_or (there (replicate {A = Option P} n None)) i false) ≡ one_if false = ap one_if (blank n i) in omega arith);
+    once = tt;
+    here = tt;
+  };
   counted = sym (ap length none_drawn);
 }
   where
@@ -144,30 +95,17 @@ is_new {P} {C} id me n cap sized held out none_drawn live room = record {
     blank (suc n) zero = refl
     blank (suc n) (suc i) = blank n i
 
-    no_one : (n : ℕ) → how_many (there (replicate {A = Option P} n None)) ≡ 0
-    no_one zero = refl
-    no_one (suc n) = let h = no_one n in omega arith
-
 some_of : {A : Type 0} (o : Option A) → is_there o ≡ true → (x : A) × (o ≡ Some x)
 some_of None e = absurd (let b : one_if false ≡ one_if true = ap one_if e in omega arith)
 some_of (Some x) e = (x, refl)
 
 -- nothing is out with a hand that holds nothing
-pub holds_nothing : {P C E : Type 0} {id : TableId} {me : Me (Option P) (View C E)} {order : List ℕ} {cap count : ℕ} (parts : List (Option P)) → ((i : ℕ) (x : P) → get_elem? parts i ≢ some (Some x)) → IsHand id me parts order cap count
+pub holds_nothing : {P C E : Type 0} {id : TableId} {me : Me (Option P) (View C E)} {count : ℕ} (parts : List (Option P)) → ((i : ℕ) (x : P) → get_elem? parts i ≢ some (Some x)) → IsHand id me parts count
     → (me.1 ≡ []) × ((i : ℕ) (c : C) → get_elem? me.0.held i ≡ some (Some c) → ⊥)
-holds_nothing {P} {me = me} {order = order} parts nothing h = (
-  none_out me.1 (let a : length (places me.1) ≡ length order = ap length h.placed in let b : length order ≡ how_many (there parts) = h.as_many in let c : how_many (there parts) ≡ 0 = no_one parts nothing in let d : length (places me.1) ≡ length me.1 = length-map me.1 _ in omega arith),
+holds_nothing {me = me} parts nothing h = (
+  none_out (there parts) me.1 h.out (λ i e. let x = at_there parts i e in nothing i x.0 x.1),
   (λ i c e. let b = alike_at me.0.held parts (sym h.alike) i (Some c) e in let s = some_of b.0 b.2 in nothing i s.0 (b.1 ∙ ap some s.1)),
 )
-  where
-    none_out : {A : Type 0} (l : List A) → length l ≡ 0 → l ≡ []
-    none_out [] e = refl
-    none_out (x ∷ l) e = absurd (omega arith)
-
-    no_one : (xs : List (Option P)) → ((i : ℕ) (x : P) → get_elem? xs i ≢ some (Some x)) → how_many (there xs) ≡ 0
-    no_one [] n = refl
-    no_one (None ∷ xs) n = let h = no_one xs (λ i x e. n (suc i) x e) in omega arith
-    no_one (Some y ∷ xs) n = absurd (n 0 y refl)
 
 -- a place that has no part, of those that a hand has
 pub is_free : {A : Type 0} (xs : List (Option A)) (i : ℕ) → i < length xs → ((x : A) → get_elem? xs i ≢ some (Some x)) → get_elem? xs i ≡ some None
@@ -180,7 +118,7 @@ is_free (x ∷ xs) (suc i) h n = is_free xs i (omega arith) n
 abbrev pub seen : {P C E : Type 0} → TableId → View C E → List (Option P) → Held P C E
 seen id v parts = record { table = id; view = v; parts = parts }
 
-module _ {P C E : Type 0} {id : TableId} {me : Me (Option P) (View C E)} {order : List ℕ} {cap count : ℕ} (parts : List (Option P)) (hand : Held P C E) (i : ℕ) (ok : IsHand id me parts order cap count) (is : seen id me.0 parts ≡ hand) where
+module _ {P C E : Type 0} {id : TableId} {me : Me (Option P) (View C E)} {count : ℕ} (parts : List (Option P)) (hand : Held P C E) (i : ℕ) (ok : IsHand id me parts count) (is : seen id me.0 parts ≡ hand) where
   -- a part that the hand is without has a free place
   pub free_here : (slots : ℕ) → hand.table.slots ≡ slots → i < slots → IsWithout hand i → get_elem? parts i ≡ some None
   free_here slots same near without = is_free parts i (subst (λ n. i < n) (sym (ok.sized ∙ ap (λ v. v.table.slots) is ∙ same)) near) (subst (λ v. IsWithout v i) (sym is) without)

@@ -8,8 +8,9 @@ pub mod Lasts
 pub mod Law
 pub mod Bridge
 pub mod Allowed
+pub mod Spread
 pub mod Endings
-pub mod Taken
+pub mod Fronts
 pub mod Looks
 pub mod Rows
 pub mod Keeping

@@ -6,6 +6,8 @@ use denote.RawPtr.{Ptr}
 pub use Rattle.atomic_table.specs.Seated.{TableId}
 use Rattle.atomic_table.specs.Table.{Me}
 use Rattle.ca_turns.specs.declared.rule.View.{View}
+use Rattle.ca_turns.specs.Places.{AllIn, IsDistinct}
+use Rattle.ca_turns.specs.Lines.{line_of}
 use Rattle.ca_turns.specs.Views.{stands}
 
 -- A table: which one it is, with its number of parts, `id.slots`, and where the vector of parts lies that it was opened with
@@ -13,9 +15,9 @@ pub record Opened : Type 0 where
   pub id : TableId
   pub memory : Ptr
 
--- a table of 1 to 256 parts, with a word for the events and one for each part
+-- a table of 1 to 256 parts, with a word for the events and one for each part, each on a line of its own
 abbrev pub IsTableId : TableId → Type 0
-IsTableId id = (id.words ≡ id.slots + 1) × (id.slots ≤ 256)
+IsTableId id = (id.words ≡ line_of (id.slots + 1)) × (id.slots ≤ 256)
 
 -- A hand: which table it is of, what it knows, and the parts that it holds, as they are now, each at its number
 pub record Held (P C E : Type 0) : Type 0 where
@@ -83,10 +85,6 @@ abbrev pub one_if : Bool → ℕ
 one_if true = 1
 one_if false = 0
 
-abbrev pub how_many : List Bool → ℕ
-how_many [] = 0
-how_many (b ∷ bs) = one_if b + how_many bs
-
 abbrev pub times : ℕ → List ℕ → ℕ
 times i [] = 0
 times i (j ∷ js) = one_if (nat_eq i j) + times i js
@@ -95,23 +93,27 @@ times i (j ∷ js) = one_if (nat_eq i j) + times i js
 abbrev pub Emptied : {A : Type 0} → List (ℕ × Option A) → Type 0
 Emptied {A} xs = (k i : ℕ) (x : A) → get_elem? xs k ≡ some (i, Some x) → ⊥
 
--- each part that is here is in the order in which slots were taken
+-- each part that is here is among those whose slots are out
 abbrev pub IsListed : List Bool → List ℕ → Type 0
-IsListed bs order = (i : ℕ) → slice_index_or bs i false ≡ true → 0 < times i order
+IsListed bs out = (i : ℕ) → slice_index_or bs i false ≡ true → 0 < times i out
 
-pub record IsHand {P C E : Type 0} (id : TableId) (me : Me (Option P) (View C E)) (parts : List (Option P)) (order : List ℕ) (capacity count : ℕ) : Type 0 where
+-- The slots that are out with a hand are those of the parts that it has, each once, and nothing lies in them
+pub record IsOut {A : Type 0} (bs : List Bool) (out : List (ℕ × Option A)) : Type 0 where
+  pub emptied : Emptied out
+  pub listed : IsListed bs (places out)
+  pub once : IsDistinct (places out)
+  pub here : AllIn (λ i. slice_index_or bs i false ≡ true) (places out)
+
+pub record IsHand {P C E : Type 0} (id : TableId) (me : Me (Option P) (View C E)) (parts : List (Option P)) (count : ℕ) : Type 0 where
   pub live : 0 < stands me.0
   pub sized : length parts ≡ id.slots
   pub alike : there parts ≡ there me.0.held
-  pub placed : places me.1 ≡ order
-  pub emptied : Emptied me.1
-  pub listed : IsListed (there parts) order
-  pub as_many : length order ≡ how_many (there parts)
-  pub room : length parts ≤ capacity
+  pub out : IsOut (there parts) me.1
   pub counted : count ≡ length me.0.turns
 
--- The vector that the parts came in is empty, with room for all of them
-pub record IsTable {P : Type 0} (id : TableId) (rest : List P) (capacity : ℕ) : Type 0 where
+-- The vector that the parts came in is empty, with room for all of them, and lies in the one slot of another table
+pub record IsTable {P : Type 0} (id keeper : TableId) (rest : List P) (capacity : ℕ) : Type 0 where
   pub sized : IsTableId id
+  pub one : keeper.slots ≡ 1
   pub empty : rest ≡ []
   pub room : id.slots ≤ capacity

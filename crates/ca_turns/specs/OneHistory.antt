@@ -1,6 +1,7 @@
 -- The one-history rule: what holds of a table between any two atomic steps of any hands.
 -- It speaks of the turns in the hands' lists. No list of all turns stands in it: `Run` of `specs/History.antt` follows from it.
 -- The word 0 is the event word, which counts the drawn events. The word i + 1 is that of the part i, 0 while it is free and 1 while it is held.
+-- Where in memory a word or a slot stands is said by `InLines` of `specs/Lines.antt` alone.
 use Rattle.std.specs.Prelude.{◌≡◌, ℕ, ◌+◌, ◌*◌, ◌^◌, ◌<◌, ◌≤◌, ◌⊎◌, List, length, Option, Some, slice_index_or}
 use mathlib.Core.Option.{none, some}
 use lib.ListN.{get_elem?}

@@ -1,5 +1,5 @@
 -- Lists that are read and written at places.
-use Rattle.std.specs.Prelude.{◌≡◌, ◌≢◌, ℕ, ◌+◌, List, [], ◌∷◌, slice_set}
+use Rattle.std.specs.Prelude.{◌≡◌, ◌≢◌, ℕ, ◌+◌, List, [], ◌∷◌, slice_set, nat_eq, if◌then◌else◌}
 use mathlib.Core.Option.{some}
 use lib.ListN.{get_elem?}
 
@@ -21,6 +21,11 @@ module _ {A : Type 0} where
   abbrev pub total : (A → ℕ) → List A → ℕ
   total f [] = 0
   total f (v ∷ vs) = f v + total f vs
+
+-- the list without the first pair that has this number
+abbrev pub without : {A : Type 0} → ℕ → List (ℕ × A) → List (ℕ × A)
+without i [] = []
+without i (x ∷ xs) = if nat_eq x.0 i then xs else x ∷ without i xs
 
 -- each of these places is such
 abbrev pub AllIn : (ℕ → Type 0) → List ℕ → Type 0

@@ -6,6 +6,7 @@ use Rattle.atomic_table.specs.Table.{State, Me, Step, rest}
 use Rattle.ca_turns.specs.declared.rule.Turn.{Turn}
 use Rattle.ca_turns.specs.declared.rule.View.{View}
 use Rattle.ca_turns.specs.History.{IsNumbered, Run, Replay}
+use Rattle.ca_turns.specs.Places.{without}
 use Rattle.ca_turns.specs.Views.{turn, stands, holding, missing, drawing}
 use Rattle.ca_turns.specs.OneHistory.{OneHistory, Has, IsDrawn, event_word}
 
@@ -50,6 +51,10 @@ module _ {P C E : Type 0} where
   -- The step miss: the part i was found held, by another hand
   abbrev pub Missed : ℕ → Seated P C E → Seated P C E → Type 0
   Missed i m n = (n.0 ≡ missing m.0 i) × (n.1 ≡ m.1) × (stands m.0 < m.0.hands)
+
+  -- No step on a word: a load in which the hand puts the slot of a part first, of those that are out with it
+  abbrev pub fronted : Step (Option P) → Seated P C E → ℕ → Seated P C E → Type 0
+  fronted s m r n = (n.0 ≡ m.0) × (n.1 ≡ (s.word - 1, None) ∷ without (s.word - 1) m.1)
 
   -- No step on a word: a load that tells that the list is short
   abbrev pub told_short : Step (Option P) → Seated P C E → ℕ → Seated P C E → Type 0

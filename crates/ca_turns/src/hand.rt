@@ -1,12 +1,12 @@
 ghost use mathlib.Core.Option.{some};
 ghost use lib.ListN.{get_elem?};
-ghost use Rattle.std.specs.Prelude.{◌≡◌, ◌<◌, IfOk, None, Some, [], length, replicate};
+ghost use Rattle.std.specs.Prelude.{◌≡◌, ◌<◌, ◌≤◌, IfOk, None, Some, [], length, replicate};
 ghost use Rattle.ca_turns.specs.Views.{stands, HoldsNone};
 ghost use Rattle.ca_turns.specs.Hands.{IsHolding, HoldsNothing};
 
 use crate::lend::inside;
 use crate::object::Object;
-use crate::rule::View;
+use crate::rule::{Slot, View};
 use atomic_table::Seat;
 use std::alloc::{AllocError, Global};
 use std::marker::Model;
@@ -16,11 +16,9 @@ use std::marker::Model;
 /// A contract sees a hand as its table, what it knows, and its parts (`Held` in `specs/Hands.antt`).
 /// A hand that is dropped keeps its parts for good, so join it into another.
 pub struct HandOf<P, C, E> {
-    pub(crate) seat: Seat<Option<P>, View<C, E>>,
+    pub(crate) seat: Seat<Slot<P>, View<C, E>>,
     // The part i, if it is held, at i.
     pub(crate) parts: Vec<Option<P>>,
-    // The parts held, the one taken last first.
-    pub(crate) order: Vec<usize>,
     // The length of the list of events that it drew.
     pub(crate) drawn: u64,
 }
@@ -29,14 +27,14 @@ pub struct HandOf<P, C, E> {
 pub type Hand<O> = HandOf<<O as Object>::Part, <O as Object>::Content, <O as Object>::Event>;
 
 impl<P, C, E> Model for HandOf<P, C, E> {
-    ghost use Rattle.std.specs.Vec.{vec_capacity};
     ghost use Rattle.ca_turns.specs.Hands.{Held, IsHand};
+    ghost use Rattle.ca_turns.specs.Lines.{bare};
 
     ghost Value = { Held P C E };
 
     ghost view = { λ h. record { table = h.seat.table_id; view = h.seat.me.0; parts = h.parts.items } };
 
-    ghost invariant = { λ h. IsHand h.seat.table_id h.seat.me h.parts.items h.order.items (vec_capacity h.order) h.drawn };
+    ghost invariant = { λ h. IsHand h.seat.table_id (bare h.seat.me) h.parts.items h.drawn };
 }
 
 impl<P, C, E> HandOf<P, C, E> {
@@ -71,11 +69,15 @@ impl<P, C, E> HandOf<P, C, E> {
     }
 }
 
+// So that no part of 8 bytes or more is on a line of the cache with a part of the next hand.
+const SPARE: usize = 8;
+
 #[tactic(auto, using(crate::proofs::Rows::replicate_more))]
 fn nones<P>(alloc: Global, count: usize) -> Result<Vec<Option<P>>, AllocError>
+    requires { count ≤ 256 }
     ensures { IfOk result (λ v. v.items ≡ replicate count None) }
 {
-    let mut row = Vec::with_capacity(alloc, count)?;
+    let mut row = Vec::with_capacity(alloc, count + SPARE)?;
     for _ in 0..count {
         row.push_reserved(None);
     }
@@ -85,20 +87,18 @@ fn nones<P>(alloc: Global, count: usize) -> Result<Vec<Option<P>>, AllocError>
 // A hand that holds nothing yet.
 pub(crate) fn new_hand<P: Drop, C, E>(
     alloc: Global,
-    seat: Seat<Option<P>, View<C, E>>,
+    seat: Seat<Slot<P>, View<C, E>>,
     count: usize,
 ) -> Result<HandOf<P, C, E>, AllocError>
-    requires fits { (count ≡ seat.table_id.slots) × (seat.me.0.held ≡ replicate count None) }
+    requires fits { (count ≡ seat.table_id.slots) × (count ≤ 256) × (seat.me.0.held ≡ replicate count None) }
     requires none { (seat.me.1 ≡ []) × (seat.me.0.turns ≡ []) }
     requires live { 0 < stands seat.me.0 }
     ensures { IfOk result (λ h. (h.table ≡ seat.table_id) × (h.view ≡ seat.me.0) × (h.parts ≡ replicate count None)) }
 {
     let parts = nones(alloc, count)?;
-    let order = Vec::with_capacity(alloc, count)?;
     Ok(HandOf {
         seat,
         parts,
-        order,
         drawn: 0,
     })
 }
@@ -108,14 +108,13 @@ impl<P: Drop, C, E> Drop for HandOf<P, C, E> {
         let Self {
             seat: _seat,
             parts: _parts,
-            order: _order,
             drawn: _,
         } = self;
     }
 }
 
 impl<P: Drop, C, E> HandOf<P, C, E> {
-    pub(crate) fn into_seat(self) -> Seat<Option<P>, View<C, E>>
+    pub(crate) fn into_seat(self) -> Seat<Slot<P>, View<C, E>>
         requires { HoldsNothing self }
         ensures seat { (result.table_id ≡ self.table) × (result.me.0 ≡ self.view) }
         ensures none { (result.me.1 ≡ []) × HoldsNone result.me.0 }
@@ -124,7 +123,6 @@ impl<P: Drop, C, E> HandOf<P, C, E> {
         let Self {
             seat,
             parts: _parts,
-            order: _order,
             drawn: _,
         } = self;
         seat

@@ -9,7 +9,8 @@
 //! any two atomic steps. It speaks of what each hand holds and drew. `history_is_one_run` says what
 //! follows from it.
 //!
-//! The crate stands on `atomic_table` alone. Start with `object.rt`, what a user says of parts and
+//! The crate stands on `atomic_table`, and on `crossbeam_utils` for the padding that keeps each slot on
+//! lines of the cache of its own; where the words stand is one function, `line` in `steps.rt`. Start with `object.rt`, what a user says of parts and
 //! events; then `rule.rt`, what a table and a hand are to a proof; then `table.rt` and `turning.rt`,
 //! the calls. `steps.rt` has the atomic steps: take or miss, out, draw, back, free, split and join.
 #![tactic(auto)]
@@ -17,9 +18,9 @@
 mod ends;
 mod errors;
 mod hand;
+mod kept;
 mod lend;
 mod object;
-mod order;
 mod rule;
 mod steps;
 mod table;

@@ -2,6 +2,7 @@ ghost use Rattle.ca_turns.specs.Steps.{OneHistoryIsOneRun};
 
 use crate::object::Object;
 use atomic_table::{Join, Play, Split, TableRule};
+use crossbeam_utils::CachePadded;
 use std::collections::LinkedList;
 use std::marker::{Brand, PhantomData};
 use std::snapshot::Snapshot;
@@ -42,13 +43,16 @@ pub struct Turns<O> {
     object: PhantomData<O>,
 }
 
-impl<O: Object> TableRule<Option<O::Part>, View<O::Content, O::Event>, Start<O::Part>>
-    for Turns<O> {
+/// What stands in a slot of the table, with nothing else on its lines of the cache.
+pub type Slot<P> = CachePadded<Option<P>>;
+
+impl<O: Object> TableRule<Slot<O::Part>, View<O::Content, O::Event>, Start<O::Part>> for Turns<O> {
     ghost use Rattle.std.specs.Prelude.{map};
+    ghost use Rattle.ca_turns.specs.Lines.{InLines};
     ghost use Rattle.ca_turns.specs.OneHistory.{OneHistory};
     ghost use Rattle.ca_turns.specs.Views.{first_view};
 
-    ghost holds = { λ k. OneHistory O.content O.touches O.moves (map O.content k.parts.value.items) k.hands };
+    ghost holds = { λ k. InLines (OneHistory O.content O.touches O.moves (map O.content k.parts.value.items) k.hands) };
 
     ghost first = { λ k. first_view (map O.content k.parts.value.items) k.hands };
 }
@@ -64,26 +68,38 @@ pub(crate) struct Take<O> {
     object: PhantomData<O>,
 }
 
-impl<O: Object> Play<Option<O::Part>, View<O::Content, O::Event>> for Take<O> {
+impl<O: Object> Play<Slot<O::Part>, View<O::Content, O::Event>> for Take<O> {
+    ghost use Rattle.ca_turns.specs.Lines.{in_lines};
     ghost use Rattle.ca_turns.specs.Steps.{tried};
 
-    ghost then = { tried O.content O.touches O.moves };
+    ghost then = { in_lines (tried O.content O.touches O.moves) };
 }
 
 pub(crate) struct Free;
 
-impl<P, C, E> Play<Option<P>, View<C, E>> for Free {
+impl<P, C, E> Play<Slot<P>, View<C, E>> for Free {
+    ghost use Rattle.ca_turns.specs.Lines.{in_lines};
     ghost use Rattle.ca_turns.specs.Steps.{freed};
 
-    ghost then = { freed };
+    ghost then = { in_lines freed };
+}
+
+pub(crate) struct ToFront;
+
+impl<P, C, E> Play<Slot<P>, View<C, E>> for ToFront {
+    ghost use Rattle.ca_turns.specs.Lines.{in_lines};
+    ghost use Rattle.ca_turns.specs.Steps.{fronted};
+
+    ghost then = { in_lines fronted };
 }
 
 pub(crate) struct Short;
 
-impl<P, C, E> Play<Option<P>, View<C, E>> for Short {
+impl<P, C, E> Play<Slot<P>, View<C, E>> for Short {
+    ghost use Rattle.ca_turns.specs.Lines.{in_lines};
     ghost use Rattle.ca_turns.specs.Steps.{told_short};
 
-    ghost then = { told_short };
+    ghost then = { in_lines told_short };
 }
 
 pub(crate) struct OneOff;
@@ -124,9 +140,10 @@ pub(crate) struct Draw<O, J> {
     object: PhantomData<(O, J)>,
 }
 
-impl<O: Object, J: Drawing<O::Content, O::Event>> Play<Option<O::Part>, View<O::Content, O::Event>>
+impl<O: Object, J: Drawing<O::Content, O::Event>> Play<Slot<O::Part>, View<O::Content, O::Event>>
     for Draw<O, J> {
+    ghost use Rattle.ca_turns.specs.Lines.{in_lines};
     ghost use Rattle.ca_turns.specs.Steps.{drew};
 
-    ghost then = { drew O.touches J.turns };
+    ghost then = { in_lines (drew O.touches J.turns) };
 }

@@ -1,29 +1,61 @@
 // The atomic steps. Each is one step on a word or a slot of the table, but for `take_out` and `put_in`, which are two.
-ghost use Rattle.std.specs.Prelude.{◌≡◌, ℕ, ◌+◌, ◌^◌, ◌<◌, ◌≤◌, List, [], ◌∷◌, length, Some, None, MatchBool, MatchOption, map};
+ghost use Rattle.std.specs.Prelude.{◌≡◌, ℕ, ◌+◌, ◌^◌, ◌<◌, ◌≤◌, List, [], ◌∷◌, length, Option, Some, None, MatchBool, MatchOption, map};
 ghost use mathlib.Core.Option.{some};
 ghost use lib.ListN.{get_elem?};
 ghost use Rattle.atomic_table.specs.Table.{rest};
 ghost use Rattle.ca_turns.specs.declared.rule.Turn.{Turn};
-ghost use Rattle.ca_turns.specs.Places.{Reads};
+ghost use Rattle.ca_turns.specs.Lines.{bare, line_of};
+ghost use Rattle.ca_turns.specs.Places.{Reads, without};
 ghost use Rattle.ca_turns.specs.Views.{turn, stands, holding, drawing, left_view, right_view, both_views, HoldsNone};
 ghost use Rattle.ca_turns.specs.Steps.{SeesOne, Took, Missed, IsGiven};
-ghost use Rattle.ca_turns.specs.Hands.{IsTableId};
+ghost use Rattle.ca_turns.specs.Hands.{IsTableId, IsOut, places, there, times};
 
 use crate::object::Object;
-use crate::rule::{AsOne, Draw, Drawing, Free, OneOff, Short, Start, Take, Turns, View};
+use crate::rule::{
+    AsOne, Draw, Drawing, Free, OneOff, Short, Slot, Start, Take, ToFront, Turns, View,
+};
 use atomic_table::{Seat, Shared};
+use std::mem;
+use std::ops::DerefMut;
 
 pub type Words<O> = Shared<
-    Option<<O as Object>::Part>,
+    Slot<<O as Object>::Part>,
     View<<O as Object>::Content, <O as Object>::Event>,
     Start<<O as Object>::Part>,
     Turns<O>,
 >;
 
 pub type Place<O> = Seat<
-    Option<<O as Object>::Part>,
+    Slot<<O as Object>::Part>,
     View<<O as Object>::Content, <O as Object>::Event>,
 >;
+
+const WORDS_IN_A_LINE: usize = 8;
+
+// Where in memory the word k of the rule stands: the event word is 0, that of the part i is i + 1.
+pub(crate) fn line(k: usize) -> usize
+    requires { k ≤ 257 }
+    ensures { result ≡ line_of k }
+{
+    WORDS_IN_A_LINE * k
+}
+
+// Puts this into the slot that was taken last, in place of what was there.
+fn swap_in<O: Object>(
+    words: &Words<O>,
+    seat: &mut Place<O>,
+    part: usize,
+    x: Option<O::Part>,
+) -> Option<O::Part>
+    requires table { seat.old.table_id ≡ words.now.table_id }
+    requires out { (old : Option O.Part) × ((bare seat.old.me).1 ≡ (part, old) ∷ rest (bare seat.old.me).1) }
+    ensures table { seat.new.table_id ≡ seat.old.table_id }
+    ensures was { (bare seat.old.me).1 ≡ (part, result) ∷ rest (bare seat.old.me).1 }
+    ensures now { bare seat.new.me ≡ (seat.old.me.0, (part, x) ∷ rest (bare seat.old.me).1) }
+{
+    let slot = seat.slot_mut(words, part);
+    mem::replace(slot.deref_mut(), x)
+}
 
 // Take where the part's word is found free, and else miss.
 fn take<O: Object>(words: &Words<O>, seat: &mut Place<O>, part: usize) -> bool
@@ -31,9 +63,9 @@ fn take<O: Object>(words: &Words<O>, seat: &mut Place<O>, part: usize) -> bool
     requires part { part < words.now.table_id.slots }
     requires free { (get_elem? seat.old.me.0.held part ≡ some None) × (0 < stands seat.old.me.0) }
     ensures table { seat.new.table_id ≡ seat.old.table_id }
-    ensures took { MatchBool result (Took O.content O.touches O.moves part seat.old.me seat.new.me) (Missed part seat.old.me seat.new.me) }
+    ensures took { MatchBool result (Took O.content O.touches O.moves part (bare seat.old.me) (bare seat.new.me)) (Missed part (bare seat.old.me) (bare seat.new.me)) }
 {
-    words.compare_exchange::<Take<O>>(seat, part + 1, 0, 1) == 0
+    words.compare_exchange::<Take<O>>(seat, line(part + 1), 0, 1) == 0
 }
 
 // Take and out, or miss.
@@ -46,37 +78,49 @@ pub(crate) fn take_out<O: Object>(
     requires part { part < words.now.table_id.slots }
     requires free { (get_elem? seat.old.me.0.held part ≡ some None) × (0 < stands seat.old.me.0) }
     ensures table { seat.new.table_id ≡ seat.old.table_id }
-    ensures took { MatchOption result (Missed part seat.old.me seat.new.me) (λ x. (seat.new.me ≡ (holding seat.old.me.0 part (Some (O.content x)), (part, None) ∷ seat.old.me.1)) × SeesOne O.touches O.moves seat.new.me.0) }
+    ensures took { MatchOption result (Missed part (bare seat.old.me) (bare seat.new.me)) (λ x. (bare seat.new.me ≡ (holding seat.old.me.0 part (Some (O.content x)), (part, None) ∷ (bare seat.old.me).1)) × SeesOne O.touches O.moves seat.new.me.0) }
 {
     if !take::<O>(words, seat, part) {
         return None;
     }
-    let found = words.exchange(seat, part, None);
+    let found = swap_in::<O>(words, seat, part, None);
     match found {
         Some(x) => Some(x),
         None => unreachable!(),
     }
 }
 
+// A load in which the slot of the part comes first of those that are out, since only the first can be given back.
+pub(crate) fn bring_to_front<O: Object>(words: &Words<O>, seat: &mut Place<O>, part: usize)
+    requires table { (seat.old.table_id ≡ words.now.table_id) × IsTableId words.now.table_id }
+    requires part { part < words.now.table_id.slots }
+    requires out { IsOut (there seat.old.me.0.held) (bare seat.old.me).1 × (0 < times part (places (bare seat.old.me).1)) × (0 < stands seat.old.me.0) }
+    ensures table { seat.new.table_id ≡ seat.old.table_id }
+    ensures view { seat.new.me.0 ≡ seat.old.me.0 }
+    ensures front { (bare seat.new.me).1 ≡ (part, None) ∷ without part (bare seat.old.me).1 }
+{
+    words.load::<ToFront>(seat, line(part + 1));
+}
+
 fn free<O: Object>(words: &Words<O>, seat: &mut Place<O>, part: usize)
     requires table { (seat.old.table_id ≡ words.now.table_id) × IsTableId words.now.table_id }
     requires part { part < words.now.table_id.slots }
-    requires held { IsGiven O.content part seat.old.me × (0 < stands seat.old.me.0) }
+    requires held { IsGiven O.content part (bare seat.old.me) × (0 < stands seat.old.me.0) }
     ensures table { seat.new.table_id ≡ seat.old.table_id }
-    ensures freed { (seat.new.me.0 ≡ holding seat.old.me.0 part None) × (seat.new.me.1 ≡ rest seat.old.me.1) }
+    ensures freed { (seat.new.me.0 ≡ holding seat.old.me.0 part None) × ((bare seat.new.me).1 ≡ rest (bare seat.old.me).1) }
 {
-    words.store::<Free>(seat, part + 1, 0)
+    words.store::<Free>(seat, line(part + 1), 0)
 }
 
 // Back and free, of the part whose slot was taken last.
 pub(crate) fn put_in<O: Object>(words: &Words<O>, seat: &mut Place<O>, part: usize, x: O::Part)
     requires table { (seat.old.table_id ≡ words.now.table_id) × IsTableId words.now.table_id }
     requires part { part < words.now.table_id.slots }
-    requires held { (seat.old.me.1 ≡ (part, None) ∷ rest seat.old.me.1) × (get_elem? seat.old.me.0.held part ≡ some (Some (O.content x))) × (0 < stands seat.old.me.0) }
+    requires held { ((bare seat.old.me).1 ≡ (part, None) ∷ rest (bare seat.old.me).1) × (get_elem? seat.old.me.0.held part ≡ some (Some (O.content x))) × (0 < stands seat.old.me.0) }
     ensures table { seat.new.table_id ≡ seat.old.table_id }
-    ensures freed { seat.new.me ≡ (holding seat.old.me.0 part None, rest seat.old.me.1) }
+    ensures freed { bare seat.new.me ≡ (holding seat.old.me.0 part None, rest (bare seat.old.me).1) }
 {
-    let was = words.exchange(seat, part, Some(x));
+    let was = swap_in::<O>(words, seat, part, Some(x));
     match was {
         Some(_) => unreachable!(),
         None => {}
@@ -95,9 +139,9 @@ pub(crate) fn draw_as<O: Object, J: Drawing<O::Content, O::Event>>(
     requires turn { (t : Turn O.Content O.Event) × (J.turns ≡ t ∷ []) × Reads seat.old.me.0.held (O.touches t.event) (map Some t.before) × O.moves t.event t.before t.after × (length t.after ≡ length (O.touches t.event)) }
     requires room { (length seat.old.me.0.turns < 2 ^ 59) × (0 < stands seat.old.me.0) }
     ensures table { seat.new.table_id ≡ seat.old.table_id }
-    ensures drew { (t : Turn O.Content O.Event) → J.turns ≡ t ∷ [] → (seat.new.me.0 ≡ drawing seat.old.me.0 (O.touches t.event) (turn result t.event t.before t.after)) × (seat.new.me.1 ≡ seat.old.me.1) × ((k : ℕ) (u : Turn O.Content O.Event) → get_elem? seat.old.me.0.turns k ≡ some u → u.number < result) }
+    ensures drew { (t : Turn O.Content O.Event) → J.turns ≡ t ∷ [] → (seat.new.me.0 ≡ drawing seat.old.me.0 (O.touches t.event) (turn result t.event t.before t.after)) × ((bare seat.new.me).1 ≡ (bare seat.old.me).1) × ((k : ℕ) (u : Turn O.Content O.Event) → get_elem? seat.old.me.0.turns k ≡ some u → u.number < result) }
 {
-    words.fetch_add::<Draw<O, J>>(seat, 0, 1)
+    words.fetch_add::<Draw<O, J>>(seat, line(0), 1)
 }
 
 // Split, while the table is opened.
@@ -124,8 +168,8 @@ pub(crate) fn join_in<O: Object>(words: &Words<O>, seat: &mut Place<O>, other: P
 pub(crate) fn tell_short<O: Object>(words: &Words<O>, seat: &mut Place<O>)
     requires table { (seat.old.table_id ≡ words.now.table_id) × IsTableId words.now.table_id }
     ensures table { seat.new.table_id ≡ seat.old.table_id }
-    ensures same { seat.new.me ≡ seat.old.me }
+    ensures same { bare seat.new.me ≡ bare seat.old.me }
     ensures short { length seat.new.me.0.turns ≤ 2 ^ 63 }
 {
-    words.load::<Short>(seat, 0);
+    words.load::<Short>(seat, line(0));
 }

@@ -8,9 +8,11 @@ ghost use Rattle.ca_turns.specs.Hands.{HoldsNothing, IsFresh, IsTableId};
 use crate::ends::{Owned, close_slots, emptied, open_slots, slots_of};
 use crate::errors::OutOfMemory;
 use crate::hand::{Hand, new_hand};
+use crate::kept::{Kept, keep, take_back};
 use crate::object::Object;
 use crate::rule::Start;
-use crate::steps::{Place, Words, join_in, split_off, tell_short};
+use crate::steps::{Place, Words, join_in, line, split_off, tell_short};
+use crossbeam_utils::CachePadded;
 use std::alloc::{AllocError, Global};
 use std::marker::Model;
 use std::snapshot::Snapshot;
@@ -22,9 +24,9 @@ use std::sync::atomic::AtomicU64;
 pub struct Table<O: Object> {
     pub(crate) owned: Owned<O>,
     // The vector that the parts came in, with nothing in it.
-    rest: Vec<O::Part>,
+    rest: Kept<Vec<O::Part>>,
     // How many callers of `hold` wait for a part, or are about to.
-    pub(crate) waiters: AtomicU64,
+    pub(crate) waiters: CachePadded<AtomicU64>,
 }
 
 impl<O: Object> Model for Table<O> {
@@ -33,9 +35,9 @@ impl<O: Object> Model for Table<O> {
 
     ghost Value = { Opened };
 
-    ghost view = { λ t. record { id = t.owned.shared.table_id; memory = vec_ptr t.rest } };
+    ghost view = { λ t. record { id = t.owned.shared.table_id; memory = vec_ptr t.rest.shared.key.value } };
 
-    ghost invariant = { λ t. IsTable t.owned.shared.table_id t.rest.items (vec_capacity t.rest) };
+    ghost invariant = { λ t. IsTable t.owned.shared.table_id t.rest.shared.table_id t.rest.shared.key.value.items (vec_capacity t.rest.shared.key.value) };
 }
 
 /// What a table gives when it closes.
@@ -88,15 +90,15 @@ impl<O: Object> Table<O> {
             hands,
         };
         let slots = slots_of(alloc, &mut parts)?;
-        let words = Vec::from_elem(alloc, 0u64, count + 1)?;
+        let words = Vec::from_elem(alloc, 0u64, line(count + 1))?;
         let Ok((owned, seat)) = open_slots::<O>(alloc, words.as_slice(), slots, &start) else {
             return Err(OutOfMemory);
         };
         let all = deal::<O>(alloc, &owned.shared, seat, count, hands)?;
         let table = Table {
             owned,
-            rest: parts,
-            waiters: AtomicU64::new(0),
+            rest: keep(alloc, parts)?,
+            waiters: CachePadded::new(AtomicU64::new(0)),
         };
         Ok((table, all))
     }
@@ -132,7 +134,7 @@ impl<O: Object> Table<O> {
             waiters: _,
         } = self;
         Closed {
-            parts: emptied(close_slots::<O>(owned, hand.into_seat()), rest),
+            parts: emptied(close_slots::<O>(owned, hand.into_seat()), take_back(rest)),
         }
     }
 }

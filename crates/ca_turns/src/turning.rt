@@ -1,5 +1,6 @@
 // The calls of a worker: it holds parts, draws events and gives parts back.
-ghost use Rattle.std.specs.Prelude.{◌≡◌, ℕ, ◌<◌, List, length, Some, None, IfOk, IfErr, slice_set, map, ◌^◌};
+ghost use Rattle.std.specs.Bool.{OnTrue};
+ghost use Rattle.std.specs.Prelude.{◌≡◌, ℕ, ◌<◌, List, length, Some, None, IfOk, IfErr, MatchBool, slice_set, map, ◌^◌};
 ghost use mathlib.Core.Option.{some};
 ghost use lib.ListN.{get_elem?};
 ghost use Rattle.ca_turns.specs.declared.rule.Turn.{Turn};
@@ -11,12 +12,29 @@ ghost use Rattle.ca_turns.specs.Hands.{look, IsHolding, IsNone, IsWithout, IsSet
 use crate::errors::Busy;
 use crate::hand::Hand;
 use crate::object::Object;
-use crate::order::{bring_to_front, enlist};
-use crate::steps::{Words, draw_as, put_in, take_out};
+use crate::steps::{Words, bring_to_front, draw_as, line, put_in, take_out};
 use crate::table::Table;
+use std::hint::spin_loop;
 use std::marker::Brand;
 use std::sync::Wait;
 use std::sync::atomic::{AtomicU64, Ordering};
+
+// How often a hold tries before it sleeps, and how often it looks at the part's word between two tries.
+const TRIES: u32 = 20;
+
+const LOOKS: u32 = 10;
+
+// Waits until the part's word is seen free, for no more than a moment.
+fn linger<O: Object>(words: &Words<O>, part: usize)
+    requires { (part < words.now.table_id.slots) × IsTableId words.now.table_id }
+{
+    for _ in 0..LOOKS {
+        if words.peek(line(part + 1)) == 0 {
+            break;
+        }
+        spin_loop();
+    }
+}
 
 // Sleeps while the part's word is 1, until a wake. The count is raised before, so a `give_back` that
 // frees the part from then on reads it as more than 0 and wakes one.
@@ -24,7 +42,7 @@ fn wait_for<O: Object, R: Wait>(rt: &R, words: &Words<O>, waiters: &AtomicU64, p
     requires { (part < words.now.table_id.slots) × IsTableId words.now.table_id }
 {
     waiters.fetch_add(1, Ordering::SeqCst);
-    words.park(rt, part + 1, 1);
+    words.park(rt, line(part + 1), 1);
     waiters.fetch_sub(1, Ordering::SeqCst);
 }
 
@@ -33,7 +51,7 @@ fn wake_one<O: Object>(words: &Words<O>, waiters: &AtomicU64, part: usize)
     requires { (part < words.now.table_id.slots) × IsTableId words.now.table_id }
 {
     if waiters.load(Ordering::SeqCst) > 0 {
-        words.wake_one(part + 1);
+        words.wake_one(line(part + 1));
     }
 }
 
@@ -56,15 +74,34 @@ impl<O: Object> Table<O> {
             None => Err(Busy),
             Some(x) => {
                 hand.parts[at] = Some(x);
-                enlist(&mut hand.order, at);
                 Ok(())
             }
         }
     }
 
-    /// Tries again until the part is held, and sleeps between two tries. It may wait for ever. That a
-    /// hand takes its parts in ascending order is to keep hands from waiting for one another in a
-    /// circle; nothing is proved of it.
+    // Tries a few times, a moment apart, to hold the part.
+    fn try_a_while(&self, hand: &mut Hand<O>, part: u64) -> bool
+        requires table { hand.old.table ≡ self.now.id }
+        requires range { part < self.now.id.slots }
+        requires free { IsWithout hand.old part }
+        ensures table { hand.new.table ≡ hand.old.table }
+        ensures held { MatchBool result ((x : O.Part) × (missed : List ℕ) × (hand.new.parts ≡ slice_set hand.old.parts part (Some x)) × (hand.new.view ≡ holding (having_missed hand.old.view missed) part (Some (O.content x)))) ((hand.new.parts ≡ hand.old.parts) × ((missed : List ℕ) × (hand.new.view ≡ having_missed hand.old.view missed))) }
+        ensures settled { OnTrue result (IsSettled O.content hand.new part) }
+        ensures history { OnTrue result (SeesOne O.touches O.moves hand.new.view) }
+        ensures others { SameBut part hand.old hand.new }
+    {
+        for _ in 0..TRIES {
+            match self.try_hold(hand, part) {
+                Ok(()) => return true,
+                Err(Busy) => linger::<O>(&self.owned.shared, part as usize),
+            }
+        }
+        false
+    }
+
+    /// Tries again until the part is held: a few times at once, and then with a sleep between. It may
+    /// wait for ever. That a hand takes its parts in ascending order is to keep hands from waiting
+    /// for one another in a circle; nothing is proved of it.
     pub fn hold<R: Wait>(&self, rt: &R, hand: &mut Hand<O>, part: u64)
         requires table { hand.old.table ≡ self.now.id }
         requires range { part < self.now.id.slots }
@@ -76,12 +113,10 @@ impl<O: Object> Table<O> {
         ensures others { SameBut part hand.old hand.new }
     {
         for _ in rt.forever() {
-            match self.try_hold(hand, part) {
-                Ok(()) => return,
-                Err(Busy) => {
-                    wait_for::<O, R>(rt, &self.owned.shared, &self.waiters, part as usize)
-                }
+            if self.try_a_while(hand, part) {
+                return;
             }
+            wait_for::<O, R>(rt, &self.owned.shared, &self.waiters, part as usize);
         }
         unreachable!()
     }
@@ -117,8 +152,7 @@ impl<O: Object> Table<O> {
         ensures others { SameBut part hand.old hand.new }
     {
         let at = part as usize;
-        bring_to_front::<O>(&mut hand.seat, &mut hand.order, at);
-        let _ = hand.order.remove(0);
+        bring_to_front::<O>(&self.owned.shared, &mut hand.seat, at);
         match hand.parts[at].take() {
             Some(x) => put_in::<O>(&self.owned.shared, &mut hand.seat, at, x),
             None => unreachable!(),

@@ -1,17 +1,21 @@
 //! What a turn costs, for `bench/turns.sh`, which measures this program from outside.
 //!
-//! Its words are a kind of work and how often: `bare` is a compare and exchange, a `fetch_add` and a
-//! store; `alone` is a hold, a draw and a give-back by one hand; `contended` is the same by two hands
-//! at one part, each in a thread. With no words it does a little of each.
+//! Its words are a kind of work, a number of hands, of turns of each hand, and of rounds of a job after
+//! each turn. `bare` is a compare and exchange, a `fetch_add` and a store; the others are a hold, a
+//! draw and a give-back by each hand in a thread: of a part of its own (`own`), of two parts of its
+//! own (`pairs`), of the first part (`shared`). With no words it does a little of each.
 #![tactic(auto)]
 
 mod bare;
+mod layout;
 mod turns;
+mod worker;
 
-ghost use Rattle.std.specs.Prelude.{◌<◌, ◌^◌};
+ghost use Rattle.std.specs.Prelude.{◌<◌, ◌≤◌, ◌^◌};
 
 use crate::bare::bare;
-use crate::turns::{alone, contended};
+use crate::layout::Layout;
+use crate::turns::turns;
 use ca_turns::OutOfMemory;
 use std::alloc::Global;
 use std::sync::Wait;
@@ -36,32 +40,34 @@ impl From<io::Error> for Failed {
     }
 }
 
-// The most turns that one run makes.
-const MOST: u64 = 1_000_000_000;
-
-// A number of turns, at most `MOST`.
-fn times_of(word: Option<String>) -> u64
-    ensures { result < 2 ^ 30 }
+// The number that the word says, from the least to the most, or else the least.
+fn number_of(word: Option<String>, least: u64, most: u64) -> u64
+    requires { least ≤ most }
+    ensures at_least { least ≤ result }
+    ensures at_most { result ≤ most }
 {
-    let asked = match word {
-        Some(word) => word.as_str().parse().unwrap_or(100),
-        None => 100,
-    };
-    if asked < MOST { asked } else { MOST }
+    match word {
+        Some(word) => word.as_str().parse().unwrap_or(least).clamp(least, most),
+        None => least,
+    }
 }
 
 fn run<R: Threads + Wait + Sync>(
     rt: &R,
     alloc: Global,
     kind: &str,
-    times: u64,
+    hands: u64,
+    count: u64,
+    rounds: u64,
 ) -> Result<u64, OutOfMemory>
-    requires { times < 2 ^ 30 }
+    requires hands { (0 < hands) × (hands ≤ 16) }
+    requires room { count < 2 ^ 30 }
 {
     match kind {
-        "bare" => Ok(bare(times)),
-        "alone" => alone(rt, alloc, times),
-        _ => contended(rt, alloc, times),
+        "bare" => Ok(bare(count)),
+        "own" => turns(rt, alloc, &Layout::Own, hands, count, rounds),
+        "pairs" => turns(rt, alloc, &Layout::Pairs, hands, count, rounds),
+        _ => turns(rt, alloc, &Layout::Shared, hands, count, rounds),
     }
 }
 
@@ -70,14 +76,16 @@ fn main(rt: HostRuntime) -> Result<(), Failed> {
     let _program = words.next();
     match words.next() {
         Some(kind) => {
-            let times = times_of(words.next());
-            let sum = run(&rt, rt.alloc(), kind.as_str(), times)?;
-            println!(rt; "{sum}")?;
+            let hands = number_of(words.next(), 1, 16);
+            let count = number_of(words.next(), 1, 1_000_000_000);
+            let rounds = number_of(words.next(), 0, 1_000_000);
+            let events = run(&rt, rt.alloc(), kind.as_str(), hands, count, rounds)?;
+            println!(rt; "{events}")?;
         }
         None => {
-            for kind in ["bare", "alone", "contended"] {
-                let sum = run(&rt, rt.alloc(), kind, 100)?;
-                println!(rt; "{kind} {sum}")?;
+            for kind in ["bare", "own", "pairs", "shared"] {
+                let events = run(&rt, rt.alloc(), kind, 2, 100, 10)?;
+                println!(rt; "{kind} {events}")?;
             }
         }
     }

@@ -1,6 +1,5 @@
-use Rattle.std.proofs.Common.{rules}
-use Rattle.ca_turns.proofs.Taken.{front}
+use Rattle.ca_turns.proofs.Fronts.{front}
 use Rattle.ca_turns.proofs.steps.take_out.Goals as goal
 
-pub exchange-found-requires : goal.exchange-found-requires
-exchange-found-requires g c = let t = c.if-not-take.ensures.took in (search rules, (_, front _ _ _ t.1))
+pub swap_in-found-requires-clause-out : goal.swap_in-found-requires-clause-out
+swap_in-found-requires-clause-out g c = let t = c.if-not-take.ensures.took in (_, front _ _ _ t.1)

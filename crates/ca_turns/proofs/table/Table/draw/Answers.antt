@@ -1,7 +1,7 @@
 use Rattle.std.proofs.Common.{◌<◌, ◌≡◌, ◌∙◌, ◌+◌, refl, sym, ap, subst, map, length, length-append}
 use lib.ListN.{length-map, get_elem?}
 use Rattle.ca_turns.specs.Places.{AllIn}
-use Rattle.ca_turns.specs.Hands.{IsHolding, look, there, Emptied, places}
+use Rattle.ca_turns.specs.Hands.{IsHolding, look, there, IsOut}
 use Rattle.ca_turns.specs.Views.{turn, drawing}
 use Rattle.ca_turns.proofs.Looks.{all_there, all_read, long_look, both_there, written_there, written_at, written_else}
 use Rattle.ca_turns.proofs.table.Table.draw.Goals as goal
@@ -36,10 +36,6 @@ invariant_of-hand g c = let hand = c.hand.inside in let i = c.hand.invariant in 
   live = subst (λ l. 0 < length l) (sym (ap (λ v. v.stands_for) d.0)) i.live;
   sized = i.sized ∙ sym (ap (λ z. z.slots) c.draw_as-number.ensures.table);
   alike = i.alike ∙ sym (ap (λ v. there v.held) d.0 ∙ written_there hand.seat.me.0.held is (map g.O.Object.content (look hand.parts.items is)) (both_there hand.parts.items hand.seat.me.0.held i.alike is touched));
-  placed = ap places d.1 ∙ i.placed;
-  emptied = subst Emptied (sym d.1) i.emptied;
-  listed = i.listed;
-  as_many = i.as_many;
-  room = i.room;
+  out = subst (IsOut (there hand.parts.items)) (sym d.1) i.out;
   counted = ap (λ n. n + 1) i.counted ∙ sym (ap (λ v. length v.turns) d.0 ∙ length-append hand.seat.me.0.turns _);
 }

@@ -1,31 +1,20 @@
-use Rattle.std.proofs.Common.{◌≡◌, ◌<◌, ◌≤◌, ℕ, sym, refl, ap, subst, ◌∙◌, length, length-set, rules}
-use lib.ListN.{length-map}
+use Rattle.std.proofs.Common.{◌<◌, sym, refl, ap, subst, ◌∙◌, length, length-set}
 use Rattle.std.specs.Prelude.{Some}
-use Rattle.ca_turns.specs.Hands.{there, how_many}
-use Rattle.ca_turns.proofs.Looks.{there_at}
-use Rattle.ca_turns.proofs.Keeping.{free_at, arrived, fewer, free_here, same_but, settled_in}
+use Rattle.ca_turns.specs.Lines.{bare}
+use Rattle.ca_turns.proofs.Keeping.{free_at, arrived, free_here, same_but, settled_in}
 use Rattle.ca_turns.proofs.table.Table.try_hold.Goals as goal
 
 pub take_out-requires-clause-free : goal.take_out-requires-clause-free
 take_out-requires-clause-free g c = let hand = c.hand.inside in let i = c.hand.invariant in let free = free_here hand.parts.items c.args.hand.now c.args.part i c.hand.view_is c.args.self.now.id.slots (ap (λ z. z.slots) c.requires.table) c.requires.range c.requires.free in
     (free_at hand.parts.items hand.seat.me.0.held i.alike c.args.part free, i.live)
 
-pub enlist-requires : goal.enlist-requires
-enlist-requires g c = let hand = c.hand.inside in let i = c.hand.invariant in let free = free_here hand.parts.items c.args.hand.now c.args.part i c.hand.view_is c.args.self.now.id.slots (ap (λ z. z.slots) c.requires.table) c.requires.range c.requires.free in let bs = there hand.parts.items in
-    let h : how_many bs < length bs = fewer bs c.args.part (there_at hand.parts.items c.args.part _ free) in let n : length bs ≡ length hand.parts.items = length-map hand.parts.items _ in let d = i.as_many in let r = i.room in search (rules, h, n, d, r)
-
 pub invariant_of-hand-in-Some : goal.invariant_of-hand-in-Some
 invariant_of-hand-in-Some g c = let hand = c.hand.inside in let i = c.hand.invariant in let free = free_here hand.parts.items c.args.hand.now c.args.part i c.hand.view_is c.args.self.now.id.slots (ap (λ z. z.slots) c.requires.table) c.requires.range c.requires.free in let t = c.in-Some.ensures.took in
-    let a = arrived hand.parts.items hand.seat.me.0.held c.take_out.new.seat.me.0.held hand.seat.me.1 c.take_out.new.seat.me.1 hand.order.items c.enlist.new.order.items c.args.part _ c.in-Some.x _ free
-    i.alike i.placed i.emptied i.listed i.as_many refl (ap (λ m. m.0.held) t.0) (ap (λ m. m.1) t.0) c.enlist.ensures.items in record {
+    let a = arrived hand.parts.items hand.seat.me.0.held c.take_out.new.seat.me.0.held (bare hand.seat.me).1 (bare c.take_out.new.seat.me).1 c.args.part _ c.in-Some.x _ free i.alike i.out refl (ap (λ m. m.0.held) t.0) (ap (λ m. m.1) t.0) in record {
       live = subst (λ l. 0 < length l) (sym (ap (λ m. m.0.stands_for) t.0)) i.live;
       sized = length-set hand.parts.items c.args.part (Some c.in-Some.x) ∙ i.sized ∙ sym (ap (λ z. z.slots) c.in-Some.ensures.table);
       alike = a.0;
-      placed = a.1;
-      emptied = a.2;
-      listed = a.3;
-      as_many = a.4;
-      room = subst (λ (z : ℕ × ℕ). z.0 ≤ z.1) (λ k. (sym (length-set hand.parts.items c.args.part (Some c.in-Some.x)) k, sym c.enlist.ensures.room k)) i.room;
+      out = a.1;
       counted = i.counted ∙ sym (ap (λ m. length m.0.turns) t.0);
     }
 
