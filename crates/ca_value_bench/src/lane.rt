@@ -1,14 +1,30 @@
-use ca_value::value::Value;
+use ca_value::value::{Items, Pairs, Value};
 use std::alloc::Global;
 use std::thread;
 use std::thread::Threads;
 
-/// A thread's share of the work: the value that it copies, what goes with it, and how often it did so.
+/// A thread's share of the work, with what it has of values: the one that it copies, and items and pairs
+/// that it keeps beside, as the record of a worker does.
 #[derive(Drop)]
 pub struct Lane<T> {
     pub value: Value,
+    pub items: Items,
+    pub pairs: Pairs,
     pub label: T,
     pub done: u64,
+}
+
+impl<T> Lane<T> {
+    /// A lane that has not begun.
+    pub fn new(alloc: Global, value: Value, label: T) -> Lane<T> {
+        Lane {
+            value,
+            items: Items::new(alloc),
+            pairs: Pairs::new(alloc),
+            label,
+            done: 0,
+        }
+    }
 }
 
 /// Copies each lane's value so often, each lane in a thread of its own.

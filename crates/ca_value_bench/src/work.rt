@@ -174,11 +174,7 @@ fn in_threads<R: Threads + Sync>(
         } else {
             kept_of(alloc, LONG, 0).vector
         };
-        let lane = Lane {
-            value,
-            label,
-            done: 0,
-        };
+        let lane = Lane::new(alloc, value, label);
         if lanes.push(lane).is_err() {
             return 0;
         }

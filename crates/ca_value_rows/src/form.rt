@@ -3,7 +3,6 @@ use ca_value::builtin::direct::{apply_one, apply_two, assoc_one, conj_one};
 use ca_value::builtin::{Builtin, apply_builtin};
 use ca_value::fault::{ApplyError, ValueFault};
 use ca_value::memory::OutOfMemory;
-use ca_value::seq::Text;
 use ca_value::value::{Items, PortId, Value};
 use std::alloc::Global;
 
