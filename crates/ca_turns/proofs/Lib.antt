@@ -15,3 +15,4 @@ pub mod Looks
 pub mod Rows
 pub mod Keeping
 pub mod Callers
+pub mod Sending

@@ -2,3 +2,4 @@ pub mod Adding
 pub mod Turning
 pub mod Apart
 pub mod Working
+pub mod Visiting

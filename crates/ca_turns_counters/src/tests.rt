@@ -1,4 +1,8 @@
-use crate::{Event, add_held, close_two, count, open_two, try_take};
+use crate::{
+    Event, Things, add_held, close_two, count, open_two, try_take, visit_all, visitors_of,
+};
+use ca_turns::Table;
+use std::cell::Cell;
 use std::test::Fail;
 
 // Whether these are the numbers below n, each once.
@@ -68,5 +72,21 @@ fn a_hand_is_joined_while_another_works(rt: HostRuntime) -> Result<(), Fail> {
     let counted = count(&rt, rt.alloc(), 2, 4, true, &one, &pair, 500)?;
     assert!(rt; counted.counters.as_slice() == [2000, 1000].as_slice());
     assert!(rt; is_each_once(counted.numbers, 2000));
+    Ok(())
+}
+
+// A cell may be sent to another thread, and not be shared.
+#[test]
+fn threads_share_a_table_of_cells(rt: HostRuntime) -> Result<(), Fail> {
+    let mut cells = Vec::with_capacity(rt.alloc(), 2)?;
+    cells.push_reserved(Cell::new(0u64));
+    cells.push_reserved(Cell::new(0u64));
+    let (table, hands) = Table::<Things<Cell<u64>>>::open(rt.alloc(), cells, 2)?;
+    let mut visitors = visitors_of(rt.alloc(), hands, 1)?;
+    assert_eq!(rt; visitors.len(), 2);
+    visit_all(&rt, &table, visitors.as_mut_slice(), 100);
+    for visitor in &visitors {
+        assert_eq!(rt; visitor.hand.drawn(), 100);
+    }
     Ok(())
 }
