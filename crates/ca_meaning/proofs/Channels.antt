@@ -6,7 +6,7 @@ use Rattle.ca_term.specs.declared.event.Side.{Side}
 use Rattle.ca_term.specs.declared.event.Side.TheVariants.{Take, Put}
 use Rattle.ca_term.specs.Operation.{WhatView, unbuffered, fixed, dropping, sliding, promise, timeout, mult, mix, publication}
 use Rattle.ca_term.specs.Event.{BranchView, take_of, put_of}
-use Rattle.ca_meaning.specs.Buffer.{Policy, is_full, no_buffer, promise_buffer, fixed_buffer, dropping_buffer, sliding_buffer}
+use Rattle.ca_value.specs.Buffer.{Policy, is_full, no_buffer, promise_buffer, fixed_buffer, dropping_buffer, sliding_buffer}
 use Rattle.ca_meaning.specs.Channel.{Channel, channel_made, shut, is_promise, new_channel, with_buffer}
 use Rattle.ca_meaning.specs.Wait.{Wait, Handler, is_on, port_of, handlers, queue, head, front, without, is_live, is_among}
 use Rattle.ca_meaning.specs.Row.{Row, not_ready, completes, meets, row_on, row_at}

@@ -10,7 +10,7 @@ use Rattle.ca_term.specs.declared.event.Ending.TheVariants.{Ended, Faulted}
 use Rattle.ca_term.specs.declared.head.SeedKind.TheVariants.{Go}
 use Rattle.ca_term.specs.Operation.{fixed, taking, go, SeedView}
 use Rattle.ca_term.specs.Event.{take_of, made, spawned, parked, settled, printed, over as is_over}
-use Rattle.ca_meaning.specs.Buffer.{fixed_buffer}
+use Rattle.ca_value.specs.Buffer.{fixed_buffer}
 use Rattle.ca_meaning.specs.Channel.{Channel, new_channel, shut}
 use Rattle.ca_meaning.specs.Body.{BodyView, fill, new_body}
 use Rattle.ca_meaning.specs.Task.{script, new_task}

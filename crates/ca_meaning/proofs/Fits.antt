@@ -1,7 +1,7 @@
 -- What a channel holds after it kept or gave a value.
 use Rattle.std.proofs.Common.{◌≡◌, ℕ, zero, suc, ◌<◌, ◌≤◌, List, [], ◌∷◌, ◌++◌, length, refl, ap, ◌∙◌, arith, Bool, true, false, not, nat_le, length-append, leb-true, leb-false}
 use Rattle.ca_value.specs.Tree.{Tree}
-use Rattle.ca_meaning.specs.Buffer.{Policy, no_buffer, fixed_buffer, dropping_buffer, sliding_buffer, promise_buffer, is_full, room_by, keep_by, give, without_first, only_first}
+use Rattle.ca_value.specs.Buffer.{Policy, no_buffer, fixed_buffer, dropping_buffer, sliding_buffer, promise_buffer, is_full, room_by, keep_by, give, without_first, only_first}
 use Rattle.ca_meaning.specs.Channel.{Channel, FitsPolicy, has_room, keeping, giving, is_fixed, new_channel, with_buffer}
 use Rattle.ca_meaning.specs.Sound.{Fits, Each, IsNotNil}
 use Rattle.ca_meaning.proofs.Waits.{each-append}

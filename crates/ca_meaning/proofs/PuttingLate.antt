@@ -6,7 +6,7 @@ use Rattle.ca_value.specs.Tree.{Tree, nil, bool, int, port}
 use Rattle.ca_term.specs.declared.event.Ending.TheVariants.{Ended}
 use Rattle.ca_term.specs.Operation.{OpView, unbuffered, putting}
 use Rattle.ca_term.specs.Event.{BranchView, put_of, made, done, parked, closed, printed, over as is_over}
-use Rattle.ca_meaning.specs.Buffer.{no_buffer}
+use Rattle.ca_value.specs.Buffer.{no_buffer}
 use Rattle.ca_meaning.specs.Channel.{Channel, new_channel, shut}
 use Rattle.ca_meaning.specs.Body.{BodyView, fill, new_body}
 use Rattle.ca_meaning.specs.Task.{script}

@@ -1,7 +1,7 @@
 -- What the tables of puts, takes and settles say, read backwards.
 use Rattle.std.proofs.Common.{◌≡◌, List, [], ◌∷◌, refl, sym, ap, ap₂, ◌∙◌, Bool, true, false, ◌&&◌, cond, Option, Some, None}
 use Rattle.ca_value.specs.Tree.{Tree, nil, bool}
-use Rattle.ca_meaning.specs.Buffer.{Policy, no_buffer, fixed_buffer, dropping_buffer, sliding_buffer, promise_buffer, room_by}
+use Rattle.ca_value.specs.Buffer.{Policy, no_buffer, fixed_buffer, dropping_buffer, sliding_buffer, promise_buffer, room_by}
 use Rattle.ca_term.specs.declared.event.Side.{Side}
 use Rattle.ca_term.specs.declared.event.Side.TheVariants.{Take, Put}
 use Rattle.ca_term.specs.Event.{BranchView}

@@ -9,7 +9,7 @@ use Rattle.ca_term.specs.declared.event.Ending.TheVariants.{Ended}
 use Rattle.ca_term.specs.declared.head.SeedKind.TheVariants.{Go}
 use Rattle.ca_term.specs.Operation.{OpView, unbuffered, fixed, taking, putting, go, SeedView}
 use Rattle.ca_term.specs.Event.{BranchView, take_of, put_of, made, spawned, done, met, parked, over as is_over}
-use Rattle.ca_meaning.specs.Buffer.{no_buffer, fixed_buffer}
+use Rattle.ca_value.specs.Buffer.{no_buffer, fixed_buffer}
 use Rattle.ca_meaning.specs.Channel.{Channel, new_channel}
 use Rattle.ca_meaning.specs.Body.{BodyView, fill, new_body}
 use Rattle.ca_meaning.specs.Task.{script, new_task}

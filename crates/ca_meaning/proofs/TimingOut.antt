@@ -9,7 +9,7 @@ use Rattle.ca_term.specs.declared.event.Side.TheVariants.{Take}
 use Rattle.ca_term.specs.declared.event.Ending.TheVariants.{Ended}
 use Rattle.ca_term.specs.Operation.{OpView, unbuffered, timeout, choosing}
 use Rattle.ca_term.specs.Event.{take_of, made, parked, ticked, settled, printed, over as is_over}
-use Rattle.ca_meaning.specs.Buffer.{no_buffer}
+use Rattle.ca_value.specs.Buffer.{no_buffer}
 use Rattle.ca_meaning.specs.Channel.{Channel, new_channel, shut}
 use Rattle.ca_meaning.specs.Body.{BodyView, fill, new_body}
 use Rattle.ca_meaning.specs.Task.{script}

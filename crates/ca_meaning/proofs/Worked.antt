@@ -7,7 +7,7 @@ use Rattle.ca_term.specs.Operation.{putting}
 use Rattle.ca_term.specs.Program.{ProgramView}
 use Rattle.ca_term.specs.Event.{put_of, met, settled}
 use Rattle.ca_meaning.specs.Channel.{Channel, shut, new_channel}
-use Rattle.ca_meaning.specs.Buffer.{no_buffer}
+use Rattle.ca_value.specs.Buffer.{no_buffer}
 use Rattle.ca_meaning.specs.Wait.{Wait, Handler, front, without, owner_of}
 use Rattle.ca_meaning.specs.Row.{meets, settles, settle_row, row_at}
 use Rattle.ca_meaning.specs.Task.{reply}

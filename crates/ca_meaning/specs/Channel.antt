@@ -1,7 +1,8 @@
 -- A channel. (core.async API reference: `chan`, `close!`.)
 use Rattle.std.specs.Prelude.{◌≡◌, ℕ, ◌<◌, zero, suc, List, [], Option, Some, None, Bool, true, false}
 use Rattle.ca_value.specs.Tree.{Tree}
-use Rattle.ca_meaning.specs.Buffer.{Policy, no_buffer, fixed_buffer, dropping_buffer, sliding_buffer, promise_buffer, is_full, room_by, keep, give}
+pub use Rattle.ca_value.specs.Buffer.{is_promise}
+use Rattle.ca_value.specs.Buffer.{Policy, no_buffer, fixed_buffer, dropping_buffer, sliding_buffer, promise_buffer, is_full, room_by, keep, give}
 use Rattle.ca_term.specs.Operation.{WhatView, unbuffered, fixed, dropping, sliding, promise, timeout, mult, mix, publication}
 
 pub record Channel : Type 0 where
@@ -25,13 +26,6 @@ giving c = record c { held = give c.policy c.held }
 -- closed; what it holds stays
 abbrev pub shut : Channel → Channel
 shut c = record c { closed = true }
-
-abbrev pub is_promise : Policy → Bool
-is_promise promise_buffer = true
-is_promise no_buffer = false
-is_promise fixed_buffer = false
-is_promise dropping_buffer = false
-is_promise sliding_buffer = false
 
 abbrev pub is_fixed : Policy → Bool
 is_fixed fixed_buffer = true

@@ -8,7 +8,6 @@ pub mod Served
 pub mod Size
 pub mod BodyParts
 pub mod BodyViews
-pub mod Buffer
 pub mod Channel
 pub mod Wait
 pub mod Row

@@ -3,7 +3,7 @@ use Rattle.std.specs.Prelude.{List, [], ◌∷◌, true, false, map}
 use Rattle.ca_value.specs.Seq.{list}
 use Rattle.ca_value.specs.Tree.{Tree, nil, bool}
 use Rattle.ca_value.specs.View.{view}
-use Rattle.ca_meaning.specs.Buffer.{Policy, no_buffer, fixed_buffer, dropping_buffer, sliding_buffer, promise_buffer}
+use Rattle.ca_value.specs.Buffer.{Policy, no_buffer, fixed_buffer, dropping_buffer, sliding_buffer, promise_buffer}
 use Rattle.ca_term.specs.declared.event.Side.TheVariants.{Take, Put}
 use Rattle.ca_meaning.specs.Channel.{Channel, keeping, giving}
 use Rattle.ca_meaning.specs.Wait.{Handler}

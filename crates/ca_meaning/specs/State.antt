@@ -1,6 +1,7 @@
 -- The state of a run.
-use Rattle.std.specs.Prelude.{◌≡◌, ℕ, List, [], ◌∷◌, Option, Some, None, option_map, Bool, not, ◌&&◌, ◌||◌, cond, eqb, nat_lt, nat_le, filter, map}
+use Rattle.std.specs.Prelude.{◌≡◌, ℕ, List, [], ◌∷◌, Option, Some, None, option_map, eqb}
 use Rattle.std.specs.Map.{update}
+pub use Rattle.ca_value.specs.Deadlines.{Deadline, is_before, opened, due, open_after}
 use Rattle.ca_term.specs.Program.{ProgramView}
 use Rattle.ca_meaning.specs.Body.{new_body}
 use Rattle.ca_meaning.specs.Task.{TaskBody, script, BodyRest}
@@ -25,11 +26,6 @@ Tasks = ℕ → Option Task
 
 abbrev pub Channels : Type 0
 Channels = ℕ → Option Channel
-
--- an open timeout: the moment at which it closes its channel
-pub record Deadline : Type 0 where
-  pub moment : ℕ
-  pub port : ℕ
 
 -- Tasks, channels and registries stand by number; the main text is task 0. Channels and registries
 -- share their numbers.
@@ -75,19 +71,3 @@ shut_all (p ∷ ps) channels = shut_all ps (shut_at p channels)
 abbrev pub shut_result : Option ℕ → Channels → Channels
 shut_result None channels = channels
 shut_result (Some p) channels = shut_at p channels
-
--- the earlier deadline stands first, of equal ones that of the lower port
-abbrev pub is_before : Deadline → Deadline → Bool
-is_before d e = nat_lt d.moment e.moment || (eqb d.moment e.moment && nat_lt d.port e.port)
-
-abbrev pub opened : Deadline → List Deadline → List Deadline
-opened d [] = d ∷ []
-opened d (e ∷ es) = cond (is_before d e) (d ∷ e ∷ es) (e ∷ opened d es)
-
--- the channels that are due at the moment, in order
-abbrev pub due : ℕ → List Deadline → List ℕ
-due m ds = map (λ d. d.port) (filter (λ d. nat_le d.moment m) ds)
-
--- the deadlines that stay open after the moment
-abbrev pub open_after : ℕ → List Deadline → List Deadline
-open_after m ds = filter (λ d. not (nat_le d.moment m)) ds

@@ -1,7 +1,7 @@
 -- Worked journals, and the moments in them that a wrong rule would spoil.
 use Rattle.std.specs.Prelude.{◌≡◌, ℕ, List, [], ◌∷◌, ◌++◌, take, Some, None, true, false, pos, codes}
 use Rattle.ca_value.specs.Tree.{nil, bool, int, port}
-use Rattle.ca_meaning.specs.Buffer.{no_buffer}
+use Rattle.ca_value.specs.Buffer.{no_buffer}
 use Rattle.ca_term.specs.declared.place.Place.{Place}
 use Rattle.ca_term.specs.declared.fault.Fault.{Fault}
 use Rattle.ca_term.specs.declared.fault.Fault.TheVariants.{ZeroDivisor}

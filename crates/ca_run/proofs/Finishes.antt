@@ -4,7 +4,7 @@ use Rattle.std.specs.Io.KnownBytes.{Appends}
 use Rattle.ca_meaning.specs.Texts.{output}
 use Rattle.ca_run.specs.declared.answer.Answer.{Answer}
 use Rattle.ca_run.specs.declared.answer.Answer.TheVariants.{Usage, Refused, Ran}
-use Rattle.ca_run.specs.Events.{events}
+use Rattle.ca_journal.specs.Events.{events}
 use Rattle.ca_run.specs.Top.{Refused as RefusedFrom, Ran as RanFrom, Partly, usage}
 use Rattle.ca_run.specs.Answers.{answer_text, status_of, journal_of, refusal_line, AnswersTo}
 

@@ -18,7 +18,7 @@ use Rattle.ca_meaning.specs.Rest.{Rest}
 use Rattle.ca_meaning.specs.Legal.{Legal}
 use Rattle.ca_meaning.specs.Ends.{IsEnded}
 use Rattle.ca_meaning.proofs.Running.{Runs, runs_opening, runs_print, runs_end}
-use Rattle.ca_run.specs.Events.{events}
+use Rattle.ca_journal.specs.Events.{events}
 use Rattle.ca_run.specs.Printing.{is_printing, printed_line}
 
 map-snoc : (es : List Event) (e : Event) → map event_view (es ++ e ∷ []) ≡ map event_view es ++ event_view e ∷ []

@@ -8,7 +8,7 @@ use Rattle.ca_run.specs.declared.answer.Answer.{Answer}
 use Rattle.ca_run.specs.declared.answer.Answer.TheVariants.{Usage, Refused, Ran}
 use Rattle.ca_run.specs.declared.answer.Refusal.{Refusal}
 use Rattle.ca_run.specs.declared.answer.Refusal.TheVariants.{TooLong, Fault, NotYet}
-use Rattle.ca_run.specs.Events.{events}
+use Rattle.ca_journal.specs.Events.{events}
 use Rattle.ca_run.specs.Top.{usage, error_line, first_place, RefusedFor, RunOf, Refused as RefusedFrom, Ran as RanFrom}
 
 abbrev pub refusal_line : Refusal → List ℕ

@@ -1,6 +1,6 @@
 -- What a device shows whose listed calls fail.
 use Rattle.std.specs.Prelude.{◌≡◌, ℕ, List, Contains, Result, IsErr}
-use Rattle.ca_run.specs.Causes.{one_more}
+use Rattle.ca_timers.specs.Causes.{one_more}
 use Rattle.ca_run.specs.declared.failing.Failing.{Failing}
 
 -- the device itself

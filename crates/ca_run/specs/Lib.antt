@@ -1,8 +1,5 @@
-pub mod Causes
 pub mod Early
-pub mod Events
 pub mod Printing
-pub mod Readings
 pub mod Memory
 pub mod Failing
 pub mod Standard

@@ -14,7 +14,7 @@ use Rattle.ca_reader.specs.Form.{FormTrees}
 use Rattle.ca_reader.specs.Kind.{kind_name}
 use Rattle.ca_reader.specs.Reads.{Reads, ReadFault}
 use Rattle.ca_run.specs.Early.{early_program}
-use Rattle.ca_run.specs.Events.{events}
+use Rattle.ca_journal.specs.Events.{events}
 
 -- the greatest length of a script, in bytes
 abbrev pub greatest_length : ℕ

@@ -4,7 +4,9 @@ ghost use Rattle.ca_run.specs.Top.{error_line};
 ghost use Rattle.ca_run.specs.Answers.{answer_text, refusal_line, Judged};
 
 use crate::early::{EarlyError, early};
-use crate::run::{Journal, output, run_main};
+use crate::run::run_main;
+use ca_journal::entry::Journal;
+use ca_journal::output::output;
 use ca_reader::error::{ReadError, ReadErrorKind};
 use ca_reader::read::read;
 use ca_term::place::Place;

@@ -2,16 +2,13 @@ ghost use Rattle.std.specs.Prelude.{◌≡◌, ◌+◌, ◌-◌, ◌<◌, ◌≤
 ghost use Rattle.std.specs.Io.{ReadsAtMost};
 ghost use Rattle.std.specs.Io.KnownBytes.{ReadConsumes, WriteAppends, Consumes, Appends, IsAtEnd};
 ghost use Rattle.ca_value.specs.Seq.{list};
-ghost use Rattle.ca_run.specs.Causes.{Rose, HasCause};
+ghost use Rattle.ca_timers.specs.Causes.{Rose, HasCause};
 ghost use Rattle.ca_run.specs.declared.device.ReadError.TheVariants.{Broken, OutOfMemory};
 
+pub use ca_timers::clock::Failed;
 use ca_value::memory;
 use ca_value::seq::Text;
 use std::alloc::Global;
-
-/// A device did not do what it was asked for.
-#[derive(Clone, Copy, PartialEq, Eq, Debug)]
-pub struct Failed;
 
 /// Where a script comes from.
 pub trait Source {

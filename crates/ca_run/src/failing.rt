@@ -1,12 +1,12 @@
 ghost use Rattle.std.specs.Prelude.{◌≡◌, ◌+◌, ◌<◌, ◌≤◌, ◌↔◌, ◌^◌, IsTrue, OnOk, OnErr, IfOk, MatchResult, length, true, false};
 ghost use Rattle.std.specs.Io.{ReadsAtMost};
 ghost use Rattle.std.specs.Io.KnownBytes.{ReadConsumes, WriteAppends};
-ghost use Rattle.ca_run.specs.Causes.{HasCause, one_more};
-ghost use Rattle.ca_run.specs.Readings.{Tells, StaysTold};
+ghost use Rattle.ca_timers.specs.Causes.{HasCause, one_more};
+ghost use Rattle.ca_timers.specs.Readings.{Tells, StaysTold};
 ghost use Rattle.ca_run.specs.Failing.{device_of, listed_calls, calls_made, calls_failed, IsListed, CountsCall, CountsNothing, FailsAside};
 
-use crate::clock::Clock;
 use crate::device::{Failed, Sink, Source};
+use ca_timers::clock::Clock;
 use ca_value::memory::OutOfMemory;
 
 /// A device whose listed calls fail. Calls count from 0: of a source its reads, of a sink its writes, of

@@ -5,14 +5,13 @@
 //! what it prints; its clauses are the headline and the cause of each status.
 //!
 //! Here also stands what serves until crates of its own do: which scripts are served (`early`), the run
-//! of a main text alone (`run`), journals, clocks and gates.
+//! of a main text alone (`run`), and gates.
 //!
-//! Stands on `ca_value`, `ca_term`, `ca_meaning`, `ca_reader` and `itoa`. Start with `top` and
+//! Stands on `ca_value`, `ca_term`, `ca_meaning`, `ca_timers`, `ca_journal`, `ca_reader` and `itoa`. Start with `top` and
 //! `specs/Top.antt`, then `answer` and `run`.
 #![tactic(auto)]
 
 pub mod answer;
-pub mod clock;
 pub mod device;
 pub mod early;
 pub mod failing;

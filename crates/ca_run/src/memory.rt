@@ -1,10 +1,10 @@
 ghost use Rattle.std.specs.Prelude.{◌≡◌, ◌+◌, ◌<◌, ◌≤◌, ◌^◌, ◌∷◌, ◌++◌, Some, Ok, [], length, take, drop, min, max, IfOk, OnOk};
 ghost use Rattle.std.specs.Io.{ReadsAtMost};
 ghost use Rattle.std.specs.Io.KnownBytes.{ReadConsumes};
-ghost use Rattle.ca_run.specs.Causes.{HasCause};
+ghost use Rattle.ca_timers.specs.Causes.{HasCause};
 
-use crate::clock::Clock;
 use crate::device::{Failed, Sink, Source};
+use ca_timers::clock::Clock;
 use ca_value::memory::OutOfMemory;
 use ca_value::seq::{Seq, Text};
 use std::alloc::Global;

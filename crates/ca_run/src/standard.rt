@@ -2,11 +2,11 @@ ghost use Rattle.std.specs.Prelude.{◌≡◌, ◌+◌, ◌-◌, ◌/◌, ◌<�
 ghost use Rattle.std.specs.Duration.{as_nanos};
 ghost use Rattle.std.specs.Io.{ReadsAtMost};
 ghost use Rattle.std.specs.Io.KnownBytes.{ReadConsumes, WriteAppends};
-ghost use Rattle.ca_run.specs.Causes.{HasCause, one_more};
-ghost use Rattle.ca_run.specs.Readings.{Tells, StaysTold};
+ghost use Rattle.ca_timers.specs.Causes.{HasCause, one_more};
+ghost use Rattle.ca_timers.specs.Readings.{Tells, StaysTold};
 
-use crate::clock::Clock;
 use crate::device::{Failed, Sink, Source};
+use ca_timers::clock::Clock;
 use ca_value::memory::OutOfMemory;
 use std::io::{Read, Write};
 use std::time::Duration;

@@ -1,10 +1,10 @@
-use crate::clock::Clock;
 use crate::device::{Sink, Source};
 use crate::failing::Failing;
 use crate::gate::OpenGate;
 use crate::memory::{MemoryClock, MemorySink, MemorySource};
 use crate::standard::{ReaderSource, SteadyClock, WriterSink};
 use crate::top::{Finish, main_call};
+use ca_timers::clock::Clock;
 use ca_value::seq::Text;
 use std::io;
 use std::process::Abort;

@@ -2,18 +2,18 @@ ghost use Rattle.std.specs.Prelude.{◌≡◌, ◌⊎◌, ◌≤◌, ℕ, List, 
 ghost use Rattle.std.specs.Io.KnownBytes.{Appends};
 ghost use Rattle.ca_value.specs.Seq.{list};
 ghost use Rattle.ca_meaning.specs.Texts.{output};
-ghost use Rattle.ca_run.specs.Causes.{Rose};
+ghost use Rattle.ca_timers.specs.Causes.{Rose};
 ghost use Rattle.ca_run.specs.Words.{IsRun};
-ghost use Rattle.ca_run.specs.Events.{events};
+ghost use Rattle.ca_journal.specs.Events.{events};
 ghost use Rattle.ca_run.specs.Top.{Ran, Refused, Partly, usage};
 ghost use Rattle.ca_run.specs.Answers.{answer_text, status_of, journal_of, refusal_line, AnswersTo};
 ghost use Rattle.ca_run.specs.declared.answer.Answer.{Answer};
 
 use crate::answer::{Answer, Refusal, judge_text, text_of};
-use crate::clock::Clock;
 use crate::device::{ReadError, Sink, Source, read_all, write_all};
 use crate::gate::Gate;
-use crate::run::Journal;
+use ca_journal::entry::Journal;
+use ca_timers::clock::Clock;
 use std::alloc::Global;
 use std::sync::Wait;
 use std::thread::Threads;

@@ -19,3 +19,5 @@ pub mod Vectors
 pub mod Maps
 pub mod Builtins
 pub mod Names
+pub mod Buffer
+pub mod Deadlines

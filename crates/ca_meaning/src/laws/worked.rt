@@ -1,6 +1,6 @@
 ghost use Rattle.std.specs.Prelude.{◌≡◌, ℕ, List, [], ◌∷◌, Option, Some, None, pos, true, false, codes, option_map};
 ghost use Rattle.ca_value.specs.Tree.{Tree, nil, bool, int};
-ghost use Rattle.ca_meaning.specs.Buffer.{fixed_buffer};
+ghost use Rattle.ca_value.specs.Buffer.{fixed_buffer};
 ghost use Rattle.ca_value.specs.declared.value.PortId.{PortId};
 ghost use Rattle.ca_term.specs.declared.fault.Fault.{Fault as FaultKind};
 ghost use Rattle.ca_term.specs.declared.fault.Fault.TheVariants.{ZeroDivisor};

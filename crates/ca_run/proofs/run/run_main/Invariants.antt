@@ -4,7 +4,7 @@ use Rattle.ca_meaning.specs.Body.{at, local}
 use Rattle.ca_meaning.specs.BodyViews.{body_view}
 use Rattle.ca_meaning.specs.Size.{size_of}
 use Rattle.ca_meaning.proofs.Running.{Runs}
-use Rattle.ca_run.specs.Events.{events}
+use Rattle.ca_journal.specs.Events.{events}
 use Rattle.ca_run.proofs.run.run_main.Given as goal
 
 abbrev pub invariant-loop-alloc : goal.invariant-loop-alloc

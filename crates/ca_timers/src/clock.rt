@@ -1,9 +1,12 @@
 ghost use Rattle.std.specs.Prelude.{◌≡◌, ◌+◌, ◌<◌, ◌≤◌, ◌^◌, ℕ, List, Option, OnOk, OnErr, IfOk};
-ghost use Rattle.ca_run.specs.Causes.{HasCause};
-ghost use Rattle.ca_run.specs.Readings.{Tells, StaysTold};
+ghost use Rattle.ca_timers.specs.Causes.{HasCause};
+ghost use Rattle.ca_timers.specs.Readings.{Tells, StaysTold};
 
-use crate::device::Failed;
 use ca_value::memory::OutOfMemory;
+
+/// A device did not do what it was asked for.
+#[derive(Clone, Copy, PartialEq, Eq, Debug)]
+pub struct Failed;
 
 /// Where moments come from: milliseconds below 2^62 that never fall.
 pub trait Clock {

@@ -1,6 +1,6 @@
 -- What a channel keeps of the values that it accepts. (core.async API reference: `buffer`,
 -- `dropping-buffer`, `sliding-buffer`, `promise-chan`.)
-use Rattle.std.specs.Prelude.{ℕ, List, [], ◌∷◌, ◌++◌, length, Bool, true, false, cond, not, nat_le}
+use Rattle.std.specs.Prelude.{ℕ, List, [], ◌∷◌, ◌++◌, length, Option, Some, None, Bool, true, false, cond, not, nat_le, slice_get}
 use Rattle.ca_value.specs.Tree.{Tree}
 
 pub data Policy : Type 0 where
@@ -9,6 +9,13 @@ pub data Policy : Type 0 where
   dropping_buffer : Policy
   sliding_buffer : Policy
   promise_buffer : Policy
+
+abbrev pub is_promise : Policy → Bool
+is_promise promise_buffer = true
+is_promise no_buffer = false
+is_promise fixed_buffer = false
+is_promise dropping_buffer = false
+is_promise sliding_buffer = false
 
 abbrev pub is_full : ℕ → List Tree → Bool
 is_full capacity held = nat_le capacity (length held)
@@ -41,6 +48,18 @@ keep_by promise_buffer full vs v = only_first vs v
 abbrev pub keep : Policy → ℕ → List Tree → Tree → List Tree
 keep policy capacity vs v = keep_by policy (is_full capacity vs) vs v
 
+abbrev pub drop_by : Policy → Bool → List Tree → Tree → Option Tree
+drop_by no_buffer full vs v = None
+drop_by fixed_buffer full vs v = None
+drop_by dropping_buffer full vs v = cond full (Some v) None
+drop_by sliding_buffer full vs v = cond full (slice_get (vs ++ v ∷ []) 0) None
+drop_by promise_buffer full [] v = None
+drop_by promise_buffer full (w ∷ ws) v = Some v
+
+-- the value that is dropped then
+abbrev pub dropped : Policy → ℕ → List Tree → Tree → Option Tree
+dropped policy capacity vs v = drop_by policy (is_full capacity vs) vs v
+
 -- the list after its first value was given; a promise gives it ever after
 abbrev pub give : Policy → List Tree → List Tree
 give no_buffer vs = without_first vs
@@ -48,3 +67,7 @@ give fixed_buffer vs = without_first vs
 give dropping_buffer vs = without_first vs
 give sliding_buffer vs = without_first vs
 give promise_buffer vs = vs
+
+-- the value that leaves then; none leaves a promise
+abbrev pub given : Policy → List Tree → Option Tree
+given policy vs = cond (is_promise policy) None (slice_get vs 0)

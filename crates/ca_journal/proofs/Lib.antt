@@ -1,0 +1,4 @@
+pub mod Branches
+pub mod Merging
+pub mod Queues
+pub mod Rising

@@ -1,0 +1,49 @@
+-- The entries of several lists, in order of number.
+use Rattle.std.specs.Prelude.{ℕ, ◌≤◌, List, [], ◌∷◌, ◌++◌, cond, nat_le, map}
+use Rattle.ca_value.specs.Seq.{list}
+use Rattle.ca_value.specs.declared.seq.Seq.{Seq}
+use Rattle.ca_term.specs.Event.{EventView, event_view}
+use Rattle.ca_journal.specs.declared.entry.Entry.{Entry}
+
+-- an event and its number
+pub record Numbered : Type 0 where
+  pub number : ℕ
+  pub event : EventView
+
+abbrev pub entry_view : Entry → Numbered
+entry_view e = record { number = e.number; event = event_view e.event }
+
+abbrev pub entries : Seq Entry → List Numbered
+entries s = map entry_view (list s)
+
+abbrev pub events_of : List Numbered → List EventView
+events_of es = map (λ e. e.event) es
+
+-- all entries, one list after the other
+abbrev pub joined : List (List Numbered) → List Numbered
+joined [] = []
+joined (es ∷ lists) = es ++ joined lists
+
+-- the list with one more entry, before the first that has no lower number
+abbrev pub placed : Numbered → List Numbered → List Numbered
+placed e [] = e ∷ []
+placed e (f ∷ es) = cond (nat_le e.number f.number) (e ∷ f ∷ es) (f ∷ placed e es)
+
+-- the same entries in order of number
+abbrev pub in_order : List Numbered → List Numbered
+in_order [] = []
+in_order (e ∷ es) = placed e (in_order es)
+
+-- no number is lower
+abbrev pub NoneLower : ℕ → List Numbered → Type 0
+NoneLower n [] = Unit {0}
+NoneLower n (e ∷ es) = (n ≤ e.number) × NoneLower n es
+
+-- numbers never fall
+abbrev pub Ascends : List Numbered → Type 0
+Ascends [] = Unit {0}
+Ascends (e ∷ es) = NoneLower e.number es × Ascends es
+
+abbrev pub EachAscends : List (List Numbered) → Type 0
+EachAscends [] = Unit {0}
+EachAscends (es ∷ lists) = Ascends es × EachAscends lists

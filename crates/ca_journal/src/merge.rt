@@ -1,0 +1,144 @@
+ghost use Rattle.std.specs.Prelude.{◌≡◌, ◌<◌, [], ◌++◌, true, length, map, drop, IfOk, IfNone, IfSome, option_map, option_to_list, slice_get, slice_set, slice_index_or, vec_len};
+ghost use Rattle.ca_journal.specs.Events.{events};
+ghost use Rattle.ca_journal.specs.Merge.{entries, entry_view, events_of, in_order, joined, EachAscends};
+ghost use Rattle.ca_journal.specs.Least.{waiting, first_number, nearer, least_from, rises_from, all_rise};
+
+use crate::entry::{Entries, Entry, Journal};
+use ca_value::memory::OutOfMemory;
+use std::alloc::Global;
+use std::collections::VecDeque;
+
+// A queue, and the number of the entry in its front.
+#[derive(Clone, Copy, PartialEq, Eq, Debug)]
+struct Least {
+    place: usize,
+    number: u64,
+}
+
+/// The events of all entries, in order of number, the numbers of each list never falling. Of two entries
+/// of one number that of the earlier list stands first. Each entry costs a look at each list's front.
+pub fn merge(alloc: Global, lists: Vec<Entries>) -> Result<Journal, OutOfMemory>
+    requires { EachAscends (map entries lists.items) }
+    ensures { IfOk result (λ j. events j ≡ events_of (in_order (joined (map entries lists.items)))) }
+{
+    let mut journal = Journal::new(alloc);
+    let mut queues = queues_of(alloc, lists)?;
+    journal.reserve(entry_count(queues.as_slice()))?;
+    while let Some(entry) = take_least(&mut queues) {
+        journal.reserve(1)?;
+        journal.push(entry.event);
+    }
+    Ok(journal)
+}
+
+/// Whether the numbers of each list never fall.
+#[tactic(auto, using(crate::proofs::Rising::all_rise_ascend, crate::proofs::Rising::all_ascend_rise))]
+pub fn all_ascend(lists: &[Entries]) -> bool
+    ensures yes { result ≡ true → EachAscends (map entries lists.now) }
+    ensures no { EachAscends (map entries lists.now) → result ≡ true }
+{
+    all_rise(lists)
+}
+
+fn all_rise(lists: &[Entries]) -> bool
+    ensures { result ≡ all_rise (map entries lists.now) }
+{
+    for list in lists {
+        if !rises(list.as_slice()) {
+            return false;
+        }
+    }
+    true
+}
+
+fn rises(list: &[Entry]) -> bool
+    ensures { result ≡ rises_from 0 (map entry_view list.now) }
+{
+    let mut least = 0;
+    for entry in list {
+        if entry.number < least {
+            return false;
+        }
+        least = entry.number;
+    }
+    true
+}
+
+// The lists as queues, in the same memory.
+fn queues_of(alloc: Global, lists: Vec<Entries>) -> Result<Vec<VecDeque<Entry>>, OutOfMemory>
+    ensures { IfOk result (λ q. map waiting q.items ≡ map entries lists.items) }
+{
+    let mut queues = Vec::new(alloc);
+    for list in lists {
+        queues.push(VecDeque::from(list.into_vec()))?;
+    }
+    Ok(queues)
+}
+
+// How many entries there are, so far as 64 bits tell.
+fn entry_count(queues: &[VecDeque<Entry>]) -> u64 {
+    let mut count: u64 = 0;
+    for queue in queues {
+        count = count.saturating_add(queue.len() as u64);
+    }
+    count
+}
+
+// Takes out the entry with the least number, or None where none is left.
+fn take_least(queues: &mut Vec<VecDeque<Entry>>) -> Option<Entry>
+    requires { EachAscends (map waiting queues.old.items) }
+    ensures order { in_order (joined (map waiting queues.old.items)) ≡ option_to_list (option_map entry_view result) ++ in_order (joined (map waiting queues.new.items)) }
+    ensures none { IfNone result (joined (map waiting queues.old.items) ≡ []) }
+    ensures ascends { EachAscends (map waiting queues.new.items) }
+{
+    match least_of(queues.as_slice()) {
+        Some(least) => pop_at(queues, least.place),
+        None => None,
+    }
+}
+
+// Takes the front of the queue at the place.
+fn pop_at(queues: &mut Vec<VecDeque<Entry>>, place: usize) -> Option<Entry>
+    requires { place < vec_len queues.old }
+    ensures front { option_map entry_view result ≡ slice_get (slice_index_or (map waiting queues.old.items) place []) 0 }
+    ensures rest { map waiting queues.new.items ≡ slice_set (map waiting queues.old.items) place (drop 1 (slice_index_or (map waiting queues.old.items) place [])) }
+{
+    let queue = &mut queues[place];
+    queue.pop_front()
+}
+
+// The first of the queues whose front has the least number.
+fn least_of(queues: &[VecDeque<Entry>]) -> Option<Least>
+    ensures least { result ≡ least_from 0 (map waiting queues.now) }
+    ensures within { IfSome result (λ l. l.place < length queues.now) }
+{
+    let mut least = None;
+    let mut place = queues.len();
+    while place > 0 {
+        place -= 1;
+        least = nearer(place, front_number(&queues[place]), least);
+    }
+    least
+}
+
+fn front_number(queue: &VecDeque<Entry>) -> Option<u64>
+    ensures { result ≡ first_number (waiting queue.now) }
+{
+    match queue.front() {
+        Some(entry) => Some(entry.number),
+        None => None,
+    }
+}
+
+// The queue at the place, with the number in its front, unless that found behind it has a lower number.
+fn nearer(place: usize, number: Option<u64>, found: Option<Least>) -> Option<Least>
+    ensures { result ≡ nearer place number found }
+{
+    let Some(number) = number else {
+        return found;
+    };
+    match found {
+        Some(least) if least.number < number => found,
+        _ => Some(Least { place, number }),
+    }
+}

@@ -1,0 +1,22 @@
+ghost use Rattle.std.specs.Prelude.{◌≡◌, IfOk};
+ghost use Rattle.ca_value.specs.Seq.{list};
+ghost use Rattle.ca_meaning.specs.Journal.{journal_text};
+ghost use Rattle.ca_journal.specs.Events.{events};
+
+use crate::entry::Journal;
+use crate::line::append_line;
+use ca_value::memory::OutOfMemory;
+use ca_value::seq::Text;
+use std::alloc::Global;
+
+/// The text of the journal: a line for each event, numbered from 0.
+pub fn print(alloc: Global, journal: &Journal) -> Result<Text, OutOfMemory>
+    ensures { IfOk result (λ t. list t ≡ journal_text (events journal.now)) }
+{
+    let mut text = Text::new(alloc);
+    let events = journal.as_slice();
+    for (number, event) in events.iter().enumerate() {
+        append_line(number as u64, event, &mut text)?;
+    }
+    Ok(text)
+}

@@ -1,0 +1,97 @@
+-- The order of deadlines, and what it means for those that are due.
+use Rattle.std.proofs.Common.{◌≡◌, ℕ, zero, suc, ◌≤◌, ◌<◌, List, [], ◌∷◌, length, get_or, map, Bool, true, false, cond, Option, Some, None, refl, sym, ◌∙◌, ap, arith}
+use Rattle.std.specs.Prelude.{insert, slice_get, filter, nat_le, not}
+use Rattle.std.proofs.lemmas.Bool.Decides.{nat_tests}
+use Rattle.ca_value.specs.Deadlines.{Deadline, is_before, opened, due}
+use Rattle.ca_timers.specs.Timers.{NoneBefore, AreOrdered}
+
+-- what stands no earlier than a later one is later too
+pub before_later : (d a b : Deadline) → is_before d a ≡ true → is_before b a ≡ false → is_before d b ≡ true
+before_later d a b h k = grind (arith, nat_tests)
+
+pub before_not_after : (d a : Deadline) → is_before d a ≡ true → is_before a d ≡ false
+before_not_after d a h = grind (arith, nat_tests)
+
+-- a deadline stands at the place before which none is later than it, and from which on all are
+pub opened_at : {X : Type 0} (f : X → Deadline) (x : X) (xs : List X) (i : ℕ) → i ≤ length xs → ((k : ℕ) (d : X) → k < i → is_before (f x) (f (get_or xs k d)) ≡ false) → ((k : ℕ) (d : X) → i ≤ k → k < length xs → is_before (f x) (f (get_or xs k d)) ≡ true) → map f (insert xs i x) ≡ opened (f x) (map f xs)
+opened_at f x [] zero le below above = refl
+opened_at f x [] (suc i) le below above = absurd (omega arith)
+opened_at f x (y ∷ ys) zero le below above = by (is_before (f x) (f y)) (above 0 y (omega arith) (omega arith)) where
+  by : (b : Bool) → b ≡ true → f x ∷ (f y ∷ map f ys) ≡ cond b (f x ∷ (f y ∷ map f ys)) (f y ∷ opened (f x) (map f ys))
+  by true e = refl
+  by false e = absurd (let q : false ≡ true = e in cc)
+opened_at f x (y ∷ ys) (suc i) le below above = by (is_before (f x) (f y)) (below 0 y (omega arith)) (opened_at f x ys i (omega arith) (λ k d h. below (suc k) d (omega arith)) (λ k d h j. above (suc k) d (omega arith) (omega arith))) where
+  by : (b : Bool) → b ≡ false → map f (insert ys i x) ≡ opened (f x) (map f ys) → f y ∷ map f (insert ys i x) ≡ cond b (f x ∷ (f y ∷ map f ys)) (f y ∷ opened (f x) (map f ys))
+  by true e h = absurd (let q : true ≡ false = e in cc)
+  by false e h = ap (λ (r : List Deadline). f y ∷ r) h
+
+-- each of the deadlines stands no earlier
+none_at : {X : Type 0} (f : X → Deadline) (x : X) (xs : List X) → NoneBefore (f x) (map f xs) → (j : ℕ) (d : X) → j < length xs → is_before (f (get_or xs j d)) (f x) ≡ false
+none_at f x [] all j d lt = absurd (omega arith)
+none_at f x (y ∷ ys) all zero d lt = all.0
+none_at f x (y ∷ ys) all (suc j) d lt = none_at f x ys all.1 j d (omega arith)
+
+never_before_itself : (d : Deadline) → is_before d d ≡ false
+never_before_itself d = grind (arith, nat_tests)
+
+-- among ordered deadlines none stands before an earlier one
+pub ordered_at : {X : Type 0} (f : X → Deadline) (xs : List X) → AreOrdered (map f xs) → (i j : ℕ) (d : X) → i ≤ j → j < length xs → is_before (f (get_or xs j d)) (f (get_or xs i d)) ≡ false
+ordered_at f [] o i j d le lt = absurd (omega arith)
+ordered_at f (x ∷ xs) o zero zero d le lt = never_before_itself (f x)
+ordered_at f (x ∷ xs) o zero (suc j) d le lt = none_at f x xs o.0 j d (omega arith)
+ordered_at f (x ∷ xs) o (suc i) zero d le lt = absurd (omega arith)
+ordered_at f (x ∷ xs) o (suc i) (suc j) d le lt = ordered_at f xs o.1 i j d (omega arith) (omega arith)
+
+-- so those that a deadline does not stand before are the first ones
+pub stays_before : (x a b : Deadline) → is_before b a ≡ false → not (is_before x b) ≡ true → not (is_before x a) ≡ true
+stays_before x a b h k = grind (arith, nat_tests)
+
+pub opened_none_before : (e d : Deadline) (ds : List Deadline) → is_before d e ≡ false → NoneBefore e ds → NoneBefore e (opened d ds)
+opened_none_before e d [] h all = (h, tt)
+opened_none_before e d (a ∷ ds) h all = by (is_before d a) (opened_none_before e d ds h all.1) where
+  by : (b : Bool) → NoneBefore e (opened d ds) → NoneBefore e (cond b (d ∷ a ∷ ds) (a ∷ opened d ds))
+  by true k = (h, all)
+  by false k = (all.0, k)
+
+pub none_before_later : (d a : Deadline) (ds : List Deadline) → is_before d a ≡ true → NoneBefore a ds → NoneBefore d ds
+none_before_later d a [] h all = tt
+none_before_later d a (b ∷ ds) h all = (before_not_after d b (before_later d a b h all.0), none_before_later d a ds h all.1)
+
+pub opened_ordered : (d : Deadline) (ds : List Deadline) → AreOrdered ds → AreOrdered (opened d ds)
+opened_ordered d [] o = (tt, tt)
+opened_ordered d (e ∷ ds) o = by (is_before d e) refl (opened_ordered d ds o.1) where
+  by : (b : Bool) → is_before d e ≡ b → AreOrdered (opened d ds) → AreOrdered (cond b (d ∷ e ∷ ds) (e ∷ opened d ds))
+  by true h k = ((before_not_after d e h, none_before_later d e ds h o.0), o)
+  by false h k = (opened_none_before e d ds h o.0, k)
+
+-- the port of a deadline that is due
+abbrev pub due_port : ℕ → Option Deadline → Option ℕ
+due_port m None = None
+due_port m (Some d) = cond (nat_le d.moment m) (Some d.port) None
+
+-- no deadline is due behind one that is not
+none_due : (m : ℕ) (d : Deadline) (ds : List Deadline) → nat_le d.moment m ≡ false → NoneBefore d ds → due m ds ≡ []
+none_due m d [] h all = refl
+none_due m d (e ∷ ds) h all = by (nat_le e.moment m) (later e all.0) (none_due m d ds h all.1) where
+  later : (e : Deadline) → is_before e d ≡ false → nat_le e.moment m ≡ false
+  later e k = grind (arith, nat_tests)
+
+  by : (b : Bool) → b ≡ false → due m ds ≡ [] → map (λ (d : Deadline). d.port) (cond b (e ∷ filter (λ (d : Deadline). nat_le d.moment m) ds) (filter (λ (d : Deadline). nat_le d.moment m) ds)) ≡ []
+  by true e r = absurd (let q : true ≡ false = e in cc)
+  by false e r = r
+
+-- the due ones stand in front
+pub due_at : (m : ℕ) (ds : List Deadline) (k : ℕ) → AreOrdered ds → slice_get (due m ds) k ≡ due_port m (slice_get ds k)
+due_at m [] k o = refl
+due_at m (d ∷ ds) k o = by (nat_le d.moment m) refl k (λ j. due_at m ds j o.1) where
+  none : (r : Option Deadline) (x : Option ℕ) → x ≡ None → x ≡ due_port m r → None ≡ due_port m r
+  none r x e f = sym e ∙ f
+
+  behind : nat_le d.moment m ≡ false → (j : ℕ) → slice_get (due m ds) j ≡ None
+  behind h j = ap (λ (xs : List ℕ). slice_get xs j) (none_due m d ds h o.0)
+
+  by : (b : Bool) → nat_le d.moment m ≡ b → (k : ℕ) → ((j : ℕ) → slice_get (due m ds) j ≡ due_port m (slice_get ds j)) → slice_get (map (λ (d : Deadline). d.port) (cond b (d ∷ filter (λ (d : Deadline). nat_le d.moment m) ds) (filter (λ (d : Deadline). nat_le d.moment m) ds))) k ≡ due_port m (slice_get (d ∷ ds) k)
+  by true h zero r = ap (λ (b : Bool). cond b (Some d.port) None) (sym h)
+  by true h (suc j) r = r j
+  by false h zero r = behind h 0 ∙ ap (λ (b : Bool). cond b (Some d.port) None) (sym h)
+  by false h (suc j) r = behind h (suc j) ∙ none (slice_get ds j) (slice_get (due m ds) j) (behind h j) (r j)

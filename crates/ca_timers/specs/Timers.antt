@@ -1,0 +1,27 @@
+-- What timers show.
+use Rattle.std.specs.Prelude.{◌≡◌, ℕ, List, [], ◌∷◌, false}
+use Rattle.ca_value.specs.declared.value.PortId.{PortId}
+use Rattle.ca_value.specs.Deadlines.{Deadline, is_before}
+use Rattle.ca_timers.specs.declared.timers.OpenDeadline.{OpenDeadline}
+
+-- the open deadlines in order, the last moment, and how many more deadlines fit with no growth
+pub record TimersView : Type 0 where
+  pub deadlines : List Deadline
+  pub moment : ℕ
+  pub spare : ℕ
+
+abbrev pub port_number : PortId → ℕ
+port_number p = p.n
+
+abbrev pub deadline_view : OpenDeadline → Deadline
+deadline_view d = record { moment = d.moment; port = d.port.n }
+
+-- none of the deadlines stands before it
+abbrev pub NoneBefore : Deadline → List Deadline → Type 0
+NoneBefore d [] = Unit {0}
+NoneBefore d (e ∷ es) = (is_before e d ≡ false) × NoneBefore d es
+
+-- each stands no later than those behind it
+abbrev pub AreOrdered : List Deadline → Type 0
+AreOrdered [] = Unit {0}
+AreOrdered (d ∷ ds) = NoneBefore d ds × AreOrdered ds
