@@ -44,7 +44,8 @@ fn append_output(event: &Event, into: &mut Text) -> Result<(), OutOfMemory>
     }
 }
 
-fn append_fault(fault: Fault, place: Place, into: &mut Text) -> Result<(), OutOfMemory>
+/// Appends the line that tells of a fault, with its line feed.
+pub fn append_fault(fault: Fault, place: Place, into: &mut Text) -> Result<(), OutOfMemory>
     ensures { OnOk result (list into.new ≡ list into.old ++ fault_line fault place) }
 {
     into.append(b"fault ")?;

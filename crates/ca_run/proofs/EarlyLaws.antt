@@ -1,13 +1,14 @@
--- The program of an early script has no free name, and served forms alone.
-use Rattle.std.proofs.Common.{◌≡◌, ℕ, zero, suc, ◌+◌, ◌<◌, List, [], ◌∷◌, ◌++◌, length, Option, Some, None, refl, sym, ap, subst, arith, Bool, true, false, cond, ◌==◌, nat_le, inl, inr, ◌≢◌}
+-- The program of an early script is a checked program, all of whose operations are served.
+use Rattle.std.proofs.Common.{◌≡◌, ℕ, zero, suc, ◌+◌, ◌<◌, List, [], ◌∷◌, ◌++◌, length, Option, Some, None, refl, sym, ap, ◌∙◌, subst, arith, Bool, true, false, cond, ◌==◌, nat_le, inl, inr, ◌≢◌}
 use Rattle.std.proofs.lemmas.Bool.{eqb-true, eqb-false}
 use Rattle.ca_value.specs.Tree.{nil as nil_value}
 use Rattle.ca_term.specs.declared.place.Place.{Place}
 use Rattle.ca_term.specs.declared.head.Head.TheVariants.{Print}
 use Rattle.ca_term.specs.Kernel.{Kernel, Kernels, Bindings, const, var, bind, seq, apply, none as no_terms, item as term_item, empty, binding}
-use Rattle.ca_term.specs.Program.{ProgramView, IsBound}
+use Rattle.ca_term.specs.Program.{ProgramView, IsProgram}
 use Rattle.ca_term.specs.Closed.{IsIn, behind, IsClosed, AreClosed, AreClosedBindings}
-use Rattle.ca_meaning.specs.Served.{IsServed, AreServed, AreServedBindings}
+use Rattle.ca_term.specs.Fits.{Known, Suits, Fits, FitTerms, FitInOrder, FitBindings, IsNew, BindsAnew, TermsAnew, BindingsAnew}
+use Rattle.ca_run.specs.Served.{earlier, unserved, unserved_items, unserved_bindings, first_unserved}
 use Rattle.ca_reader.specs.declared.form.Bracket.TheVariants.{Round, Square, Curly}
 use Rattle.ca_reader.specs.Form.{FormTree, FormTrees, form, atom, group, nil, bool, int, text, key, symbol, none, item}
 use Rattle.ca_reader.specs.Reads.{count}
@@ -68,43 +69,109 @@ longer : (names : List Name) (n : Name) → length (names ++ n ∷ []) ≡ suc (
 longer [] n = refl
 longer (m ∷ names) n = ap suc (longer names n)
 
--- no name is free but those in scope, and every form is served
-abbrev Sound : List Name → Kernel → Type 0
-Sound names t = IsClosed (below (length names)) t × IsServed t
+below_only : (m n : ℕ) → IsIn m (below n) → m < n
+below_only m zero h = absurd h
+below_only m (suc n) (inl e) = omega (arith, e)
+below_only m (suc n) (inr i) = let l : m < n = below_only m n i in omega (arith, l)
 
-abbrev SoundTerms : List Name → Kernels → Type 0
-SoundTerms names ts = AreClosed (below (length names)) ts × AreServed ts
+new_name : (n : ℕ) → IsNew n (below n)
+new_name n i = let l : n < n = below_only n n i in omega (arith, l)
 
-abbrev SoundBindings : List Name → Bindings × List Name → Type 0
-SoundBindings names r = AreClosedBindings (below (length names)) r.0 × AreServedBindings r.0 × (behind r.0 (below (length names)) ≡ below (length r.1))
+-- no name is free but those in scope, each is bound once, each head suits, and every operation is served
+record Sound (names : List Name) (t : Kernel) : Type 0 where
+  bound_in : IsClosed (below (length names)) t
+  anew : BindsAnew (below (length names)) t
+  fits : (known : Known) (target : Option ℕ) → Fits (Suits known) target t
+  served : (seen : Option Place) → unserved t seen ≡ seen
+
+record SoundTerms (names : List Name) (ts : Kernels) : Type 0 where
+  bound_in : AreClosed (below (length names)) ts
+  anew : TermsAnew (below (length names)) ts
+  fits : (known : Known) → FitTerms (Suits known) ts
+  fits_in_order : (known : Known) (target : Option ℕ) → FitInOrder (Suits known) target ts
+  served : (seen : Option Place) → unserved_items ts seen ≡ seen
+
+record SoundList (names : List Name) (bs : Bindings) : Type 0 where
+  bound_in : AreClosedBindings (below (length names)) bs
+  anew : BindingsAnew (below (length names)) bs
+  fits : (known : Known) → FitBindings (Suits known) bs
+  served : (seen : Option Place) → unserved_bindings bs seen ≡ seen
+
+record SoundBindings (names : List Name) (r : Bindings × List Name) : Type 0 where
+  each : SoundList names r.0
+  names_behind : behind r.0 (below (length names)) ≡ below (length r.1)
 
 sound_variable : (names : List Name) (s : List ℕ) (t : Kernel) → when (letter_of s) (λ b. when (number_of b names) (λ n. Some (var n))) ≡ Some t → Sound names t
 sound_variable names s t h =
     let l = when_some (letter_of s) (λ b. when (number_of b names) (λ n. Some (var n))) t h in
     let n = when_some (number_of l.0 names) (λ n. Some (var n)) t l.2 in
-    subst (Sound names) (same_some (var n.0) t n.2) (number_of-in l.0 names n.0 n.1, tt)
+    subst (Sound names) (same_some (var n.0) t n.2)
+    (record { bound_in = number_of-in l.0 names n.0 n.1; anew = tt; fits = λ known target. tt; served = λ seen. refl })
 
 sound_list : (names : List Name) (w : Option Word) (p : Place) (terms : Option Kernels) (as_let : Option Kernel) (t : Kernel) → ((ts : Kernels) → terms ≡ Some ts → SoundTerms names ts) → ((u : Kernel) → as_let ≡ Some u → Sound names u) → list_term w p terms as_let ≡ Some t → Sound names t
 sound_list names None p terms as_let t ts lets h = cc
 sound_list names (Some Println) p terms as_let t ts lets h =
     let found = when_some terms (λ ks. Some (apply Print ks p)) t h in
-    subst (Sound names) (same_some (apply Print found.0 p) t found.2) (ts found.0 found.1)
+    let s = ts found.0 found.1 in
+    subst (Sound names) (same_some (apply Print found.0 p) t found.2)
+    (record { bound_in = s.bound_in; anew = s.anew; fits = λ known target. (tt, s.fits known); served = λ seen. s.served _ ∙ without seen })
+  where
+    without : (seen : Option Place) → earlier seen None ≡ seen
+    without None = refl
+    without (Some q) = refl
 sound_list names (Some Do) p terms as_let t ts lets h =
     let found = when_some terms (λ ks. Some (seq ks)) t h in
-    subst (Sound names) (same_some (seq found.0) t found.2) (ts found.0 found.1)
+    let s = ts found.0 found.1 in
+    subst (Sound names) (same_some (seq found.0) t found.2)
+    (record { bound_in = s.bound_in; anew = s.anew; fits = s.fits_in_order; served = s.served })
 sound_list names (Some Let) p terms as_let t ts lets h = lets t h
 
 sound_let : (names : List Name) (r : Bindings × List Name) (ts : Kernels) → SoundBindings names r → SoundTerms r.1 ts → Sound names (bind r.0 (seq ts))
-sound_let names r ts b s = ((b.0, subst (λ ns. AreClosed ns ts) (sym b.2) s.0), (b.1, s.1))
+sound_let names r ts b s = record {
+  bound_in = (b.each.bound_in, subst (λ ns. AreClosed ns ts) (sym b.names_behind) s.bound_in);
+  anew = (b.each.anew, subst (λ ns. TermsAnew ns ts) (sym b.names_behind) s.anew);
+  fits = λ known target. (b.each.fits known, s.fits_in_order known target);
+  served = λ seen. s.served _ ∙ b.each.served seen;
+}
+
+sound_empty : (names : List Name) → SoundList names empty
+sound_empty names = record { bound_in = tt; anew = tt; fits = λ known. tt; served = λ seen. refl }
+
+-- one more binding, to the next number
+sound_binding : (names : List Name) (n : Name) (t : Kernel) (bs : Bindings) → Sound names t → SoundList (names ++ n ∷ []) bs → SoundList names (binding (length names) t bs)
+sound_binding names n t bs s b =
+    let e : below (length (names ++ n ∷ [])) ≡ length names ∷ below (length names) = ap below (longer names n) in
+    record {
+      bound_in = (s.bound_in, subst (λ ns. AreClosedBindings ns bs) e b.bound_in);
+      anew = (new_name (length names), s.anew, subst (λ ns. BindingsAnew ns bs) e b.anew);
+      fits = λ known. (s.fits known None, b.fits known);
+      served = λ seen. b.served _ ∙ s.served seen;
+    }
 
 sound_bound : (names : List Name) (c : ℕ) (t : Kernel) (r : Bindings × List Name) → Sound names t → SoundBindings (names ++ Letter c ∷ []) r → SoundBindings names (bound (length names) t r)
-sound_bound names c t r s b =
-    let e : below (length (names ++ Letter c ∷ [])) ≡ length names ∷ below (length names) = ap below (longer names (Letter c)) in
-    ((s.0, subst (λ ns. AreClosedBindings ns r.0) e b.0), (s.1, b.1), subst (λ ns. behind r.0 ns ≡ below (length r.1)) e b.2)
+sound_bound names c t r s b = record {
+  each = sound_binding names (Letter c) t r.0 s b.each;
+  names_behind = subst (λ ns. behind r.0 ns ≡ below (length r.1)) (ap below (longer names (Letter c))) b.names_behind;
+}
+
+sound_none : (names : List Name) → SoundTerms names no_terms
+sound_none names = record { bound_in = tt; anew = tt; fits = λ known. tt; fits_in_order = λ known target. tt; served = λ seen. refl }
+
+sound_item : (names : List Name) (t : Kernel) (ts : Kernels) → Sound names t → SoundTerms names ts → SoundTerms names (term_item t ts)
+sound_item names t ts one others = record {
+  bound_in = (one.bound_in, others.bound_in);
+  anew = (one.anew, others.anew);
+  fits = λ known. (one.fits known None, others.fits known);
+  fits_in_order = λ known target. in_order ts known target (others.fits_in_order known target);
+  served = λ seen. others.served _ ∙ one.served seen;
+} where
+  in_order : (us : Kernels) (known : Known) (target : Option ℕ) → FitInOrder (Suits known) target us → FitInOrder (Suits known) target (term_item t us)
+  in_order no_terms known target h = one.fits known target
+  in_order (term_item u us) known target h = (one.fits known None, h)
 
 mutual
   pub early_term-sound : (names : List Name) (f : FormTree) (t : Kernel) → early_term names f ≡ Some t → Sound names t
-  early_term-sound names (form (atom (int z)) p) t h = let e : const _ ≡ t = same_some _ t h in subst (Sound names) e (tt, tt)
+  early_term-sound names (form (atom (int z)) p) t h = let e : const _ ≡ t = same_some _ t h in subst (Sound names) e (record { bound_in = tt; anew = tt; fits = λ known target. tt; served = λ seen. refl })
   early_term-sound names (form (atom (symbol s)) p) t h = sound_variable names s t h
   early_term-sound names (form (atom nil) p) t h = cc
   early_term-sound names (form (atom (bool b)) p) t h = cc
@@ -117,13 +184,13 @@ mutual
   early_term-sound names (form (group Curly fs) p) t h = cc
 
   early_terms-sound : (names : List Name) (fs : FormTrees) (ts : Kernels) → early_terms names fs ≡ Some ts → SoundTerms names ts
-  early_terms-sound names none ts h = subst (SoundTerms names) (same_some no_terms ts h) (tt, tt)
+  early_terms-sound names none ts h = subst (SoundTerms names) (same_some no_terms ts h) (sound_none names)
   early_terms-sound names (item f fs) ts h =
       let t = when_some (early_term names f) (λ k. when (early_terms names fs) (λ ks. Some (term_item k ks))) ts h in
       let more = when_some (early_terms names fs) (λ ks. Some (term_item t.0 ks)) ts t.2 in
       let one = early_term-sound names f t.0 t.1 in
       let others = early_terms-sound names fs more.0 more.1 in
-      subst (SoundTerms names) (same_some (term_item t.0 more.0) ts more.2) ((one.0, others.0), (one.1, others.1))
+      subst (SoundTerms names) (same_some (term_item t.0 more.0) ts more.2) (sound_item names t.0 more.0 one others)
 
   early_let-sound : (names : List Name) (fs : FormTrees) (t : Kernel) → early_let names fs ≡ Some t → Sound names t
   early_let-sound names none t h = cc
@@ -138,7 +205,7 @@ mutual
 
   early_bindings-sound : (names : List Name) (fs : FormTrees) (r : Bindings × List Name) → early_bindings names fs ≡ Some r → SoundBindings names r
   early_bindings-sound names none r h =
-      let start : Bindings × List Name = (empty, names) in subst (SoundBindings names) (same_some start r h) (tt, tt, refl)
+      let start : Bindings × List Name = (empty, names) in subst (SoundBindings names) (same_some start r h) (record { each = sound_empty names; names_behind = refl })
   early_bindings-sound names (item f none) r h = cc
   early_bindings-sound names (item f (item e bs)) r h =
       let l = when_some (letter_in f) (λ c. when (early_term names e) (λ t. when (early_bindings (names ++ Letter c ∷ []) bs) (λ s. Some (bound (length names) t s)))) r h in
@@ -147,27 +214,28 @@ mutual
       subst (SoundBindings names) (same_some (bound (length names) t.0 s.0) r s.2)
       (sound_bound names l.0 t.0 s.0 (early_term-sound names e t.0 t.1) (early_bindings-sound (names ++ Letter l.0 ∷ []) bs s.0 s.1))
 
-early_main-sound : (names : List Name) (fs : FormTrees) (bs : Bindings) → early_main names fs ≡ Some bs → AreClosedBindings (below (length names)) bs × AreServedBindings bs
-early_main-sound names none bs h = subst (λ k. AreClosedBindings (below (length names)) k × AreServedBindings k) (same_some empty bs h) (tt, tt)
+early_main-sound : (names : List Name) (fs : FormTrees) (bs : Bindings) → early_main names fs ≡ Some bs → SoundList names bs
+early_main-sound names none bs h = subst (SoundList names) (same_some empty bs h) (sound_empty names)
 early_main-sound names (item f fs) bs h =
     let t = when_some (early_term names f) (λ t. when (early_main (names ++ Hidden ∷ []) fs) (λ cs. Some (binding (length names) t cs))) bs h in
     let cs = when_some (early_main (names ++ Hidden ∷ []) fs) (λ cs. Some (binding (length names) t.0 cs)) bs t.2 in
     let one = early_term-sound names f t.0 t.1 in
     let others = early_main-sound (names ++ Hidden ∷ []) fs cs.0 cs.1 in
-    let e : below (length (names ++ Hidden ∷ [])) ≡ length names ∷ below (length names) = ap below (longer names Hidden) in
-    subst (λ k. AreClosedBindings (below (length names)) k × AreServedBindings k) (same_some (binding (length names) t.0 cs.0) bs cs.2)
-    ((one.0, subst (λ ns. AreClosedBindings ns cs.0) e others.0), (one.1, others.1))
-
-pub main_sound : (fs : FormTrees) (bs : Bindings) → early_main [] fs ≡ Some bs → IsClosed [] (bind bs (const nil_value)) × IsServed (bind bs (const nil_value))
-main_sound fs bs h = let s = early_main-sound [] fs bs h in ((s.0, tt), (s.1, tt))
+    subst (SoundList names) (same_some (binding (length names) t.0 cs.0) bs cs.2) (sound_binding names Hidden t.0 cs.0 one others)
 
 abbrev early_view : Bindings → ProgramView
 early_view bs = record { functions = []; bodies = []; main = bind bs (const nil_value) }
 
-pub program_sound : (fs : FormTrees) (p : ProgramView) → early_program fs ≡ Some p → IsBound p × IsServed p.main
-program_sound fs p h =
-    let small = cond_some (is_small fs) (when (early_main [] fs) (λ bs. Some (early_view bs))) p h in
-    let bs = when_some (early_main [] fs) (λ bs. Some (early_view bs)) p small in
-    let s = main_sound fs bs.0 bs.1 in
-    subst (λ v. IsBound v × IsServed v.main) (same_some (early_view bs.0) p bs.2)
-    (record { functions_bound = λ k d l. absurd (omega arith); bodies_bound = λ k d l. absurd (omega arith); main_bound = s.0 }, s.1)
+plain : ℕ → Bool
+plain n = false
+
+pub main_sound : (fs : FormTrees) (bs : Bindings) → early_main [] fs ≡ Some bs → IsProgram (early_view bs) × (first_unserved (early_view bs) ≡ None)
+main_sound fs bs h =
+    let s = early_main-sound [] fs bs h in
+    (record {
+      plain = plain;
+      functions_fit = λ k d l. absurd (omega arith);
+      bodies_fit = λ k d l. absurd (omega arith);
+      main_fits = record { bound = (s.bound_in, tt); anew = (s.anew, tt); fits = (s.fits _, tt) };
+      plain_functions = tt;
+    }, s.served None)

@@ -1,25 +1,36 @@
 -- The journal that the code makes, event by event.
-use Rattle.std.proofs.Common.{◌≡◌, ◌≢◌, List, [], ◌∷◌, ◌++◌, map, refl, sym, ap, ◌∙◌, subst, rules, true}
+use Rattle.std.proofs.Common.{◌≡◌, ◌≢◌, ℕ, ◌+◌, ◌<◌, ◌≤◌, List, [], ◌∷◌, ◌++◌, map, refl, sym, ap, ◌∙◌, subst, rules, arith, true, false, ◌⊎◌, inl, inr, Option, Some, None}
 use Rattle.ca_value.specs.Seq.{list}
 use Rattle.ca_value.specs.declared.seq.Seq.{Seq}
 use Rattle.ca_value.specs.Tree.{Tree, nil}
 use Rattle.ca_value.specs.View.{view}
+use Rattle.ca_value.specs.declared.value.Value.{the_lemmas}
 use Rattle.ca_value.specs.declared.value.Value.TheVariants.{Nil}
+use Rattle.ca_term.specs.declared.place.Place.{Place}
+use Rattle.ca_term.specs.declared.fault.Fault.{Fault as FaultKind}
 use Rattle.ca_term.specs.declared.event.Event.{Event}
-use Rattle.ca_term.specs.declared.event.Ending.TheVariants.{Ended}
+use Rattle.ca_term.specs.declared.event.Ending.TheVariants.{Ended, Faulted}
 use Rattle.ca_term.specs.Program.{ProgramView}
 use Rattle.ca_term.specs.Operation.{OpView, WantView, printing, taking, putting, choosing, making, spawning, closing, registering, posting}
-use Rattle.ca_term.specs.Event.{event_view, printed, over}
-use Rattle.ca_meaning.specs.Body.{BodyView, At, at, local, at_op, ended, faulted, nowhere, fill, new_body}
-use Rattle.ca_meaning.specs.Served.{IsServedAt}
+use Rattle.ca_term.specs.Event.{EventView, event_view, printed, over}
+use Rattle.ca_term.specs.Cost.{cost_of}
+use Rattle.ca_meaning.specs.Body.{BodyView, At, at, local, at_op, ended as ended_at, faulted as faulted_at, nowhere, fill, new_body}
 use Rattle.ca_meaning.specs.BodyViews.{stand_of}
-use Rattle.ca_meaning.specs.declared.body.Stand.TheVariants.{AtOp}
+use Rattle.ca_meaning.specs.declared.body.Stand.{Stand}
+use Rattle.ca_meaning.specs.declared.body.Stand.TheVariants as S
+use Rattle.ca_meaning.specs.Cost.{cost}
 use Rattle.ca_meaning.specs.Rest.{Rest}
-use Rattle.ca_meaning.specs.Legal.{Legal}
-use Rattle.ca_meaning.specs.Ends.{IsEnded}
-use Rattle.ca_meaning.proofs.Running.{Runs, runs_opening, runs_print, runs_end}
+use Rattle.ca_meaning.specs.Legal.{Legal, GoesOn, is_end_of_main}
+use Rattle.ca_meaning.specs.Ends.{RunEnd, ended, faulted, limit, HasEnd, IsEnded, IsFaulted, EndsWith, but_last}
+use Rattle.ca_meaning.proofs.Rests.{rests}
+use Rattle.ca_meaning.proofs.Running.{NoEnd, Runs, runs_opening, runs_print, runs_end, runs_fault}
 use Rattle.ca_journal.specs.Events.{events}
 use Rattle.ca_run.specs.Printing.{is_printing, printed_line}
+use Rattle.ca_run.specs.Top.{EndLine}
+use Rattle.ca_run.specs.declared.run.MainEnd.{MainEnd}
+use Rattle.ca_run.specs.declared.run.MainEnd.TheVariants as M
+use Rattle.ca_run.specs.Answers.{end_of, line_of_end}
+use Rattle.ca_run.specs.Over.{ending_of, end_at}
 
 map-snoc : (es : List Event) (e : Event) → map event_view (es ++ e ∷ []) ≡ map event_view es ++ event_view e ∷ []
 map-snoc [] e = refl
@@ -29,11 +40,30 @@ pub events-push : (j k : Seq Event) (e : Event) → list k ≡ list j ++ e ∷ [
 events-push j k e h = ap (map event_view) h ∙ map-snoc (list j) e
 
 pub view-Nil : view Nil ≡ nil
-view-Nil = refl
+view-Nil = search (rules, the_lemmas)
 
--- a body of served forms stands at no operation but a Print
-pub prints_at : (b : BodyView) (w : WantView) → IsServedAt (at b) → at b ≡ at_op w → is_printing w.op ≡ true
-prints_at b w s h = let k : IsServedAt (at_op w) = subst IsServedAt h s in ap is_printing k.1
+cost-snoc : (es : List EventView) (e : EventView) → cost (es ++ e ∷ []) ≡ cost es + cost_of e
+cost-snoc [] e = omega arith
+cost-snoc (f ∷ es) e = let h = cost-snoc es e in omega (arith, h)
+
+but_last-snoc : (es : List EventView) (e : EventView) → but_last (es ++ e ∷ []) ≡ es
+but_last-snoc [] e = refl
+but_last-snoc (f ∷ []) e = refl
+but_last-snoc (f ∷ (g ∷ es)) e = ap (λ l. f ∷ l) (but_last-snoc (g ∷ es) e)
+
+no_end_last : (es : List EventView) (e : EventView) → NoEnd (es ++ e ∷ []) → is_end_of_main e ≡ false
+no_end_last [] e h = h.0
+no_end_last (f ∷ es) e h = no_end_last es e h.1
+
+no_end_goes : (es : List EventView) → NoEnd es → GoesOn es
+no_end_goes [] h = tt
+no_end_goes (e ∷ []) h = tt
+no_end_goes (e ∷ (f ∷ es)) h = (h.0, no_end_goes (f ∷ es) h.1)
+
+-- where no event ends the main text, it has neither ended nor faulted
+no_end_open : (es : List EventView) → NoEnd es → (IsEnded es → ⊥) × (IsFaulted es → ⊥)
+no_end_open es h = (λ e. let k : true ≡ false = no_end_last e.0 (over 0 Ended) (subst NoEnd e.1 h) in cc,
+    λ e. let k : true ≡ false = no_end_last e.3.0 (over 0 (Faulted e.0 e.1 e.2)) (subst NoEnd e.3.1 h) in cc)
 
 printing-line : (op : OpView) → is_printing op ≡ true → op ≡ printing (printed_line op)
 printing-line (printing line) h = refl
@@ -46,26 +76,67 @@ printing-line (closing v) h = cc
 printing-line (registering r vs) h = cc
 printing-line (posting v w) h = cc
 
-pub begins : (program : ProgramView) (start b : BodyView) (j : Seq Event) → list j ≡ [] → start ≡ new_body program.main → Rest start b → Runs program (events j) b
+pub begins : (program : ProgramView) (start b : BodyView) (j : Seq Event) → list j ≡ [] → start ≡ new_body program.main → Rest program start b → Runs program (events j) b
 begins program start b j e s r =
-    subst (λ es. Runs program es b) (sym (ap (map event_view) e)) (runs_opening program b (subst (λ x. Rest x b) s r))
+    subst (λ es. Runs program es b) (sym (ap (map event_view) e)) (runs_opening program b (subst (λ x. Rest program x b) s r))
 
-pub prints_on : (program : ProgramView) (j k : Seq Event) (e : Event) (b filled c : BodyView) (w : WantView) (answer : Tree) → Runs program (events j) b → IsServedAt (at b) → at b ≡ at_op w → list k ≡ list j ++ e ∷ [] → event_view e ≡ printed 0 (printed_line w.op) → answer ≡ nil → filled ≡ fill answer b → Rest filled c → Runs program (events k) c
-prints_on program j k e b filled c w answer runs served here push is nothing fills rest =
-    let op : w.op ≡ printing (printed_line w.op) = printing-line w.op (prints_at b w served here) in
-    let stands : at b ≡ at_op (record { op = printing (printed_line w.op); place = w.place }) = here ∙ ap (λ o. at_op (record { op = o; place = w.place })) op in
-    let rested : Rest (fill nil b) c = subst (λ x. Rest x c) (fills ∙ ap (λ a. fill a b) nothing) rest in
+-- what a print leaves, whatever the body comes to
+printed_on : (program : ProgramView) (j k : Seq Event) (e : Event) (b c : BodyView) (w : WantView) → Runs program (events j) b → is_printing w.op ≡ true → at b ≡ at_op w → list k ≡ list j ++ e ∷ [] → event_view e ≡ printed 0 (printed_line w.op) → Rest program (fill nil b) c → Runs program (events k) c
+printed_on program j k e b c w runs prints stands push is rest =
+    let op : w.op ≡ printing (printed_line w.op) = printing-line w.op prints in
+    let there : at b ≡ at_op (record { op = printing (printed_line w.op); place = w.place }) = stands ∙ ap (λ o. at_op (record { op = o; place = w.place })) op in
     subst (λ es. Runs program es c) (sym (events-push j k e push ∙ ap (λ x. events j ++ x ∷ []) is))
-    (runs_print program (events j) b c (printed_line w.op) w.place runs stands rested)
+    (runs_print program (events j) b c (printed_line w.op) w.place runs there rest)
 
-ended_when : (a : At) → a ≢ local → IsServedAt a → stand_of a ≢ AtOp → (v : Tree) × (a ≡ ended v)
-ended_when local h k g = absurd (h refl)
-ended_when (at_op w) h k g = absurd (g refl)
-ended_when (ended v) h k g = (v, refl)
-ended_when (faulted x p) h k g = absurd k
-ended_when nowhere h k g = absurd k
+pub prints_on : (program : ProgramView) (j k : Seq Event) (e : Event) (b filled c : BodyView) (w : WantView) (answer : Tree) → Runs program (events j) b → is_printing w.op ≡ true → at b ≡ at_op w → list k ≡ list j ++ e ∷ [] → event_view e ≡ printed 0 (printed_line w.op) → answer ≡ nil → filled ≡ fill answer b → Rest program filled c → Runs program (events k) c
+prints_on program j k e b filled c w answer runs prints stands push is nothing fills rest =
+    printed_on program j k e b c w runs prints stands push is (subst (λ x. Rest program x c) (fills ∙ ap (λ a. fill a b) nothing) rest)
 
-pub ends : (program : ProgramView) (j k : Seq Event) (e : Event) (b : BodyView) → Runs program (events j) b → at b ≢ local → IsServedAt (at b) → stand_of (at b) ≢ AtOp → list k ≡ list j ++ e ∷ [] → event_view e ≡ over 0 Ended → Legal program (events k) × IsEnded (events k)
-ends program j k e b runs rested served no_op push is =
-    let v = ended_when (at b) rested served no_op in
-    subst (λ es. Legal program es × IsEnded es) (sym (events-push j k e push ∙ ap (λ x. events j ++ x ∷ []) is)) (runs_end program (events j) b v.0 runs v.1)
+-- the cost with one event more
+pub costs_on : (j k : Seq Event) (e : Event) (n m : ℕ) → list k ≡ list j ++ e ∷ [] → n ≡ cost (events j) → m ≡ n + cost_of (event_view e) → m ≡ cost (events k)
+costs_on j k e n m push is more = more ∙ ap (λ x. x + cost_of (event_view e)) is ∙ sym (cost-snoc (events j) (event_view e)) ∙ sym (ap cost (events-push j k e push))
+
+-- A run that has come to its budget.
+pub at_limit : (program : ProgramView) (budget : ℕ) (j k : Seq Event) (e : Event) (b : BodyView) (w : WantView) → Runs program (events j) b → is_printing w.op ≡ true → at b ≡ at_op w → list k ≡ list j ++ e ∷ [] → event_view e ≡ printed 0 (printed_line w.op) → cost (events j) < budget → budget ≤ cost (events k) → Legal program (events k) × HasEnd program budget (events k) limit
+at_limit program budget j k e b w runs prints stands push is within past =
+    let c = rests program (fill nil b) in
+    let r = printed_on program j k e b c.0 w runs prints stands push is c.1 in
+    let before : but_last (events k) ≡ events j = ap but_last (events-push j k e push) ∙ but_last-snoc (events j) (event_view e) in
+    (record { state = r.state; reaches = r.reaches; goes_on = no_end_goes (events k) r.no_end },
+     (subst (λ es. cost es < budget) (sym before) within, no_end_open (events k) r.no_end, past))
+
+-- where the main text is over
+over_when : (a : At) → a ≢ local → a ≢ nowhere → stand_of a ≢ S.AtOp → ((v : Tree) × (a ≡ ended_at v)) ⊎ ((f : FaultKind) × (p : Place) × (a ≡ faulted_at f p))
+over_when local h n k = absurd (h refl)
+over_when (at_op w) h n k = absurd (k refl)
+over_when (ended_at v) h n k = inl (v, refl)
+over_when (faulted_at f p) h n k = inr (f, p, refl)
+over_when nowhere h n k = absurd (n refl)
+
+-- A run that has come to the main text's end, or to its fault.
+pub ends : (program : ProgramView) (budget : ℕ) (j k : Seq Event) (end : MainEnd) (b : BodyView) → Runs program (events j) b → at b ≢ local → at b ≢ nowhere → stand_of (at b) ≢ S.AtOp → cost (events j) < budget → events k ≡ events j ++ over 0 (ending_of end) ∷ [] → end ≡ end_at (stand_of (at b)) → Legal program (events k) × (HasEnd program budget (events k) (end_of end) × EndLine (events k) (end_of end) (line_of_end end))
+ends program budget j k end b runs rested there no_op within push is = by (over_when (at b) rested there no_op)
+  where
+    before : but_last (events j ++ over 0 (ending_of end) ∷ []) ≡ events j
+    before = but_last-snoc (events j) (over 0 (ending_of end))
+    by_end : (v : Tree) → at b ≡ ended_at v → Legal program (events k) × (HasEnd program budget (events k) (end_of end) × EndLine (events k) (end_of end) (line_of_end end))
+    by_end v e =
+        let which : end ≡ M.Ended = is ∙ ap (λ a. end_at (stand_of a)) e in
+        let all : events k ≡ events j ++ over 0 Ended ∷ [] = push ∙ ap (λ x. events j ++ over 0 (ending_of x) ∷ []) which in
+        let run = runs_end program (events j) b v runs e in
+        let last : but_last (events k) ≡ events j = ap but_last all ∙ but_last-snoc (events j) (over 0 Ended) in
+        (subst (Legal program) (sym all) run.0,
+         subst (λ x. HasEnd program budget (events k) (end_of x) × EndLine (events k) (end_of x) (line_of_end x)) (sym which)
+         ((subst (λ es. cost es < budget) (sym last) within, (events j, all)), refl))
+    by_fault : (f : FaultKind) (p : Place) → at b ≡ faulted_at f p → Legal program (events k) × (HasEnd program budget (events k) (end_of end) × EndLine (events k) (end_of end) (line_of_end end))
+    by_fault f p e =
+        let which : end ≡ M.Faulted f p = is ∙ ap (λ a. end_at (stand_of a)) e in
+        let all : events k ≡ events j ++ over 0 (Faulted f p None) ∷ [] = push ∙ ap (λ x. events j ++ over 0 (ending_of x) ∷ []) which in
+        let run = runs_fault program (events j) b f p runs e in
+        let last : but_last (events k) ≡ events j = ap but_last all ∙ but_last-snoc (events j) (over 0 (Faulted f p None)) in
+        (subst (Legal program) (sym all) run,
+         subst (λ x. HasEnd program budget (events k) (end_of x) × EndLine (events k) (end_of x) (line_of_end x)) (sym which)
+         ((subst (λ es. cost es < budget) (sym last) within, (f, p, None, (events j, all))), (f, p, None, (events j, all), refl)))
+    by : ((v : Tree) × (at b ≡ ended_at v)) ⊎ ((f : FaultKind) × (p : Place) × (at b ≡ faulted_at f p)) → Legal program (events k) × (HasEnd program budget (events k) (end_of end) × EndLine (events k) (end_of end) (line_of_end end))
+    by (inl v) = by_end v.0 v.1
+    by (inr f) = by_fault f.0 f.1 f.2

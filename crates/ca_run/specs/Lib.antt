@@ -6,3 +6,5 @@ pub mod Standard
 pub mod Words
 pub mod Top
 pub mod Answers
+pub mod Served
+pub mod Over

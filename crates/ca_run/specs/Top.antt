@@ -2,40 +2,60 @@
 use Rattle.std.specs.Prelude.{◌≡◌, ℕ, ◌≤◌, ◌<◌, ◌⊎◌, List, [], ◌∷◌, ◌++◌, length, take, codes, decimal, Option, Some, None, MatchOption}
 use Rattle.std.specs.Io.KnownBytes.{Consumes, Appends, IsAtEnd}
 use Rattle.ca_value.specs.declared.seq.Seq.{Seq}
+use Rattle.ca_value.specs.declared.value.PortId.{PortId}
 use Rattle.ca_term.specs.declared.place.Place.{Place}
+use Rattle.ca_term.specs.declared.fault.Fault.{Fault as FaultKind}
 use Rattle.ca_term.specs.declared.event.Event.{Event}
+use Rattle.ca_term.specs.declared.event.Ending.TheVariants.{Faulted}
 use Rattle.ca_term.specs.Program.{ProgramView}
-use Rattle.ca_term.specs.Event.{EventView}
+use Rattle.ca_term.specs.Event.{EventView, over}
 use Rattle.ca_meaning.specs.Legal.{Legal}
-use Rattle.ca_meaning.specs.Ends.{IsEnded}
-use Rattle.ca_meaning.specs.Texts.{output}
+use Rattle.ca_meaning.specs.Ends.{RunEnd, ended, faulted, limit, stuck, HasEnd, EndsWith}
+use Rattle.ca_meaning.specs.Texts.{output, fault_line}
 use Rattle.ca_reader.specs.declared.error.ReadErrorKind.{ReadErrorKind}
 use Rattle.ca_reader.specs.Form.{FormTrees}
 use Rattle.ca_reader.specs.Kind.{kind_name}
 use Rattle.ca_reader.specs.Reads.{Reads, ReadFault}
-use Rattle.ca_run.specs.Early.{early_program}
+use Rattle.ca_run.specs.declared.words.Command.{Command}
 use Rattle.ca_journal.specs.Events.{events}
+use Rattle.ca_run.specs.Early.{early_program}
 
 -- the greatest length of a script, in bytes
 abbrev pub greatest_length : ℕ
 greatest_length = 1_048_576
 
--- the text is a script that is served, and the events are a run of its program that came to its end
-pub record RunOf (input : List ℕ) (journal : List EventView) : Type 0 where
-  pub forms : FormTrees
-  pub reads : Reads input forms
-  pub program : ProgramView
-  pub served : early_program forms ≡ Some program
-  pub legal : Legal program journal
-  pub ended : IsEnded journal
+-- what the events of a run may cost
+abbrev pub budget : ℕ
+budget = 1_000_000
 
--- the source was read to its end, is short enough, and the events are a run of what was read
-pub record Ran (before after : Option (List ℕ)) (journal : List EventView) : Type 0 where
-  pub input : List ℕ
+-- the text is a script that is served, and this is its program
+abbrev pub ProgramOf : List ℕ → ProgramView → Type 0
+ProgramOf input program = (forms : FormTrees) × Reads input forms × (early_program forms ≡ Some program)
+
+-- the events are a run of the text's program, which came to that end
+pub record RunOf (input : List ℕ) (journal : List EventView) (end : RunEnd) : Type 0 where
+  pub program : ProgramView
+  pub is_program : ProgramOf input program
+  pub legal : Legal program journal
+  pub has_end : HasEnd program budget journal end
+
+-- the line that tells of an end
+abbrev pub EndLine : List EventView → RunEnd → List ℕ → Type 0
+EndLine journal ended line = line ≡ []
+EndLine journal faulted line = (fault : FaultKind) × (place : Place) × (result : Option PortId)
+    × EndsWith journal (over 0 (Faulted fault place result)) × (line ≡ fault_line fault place)
+EndLine journal limit line = line ≡ codes "budget\n"
+EndLine journal stuck line = line ≡ codes "stuck\n"
+
+-- this was read; it is all that the source had, and no longer than a script may be
+pub record ReadWhole (before after : Option (List ℕ)) (input : List ℕ) : Type 0 where
   pub read : Consumes before after input
   pub whole : IsAtEnd after
   pub short : length input ≤ greatest_length
-  pub run : RunOf input journal
+
+-- the events are a run of what was read
+abbrev pub Ran : Option (List ℕ) → Option (List ℕ) → List EventView → RunEnd → Type 0
+Ran before after journal end = (input : List ℕ) × ReadWhole before after input × RunOf input journal end
 
 -- a line that names an error and its place
 abbrev pub error_line : List ℕ → Place → List ℕ
@@ -44,25 +64,46 @@ error_line name p = codes "error " ++ (name ++ (codes " at " ++ (decimal p.line 
 abbrev pub first_place : Place
 first_place = record { line = 1; column = 1 }
 
--- the text is refused with this line: its first fault, or it isn't served yet
+-- the line names the first fault of the text
+abbrev pub IsUnreadable : List ℕ → List ℕ → Type 0
+IsUnreadable input line = (k : ReadErrorKind) × (p : Place) × ReadFault input k p × (line ≡ error_line (kind_name k) p)
+
+-- the line says that the script isn't served yet
+abbrev pub IsUnserved : List ℕ → List ℕ → Type 0
+IsUnserved input line = (forms : FormTrees) × Reads input forms × (early_program forms ≡ None) × (line ≡ error_line (codes "NotYet") first_place)
+
+-- the text is refused with this line
 abbrev pub RefusedFor : List ℕ → List ℕ → Type 0
-RefusedFor input line =
-    ((k : ReadErrorKind) × (p : Place) × ReadFault input k p × (line ≡ error_line (kind_name k) p))
-    ⊎ ((forms : FormTrees) × Reads input forms × (early_program forms ≡ None) × (line ≡ error_line (codes "NotYet") first_place))
+RefusedFor input line = IsUnreadable input line ⊎ IsUnserved input line
 
 -- what was read is refused with this line: it is too long, or it is the whole source, short enough, and is refused
-pub record Refused (before after : Option (List ℕ)) (line : List ℕ) : Type 0 where
-  pub input : List ℕ
-  pub read : Consumes before after input
-  pub cause : ((greatest_length < length input) × (line ≡ error_line (codes "TooLong") first_place)) ⊎ (IsAtEnd after × (length input ≤ greatest_length) × RefusedFor input line)
+abbrev pub Refused : Option (List ℕ) → Option (List ℕ) → List ℕ → Type 0
+Refused before after line = (input : List ℕ)
+    × ((Consumes before after input × (greatest_length < length input) × (line ≡ error_line (codes "TooLong") first_place))
+    ⊎ (ReadWhole before after input × RefusedFor input line))
 
 -- the line that says which words are admitted
 abbrev pub usage : List ℕ
 usage = codes "usage: run [--workers N] [--budget N] [--journal] / check / load N [--workers N]\n"
 
--- a prefix of a text was taken: that of a run, whose journal stands beside it, or a line with none
-pub record Partly (before after held taken : Option (List ℕ)) (journal : Option (Seq Event)) : Type 0 where
+-- What a run writes: what it prints, and the line of its end.
+abbrev pub RunText : List EventView → RunEnd → List ℕ → Type 0
+RunText journal end text = (line : List ℕ) × EndLine journal end line × (text ≡ output journal ++ line)
+
+-- A run of what was read came to that end; its journal is handed back, and its whole text was taken.
+abbrev pub Completed : Option (List ℕ) → Option (List ℕ) → Option (List ℕ) → Option (List ℕ) → Option (Seq Event) → RunEnd → Type 0
+Completed before after held taken journal end = MatchOption journal ⊥ (λ j.
+    Ran before after (events j) end × ((text : List ℕ) × RunText (events j) end text × Appends held taken text))
+
+-- the text of an answer without a run: the usage line, or that of a refusal
+abbrev pub Told : Option Command → Option (List ℕ) → Option (List ℕ) → List ℕ → Type 0
+Told None before after text = text ≡ usage
+Told (Some command) before after text = Refused before after text
+
+-- a prefix of a text was taken: that of a run, whose journal is handed back, or another with none
+pub record Partly (command : Option Command) (before after held taken : Option (List ℕ)) (journal : Option (Seq Event)) : Type 0 where
   pub text : List ℕ
   pub count : ℕ
   pub prefix : Appends held taken (take count text)
-  pub source : MatchOption journal ((text ≡ usage) ⊎ Refused before after text) (λ j. (text ≡ output (events j)) × Ran before after (events j))
+  pub source : MatchOption journal (Told command before after text)
+    (λ j. (end : RunEnd) × Ran before after (events j) end × RunText (events j) end text)

@@ -1,12 +1,13 @@
-ghost use Rattle.std.specs.Prelude.{◌≡◌, IfOk};
+ghost use Rattle.std.specs.Prelude.{◌≡◌, ◌++◌, IfOk};
 ghost use Rattle.ca_value.specs.Seq.{list};
+ghost use Rattle.ca_meaning.specs.Texts.{output};
+ghost use Rattle.ca_journal.specs.Events.{events};
 ghost use Rattle.ca_run.specs.Top.{error_line};
-ghost use Rattle.ca_run.specs.Answers.{answer_text, refusal_line, Judged};
+ghost use Rattle.ca_run.specs.Answers.{answer_text, line_of_end, refusal_line, Judged};
 
+use crate::run::{BUDGET, MainEnd, MainRun, run_main};
+use ca_journal::output::{append_fault, output};
 use crate::early::{EarlyError, early};
-use crate::run::run_main;
-use ca_journal::entry::Journal;
-use ca_journal::output::output;
 use ca_reader::error::{ReadError, ReadErrorKind};
 use ca_reader::read::read;
 use ca_term::place::Place;
@@ -14,13 +15,13 @@ use ca_value::memory::OutOfMemory;
 use ca_value::seq::Text;
 use std::alloc::Global;
 
-/// Why a script is refused.
+/// Why a script is refused, with the place where it is.
 #[derive(Clone, Copy, PartialEq, Eq, Debug)]
 pub enum Refusal {
     /// More bytes than a script may have.
     TooLong,
-    /// The first fault of the text, and its place.
-    Fault(ReadErrorKind, Place),
+    /// The first fault of the text.
+    Unreadable(ReadErrorKind, Place),
     /// A form that isn't served yet.
     NotYet,
 }
@@ -30,7 +31,7 @@ pub enum Refusal {
 pub enum Answer {
     Usage,
     Refused(Refusal),
-    Ran(Journal),
+    Ran(MainRun),
 }
 
 /// The run of a text, or why it is refused.
@@ -39,9 +40,9 @@ pub fn judge_text(alloc: Global, input: &[u8]) -> Result<Answer, OutOfMemory>
 {
     let forms = match read(alloc, input) {
         Ok(forms) => forms,
-        Err(ReadError::Fault(kind, place)) => return Ok(Answer::Refused(Refusal::Fault(
-            kind, place,
-        ))),
+        Err(ReadError::Fault(kind, place)) => {
+            return Ok(Answer::Refused(Refusal::Unreadable(kind, place)));
+        }
         Err(ReadError::OutOfMemory) => return Err(OutOfMemory),
     };
     let program = match early(alloc, &forms) {
@@ -49,7 +50,7 @@ pub fn judge_text(alloc: Global, input: &[u8]) -> Result<Answer, OutOfMemory>
         Err(EarlyError::NotYet) => return Ok(Answer::Refused(Refusal::NotYet)),
         Err(EarlyError::OutOfMemory) => return Err(OutOfMemory),
     };
-    Ok(Answer::Ran(run_main(alloc, &program)?.journal))
+    Ok(Answer::Ran(run_main(alloc, &program, BUDGET)?))
 }
 
 /// The text that is written for the answer.
@@ -62,8 +63,21 @@ pub fn text_of(alloc: Global, answer: &Answer) -> Result<Text, OutOfMemory>
             b"usage: run [--workers N] [--budget N] [--journal] / check / load N [--workers N]\n",
         ),
         Answer::Refused(refusal) => line_of(alloc, *refusal),
-        Answer::Ran(journal) => output(alloc, journal),
+        Answer::Ran(run) => text_of_run(alloc, run),
     }
+}
+
+// What the run prints, and then the line of its end.
+fn text_of_run(alloc: Global, run: &MainRun) -> Result<Text, OutOfMemory>
+    ensures { IfOk result (λ t. list t ≡ output (events run.now.journal) ++ line_of_end run.now.end) }
+{
+    let mut text = output(alloc, &run.journal)?;
+    match run.end {
+        MainEnd::Ended => {}
+        MainEnd::Faulted(fault, place) => append_fault(fault, place, &mut text)?,
+        MainEnd::Limit => text.append(b"budget\n")?,
+    }
+    Ok(text)
 }
 
 fn line_of(alloc: Global, refusal: Refusal) -> Result<Text, OutOfMemory>
@@ -72,7 +86,7 @@ fn line_of(alloc: Global, refusal: Refusal) -> Result<Text, OutOfMemory>
     let first = Place { line: 1, column: 1 };
     match refusal {
         Refusal::TooLong => error_line(alloc, "TooLong", first),
-        Refusal::Fault(kind, place) => error_line(alloc, kind.name(), place),
+        Refusal::Unreadable(kind, place) => error_line(alloc, kind.name(), place),
         Refusal::NotYet => error_line(alloc, "NotYet", first),
     }
 }

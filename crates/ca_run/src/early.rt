@@ -2,7 +2,7 @@ ghost use Rattle.std.specs.Prelude.{◌≡◌, ◌+◌, ◌<◌, ◌≤◌, ◌�
 ghost use Rattle.ca_value.specs.Seq.{list};
 ghost use Rattle.ca_term.specs.View.{kernel, kernels, bindings};
 ghost use Rattle.ca_term.specs.Program.{program_view};
-ghost use Rattle.ca_meaning.specs.Served.{IsServed};
+ghost use Rattle.ca_run.specs.Served.{first_unserved};
 ghost use Rattle.ca_reader.specs.Form.{form, group};
 ghost use Rattle.ca_reader.specs.declared.form.Bracket.TheVariants.{Round};
 ghost use Rattle.ca_reader.specs.View.{form_tree, form_trees};
@@ -132,7 +132,7 @@ fn number_of(letter: u8, names: &Seq<Name>) -> Option<u64>
 pub fn early(alloc: Global, forms: &Forms) -> Result<Program, EarlyError>
     ensures program { IfOk result (λ p. early_program (form_trees (list forms.now)) ≡ Some (program_view p)) }
     ensures not_yet { result ≡ Err EarlyError.NotYet → early_program (form_trees (list forms.now)) ≡ None }
-    ensures served { IfOk result (λ p. IsServed (program_view p).main) }
+    ensures served { IfOk result (λ p. first_unserved (program_view p) ≡ None) }
 {
     if !is_small(forms) {
         return Err(EarlyError::NotYet);

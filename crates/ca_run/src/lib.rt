@@ -5,7 +5,7 @@
 //! what it prints; its clauses are the headline and the cause of each status.
 //!
 //! Here also stands what serves until crates of its own do: which scripts are served (`early`), the run
-//! of a main text alone (`run`), and gates.
+//! of a main text alone, within its budget (`run`), and gates.
 //!
 //! Stands on `ca_value`, `ca_term`, `ca_meaning`, `ca_timers`, `ca_journal`, `ca_reader` and `itoa`. Start with `top` and
 //! `specs/Top.antt`, then `answer` and `run`.
@@ -23,3 +23,4 @@ pub mod standard;
 #[cfg(test)]
 mod tests;
 pub mod top;
+pub mod words;

@@ -1,17 +1,17 @@
-ghost use Rattle.std.specs.Prelude.{◌≡◌, ◌⊎◌, ◌≤◌, ℕ, List, ◌<◌, ◌+◌, ◌^◌, ◌↔◌, true, false, length, None, Some, Ok, Err, IsSome, IsTrue, MatchOption};
+ghost use Rattle.std.specs.Prelude.{◌≡◌, ◌≢◌, ◌⊎◌, ◌≤◌, ℕ, List, true, false, codes, None, Some, Ok, Err, IsSome};
 ghost use Rattle.std.specs.Io.KnownBytes.{Appends};
-ghost use Rattle.ca_value.specs.Seq.{list};
-ghost use Rattle.ca_meaning.specs.Texts.{output};
+ghost use Rattle.ca_meaning.specs.Ends.{ended, faulted, limit};
 ghost use Rattle.ca_timers.specs.Causes.{Rose};
-ghost use Rattle.ca_run.specs.Words.{IsRun};
-ghost use Rattle.ca_journal.specs.Events.{events};
-ghost use Rattle.ca_run.specs.Top.{Ran, Refused, Partly, usage};
-ghost use Rattle.ca_run.specs.Answers.{answer_text, status_of, journal_of, refusal_line, AnswersTo};
+ghost use Rattle.ca_run.specs.Words.{command_in};
+ghost use Rattle.ca_run.specs.Top.{Completed, Refused, Partly, usage};
+ghost use Rattle.ca_run.specs.Answers.{status_of, journal_of, AnswersTo};
 ghost use Rattle.ca_run.specs.declared.answer.Answer.{Answer};
 
 use crate::answer::{Answer, Refusal, judge_text, text_of};
 use crate::device::{ReadError, Sink, Source, read_all, write_all};
 use crate::gate::Gate;
+use crate::run::MainEnd;
+use crate::words::{Command, read_words};
 use ca_journal::entry::Journal;
 use ca_timers::clock::Clock;
 use std::alloc::Global;
@@ -28,33 +28,18 @@ pub struct Finish {
     pub journal: Option<Journal>,
 }
 
-fn is_run(words: &[String]) -> bool
-    ensures { IsTrue result ↔ IsRun words.now }
-{
-    match words {
-        [word] => is_text(word.as_str(), "run"),
-        _ => false,
-    }
-}
-
-fn is_text(word: &str, text: &str) -> bool
-    ensures { IsTrue result ↔ (word.now ≡ text.now) }
-{
-    word == text
-}
-
 // What the words and the source come to.
-fn judge<S: Source>(alloc: Global, words: &[String], source: &mut S) -> Result<Answer, ReadError>
-    ensures usage { result ≡ Ok Answer.Usage → IsRun words.now → ⊥ }
-    ensures unread { (IsRun words.now → ⊥) → source.new ≡ source.old }
-    ensures admitted { (IsRun words.now → ⊥) → result ≡ Ok Answer.Usage }
-    ensures answers { (a : Answer) → result ≡ Ok a → AnswersTo (S.left source.old) (S.left source.new) a }
+#[tactic(auto, using(crate::proofs::Judgements::answers_by_text))]
+fn judge<S: Source>(alloc: Global, asked: Option<Command>, source: &mut S) -> Result<Answer, ReadError>
+    ensures unread { asked ≡ None → source.new ≡ source.old }
+    ensures admitted { asked ≡ None → result ≡ Ok Answer.Usage }
+    ensures answers { (a : Answer) → result ≡ Ok a → AnswersTo asked (S.left source.old) (S.left source.new) a }
     ensures later { S.faults source.old ≤ S.faults source.new }
     ensures broken { result ≡ Err ReadError.Broken → Rose (S.faults source.old) (S.faults source.new) }
 {
-    if !is_run(words) {
+    let Some(Command::Run) = asked else {
         return Ok(Answer::Usage);
-    }
+    };
     let input = read_all(alloc, source, GREATEST_LENGTH)?;
     if input.len() > GREATEST_LENGTH {
         return Ok(Answer::Refused(Refusal::TooLong));
@@ -68,8 +53,9 @@ fn judge<S: Source>(alloc: Global, words: &[String], source: &mut S) -> Result<A
 /// Reads the words and the source, runs the script and writes what it prints.
 ///
 /// The words are those after the program's name. The text is made whole, and room for it in the sink,
-/// before the first write. Status 0 is a run to the main text's end, 1 wrong words, 2 a refused script,
-/// 6 a failed source, 7 a failed sink and 8 want of memory.
+/// before the first write. Status 0 is a run to the main text's end, 1 wrong words, 2 a refused script, 3 a
+/// fault of the main text, 5 a run that reached the budget of 1,000,000, 6 a failed source, 7 a failed sink and
+/// 8 want of memory.
 pub fn main_call<R: Threads + Wait + Sync, S: Source, K: Sink, C: Clock + Send, G: Gate + Sync>(
     _rt: &R,
     alloc: Global,
@@ -79,22 +65,26 @@ pub fn main_call<R: Threads + Wait + Sync, S: Source, K: Sink, C: Clock + Send, 
     clock: &mut C,
     _gate: &G,
 ) -> Finish
-    // The headline: a run of the script's text, in which no body is ever cut.
-    ensures ended { result.status ≡ 0 → MatchOption result.journal ⊥ (λ j. Ran (S.left source.old) (S.left source.new) (events j) × Appends (K.held sink.old) (K.held sink.new) (output (events j))) }
+    // The headline: a run of the script's text, in which no body is ever cut. It ends with the main text's end,
+    // a fault of the main text, or at its budget.
+    ensures ended { result.status ≡ 0 → Completed (S.left source.old) (S.left source.new) (K.held sink.old) (K.held sink.new) result.journal ended }
+    ensures faulted { result.status ≡ 3 → Completed (S.left source.old) (S.left source.new) (K.held sink.old) (K.held sink.new) result.journal faulted }
+    ensures limit { result.status ≡ 5 → Completed (S.left source.old) (S.left source.new) (K.held sink.old) (K.held sink.new) result.journal limit }
 
     // When each other status comes.
-    ensures usage { result.status ≡ 1 → (IsRun words.now → ⊥) × Appends (K.held sink.old) (K.held sink.new) usage }
-    ensures refused { result.status ≡ 2 → (line : List ℕ) × Refused (S.left source.old) (S.left source.new) line × Appends (K.held sink.old) (K.held sink.new) line }
+    ensures usage { result.status ≡ 1 → (command_in words.now ≡ None) × Appends (K.held sink.old) (K.held sink.new) usage }
+    ensures refused { result.status ≡ 2 → (line : List ℕ) × (command_in words.now ≡ Some Command.Run) × Refused (S.left source.old) (S.left source.new) line × Appends (K.held sink.old) (K.held sink.new) line }
     ensures read { result.status ≡ 6 → Rose (S.faults source.old) (S.faults source.new) }
     ensures write { result.status ≡ 7 → Rose (K.faults sink.old) (K.faults sink.new) }
-    ensures partial { result.status ≡ 7 → Partly (S.left source.old) (S.left source.new) (K.held sink.old) (K.held sink.new) result.journal }
-    ensures admitted { (IsRun words.now → ⊥) → (source.new ≡ source.old) × ((result.status ≡ 1) ⊎ ((result.status ≡ 7) ⊎ (result.status ≡ 8))) }
+    ensures partial { result.status ≡ 7 → Partly (command_in words.now) (S.left source.old) (S.left source.new) (K.held sink.old) (K.held sink.new) result.journal }
+    ensures admitted { command_in words.now ≡ None → (source.new ≡ source.old) × ((result.status ≡ 1) ⊎ ((result.status ≡ 7) ⊎ (result.status ≡ 8))) }
     ensures silent { (result.status ≡ 6) ⊎ (result.status ≡ 8) → K.held sink.new ≡ K.held sink.old }
-    ensures known { (result.status ≤ 2) ⊎ (6 ≤ result.status × result.status ≤ 8) }
-    ensures journal { IsSome result.journal → (result.status ≡ 0) ⊎ (result.status ≡ 7) }
+    ensures known { (result.status ≤ 3) ⊎ ((result.status ≡ 5) ⊎ (6 ≤ result.status × result.status ≤ 8)) }
+    ensures runs { (result.status ≡ 0) ⊎ ((result.status ≡ 3) ⊎ (result.status ≡ 5)) → command_in words.now ≡ Some Command.Run }
+    ensures journal { IsSome result.journal → (command_in words.now ≡ Some Command.Run) × ((result.status ≡ 0) ⊎ ((result.status ≡ 3) ⊎ ((result.status ≡ 5) ⊎ (result.status ≡ 7)))) }
     ensures unasked { clock.new ≡ clock.old }
 {
-    let answer = match judge(alloc, words, source) {
+    let answer = match judge(alloc, read_words(words), source) {
         Ok(answer) => answer,
         Err(ReadError::Broken) => return without_journal(6),
         Err(ReadError::OutOfMemory) => return without_journal(8),
@@ -125,12 +115,26 @@ fn close(answer: Answer, written: bool) -> Finish
     ensures done { written ≡ true → result.status ≡ status_of answer }
     ensures journal { result.journal ≡ journal_of answer }
 {
+    let status = if written { status_of(&answer) } else { 7 };
     match answer {
-        Answer::Usage => without_journal(if written { 1 } else { 7 }),
-        Answer::Refused(_) => without_journal(if written { 2 } else { 7 }),
-        Answer::Ran(journal) => Finish {
-            status: if written { 0 } else { 7 },
-            journal: Some(journal),
+        Answer::Ran(run) => Finish {
+            status,
+            journal: Some(run.journal),
+        },
+        Answer::Usage | Answer::Refused(_) => without_journal(status),
+    }
+}
+
+fn status_of(answer: &Answer) -> u8
+    ensures { result ≡ status_of answer.now }
+{
+    match answer {
+        Answer::Usage => 1,
+        Answer::Refused(_) => 2,
+        Answer::Ran(run) => match run.end {
+            MainEnd::Ended => 0,
+            MainEnd::Faulted(_, _) => 3,
+            MainEnd::Limit => 5,
         },
     }
 }

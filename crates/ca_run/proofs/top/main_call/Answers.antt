@@ -1,41 +1,103 @@
-use Rattle.std.proofs.Common.{◌≡◌, ℕ, take, true, false, is_ok, rules, refl, sym, ◌∙◌, arith}
-use Rattle.std.specs.Io.KnownBytes.{Appends}
-use Rattle.ca_run.specs.Answers.{answer_text, status_of}
-use Rattle.ca_run.proofs.Finishes.{on_ok, on_err, differ, written_when, unwritten_when, ended_of, refused_of, partly_of}
+use Rattle.std.proofs.Common.{◌≡◌, ◌<◌, ◌⊎◌, inl, inr, rules, refl, sym, ap, ◌∙◌, subst, arith, IsSome}
+use Rattle.ca_value.specs.declared.seq.Seq.{Seq}
+use Rattle.ca_term.specs.declared.event.Event.{Event}
+use Rattle.ca_run.specs.Words.{command_in}
+use Rattle.ca_run.specs.Answers.{answer_text, AnswersTo, journal_of, status_of}
+use Rattle.ca_run.specs.Top.{Completed, Partly}
+use Rattle.ca_meaning.specs.Ends.{ended, faulted, limit}
+use Rattle.ca_run.proofs.Finishes.{whole_text, part_text, ended_of, faulted_of, limit_of, refused_of, usage_of, partly_of, journal_when, asked_when, close_journal, close_asked}
 use Rattle.ca_run.proofs.top.main_call.Goals as goal
 
 pub returns-clause-ended : goal.returns-clause-ended
 returns-clause-ended g c = λ e.
     let a = c.in-Ok.answer in
-    let ne = differ 0 7 (omega arith) in
-    let yes : c.is_ok-written.result ≡ true = written_when c.is_ok-written.result c.close.result.status 0 c.close.ensures.lost e ne in
-    let ok : is_ok c.write_all.result ≡ true = sym c.is_ok-written.ensures.value ∙ yes in
+    let left = g.S.Source.left c.args.source.now in
+    let after = g.S.Source.left c.judge.new.source in
+    let held = g.K.Sink.held c.args.sink.now in
+    let taken = g.K.Sink.held c.write_all.new.sink in
+    let answers : AnswersTo (command_in c.args.words.now) left after a = subst (λ q. AnswersTo q left after a) c.read_words.ensures (c.in-Ok.ensures.answers a refl) in
     let words : c.as_slice.result.now ≡ answer_text a = search rules in
-    let held = c.reserve.ensures.held in
-    let all : Appends (g.K.Sink.held c.reserve.new.self) (g.K.Sink.held c.write_all.new.sink) c.as_slice.result.now = on_ok c.write_all.result _ c.write_all.ensures.ok ok in
-    let got : Appends (g.K.Sink.held c.args.sink.now) (g.K.Sink.held c.write_all.new.sink) (answer_text a) = rw (← held, ← words) all in
-    let status : status_of a ≡ 0 = sym (c.close.ensures.done yes) ∙ e in
-    rw c.close.ensures.journal (ended_of (g.S.Source.left c.args.source.now) (g.S.Source.left c.judge.new.source) (g.K.Sink.held c.args.sink.now) (g.K.Sink.held c.write_all.new.sink) a status (c.in-Ok.ensures.answers a refl) got)
+    let text = whole_text c.write_all.result c.is_ok-written.result c.close.result.status 0 a held (g.K.Sink.held c.reserve.new.self) taken c.as_slice.result.now c.is_ok-written.ensures.value c.close.ensures.lost c.close.ensures.done c.write_all.ensures.ok words c.reserve.ensures.held e (omega arith) in
+    subst (λ j. Completed left after held taken j ended) (sym c.close.ensures.journal) (ended_of (command_in c.args.words.now) left after held taken a text.0 answers text.1)
+
+pub returns-clause-faulted : goal.returns-clause-faulted
+returns-clause-faulted g c = λ e.
+    let a = c.in-Ok.answer in
+    let left = g.S.Source.left c.args.source.now in
+    let after = g.S.Source.left c.judge.new.source in
+    let held = g.K.Sink.held c.args.sink.now in
+    let taken = g.K.Sink.held c.write_all.new.sink in
+    let answers : AnswersTo (command_in c.args.words.now) left after a = subst (λ q. AnswersTo q left after a) c.read_words.ensures (c.in-Ok.ensures.answers a refl) in
+    let words : c.as_slice.result.now ≡ answer_text a = search rules in
+    let text = whole_text c.write_all.result c.is_ok-written.result c.close.result.status 3 a held (g.K.Sink.held c.reserve.new.self) taken c.as_slice.result.now c.is_ok-written.ensures.value c.close.ensures.lost c.close.ensures.done c.write_all.ensures.ok words c.reserve.ensures.held e (omega arith) in
+    subst (λ j. Completed left after held taken j faulted) (sym c.close.ensures.journal) (faulted_of (command_in c.args.words.now) left after held taken a text.0 answers text.1)
+
+pub returns-clause-limit : goal.returns-clause-limit
+returns-clause-limit g c = λ e.
+    let a = c.in-Ok.answer in
+    let left = g.S.Source.left c.args.source.now in
+    let after = g.S.Source.left c.judge.new.source in
+    let held = g.K.Sink.held c.args.sink.now in
+    let taken = g.K.Sink.held c.write_all.new.sink in
+    let answers : AnswersTo (command_in c.args.words.now) left after a = subst (λ q. AnswersTo q left after a) c.read_words.ensures (c.in-Ok.ensures.answers a refl) in
+    let words : c.as_slice.result.now ≡ answer_text a = search rules in
+    let text = whole_text c.write_all.result c.is_ok-written.result c.close.result.status 5 a held (g.K.Sink.held c.reserve.new.self) taken c.as_slice.result.now c.is_ok-written.ensures.value c.close.ensures.lost c.close.ensures.done c.write_all.ensures.ok words c.reserve.ensures.held e (omega arith) in
+    subst (λ j. Completed left after held taken j limit) (sym c.close.ensures.journal) (limit_of (command_in c.args.words.now) left after held taken a text.0 answers text.1)
+
+pub returns-clause-usage : goal.returns-clause-usage
+returns-clause-usage g c = λ e.
+    let a = c.in-Ok.answer in
+    let left = g.S.Source.left c.args.source.now in
+    let after = g.S.Source.left c.judge.new.source in
+    let held = g.K.Sink.held c.args.sink.now in
+    let taken = g.K.Sink.held c.write_all.new.sink in
+    let answers : AnswersTo (command_in c.args.words.now) left after a = subst (λ q. AnswersTo q left after a) c.read_words.ensures (c.in-Ok.ensures.answers a refl) in
+    let words : c.as_slice.result.now ≡ answer_text a = search rules in
+    let text = whole_text c.write_all.result c.is_ok-written.result c.close.result.status 1 a held (g.K.Sink.held c.reserve.new.self) taken c.as_slice.result.now c.is_ok-written.ensures.value c.close.ensures.lost c.close.ensures.done c.write_all.ensures.ok words c.reserve.ensures.held e (omega arith) in
+    usage_of (command_in c.args.words.now) left after held taken a text.0 answers text.1
 
 pub returns-clause-refused : goal.returns-clause-refused
 returns-clause-refused g c = λ e.
     let a = c.in-Ok.answer in
-    let ne = differ 2 7 (omega arith) in
-    let yes : c.is_ok-written.result ≡ true = written_when c.is_ok-written.result c.close.result.status 2 c.close.ensures.lost e ne in
-    let ok : is_ok c.write_all.result ≡ true = sym c.is_ok-written.ensures.value ∙ yes in
+    let left = g.S.Source.left c.args.source.now in
+    let after = g.S.Source.left c.judge.new.source in
+    let held = g.K.Sink.held c.args.sink.now in
+    let taken = g.K.Sink.held c.write_all.new.sink in
+    let answers : AnswersTo (command_in c.args.words.now) left after a = subst (λ q. AnswersTo q left after a) c.read_words.ensures (c.in-Ok.ensures.answers a refl) in
     let words : c.as_slice.result.now ≡ answer_text a = search rules in
-    let held = c.reserve.ensures.held in
-    let all : Appends (g.K.Sink.held c.reserve.new.self) (g.K.Sink.held c.write_all.new.sink) c.as_slice.result.now = on_ok c.write_all.result _ c.write_all.ensures.ok ok in
-    let got : Appends (g.K.Sink.held c.args.sink.now) (g.K.Sink.held c.write_all.new.sink) (answer_text a) = rw (← held, ← words) all in
-    let status : status_of a ≡ 2 = sym (c.close.ensures.done yes) ∙ e in
-    refused_of (g.S.Source.left c.args.source.now) (g.S.Source.left c.judge.new.source) (g.K.Sink.held c.args.sink.now) (g.K.Sink.held c.write_all.new.sink) a status (c.in-Ok.ensures.answers a refl) got
+    let text = whole_text c.write_all.result c.is_ok-written.result c.close.result.status 2 a held (g.K.Sink.held c.reserve.new.self) taken c.as_slice.result.now c.is_ok-written.ensures.value c.close.ensures.lost c.close.ensures.done c.write_all.ensures.ok words c.reserve.ensures.held e (omega arith) in
+    refused_of (command_in c.args.words.now) left after held taken a text.0 answers text.1
 
 pub returns-clause-partial : goal.returns-clause-partial
 returns-clause-partial g c = λ e.
     let a = c.in-Ok.answer in
-    let no : is_ok c.write_all.result ≡ false = sym c.is_ok-written.ensures.value ∙ unwritten_when c.is_ok-written.result c.close.result.status a c.close.ensures.done e in
-    let held = c.reserve.ensures.held in
-    let part : (n : ℕ) × Appends (g.K.Sink.held c.reserve.new.self) (g.K.Sink.held c.write_all.new.sink) (take n c.as_slice.result.now) = on_err c.write_all.result _ c.write_all.ensures.err no in
+    let left = g.S.Source.left c.args.source.now in
+    let after = g.S.Source.left c.judge.new.source in
+    let held = g.K.Sink.held c.args.sink.now in
+    let taken = g.K.Sink.held c.write_all.new.sink in
+    let answers : AnswersTo (command_in c.args.words.now) left after a = subst (λ q. AnswersTo q left after a) c.read_words.ensures (c.in-Ok.ensures.answers a refl) in
     let words : c.as_slice.result.now ≡ answer_text a = search rules in
-    let got : Appends (g.K.Sink.held c.args.sink.now) (g.K.Sink.held c.write_all.new.sink) (take part.0 (answer_text a)) = rw (← held, ← words) part.1 in
-    rw c.close.ensures.journal (partly_of (g.S.Source.left c.args.source.now) (g.S.Source.left c.judge.new.source) (g.K.Sink.held c.args.sink.now) (g.K.Sink.held c.write_all.new.sink) a part.0 (c.in-Ok.ensures.answers a refl) got)
+    let part = part_text c.write_all.result c.is_ok-written.result c.close.result.status a held (g.K.Sink.held c.reserve.new.self) taken c.as_slice.result.now c.is_ok-written.ensures.value c.close.ensures.done c.write_all.ensures.err words c.reserve.ensures.held e in
+    subst (Partly (command_in c.args.words.now) left after held taken) (sym c.close.ensures.journal) (partly_of (command_in c.args.words.now) left after held taken a part.0 answers part.1)
+
+pub returns-clause-runs : goal.returns-clause-runs
+returns-clause-runs g c = λ e.
+    let a = c.in-Ok.answer in
+    let left = g.S.Source.left c.args.source.now in
+    let after = g.S.Source.left c.judge.new.source in
+    let held = g.K.Sink.held c.args.sink.now in
+    let taken = g.K.Sink.held c.write_all.new.sink in
+    let answers : AnswersTo (command_in c.args.words.now) left after a = subst (λ q. AnswersTo q left after a) c.read_words.ensures (c.in-Ok.ensures.answers a refl) in
+    let words : c.as_slice.result.now ≡ answer_text a = search rules in
+    close_asked (command_in c.args.words.now) left after a c.is_ok-written.result c.close.result.status c.close.ensures.lost c.close.ensures.done answers e
+
+pub returns-clause-journal : goal.returns-clause-journal
+returns-clause-journal g c = λ j.
+    let a = c.in-Ok.answer in
+    let left = g.S.Source.left c.args.source.now in
+    let after = g.S.Source.left c.judge.new.source in
+    let held = g.K.Sink.held c.args.sink.now in
+    let taken = g.K.Sink.held c.write_all.new.sink in
+    let answers : AnswersTo (command_in c.args.words.now) left after a = subst (λ q. AnswersTo q left after a) c.read_words.ensures (c.in-Ok.ensures.answers a refl) in
+    let words : c.as_slice.result.now ≡ answer_text a = search rules in
+    close_journal (command_in c.args.words.now) left after a c.is_ok-written.result c.close.result.status c.close.ensures.lost c.close.ensures.done answers (subst (IsSome {T = Seq Event}) c.close.ensures.journal j)
