@@ -51,7 +51,23 @@ SuitsSystem known Feed = Unit {0}
 SuitsSystem known (Job xf f) = IsApplied known f
 SuitsSystem known Collect = Unit {0}
 
--- a head over so many operands, where a `recur` takes as many values as the target says, or has none
+-- A head over so many operands, where a `recur` takes as many values as the target says, or has none: what
+-- can be told without the program.
+abbrev pub IsOrderly : Option ℕ → Head → ℕ → Type 0
+IsOrderly target Recur k = target ≡ Some k
+IsOrderly target (Builtin b) k = IsTrue (admits b k)
+IsOrderly target (Call n) k = Unit {0}
+IsOrderly target Take k = Unit {0}
+IsOrderly target Put k = Unit {0}
+IsOrderly target (Alts options) k = Unit {0}
+IsOrderly target (Make kind) k = Unit {0}
+IsOrderly target (Spawn kind) k = Unit {0}
+IsOrderly target Close k = Unit {0}
+IsOrderly target (Register name) k = Unit {0}
+IsOrderly target Print k = Unit {0}
+IsOrderly target Post k = Unit {0}
+
+-- the same, and what it names is there
 abbrev pub Suits : Known → Option ℕ → Head → ℕ → Type 0
 Suits known target Recur k = target ≡ Some k
 Suits known target (Builtin b) k = IsTrue (admits b k)
@@ -67,32 +83,32 @@ Suits known target (Register name) k = Unit {0}
 Suits known target Print k = Unit {0}
 Suits known target Post k = Unit {0}
 
--- each `recur`, builtin, call and new task in the term suits; a tail position has the target of the whole
+-- each head in the term suits; a tail position has the target of the whole
 abbrev mutual
-  pub Fits : Known → Option ℕ → Kernel → Type 0
-  Fits known target (const v) = Unit {0}
-  Fits known target (var n) = Unit {0}
-  Fits known target (branch c a b) = Fits known None c × Fits known target a × Fits known target b
-  Fits known target (bind bs body) = FitBindings known bs × Fits known target body
-  Fits known target (loop fs bs body) = FitBindings known bs × Fits known (Some (length fs + count_bindings bs)) body
-  Fits known target (seq ts) = FitsInOrder known target ts
-  Fits known target (frame body) = Fits known None body
-  Fits known target (turn names text now) = Fits known (Some (length names)) text × Fits known (Some (length names)) now
-  Fits known target (apply h ts p) = Suits known target h (count_terms ts) × FitTerms known ts
+  pub Fits : (Option ℕ → Head → ℕ → Type 0) → Option ℕ → Kernel → Type 0
+  Fits S target (const v) = Unit {0}
+  Fits S target (var n) = Unit {0}
+  Fits S target (branch c a b) = Fits S None c × Fits S target a × Fits S target b
+  Fits S target (bind bs body) = FitBindings S bs × Fits S target body
+  Fits S target (loop fs bs body) = FitBindings S bs × Fits S (Some (length fs + count_bindings bs)) body
+  Fits S target (seq ts) = FitInOrder S target ts
+  Fits S target (frame body) = Fits S None body
+  Fits S target (turn names text now) = Fits S (Some (length names)) text × Fits S (Some (length names)) now
+  Fits S target (apply h ts p) = S target h (count_terms ts) × FitTerms S ts
 
-  pub FitTerms : Known → Kernels → Type 0
-  FitTerms known none = Unit {0}
-  FitTerms known (item t ts) = Fits known None t × FitTerms known ts
+  pub FitTerms : (Option ℕ → Head → ℕ → Type 0) → Kernels → Type 0
+  FitTerms S none = Unit {0}
+  FitTerms S (item t ts) = Fits S None t × FitTerms S ts
 
   -- the last one stands in tail position
-  pub FitsInOrder : Known → Option ℕ → Kernels → Type 0
-  FitsInOrder known target none = Unit {0}
-  FitsInOrder known target (item t none) = Fits known target t
-  FitsInOrder known target (item t (item u us)) = Fits known None t × FitsInOrder known target (item u us)
+  pub FitInOrder : (Option ℕ → Head → ℕ → Type 0) → Option ℕ → Kernels → Type 0
+  FitInOrder S target none = Unit {0}
+  FitInOrder S target (item t none) = Fits S target t
+  FitInOrder S target (item t (item u us)) = Fits S None t × FitInOrder S target (item u us)
 
-  pub FitBindings : Known → Bindings → Type 0
-  FitBindings known empty = Unit {0}
-  FitBindings known (binding n t bs) = Fits known None t × FitBindings known bs
+  pub FitBindings : (Option ℕ → Head → ℕ → Type 0) → Bindings → Type 0
+  FitBindings S empty = Unit {0}
+  FitBindings S (binding n t bs) = Fits S None t × FitBindings S bs
 
 -- a new name
 abbrev pub IsNew : ℕ → List ℕ → Type 0

@@ -1,10 +1,10 @@
 -- A program as plain data: its functions and its go bodies by number, and its main text.
-use Rattle.std.specs.Prelude.{◌≡◌, ℕ, zero, suc, List, [], ◌∷◌, map, length, All, Option, None, Bool, true}
+use Rattle.std.specs.Prelude.{◌≡◌, ℕ, suc, List, [], ◌∷◌, map, length, All, None, Bool, true}
 use Rattle.ca_value.specs.Seq.{list}
 use Rattle.ca_value.specs.declared.seq.Seq.{Seq}
 use Rattle.ca_term.specs.Kernel.{Kernel}
 use Rattle.ca_term.specs.Closed.{IsClosed}
-use Rattle.ca_term.specs.Fits.{Known, Fits, BindsAnew, IsPlain}
+use Rattle.ca_term.specs.Fits.{Known, Suits, Fits, BindsAnew, IsPlain}
 use Rattle.ca_term.specs.View.{kernel}
 use Rattle.ca_term.specs.declared.term.Term.{Term}
 use Rattle.ca_term.specs.declared.program.Procedure.{Procedure}
@@ -30,7 +30,7 @@ known_in plain p = record { functions = map arity p.functions; bodies = map arit
 pub record IsText (known : Known) (names : List ℕ) (t : Kernel) : Type 0 where
   pub bound : IsClosed names t
   pub anew : BindsAnew names t
-  pub fits : Fits known None t
+  pub fits : Fits (Suits known) None t
 
 abbrev pub IsProcedure : Known → ProcedureView → Type 0
 IsProcedure known t = IsText known t.parameters t.body
