@@ -5,3 +5,4 @@ pub mod Fits
 pub mod Program
 pub mod Operation
 pub mod Event
+pub mod Cost
