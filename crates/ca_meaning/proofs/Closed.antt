@@ -1,13 +1,11 @@
 -- A closed term stays closed.
-use Rattle.std.proofs.Common.{◌≡◌, ℕ, List, [], ◌∷◌, ◌⊎◌, inl, inr, refl, sym, ◌∙◌, Bool, true, false, cond, not, ◌==◌, eq-eqb}
+use Rattle.std.proofs.Common.{◌≡◌, ℕ, ◌≤◌, List, [], ◌∷◌, ◌++◌, length, ◌⊎◌, inl, inr, refl, sym, ap, subst, ◌∙◌, arith, Bool, true, false, cond, not, ◌==◌, eq-eqb}
 use Rattle.std.proofs.lemmas.Bool.{false≢true}
 use Rattle.ca_value.specs.Tree.{Tree}
-use Rattle.ca_term.specs.declared.head.Head.TheVariants.{Builtin}
-use Rattle.ca_term.specs.Kernel.{Kernel, Kernels, Bindings, Founds, const, var, branch, bind, loop, seq, frame, turn, apply, none, item, empty, binding, put, put_items, put_bindings}
+use Rattle.ca_term.specs.Kernel.{Kernel, Kernels, Bindings, Founds, const, var, branch, bind, loop, seq, frame, turn, apply, none, item, empty, binding, put, put_items, put_bindings, puts}
 use Rattle.ca_term.specs.Closed.{IsIn, behind, behind_found, IsClosed, AreClosed, AreClosedBindings}
 use Rattle.ca_meaning.specs.Redex.{redex, redex_items, replace, replace_items, is_value, value_of, all_values, is_ready_recur}
-use Rattle.ca_meaning.specs.Operands.{truth}
-use Rattle.ca_meaning.specs.Body.{contract}
+use Rattle.ca_meaning.specs.Started.{named, names_of}
 
 -- the names of ms but n are in ns
 abbrev Covers : ℕ → List ℕ → List ℕ → Type 0
@@ -54,7 +52,7 @@ mutual
   put-bindings n v empty ms ns c h = tt
   put-bindings n v (binding k t bs) ms ns c h = (put-closed n v t ms ns c h.0, put-bindings n v bs (k ∷ ms) (k ∷ ns) (covers_more n k ms ns c) h.1)
 
-choose : (b : Bool) (x y : Kernel) → IsClosed [] x → IsClosed [] y → IsClosed [] (cond b x y)
+pub choose : (b : Bool) (x y : Kernel) → IsClosed [] x → IsClosed [] y → IsClosed [] (cond b x y)
 choose true x y g h = g
 choose false x y g h = h
 
@@ -83,22 +81,95 @@ mutual
   redex-items none here h g = g
   redex-items (item t ts) here h g = choose (is_value t) (redex_items ts here) (redex t) (redex-items ts here h.1 g) (redex-closed t h.0)
 
-pub contract-closed : (t : Kernel) → IsClosed [] t → IsClosed [] (contract t)
-contract-closed (const v) h = tt
-contract-closed (var n) h = h
-contract-closed (branch c a b) h = choose (truth (value_of c)) a b h.1 h.2
-contract-closed (bind empty body) h = h.1
-contract-closed (bind (binding n t bs) body) h =
+-- a term that is closed among some names is closed among more
+abbrev Within : List ℕ → List ℕ → Type 0
+Within ms ns = (m : ℕ) → IsIn m ms → IsIn m ns
+
+within_more : (k : ℕ) (ms ns : List ℕ) → Within ms ns → Within (k ∷ ms) (k ∷ ns)
+within_more k ms ns w m (inl e) = inl e
+within_more k ms ns w m (inr i) = inr (w m i)
+
+within_behind : (bs : Bindings) (ms ns : List ℕ) → Within ms ns → Within (behind bs ms) (behind bs ns)
+within_behind empty ms ns w = w
+within_behind (binding k t bs) ms ns w = within_behind bs (k ∷ ms) (k ∷ ns) (within_more k ms ns w)
+
+within_found : (fs : Founds) (ms ns : List ℕ) → Within ms ns → Within (behind_found fs ms) (behind_found fs ns)
+within_found [] ms ns w = w
+within_found (f ∷ fs) ms ns w = within_found fs (f.0 ∷ ms) (f.0 ∷ ns) (within_more f.0 ms ns w)
+
+mutual
+  pub closed-among : (t : Kernel) (ms ns : List ℕ) → Within ms ns → IsClosed ms t → IsClosed ns t
+  closed-among (const v) ms ns w h = tt
+  closed-among (var n) ms ns w h = w n h
+  closed-among (branch c a b) ms ns w h = (closed-among c ms ns w h.0, closed-among a ms ns w h.1, closed-among b ms ns w h.2)
+  closed-among (bind bs body) ms ns w h = (bindings-among bs ms ns w h.0, closed-among body (behind bs ms) (behind bs ns) (within_behind bs ms ns w) h.1)
+  closed-among (loop fs bs body) ms ns w h = (bindings-among bs ms ns w h.0, closed-among body (behind bs (behind_found fs ms)) (behind bs (behind_found fs ns)) (within_behind bs (behind_found fs ms) (behind_found fs ns) (within_found fs ms ns w)) h.1)
+  closed-among (seq ts) ms ns w h = items-among ts ms ns w h
+  closed-among (frame body) ms ns w h = h
+  closed-among (turn names text now) ms ns w h = h
+  closed-among (apply f ts p) ms ns w h = items-among ts ms ns w h
+
+  items-among : (ts : Kernels) (ms ns : List ℕ) → Within ms ns → AreClosed ms ts → AreClosed ns ts
+  items-among none ms ns w h = tt
+  items-among (item t ts) ms ns w h = (closed-among t ms ns w h.0, items-among ts ms ns w h.1)
+
+  bindings-among : (bs : Bindings) (ms ns : List ℕ) → Within ms ns → AreClosedBindings ms bs → AreClosedBindings ns bs
+  bindings-among empty ms ns w h = tt
+  bindings-among (binding k t bs) ms ns w h = (closed-among t ms ns w h.0, bindings-among bs (k ∷ ms) (k ∷ ns) (within_more k ms ns w) h.1)
+
+-- with a value for each of its names a term is closed
+pub puts-closed : (fs : Founds) (t : Kernel) (ms : List ℕ) → ((m : ℕ) → IsIn m ms → IsIn m (names_of fs)) → IsClosed ms t → IsClosed [] (puts fs t)
+puts-closed [] t ms w h = closed-among t ms [] w h
+puts-closed (f ∷ fs) t ms w h = puts-closed fs (put f.0 f.1 t) (names_of fs) (λ m i. i) (put-closed f.0 f.1 t ms (names_of fs) w h)
+
+-- the names that have their values are those behind them
+found_in : (fs : Founds) (ns : List ℕ) (m : ℕ) → IsIn m (behind_found fs ns) → IsIn m (names_of fs) ⊎ IsIn m ns
+found_in [] ns m i = inr i
+found_in (f ∷ fs) ns m i = by (found_in fs (f.0 ∷ ns) m i) where
+  by : IsIn m (names_of fs) ⊎ IsIn m (f.0 ∷ ns) → IsIn m (names_of (f ∷ fs)) ⊎ IsIn m ns
+  by (inl j) = inl (inr j)
+  by (inr (inl e)) = inl (inl e)
+  by (inr (inr j)) = inr j
+
+found_names : (fs : Founds) (m : ℕ) → IsIn m (behind_found fs []) → IsIn m (names_of fs)
+found_names fs m i = by (found_in fs [] m i) where
+  by : IsIn m (names_of fs) ⊎ IsIn m [] → IsIn m (names_of fs)
+  by (inl j) = j
+  by (inr j) = absurd j
+
+behind_found-append : (fs : Founds) (n : ℕ) (v : Tree) (ns : List ℕ) → behind_found (fs ++ (n, v) ∷ []) ns ≡ n ∷ behind_found fs ns
+behind_found-append [] n v ns = refl
+behind_found-append (f ∷ fs) n v ns = behind_found-append fs n v (f.0 ∷ ns)
+
+behind-put : (n : ℕ) (v : Tree) (bs : Bindings) (ns : List ℕ) → behind (put_bindings n v bs) ns ≡ behind bs ns
+behind-put n v empty ns = refl
+behind-put n v (binding k t bs) ns = behind-put n v bs (k ∷ ns)
+
+-- a loop binds its next name, or runs
+pub bound-loop : (fs : Founds) (n : ℕ) (t : Kernel) (bs : Bindings) (body : Kernel) → IsClosed [] (loop fs (binding n t bs) body) → IsClosed [] (loop (fs ++ (n, value_of t) ∷ []) (put_bindings n (value_of t) bs) body)
+bound-loop fs n t bs body h =
+    let v = value_of t in
+    let c : Covers n (n ∷ []) [] = λ m i. i in (
+      put-bindings n v bs (n ∷ []) [] c h.0.1,
+      subst (λ ns. IsClosed ns body) (sym (behind-put n v bs (behind_found (fs ++ (n, v) ∷ []) []) ∙ ap (behind bs) (behind_found-append fs n v []))) h.1,
+    )
+
+pub bound-turn : (fs : Founds) (body : Kernel) → IsClosed [] (loop fs empty body) → IsClosed [] (turn (names_of fs) body (puts fs body))
+bound-turn fs body h = (closed-among body (behind_found fs []) (names_of fs) (found_names fs) h.1, puts-closed fs body (behind_found fs []) (found_names fs) h.1)
+
+pub bound-let : (n : ℕ) (t : Kernel) (bs : Bindings) (body : Kernel) → IsClosed [] (bind (binding n t bs) body) → IsClosed [] (bind (put_bindings n (value_of t) bs) (put n (value_of t) body))
+bound-let n t bs body h =
     let c : Covers n (n ∷ []) [] = λ m i. i in
     (put-bindings n (value_of t) bs (n ∷ []) [] c h.0.1, put-closed n (value_of t) body (behind bs (n ∷ [])) (behind (put_bindings n (value_of t) bs) []) (covers_behind n (value_of t) bs (n ∷ []) [] c) h.1)
-contract-closed (loop fs bs body) h = h
-contract-closed (seq none) h = tt
-contract-closed (seq (item t none)) h = h.0
-contract-closed (seq (item t (item u us))) h = h.1
-contract-closed (frame body) h = h
-contract-closed (turn ns text now) h = h
-contract-closed (apply (Builtin b) ts p) h = tt
-contract-closed (apply f ts p) h = h
+
+-- a text with enough values for its names
+names-named : (ns : List ℕ) (vs : List Tree) → length ns ≤ length vs → names_of (named ns vs) ≡ ns
+names-named [] vs h = refl
+names-named (n ∷ ns) [] h = absurd (omega arith)
+names-named (n ∷ ns) (v ∷ vs) h = ap (λ k. n ∷ k) (names-named ns vs (omega (arith, h)))
+
+pub named-closed : (ns : List ℕ) (vs : List Tree) (text : Kernel) → length ns ≤ length vs → IsClosed ns text → IsClosed [] (puts (named ns vs) text)
+named-closed ns vs text le h = puts-closed (named ns vs) text ns (λ m i. subst (IsIn m) (sym (names-named ns vs le)) i) h
 
 mutual
   pub replace-closed : (u t : Kernel) → IsClosed [] u → IsClosed [] t → IsClosed [] (replace u t)

@@ -27,22 +27,22 @@ abbrev pub main0 : BodyView
 main0 = new_body faulting.main
 
 abbrev pub main1 : BodyView
-main1 = later 2 (fill (port 1) main0)
+main1 = later faulting 2 (fill (port 1) main0)
 
 abbrev pub main2 : BodyView
-main2 = later 3 (fill nil main1)
+main2 = later faulting 3 (fill nil main1)
 
 abbrev pub main3 : BodyView
 main3 = fill nil main2
 
 abbrev pub main4 : BodyView
-main4 = later 2 (fill nil main3)
+main4 = later faulting 2 (fill nil main3)
 
 abbrev seed : SeedView
 seed = go 0 none 1 (at_column 8)
 
 abbrev pub task0 : BodyView
-task0 = later 1 (body_of (new_task faulting seed))
+task0 = later faulting 2 (body_of (new_task faulting seed))
 
 abbrev pub r : Channel
 r = new_channel fixed_buffer 1
@@ -73,7 +73,7 @@ abbrev pub s7 : State
 s7 = record s6 { tasks = update eqb s6.tasks 0 (Some (record (main_task main4) { mode = over })) }
 
 pub opens : Opening faulting s0
-opens = (script main0, (main0, walk 0 main0 refl, refl), refl)
+opens = (script main0, (main0, walk faulting 0 main0 refl, refl), refl)
 
 pub makes : Step faulting s0 (made 0 1 (fixed 1) None) s1
 makes = (main_task main0, s1.tasks, (refl, refl, (at_column 8, refl), refl), refl, refl, refl, goes faulting s0.tasks 0 (main_task main0) main0 (port 1) 2 refl (refl, (refl, refl)), refl)
@@ -90,7 +90,7 @@ starts = (
   refl,
   refl,
   goes faulting s1.tasks 0 (main_task main1) main1 nil 3 refl (refl, (refl, (refl, refl))),
-  (task0, walk 1 (body_of (new_task faulting seed)) (refl, refl), refl),
+  (task0, walk faulting 2 (body_of (new_task faulting seed)) (refl, (refl, refl)), refl),
   refl,
 )
 

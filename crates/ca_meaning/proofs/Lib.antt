@@ -1,10 +1,13 @@
 pub mod Redexes
+pub mod OperandLaws
 pub mod OpenTerms
 pub mod Closed
-pub mod Served
 pub mod Sizes
-pub mod Rests
+pub mod PutFits
+pub mod RedexFits
+pub mod Contracts
 pub mod Bodies
+pub mod Rests
 pub mod Waits
 pub mod Rows
 pub mod Fits
@@ -13,6 +16,7 @@ pub mod Effects
 pub mod Channels
 pub mod Tasks
 pub mod Soundness
+pub mod TaskBodies
 pub mod Running
 pub mod Walks
 pub mod Desks

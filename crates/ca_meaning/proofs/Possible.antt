@@ -28,7 +28,7 @@ use Rattle.ca_meaning.specs.TaskSteps.{moments, IsMoment, kind_of, result_of}
 use Rattle.ca_meaning.specs.Steps.{Step}
 use Rattle.ca_meaning.specs.Ends.{IsPossible}
 use Rattle.ca_meaning.specs.Sound.{Each, AllOwned, Sound}
-use Rattle.ca_meaning.specs.EndsLaw.{HasEvent, IsQuiet}
+use Rattle.ca_meaning.specs.EndsLaw.{HasEvent, IsScript, IsQuiet}
 use Rattle.ca_meaning.proofs.Rests.{rests}
 use Rattle.ca_meaning.proofs.Refusals.{or_none}
 
@@ -45,7 +45,7 @@ new_wait : (used : List ℕ) → is_among (above used) used ≡ false
 new_wait used = not_there used (above used) (omega arith)
 
 pub body_rests : (program : ProgramView) (b : TaskBody) → (c : TaskBody) × BodyRest program b c
-body_rests program (script b) = let r = rests b in (script r.0, (r.0, r.1, refl))
+body_rests program (script b) = let r = rests program b in (script r.0, (r.0, r.1, refl))
 body_rests program (system_task (unserved kind values place)) = (system_task (unserved kind values place), (unserved kind values place, refl, refl))
 
 pub goes_there : (program : ProgramView) (tasks : Tasks) (t : ℕ) (x : Task) (v : Tree) → (after : Tasks) × Goes program tasks t x v after
@@ -275,19 +275,16 @@ tick_there program s sound d ds e =
     let some : due m s.deadlines ≢ [] = (λ k. some_due d ds dm (ap (due m) (sym e) ∙ k)) in
     (ticked m (due m s.deadlines), record s { channels = shut_all (due m s.deadlines) s.channels; deadlines = open_after m s.deadlines; now = m }, (omega (arith, n), omega arith, refl, some, refl))
 
-pub stuck_quiet : (program : ProgramView) (s : State) → Sound s → (IsPossible program s → ⊥) → IsQuiet s
-stuck_quiet program s sound stuck = record {
-  no_task = λ t x there goes. task t x there goes (body_at x.body) refl;
+-- a script's text stands somewhere
+abbrev pub StandsSomewhere : TaskBody → Type 0
+StandsSomewhere b = IsScript b → body_at b ≢ nowhere
+
+pub stuck_quiet : (program : ProgramView) (s : State) → Sound s → ((t : ℕ) (x : Task) → s.tasks t ≡ Some x → StandsSomewhere x.body) → (IsPossible program s → ⊥) → IsQuiet s
+stuck_quiet program s sound somewhere stuck = record {
+  no_task = λ t x there goes is. let h = has_event program s sound t x there goes (somewhere t x there is) in stuck (h.0, h.1, h.2);
   no_settle = λ p c at. settle p c at (settle_row c (front Take p s.waits) (front Put p s.waits)) refl;
   no_deadline = deadline s.deadlines refl;
 } where
-  task : (t : ℕ) (x : Task) → s.tasks t ≡ Some x → x.mode ≡ running → (a : At) → body_at x.body ≡ a → body_at x.body ≡ nowhere
-  task t x there goes nowhere e = e
-  task t x there goes local e = absurd (sound.rested t x there e)
-  task t x there goes (at_op w) e = absurd (let h = has_event program s sound t x there goes (λ n. let k : at_op w ≡ nowhere = sym e ∙ n in cc) in stuck (h.0, h.1, h.2))
-  task t x there goes (ended v) e = absurd (let h = has_event program s sound t x there goes (λ n. let k : ended v ≡ nowhere = sym e ∙ n in cc) in stuck (h.0, h.1, h.2))
-  task t x there goes (faulted f p) e = absurd (let h = has_event program s sound t x there goes (λ n. let k : faulted f p ≡ nowhere = sym e ∙ n in cc) in stuck (h.0, h.1, h.2))
-
   settle : (p : ℕ) (c : Channel) → s.channels p ≡ Some c → (r : Settling) → settle_row c (front Take p s.waits) (front Put p s.waits) ≡ r → settle_row c (front Take p s.waits) (front Put p s.waits) ≡ unsettled
   settle p c at unsettled e = e
   settle p c at (settles side h v d) e = absurd (stuck (settle_there program s sound p c at side h v d e))
@@ -296,8 +293,13 @@ stuck_quiet program s sound stuck = record {
   deadline [] e = e
   deadline (d ∷ ds) e = absurd (stuck (tick_there program s sound d ds e))
 
+-- what stands somewhere is a script's text
+is_script : (b : TaskBody) → body_at b ≢ nowhere → IsScript b
+is_script (script b) ne = tt
+is_script (system_task (unserved kind values place)) ne = absurd (ne refl)
+
 runs_at : {G : Type 0} (s : State) → IsQuiet s → (t : ℕ) (x : Task) → s.tasks t ≡ Some x → x.mode ≡ running → (a : At) → body_at x.body ≡ a → (a ≡ nowhere → ⊥) → G
-runs_at s q t x there goes a e ne = absurd (ne (sym e ∙ q.no_task t x there goes))
+runs_at s q t x there goes a e ne = absurd (q.no_task t x there goes (is_script x.body (λ n. ne (sym e ∙ n))))
 
 stands_not : {G : Type 0} (s : State) → IsQuiet s → (t : ℕ) (op : OpView) (x : Task) → Stands s t op x → G
 stands_not s q t op x st = runs_at s q t x st.0 st.1 (at_op (record { op = op; place = st.2.0 })) st.2.1 (λ k. cc)
@@ -319,4 +321,4 @@ quiet_stuck program s s2 (registered t name args v) q x = stands_not s q t (regi
 quiet_stuck program s s2 (printed t line) q x = stands_not s q t (printing line) x.0 x.2
 quiet_stuck program s s2 (ticked m ports) q x = x.3 (sym x.2 ∙ ap (due m) q.no_deadline)
 quiet_stuck program s s2 (is_over t Ended) q x = runs_at s q t x.0 x.2.0 x.2.1 (ended x.1) x.3 (λ k. cc)
-quiet_stuck program s s2 (is_over t (Faulted fault place result)) q x = fault_not s (body_at x.0.body) (fault, place) (q.no_task t x.0 x.1.0 x.1.1) x.2
+quiet_stuck program s s2 (is_over t (Faulted fault place result)) q x = q.no_task t x.0 x.1.0 x.1.1 (is_script x.0.body (λ n. fault_not s (body_at x.0.body) (fault, place) n x.2))

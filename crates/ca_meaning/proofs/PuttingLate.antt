@@ -23,16 +23,16 @@ abbrev pub main0 : BodyView
 main0 = new_body putting_late.main
 
 abbrev pub main1 : BodyView
-main1 = later 1 (fill (port 1) main0)
+main1 = later putting_late 1 (fill (port 1) main0)
 
 abbrev pub main2 : BodyView
-main2 = later 1 (fill nil main1)
+main2 = later putting_late 1 (fill nil main1)
 
 abbrev pub main3 : BodyView
 main3 = fill (bool false) main2
 
 abbrev pub main4 : BodyView
-main4 = later 2 (fill nil main3)
+main4 = later putting_late 2 (fill nil main3)
 
 abbrev pub c : Channel
 c = new_channel no_buffer 0
@@ -63,7 +63,7 @@ abbrev pub put : BranchView
 put = put_of 1 (int (pos 1))
 
 pub opens : Opening putting_late s0
-opens = (script main0, (main0, walk 0 main0 refl, refl), refl)
+opens = (script main0, (main0, walk putting_late 0 main0 refl, refl), refl)
 
 pub makes : Step putting_late s0 (made 0 1 unbuffered None) s1
 makes = (main_task main0, s1.tasks, (refl, refl, (at_column 8, refl), refl), refl, refl, refl, goes putting_late s0.tasks 0 (main_task main0) main0 (port 1) 1 refl (refl, refl), refl)

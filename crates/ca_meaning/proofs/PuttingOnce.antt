@@ -27,32 +27,32 @@ abbrev pub main0 : BodyView
 main0 = new_body putting_once.main
 
 abbrev pub main1 : BodyView
-main1 = later 1 (fill (port 1) main0)
+main1 = later putting_once 1 (fill (port 1) main0)
 
 abbrev pub main2 : BodyView
-main2 = later 2 (fill (port 2) main1)
+main2 = later putting_once 2 (fill (port 2) main1)
 
 abbrev pub main3 : BodyView
-main3 = later 3 (fill nil main2)
+main3 = later putting_once 3 (fill nil main2)
 
 abbrev pub main4 : BodyView
 main4 = fill (int (pos 42)) main3
 
 abbrev pub main5 : BodyView
-main5 = later 2 (fill nil main4)
+main5 = later putting_once 2 (fill nil main4)
 
 abbrev pub seed : SeedView
 seed = go 0 (item (port 1) none) 2 (at_column 16)
 
 -- the go block's task, likewise
 abbrev pub task0 : BodyView
-task0 = later 1 (body_of (new_task putting_once seed))
+task0 = later putting_once 1 (body_of (new_task putting_once seed))
 
 abbrev pub task1 : BodyView
-task1 = later 4 (fill (bool true) task0)
+task1 = later putting_once 4 (fill (bool true) task0)
 
 abbrev pub task2 : BodyView
-task2 = later 2 (fill (bool true) task1)
+task2 = later putting_once 2 (fill (bool true) task1)
 
 abbrev pub task3 : BodyView
 task3 = fill nil task2
@@ -117,7 +117,7 @@ starts = (
   refl,
   refl,
   goes putting_once s2.tasks 0 (main_task main2) main2 nil 3 refl (refl, (refl, (refl, refl))),
-  (task0, walk 1 (body_of (new_task putting_once seed)) (refl, refl), refl),
+  (task0, walk putting_once 1 (body_of (new_task putting_once seed)) (refl, refl), refl),
   refl,
 )
 
@@ -125,7 +125,7 @@ pub waits : Step putting_once s3 (parked 0 1 (take_of 1 ∷ [])) s4
 waits = (main_task main3, taking (port 1), (refl, refl, (at_column 40, refl), refl), refl, refl, refl, refl, refl, refl)
 
 pub meets_it : Step putting_once s4 (met 1 0 Put 1 (int (pos 42)) 1 0) s5
-unfolding builtin_result
+unfolding builtin_result digits
 meets_it = (
   go_task 2 task0,
   putting (port 1) (int (pos 42)),
@@ -176,7 +176,7 @@ unfolding builtin_result
 main_ends = (main_task main5, nil, (refl, refl), refl, refl)
 
 pub opens : Opening putting_once s0
-opens = (script main0, (main0, walk 0 main0 refl, refl), refl)
+opens = (script main0, (main0, walk putting_once 0 main0 refl, refl), refl)
 
 pub legal : Legal putting_once put_and_take
 legal = record {

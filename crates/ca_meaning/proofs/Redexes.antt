@@ -2,11 +2,13 @@
 use Rattle.std.proofs.Common.{◌≡◌, List, [], ◌∷◌, ◌≢◌, refl, Bool, true, false, cond, not, rules, ◌&&◌, ◌||◌, ap}
 use Rattle.ca_value.specs.Seq.{list}
 use Rattle.ca_value.specs.declared.seq.Seq.{Seq}
-use Rattle.ca_term.specs.declared.term.Term.{Term, Do, the_lemmas}
+use Rattle.ca_term.specs.declared.term.Term.{Term, Do, Apply, the_lemmas}
 use Rattle.ca_term.specs.Kernel.{Kernel, Kernels, const, var, branch, bind, loop, seq, frame, turn, apply, none, item, empty, binding}
+use Rattle.ca_term.specs.declared.place.Place.{Place}
+use Rattle.ca_term.specs.declared.head.Head.{Head}
 use Rattle.ca_term.specs.View.{kernel, kernels}
 use Rattle.ca_meaning.specs.Redex.{redex, redex_items, is_value, all_values, is_ready_recur, replace, replace_items}
-use Rattle.ca_meaning.specs.Body.{contract}
+use Rattle.ca_meaning.specs.Body.{after_do}
 use Rattle.ca_meaning.proofs.Sizes.{redex_items-values}
 use Rattle.ca_meaning.specs.Parts.{is_open_sequence, is_whole}
 
@@ -77,6 +79,9 @@ all_values-open_sequence (item t (item v vs)) h = by (is_value t) h
     by true h = cc
     by false h = refl
 
-pub contract-several : (t : Term) (ts : List Term) → ts ≢ [] → contract (seq (kernels (t ∷ ts))) ≡ seq (kernels ts)
-contract-several t [] h = absurd (h refl)
-contract-several t (u ∷ us) h = refl
+pub after_do-several : (t : Term) (ts : List Term) → ts ≢ [] → after_do (kernels (t ∷ ts)) ≡ seq (kernels ts)
+after_do-several t [] h = absurd (h refl)
+after_do-several t (u ∷ us) h = refl
+
+pub kernel-Apply : (h : Head) (ts : Seq Term) (p : Place) → kernel (Apply h ts p) ≡ apply h (kernels (list ts)) p
+kernel-Apply h ts p = search (rules, the_lemmas)

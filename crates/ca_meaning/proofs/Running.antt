@@ -45,7 +45,7 @@ goes_on [] e h = tt
 goes_on (f ∷ []) e h = (h.0, tt)
 goes_on (f ∷ (g ∷ es)) e h = (h.0, goes_on (g ∷ es) e h.1)
 
-pub runs_opening : (program : ProgramView) (b : BodyView) → Rest (new_body program.main) b → Runs program [] b
+pub runs_opening : (program : ProgramView) (b : BodyView) → Rest program (new_body program.main) b → Runs program [] b
 runs_opening program b r =
     let s = opening_state (script b) in
     record {
@@ -55,7 +55,7 @@ runs_opening program b r =
       no_end = tt;
     }
 
-pub runs_print : (program : ProgramView) (es : List EventView) (b c : BodyView) (line : List ℕ) (p : Place) → Runs program es b → at b ≡ at_op (record { op = printing line; place = p }) → Rest (fill nil b) c → Runs program (es ++ printed 0 line ∷ []) c
+pub runs_print : (program : ProgramView) (es : List EventView) (b c : BodyView) (line : List ℕ) (p : Place) → Runs program es b → at b ≡ at_op (record { op = printing line; place = p }) → Rest program (fill nil b) c → Runs program (es ++ printed 0 line ∷ []) c
 runs_print program es b c line p r here rest =
     let tasks = update eqb r.state.tasks 0 (Some (runs None (script c))) in
     let s : State = record (r.state) { tasks = tasks } in

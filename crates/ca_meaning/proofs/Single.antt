@@ -20,7 +20,7 @@ use Rattle.ca_meaning.specs.Legal.{Reaches}
 use Rattle.ca_meaning.proofs.Rests.{one_rest}
 
 pub body_once : (program : ProgramView) (b c d : TaskBody) → BodyRest program b c → BodyRest program b d → c ≡ d
-body_once program (script b) c d r q = r.2 ∙ ap script (one_rest b r.0 q.0 r.1 q.1) ∙ sym q.2
+body_once program (script b) c d r q = r.2 ∙ ap script (one_rest program b r.0 q.0 r.1 q.1) ∙ sym q.2
 body_once program (system_task (unserved kind values place)) c d r q = r.2 ∙ ap system_task (r.1 ∙ sym q.1) ∙ sym q.2
 
 pub goes_once : (program : ProgramView) (tasks : Tasks) (t : ℕ) (x y : Task) (v w : Tree) (f g : Tasks) → x ≡ y → v ≡ w → Goes program tasks t x v f → Goes program tasks t y w g → f ≡ g

@@ -1,21 +1,58 @@
 -- What a step does to the size of a term.
-use Rattle.std.proofs.Common.{◌≡◌, ℕ, ◌+◌, ◌<◌, suc, refl, ap, Bool, true, false, cond, not, ◌&&◌, arith, Option, Some, None, Result, Ok, Err}
-use Rattle.ca_value.specs.Tree.{Tree}
+use Rattle.std.proofs.Common.{◌≡◌, ◌≢◌, ℕ, ◌+◌, ◌^◌, ◌<◌, suc, List, [], ◌∷◌, refl, ap, ◌∙◌, Bool, true, false, cond, not, ◌&&◌, ◌||◌, nat_le, leb-false, arith, Option, Some, None, Result, Ok, Err, ◌⊎◌, inl, inr}
+use Rattle.ca_value.specs.Tree.{Tree, text as line_text}
 use Rattle.ca_term.specs.declared.place.Place.{Place}
 use Rattle.ca_term.specs.declared.head.Head.{Head}
 use Rattle.ca_term.specs.declared.head.Head.TheVariants.{Recur, Builtin, Call, Take, Put, Alts, Make, Spawn, Close, Register, Print, Post}
 use Rattle.ca_term.specs.declared.fault.Fault.{Fault}
-use Rattle.ca_term.specs.Kernel.{Kernel, Kernels, Bindings, Founds, const, var, branch, bind, loop, seq, frame, turn, apply, none, item, empty, binding, put, put_items, put_bindings}
-use Rattle.ca_term.specs.Operation.{WantView, OpView, WhatView, putting, posting, spawning, registering}
+use Rattle.ca_term.specs.declared.fault.Fault.TheVariants.{Spun, TooDeep}
+use Rattle.ca_term.specs.Program.{ProgramView}
+use Rattle.ca_meaning.specs.declared.body.FaultAt.{FaultAt}
+use Rattle.ca_term.specs.Kernel.{Kernel, Kernels, Bindings, Founds, const, var, branch, bind, loop, seq, frame, turn, apply, none, item, empty, binding, put, put_items, put_bindings, puts}
+use Rattle.ca_term.specs.Operation.{OpView, WhatView, putting, posting, spawning, registering, printing}
 use Rattle.ca_meaning.specs.Redex.{redex, redex_items, replace, replace_items, is_value, value_of, values_of, all_values, is_ready_recur}
 use Rattle.ca_meaning.specs.Operands.{truth, first_of, second_of}
 use Rattle.ca_meaning.specs.Asking.{too_large, bad_alts, alts_of, made_of, bad_operands, seed_of, bad_arguments}
-use Rattle.ca_meaning.specs.Body.{local, at_op, asking, asking_to_make, contract, standing}
+use Rattle.ca_meaning.specs.Body.{BodyView, At, local, faulted, at, at_or, line_of, asking, asking_to_make, contract, standing, standing_turn, turns_after, depth_after, step}
+use Rattle.ca_meaning.specs.Parts.{is_whole}
 use Rattle.ca_meaning.specs.Size.{size_of, size_of_items, size_of_bindings}
+
+or-second : (a b : Bool) → b ≡ true → (a || b) ≡ true
+or-second true b e = refl
+or-second false b e = e
+
+whole-one : (v : Bool) (whole inside : Kernel) → (v ≡ true → is_whole whole ≡ true) → is_whole inside ≡ true → is_whole (cond v whole inside) ≡ true
+whole-one true whole inside f e = f refl
+whole-one false whole inside f e = e
 
 size-cond : (b : Bool) (n : ℕ) (v : Tree) → size_of (cond b (const v) (var n)) ≡ 1
 size-cond true n v = refl
 size-cond false n v = refl
+
+-- the redex of a redex is the whole of it
+mutual
+  pub whole-redex : (t : Kernel) → is_whole (redex t) ≡ true
+  whole-redex (const v) = refl
+  whole-redex (var n) = refl
+  whole-redex (branch c a b) = whole-one (is_value c) (branch c a b) (redex c) (λ e. e) (whole-redex c)
+  whole-redex (bind empty body) = refl
+  whole-redex (bind (binding n t bs) body) = whole-one (is_value t) (bind (binding n t bs) body) (redex t) (λ e. ap (λ b. not (not b)) e) (whole-redex t)
+  whole-redex (loop fs empty body) = refl
+  whole-redex (loop fs (binding n t bs) body) = whole-one (is_value t) (loop fs (binding n t bs) body) (redex t) (λ e. ap (λ b. not (not b)) e) (whole-redex t)
+  whole-redex (seq none) = refl
+  whole-redex (seq (item t none)) = refl
+  whole-redex (seq (item t (item u us))) = whole-one (is_value t) (seq (item t (item u us))) (redex t) (λ e. ap (λ b. not (not b)) e) (whole-redex t)
+  whole-redex (frame body) = whole-one (is_value body) (frame body) (redex body) (λ e. e) (whole-redex body)
+  whole-redex (turn ns text now) = whole-one (is_value now) (turn ns text now) (cond (is_ready_recur now) (turn ns text now) (redex now)) (λ e. ap (λ b. b || is_ready_recur now) e)
+      (whole-one (is_ready_recur now) (turn ns text now) (redex now) (λ e. or-second (is_value now) (is_ready_recur now) e) (whole-redex now))
+  whole-redex (apply h ts p) = whole-items ts (apply h ts p) (λ e. e)
+
+  whole-items : (ts : Kernels) (here : Kernel) → (all_values ts ≡ true → is_whole here ≡ true) → is_whole (redex_items ts here) ≡ true
+  whole-items none here f = f refl
+  whole-items (item t ts) here f = by (is_value t) refl (whole-items ts here) (whole-redex t) where
+    by : (v : Bool) → is_value t ≡ v → ((all_values ts ≡ true → is_whole here ≡ true) → is_whole (redex_items ts here) ≡ true) → is_whole (redex t) ≡ true → is_whole (cond v (redex_items ts here) (redex t)) ≡ true
+    by true e more one = more (λ a. f (ap (λ v. v && all_values ts) e ∙ a))
+    by false e more one = one
 
 mutual
   size-put : (n : ℕ) (v : Tree) (t : Kernel) → size_of (put n v t) ≡ size_of t
@@ -68,7 +105,7 @@ of-bind : (u : Kernel) (n : ℕ) (t : Kernel) (bs : Bindings) (body : Kernel) (v
 of-bind u n t bs body true e = omega arith
 of-bind u n t bs body false e = omega arith
 
-of-loop : (u : Kernel) (fs : Founds) (n : ℕ) (t : Kernel) (bs : Bindings) (body : Kernel) (v : Bool) → Exchanges u t → size_of (cond (not v) (loop fs (binding n (replace u t) bs) body) u) + size_of (cond v (loop fs (binding n t bs) body) (redex t)) ≡ suc (size_of t + size_of_bindings bs + size_of body) + size_of u
+of-loop : (u : Kernel) (fs : Founds) (n : ℕ) (t : Kernel) (bs : Bindings) (body : Kernel) (v : Bool) → Exchanges u t → size_of (cond (not v) (loop fs (binding n (replace u t) bs) body) u) + size_of (cond v (loop fs (binding n t bs) body) (redex t)) ≡ suc (suc (size_of t + size_of_bindings bs + size_of body)) + size_of u
 of-loop u fs n t bs body true e = omega arith
 of-loop u fs n t bs body false e = omega arith
 
@@ -80,10 +117,10 @@ of-frame : (u body : Kernel) (v : Bool) → Exchanges u body → size_of (cond v
 of-frame u body true e = omega arith
 of-frame u body false e = omega arith
 
-of-turn : (u : Kernel) (text now whole : Kernel) (make : Kernel → Kernel) (v r : Bool) → ((k : Kernel) → size_of (make k) ≡ suc (size_of text + size_of k)) → whole ≡ make now → Exchanges u now → size_of (cond v u (cond r u (make (replace u now)))) + size_of (cond v whole (cond r whole (redex now))) ≡ suc (size_of text + size_of now) + size_of u
-of-turn u text now whole make true r s w e = rw w (omega (arith, s now))
-of-turn u text now whole make false true s w e = rw w (omega (arith, s now))
-of-turn u text now whole make false false s w e = omega (arith, s (replace u now))
+of-turn : (u now whole : Kernel) (make : Kernel → Kernel) (v r : Bool) → ((k : Kernel) → size_of (make k) ≡ suc (size_of k)) → whole ≡ make now → Exchanges u now → size_of (cond v u (cond r u (make (replace u now)))) + size_of (cond v whole (cond r whole (redex now))) ≡ suc (size_of now) + size_of u
+of-turn u now whole make true r s w e = rw w (omega (arith, s now))
+of-turn u now whole make false true s w e = rw w (omega (arith, s now))
+of-turn u now whole make false false s w e = omega (arith, s (replace u now))
 
 mutual
   size-replace : (u t : Kernel) → Exchanges u t
@@ -98,7 +135,7 @@ mutual
   size-replace u (seq (item t none)) = omega arith
   size-replace u (seq (item t (item v vs))) = of-seq u t v vs (is_value t) (size-replace u t)
   size-replace u (frame body) = of-frame u body (is_value body) (size-replace u body)
-  size-replace u (turn ns text now) = of-turn u text now (turn ns text now) (turn ns text) (is_value now) (is_ready_recur now) (λ k. refl) refl (size-replace u now)
+  size-replace u (turn ns text now) = of-turn u now (turn ns text now) (turn ns text) (is_value now) (is_ready_recur now) (λ k. refl) refl (size-replace u now)
   size-replace u (apply h ts p) = of-apply u h ts p (all_values ts) refl (size_items-replace u ts)
 
   size_items-replace : (u : Kernel) (ts : Kernels) → ExchangesItems u ts
@@ -120,6 +157,10 @@ size-choice : (v : Bool) (c a b : Kernel) → size_of (cond v a b) < suc (size_o
 size-choice true c a b = omega arith
 size-choice false c a b = omega arith
 
+size-puts : (fs : Founds) (t : Kernel) → size_of (puts fs t) ≡ size_of t
+size-puts [] t = refl
+size-puts (f ∷ fs) t = size-puts fs (put f.0 f.1 t) ∙ size-put f.0 f.1 t
+
 -- an operation is no local step
 never-asks : {P : Type 0} (p : Place) (f : Option Fault) (op : OpView) → asking p f op ≡ local → P
 never-asks p None op h = cc
@@ -129,46 +170,105 @@ never-makes : {P : Type 0} (p : Place) (r : Result WhatView Fault) → asking_to
 never-makes p (Ok what) h = cc
 never-makes p (Err f) h = cc
 
-size-contract : (t : Kernel) → standing t ≡ local → size_of (contract t) < size_of t
-size-contract (bind empty body) h = omega arith
-size-contract (bind (binding n t bs) body) h = omega (arith, size-pos t, size-put n (value_of t) body, size_bindings-put n (value_of t) bs)
-size-contract (seq none) h = omega arith
-size-contract (seq (item t none)) h = omega arith
-size-contract (seq (item t (item u us))) h = omega (arith, size-pos t)
-size-contract (const v) h = cc
-size-contract (var n) h = cc
-size-contract (branch c a b) h = size-choice (truth (value_of c)) c a b
-size-contract (loop fs bs body) h = cc
-size-contract (frame body) h = cc
-size-contract (turn ns text now) h = cc
-size-contract (apply (Builtin b) ts p) h = omega arith
-size-contract (apply Recur ts p) h = cc
-size-contract (apply (Call n) ts p) h = cc
-size-contract (apply Take ts p) h = cc
-size-contract (apply Put ts p) h = never-asks p (too_large (second_of (values_of ts))) (putting (first_of (values_of ts)) (second_of (values_of ts))) h
-size-contract (apply (Alts options) ts p) h = never-asks p (bad_alts options (values_of ts)) (alts_of options (values_of ts)) h
-size-contract (apply (Make kind) ts p) h = never-makes p (made_of kind (values_of ts)) h
-size-contract (apply (Spawn kind) ts p) h = never-asks p (bad_operands kind (values_of ts)) (spawning (seed_of kind (values_of ts) p)) h
-size-contract (apply Close ts p) h = cc
-size-contract (apply (Register name) ts p) h = never-asks p (bad_arguments name (values_of ts)) (registering name (values_of ts)) h
-size-contract (apply Print ts p) h = cc
-size-contract (apply Post ts p) h = never-asks p (too_large (second_of (values_of ts))) (posting (first_of (values_of ts)) (second_of (values_of ts))) h
+-- a turn is left of those before the last one
+few_turns : (turns : ℕ) (p : Place) (b : Bool) (a : At) → nat_le 999_999 turns ≡ b → cond b (faulted Spun p) a ≡ local → turns < 999_999
+few_turns turns p true a e h = cc
+few_turns turns p false a e h = leb-false 999_999 turns e
 
--- a local step makes a term smaller
-pub size-step : (t : Kernel) → standing (redex t) ≡ local → size_of (replace (contract (redex t)) t) < size_of t
-size-step t h = omega (arith, size-replace (contract (redex t)) t, size-contract (redex t) h)
+few_calls : (depth : ℕ) (p : Place) (b c : Bool) (f : At) → nat_le 256 depth ≡ c → f ≢ local → cond b f (cond c (faulted TooDeep p) local) ≡ local → depth < 256
+few_calls depth p true c f e n h = absurd (n h)
+few_calls depth p false true f e n h = cc
+few_calls depth p false false f e n h = leb-false 256 depth e
 
-size-op : (t : Kernel) (w : WantView) → standing t ≡ at_op w → 1 < size_of t
-size-op (apply f ts p) w h = omega arith
-size-op (const v) w h = cc
-size-op (var n) w h = cc
-size-op (branch c a b) w h = cc
-size-op (bind bs body) w h = cc
-size-op (loop fs bs body) w h = cc
-size-op (seq ts) w h = cc
-size-op (frame body) w h = cc
-size-op (turn ns text now) w h = cc
+-- What a local step does to the measure of a body: it makes the term smaller, or takes one of the turns left.
+abbrev Falls : ProgramView → ℕ → Kernel → Type 0
+Falls program turns t = ((turns_after t turns ≡ turns) × (size_of (contract program t) < size_of t)) ⊎ ((turns_after t turns ≡ suc turns) × (turns < 999_999))
 
--- an answer makes a term smaller
-pub size-fill : (v : Tree) (t : Kernel) (w : WantView) → standing (redex t) ≡ at_op w → size_of (replace (const v) t) < size_of t
-size-fill v t w h = omega (arith, size-replace (const v) t, size-op (redex t) w h)
+falls-turn : (program : ProgramView) (turns : ℕ) (names : List ℕ) (text now : Kernel) → standing_turn turns now ≡ local → (is_value now || is_ready_recur now) ≡ true → Falls program turns (turn names text now)
+falls-turn program turns names text (const v) h w = inl (refl, omega arith)
+falls-turn program turns names text (var n) h w = cc
+falls-turn program turns names text (branch c a b) h w = cc
+falls-turn program turns names text (bind bs body) h w = cc
+falls-turn program turns names text (loop fs bs body) h w = cc
+falls-turn program turns names text (seq ts) h w = cc
+falls-turn program turns names text (frame body) h w = cc
+falls-turn program turns names text (turn ns t now) h w = cc
+falls-turn program turns names text (apply Recur ts p) h w = inr (ap (λ b. cond b (suc turns) turns) w, few_turns turns p (nat_le 999_999 turns) local refl h)
+falls-turn program turns names text (apply (Builtin b) ts p) h w = cc
+falls-turn program turns names text (apply (Call n) ts p) h w = cc
+falls-turn program turns names text (apply Take ts p) h w = cc
+falls-turn program turns names text (apply Put ts p) h w = cc
+falls-turn program turns names text (apply (Alts options) ts p) h w = cc
+falls-turn program turns names text (apply (Make kind) ts p) h w = cc
+falls-turn program turns names text (apply (Spawn kind) ts p) h w = cc
+falls-turn program turns names text (apply Close ts p) h w = cc
+falls-turn program turns names text (apply (Register name) ts p) h w = cc
+falls-turn program turns names text (apply Print ts p) h w = cc
+falls-turn program turns names text (apply Post ts p) h w = cc
+
+falls-contract : (program : ProgramView) (turns depth : ℕ) (t : Kernel) → standing turns depth t ≡ local → is_whole t ≡ true → Falls program turns t
+falls-contract program turns depth (bind empty body) h w = inl (refl, omega arith)
+falls-contract program turns depth (bind (binding n t bs) body) h w = inl (refl, omega (arith, size-pos t, size-put n (value_of t) body, size_bindings-put n (value_of t) bs))
+falls-contract program turns depth (seq none) h w = inl (refl, omega arith)
+falls-contract program turns depth (seq (item t none)) h w = inl (refl, omega arith)
+falls-contract program turns depth (seq (item t (item u us))) h w = inl (refl, omega (arith, size-pos t))
+falls-contract program turns depth (const v) h w = cc
+falls-contract program turns depth (var n) h w = cc
+falls-contract program turns depth (branch c a b) h w = inl (refl, size-choice (truth (value_of c)) c a b)
+falls-contract program turns depth (loop fs empty body) h w = inl (refl, omega (arith, size-puts fs body))
+falls-contract program turns depth (loop fs (binding n t bs) body) h w = inl (refl, omega (arith, size-pos t, size_bindings-put n (value_of t) bs))
+falls-contract program turns depth (frame body) h w = inl (refl, omega arith)
+falls-contract program turns depth (turn ns text now) h w = falls-turn program turns ns text now h w
+falls-contract program turns depth (apply (Builtin b) ts p) h w = inl (refl, omega arith)
+falls-contract program turns depth (apply Recur ts p) h w = cc
+falls-contract program turns depth (apply (Call n) ts p) h w = inr (refl, few_turns turns p (nat_le 999_999 turns) (cond (nat_le 256 depth) (faulted TooDeep p) local) refl h)
+falls-contract program turns depth (apply Take ts p) h w = cc
+falls-contract program turns depth (apply Put ts p) h w = never-asks p (too_large (second_of (values_of ts))) (putting (first_of (values_of ts)) (second_of (values_of ts))) h
+falls-contract program turns depth (apply (Alts options) ts p) h w = never-asks p (bad_alts options (values_of ts)) (alts_of options (values_of ts)) h
+falls-contract program turns depth (apply (Make kind) ts p) h w = never-makes p (made_of kind (values_of ts)) h
+falls-contract program turns depth (apply (Spawn kind) ts p) h w = never-asks p (bad_operands kind (values_of ts)) (spawning (seed_of kind (values_of ts) p)) h
+falls-contract program turns depth (apply Close ts p) h w = cc
+falls-contract program turns depth (apply (Register name) ts p) h w = never-asks p (bad_arguments name (values_of ts)) (registering name (values_of ts)) h
+falls-contract program turns depth (apply Print ts p) h w = never-asks p (too_large (line_text (line_of (values_of ts)))) (printing (line_of (values_of ts))) h
+falls-contract program turns depth (apply Post ts p) h w = never-asks p (too_large (second_of (values_of ts))) (posting (first_of (values_of ts)) (second_of (values_of ts))) h
+
+-- no fault was met where a body goes on
+pub no_fault : (f : Option FaultAt) (a : At) → at_or f a ≡ local → (f ≡ None) × (a ≡ local)
+no_fault None a h = (refl, h)
+no_fault (Some f) a h = cc
+
+-- A local step makes the term smaller, or takes one of the turns left.
+pub step-falls : (program : ProgramView) (b : BodyView) → at b ≡ local → (((step program b).turns ≡ b.turns) × (size_of (step program b).term < size_of b.term)) ⊎ (((step program b).turns ≡ suc b.turns) × (b.turns < 999_999))
+step-falls program b h = by (falls-contract program b.turns b.depth (redex b.term) (no_fault b.fault (standing b.turns b.depth (redex b.term)) h).1 (whole-redex b.term)) where
+  by : Falls program b.turns (redex b.term) → (((step program b).turns ≡ b.turns) × (size_of (step program b).term < size_of b.term)) ⊎ (((step program b).turns ≡ suc b.turns) × (b.turns < 999_999))
+  by (inl f) = inl (f.0, (let less : size_of (contract program (redex b.term)) < size_of (redex b.term) = f.1 in omega (arith, size-replace (contract program (redex b.term)) b.term, less)))
+  by (inr f) = inr f
+
+-- the depth of a body that goes on fits its type
+pub small-depth : (turns depth : ℕ) (t : Kernel) → standing turns depth t ≡ local → depth < 2 ^ 64 → depth_after t depth < 2 ^ 64
+small-depth turns depth (const v) h d = cc
+small-depth turns depth (var n) h d = cc
+small-depth turns depth (branch c a b) h d = d
+small-depth turns depth (bind bs body) h d = d
+small-depth turns depth (loop fs bs body) h d = d
+small-depth turns depth (seq ts) h d = d
+small-depth turns depth (frame body) h d = omega (arith, d)
+small-depth turns depth (turn ns text now) h d = d
+small-depth turns depth (apply (Call n) ts p) h d = let few : depth < 256 = few_calls depth p (nat_le 999_999 turns) (nat_le 256 depth) (faulted Spun p) refl (λ e. cc) h in omega (arith, few)
+small-depth turns depth (apply Recur ts p) h d = d
+small-depth turns depth (apply (Builtin b) ts p) h d = d
+small-depth turns depth (apply Take ts p) h d = d
+small-depth turns depth (apply Put ts p) h d = d
+small-depth turns depth (apply (Alts options) ts p) h d = d
+small-depth turns depth (apply (Make kind) ts p) h d = d
+small-depth turns depth (apply (Spawn kind) ts p) h d = d
+small-depth turns depth (apply Close ts p) h d = d
+small-depth turns depth (apply (Register name) ts p) h d = d
+small-depth turns depth (apply Print ts p) h d = d
+small-depth turns depth (apply Post ts p) h d = d
+
+pub small-turns : (program : ProgramView) (b : BodyView) → at b ≡ local → b.turns < 2 ^ 64 → turns_after (redex b.term) b.turns < 2 ^ 64
+small-turns program b h t = by (step-falls program b h) where
+  by : (((step program b).turns ≡ b.turns) × (size_of (step program b).term < size_of b.term)) ⊎ (((step program b).turns ≡ suc b.turns) × (b.turns < 999_999)) → turns_after (redex b.term) b.turns < 2 ^ 64
+  by (inl f) = let e : turns_after (redex b.term) b.turns ≡ b.turns = f.0 in omega (arith, e, t)
+  by (inr f) = let e : turns_after (redex b.term) b.turns ≡ suc b.turns = f.0 in let less : b.turns < 999_999 = f.1 in omega (arith, e, less)

@@ -18,7 +18,7 @@ use Rattle.ca_meaning.specs.Sound.{Each, Bounded, Sound}
 use Rattle.ca_meaning.proofs.Waits.{each-filter}
 use Rattle.ca_meaning.proofs.Effects.{Effect, still, done_there, met_there, joined, settled_there, made_there, shut_there, effect_of}
 use Rattle.ca_meaning.proofs.Channels.{fits_kept, idle_kept, home_kept, held_kept, offered_kept, given_kept}
-use Rattle.ca_meaning.proofs.Tasks.{step_puts, puts_rested, puts_bounded, bounded_more, rest_rested, step_owns}
+use Rattle.ca_meaning.proofs.Tasks.{IsRested, rested_kept, step_puts, puts_all, puts_bounded, bounded_more, rest_rested, step_owns}
 
 shut_bounded : (ports : List ℕ) (f : Channels) → Bounded f → Bounded (shut_all ports f)
 shut_bounded [] f b = b
@@ -115,7 +115,7 @@ timed program s s2 (is_over t (Faulted fault place result)) x k = same_timed s s
 pub step_sound : (program : ProgramView) (s s2 : State) (e : EventView) → Step program s e s2 → Sound s → Sound s2
 step_sound program s s2 e x k =
     let f = effect_of program s s2 e x in
-    let p = step_puts program s s2 e k.rested x in
+    let p = step_puts program IsRested (rested_kept program) s s2 e k.rested x in
     let o = step_owns program s s2 e k.given x (k.owned, k.waited) in
     let c = timed program s s2 e x (k.clock, k.dated) in
     record {
@@ -127,10 +127,10 @@ step_sound program s s2 e x k =
       given = given_kept s s2 f k.given;
       owned = o.0;
       waited = o.1;
-      rested = puts_rested s.tasks s2.tasks p k.rested;
+      rested = puts_all IsRested s.tasks s2.tasks p k.rested;
       clock = c.0;
       dated = c.1;
-      tasks_end = puts_bounded s.tasks s2.tasks p k.tasks_end;
+      tasks_end = puts_bounded {P = IsRested} s.tasks s2.tasks p k.tasks_end;
       channels_end = channels_bounded s s2 f k.channels_end;
       registries_end = registries_bounded program s s2 e x k.registries_end;
     }
@@ -142,7 +142,7 @@ steps_sound program (e ∷ es) s s2 x k = steps_sound program es x.0 s2 x.2 (ste
 no_some : {A : Type 0} {G : Type 0} (x : A) → None ≡ Some x → G
 no_some x e = absurd cc
 
-only_task : (b : TaskBody) (u : ℕ) (x : Task) → update eqb (λ n. None) 0 (Some (runs None b)) u ≡ Some x → x ≡ runs None b
+pub only_task : (b : TaskBody) (u : ℕ) (x : Task) → update eqb (λ n. None) 0 (Some (runs None b)) u ≡ Some x → x ≡ runs None b
 only_task b u x e = by (eqb 0 u) e where
   by : (t : Bool) → cond t (Some (runs None b)) None ≡ Some x → x ≡ runs None b
   by true e = let k : x ≡ runs None b = cc in k

@@ -27,22 +27,22 @@ abbrev main0 : BodyView
 main0 = new_body taking_twice.main
 
 abbrev main1 : BodyView
-main1 = later 1 (fill (port 1) main0)
+main1 = later taking_twice 1 (fill (port 1) main0)
 
 abbrev main2 : BodyView
-main2 = later 2 (fill (port 2) main1)
+main2 = later taking_twice 2 (fill (port 2) main1)
 
 abbrev main3 : BodyView
-main3 = later 3 (fill nil main2)
+main3 = later taking_twice 3 (fill nil main2)
 
 abbrev main4 : BodyView
-main4 = later 2 (fill (port 3) main3)
+main4 = later taking_twice 2 (fill (port 3) main3)
 
 abbrev main5 : BodyView
-main5 = later 3 (fill nil main4)
+main5 = later taking_twice 3 (fill nil main4)
 
 abbrev main6 : BodyView
-main6 = later 2 (fill (bool true) main5)
+main6 = later taking_twice 2 (fill (bool true) main5)
 
 abbrev seed1 : SeedView
 seed1 = go 0 (item (port 1) none) 2 (at_column 16)
@@ -52,13 +52,13 @@ seed2 = go 1 (item (port 1) none) 3 (at_column 28)
 
 -- the two tasks; the first one goes on with 42
 abbrev first0 : BodyView
-first0 = later 1 (body_of (new_task taking_twice seed1))
+first0 = later taking_twice 1 (body_of (new_task taking_twice seed1))
 
 abbrev first1 : BodyView
-first1 = later 4 (fill (int (pos 42)) first0)
+first1 = later taking_twice 4 (fill (int (pos 42)) first0)
 
 abbrev second0 : BodyView
-second0 = later 1 (body_of (new_task taking_twice seed2))
+second0 = later taking_twice 1 (body_of (new_task taking_twice seed2))
 
 abbrev c : Channel
 c = new_channel no_buffer 0
@@ -107,7 +107,7 @@ abbrev first_handler : Handler
 first_handler = record { wait = 1; branch = 0; value = nil }
 
 opens : Opening taking_twice s0
-opens = (script main0, (main0, walk 0 main0 refl, refl), refl)
+opens = (script main0, (main0, walk taking_twice 0 main0 refl, refl), refl)
 
 makes_c : Step taking_twice s0 (made 0 1 unbuffered None) s1
 makes_c = (main_task main0, s1.tasks, (refl, refl, (at_column 8, refl), refl), refl, refl, refl, goes taking_twice s0.tasks 0 (main_task main0) main0 (port 1) 1 refl (refl, refl), refl)
@@ -126,7 +126,7 @@ starts_one = (
   refl,
   refl,
   goes taking_twice s2.tasks 0 (main_task main2) main2 nil 3 refl (refl, (refl, (refl, refl))),
-  (first0, walk 1 (body_of (new_task taking_twice seed1)) (refl, refl), refl),
+  (first0, walk taking_twice 1 (body_of (new_task taking_twice seed1)) (refl, refl), refl),
   refl,
 )
 
@@ -144,7 +144,7 @@ starts_two = (
   refl,
   refl,
   goes taking_twice s4.tasks 0 (main_task main4) main4 nil 3 refl (refl, (refl, (refl, refl))),
-  (second0, walk 1 (body_of (new_task taking_twice seed2)) (refl, refl), refl),
+  (second0, walk taking_twice 1 (body_of (new_task taking_twice seed2)) (refl, refl), refl),
   refl,
 )
 

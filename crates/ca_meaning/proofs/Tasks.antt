@@ -4,15 +4,16 @@ use Rattle.std.specs.Map.{update}
 use Rattle.std.proofs.lemmas.Map.{update_here, update_apart}
 use Rattle.ca_value.specs.Tree.{Tree}
 use Rattle.ca_term.specs.declared.event.Ending.TheVariants.{Ended, Faulted}
+use Rattle.ca_term.specs.Operation.{SeedView, spawning}
 use Rattle.ca_term.specs.Program.{ProgramView}
 use Rattle.ca_term.specs.Event.{EventView, made, spawned, done, met, parked, posted, settled, defaulted, closed, registered, printed, ticked, over as is_over}
 use Rattle.ca_meaning.specs.Body.{local, nowhere, at}
 use Rattle.ca_meaning.specs.Wait.{Wait, without, is_live, owner_of, is_among}
-use Rattle.ca_meaning.specs.Task.{TaskBody, script, system_task, unserved, body_at, body_fill, BodyRest}
+use Rattle.ca_meaning.specs.Task.{TaskBody, script, system_task, unserved, body_at, body_fill, BodyRest, new_task}
 use Rattle.ca_meaning.specs.State.{State, Task, Tasks, running, waiting, over, runs}
-use Rattle.ca_meaning.specs.Going.{Goes, Wakes}
+use Rattle.ca_meaning.specs.Going.{IsAtOp, Goes, Wakes}
 use Rattle.ca_meaning.specs.Steps.{Step}
-use Rattle.ca_meaning.specs.Sound.{Bounded, AllOwned, AllWaited, AllRested, AllRested}
+use Rattle.ca_meaning.specs.Sound.{Bounded, AllOwned, AllWaited}
 use Rattle.ca_meaning.proofs.Waits.{owner_gone, owner_else, owner_before, owner_joined, owner_live}
 
 abbrev pub tasks_of : {s t : State} → s ≡ t → s.tasks ≡ t.tasks
@@ -23,48 +24,67 @@ pub rest_rested : (program : ProgramView) (b c : TaskBody) → BodyRest program 
 rest_rested program (script b) c r e = r.1.over (ap body_at (sym r.2) ∙ e)
 rest_rested program (system_task (unserved kind values place)) c r e = let k : nowhere ≡ local = ap body_at (sym (r.2 ∙ ap system_task r.1)) ∙ e in cc
 
--- tasks g are tasks f with some more set, each at rest
-pub data Puts (f : Tasks) : Tasks → Type 0 where
-  nothing : {g : Tasks} → g ≡ f → Puts f g
-  one : {g : Tasks} (m : Tasks) → Puts f m → (t : ℕ) (y : Task) → body_at y.body ≢ local → g ≡ update eqb m t (Some y) → Puts f g
+-- what is kept of each body: by an answer and what follows it, and by the start of a task
+pub record Kept (program : ProgramView) (P : TaskBody → Type 0) : Type 0 where
+  pub goes : (b c : TaskBody) (v : Tree) → P b → BodyRest program (body_fill v b) c → P c
+  pub starts : (b c : TaskBody) (seed : SeedView) → P b → IsAtOp b (spawning seed) → BodyRest program (new_task program seed) c → P c
 
-goes_puts : (program : ProgramView) (f m g : Tasks) (t : ℕ) (x : Task) (v : Tree) → Puts f m → Goes program m t x v g → Puts f g
-goes_puts program f m g t x v p q = one m p t (runs x.result q.0) (rest_rested program (body_fill v x.body) q.0 q.1) q.2
+abbrev pub AllBodies : (TaskBody → Type 0) → Tasks → Type 0
+AllBodies P f = (u : ℕ) (x : Task) → f u ≡ Some x → P x.body
 
-wakes_puts : (program : ProgramView) (o : Option ℕ) (f m g : Tasks) (w p : ℕ) (v : Tree) → Puts f m → Wakes program o m w p v g → Puts f g
-wakes_puts program None f m g w p v q e = subst (Puts f) (sym e) q
-wakes_puts program (Some u) f m g w p v q x = goes_puts program f m g u x.0 _ q x.3
+-- tasks g are tasks f with some more set, of each of which P holds
+pub data Puts (P : TaskBody → Type 0) (f : Tasks) : Tasks → Type 0 where
+  nothing : {g : Tasks} → g ≡ f → Puts P f g
+  one : {g : Tasks} (m : Tasks) → Puts P f m → (t : ℕ) (y : Task) → P y.body → g ≡ update eqb m t (Some y) → Puts P f g
 
-pub step_puts : (program : ProgramView) (s s2 : State) (e : EventView) → AllRested s.tasks → Step program s e s2 → Puts s.tasks s2.tasks
-step_puts program s s2 (made t p what moment) r x = subst (Puts s.tasks) (sym (tasks_of x.7)) (goes_puts program s.tasks s.tasks x.1 t x.0 _ (nothing refl) x.6)
-step_puts program s s2 (spawned t u kind result) r x = one x.2 (goes_puts program s.tasks s.tasks x.2 t x.0 _ (nothing refl) x.8) u (runs result x.3) (rest_rested program _ x.3 x.9) (tasks_of x.10)
-step_puts program s s2 (done t k b a) r x = subst (Puts s.tasks) (sym (tasks_of x.8)) (goes_puts program s.tasks s.tasks x.2 t x.0 _ (nothing refl) x.7)
-step_puts program s s2 (met t k side p v w o) r x = subst (Puts s.tasks) (sym (tasks_of x.15)) (wakes_puts program (owner_of w s.waits) s.tasks x.4 x.5 w p _ (goes_puts program s.tasks s.tasks x.4 t x.0 _ (nothing refl) x.13) x.14)
-step_puts program s s2 (parked t w bs) r x = one s.tasks (nothing refl) t (record x.0 { mode = waiting w }) (r t x.0 x.2.0) (tasks_of x.8)
-step_puts program s s2 (posted t w p v) r x = subst (Puts s.tasks) (sym (tasks_of x.6)) (goes_puts program s.tasks s.tasks x.1 t x.0 _ (nothing refl) x.5)
-step_puts program s s2 (settled w k side p v) r x = subst (Puts s.tasks) (sym (tasks_of x.9)) (wakes_puts program (owner_of w s.waits) s.tasks s.tasks x.3 w p _ (nothing refl) x.8)
-step_puts program s s2 (defaulted t v) r x = subst (Puts s.tasks) (sym (tasks_of x.7)) (goes_puts program s.tasks s.tasks x.2 t x.0 _ (nothing refl) x.6)
-step_puts program s s2 (closed t p) r x = subst (Puts s.tasks) (sym (tasks_of x.4)) (goes_puts program s.tasks s.tasks x.1 t x.0 _ (nothing refl) x.3)
-step_puts program s s2 (registered t name args v) r x = subst (Puts s.tasks) (sym (tasks_of x.6)) (goes_puts program s.tasks s.tasks x.2 t x.0 _ (nothing refl) x.5)
-step_puts program s s2 (printed t line) r x = subst (Puts s.tasks) (sym (tasks_of x.4)) (goes_puts program s.tasks s.tasks x.1 t x.0 _ (nothing refl) x.3)
-step_puts program s s2 (ticked m ports) r x = nothing (tasks_of x.4)
-step_puts program s s2 (is_over t Ended) r x = one s.tasks (nothing refl) t (record x.0 { mode = over }) (r t x.0 x.2.0) (tasks_of x.4)
-step_puts program s s2 (is_over t (Faulted fault place result)) r x = one s.tasks (nothing refl) t (record x.0 { mode = over }) (r t x.0 x.1.0) (tasks_of x.4)
-
-rested_more : (f : Tasks) (t : ℕ) (y : Task) → body_at y.body ≢ local → AllRested f → AllRested (update eqb f t (Some y))
-rested_more f t y ny all u x e = by (eqb t u) e where
-  by : (b : Bool) → cond b (Some y) (f u) ≡ Some x → body_at x.body ≢ local
-  by true e = subst (λ (z : Task). body_at z.body ≢ local) (let k : y ≡ x = cc in k) ny
+all_more : (P : TaskBody → Type 0) (f : Tasks) (t : ℕ) (y : Task) → P y.body → AllBodies P f → AllBodies P (update eqb f t (Some y))
+all_more P f t y py all u x e = by (eqb t u) e where
+  by : (b : Bool) → cond b (Some y) (f u) ≡ Some x → P x.body
+  by true e = subst (λ (z : Task). P z.body) (let k : y ≡ x = cc in k) py
   by false e = all u x e
 
-pub puts_rested : (f g : Tasks) → Puts f g → AllRested f → AllRested g
-puts_rested f g (nothing e) all = subst AllRested (sym e) all
-puts_rested f g (one m p t y ny e) all = subst AllRested (sym e) (rested_more m t y ny (puts_rested f m p all))
+pub puts_all : (P : TaskBody → Type 0) (f g : Tasks) → Puts P f g → AllBodies P f → AllBodies P g
+puts_all P f g (nothing e) all = subst (AllBodies P) (sym e) all
+puts_all P f g (one m p t y py e) all = subst (AllBodies P) (sym e) (all_more P m t y py (puts_all P f m p all))
+
+module _ (program : ProgramView) (P : TaskBody → Type 0) (kept : Kept program P) where
+  goes_puts : (f m g : Tasks) (t : ℕ) (x : Task) (v : Tree) → P x.body → Puts P f m → Goes program m t x v g → Puts P f g
+  goes_puts f m g t x v px p q = one m p t (runs x.result q.0) (kept.goes x.body q.0 v px q.1) q.2
+
+  wakes_puts : (o : Option ℕ) (f m g : Tasks) (w p : ℕ) (v : Tree) → AllBodies P f → Puts P f m → Wakes program o m w p v g → Puts P f g
+  wakes_puts None f m g w p v all q e = subst (Puts P f) (sym e) q
+  wakes_puts (Some u) f m g w p v all q x = goes_puts f m g u x.0 _ (puts_all P f m q all u x.0 x.1) q x.3
+
+  pub step_puts : (s s2 : State) (e : EventView) → AllBodies P s.tasks → Step program s e s2 → Puts P s.tasks s2.tasks
+  step_puts s s2 (made t p what moment) r x = subst (Puts P s.tasks) (sym (tasks_of x.7)) (goes_puts s.tasks s.tasks x.1 t x.0 _ (r t x.0 x.2.0) (nothing refl) x.6)
+  step_puts s s2 (spawned t u kind result) r x = one x.2 (goes_puts s.tasks s.tasks x.2 t x.0 _ (r t x.0 x.4.0) (nothing refl) x.8) u (runs result x.3) (kept.starts x.0.body x.3 x.1 (r t x.0 x.4.0) x.4.2 x.9) (tasks_of x.10)
+  step_puts s s2 (done t k b a) r x = subst (Puts P s.tasks) (sym (tasks_of x.8)) (goes_puts s.tasks s.tasks x.2 t x.0 _ (r t x.0 x.4.0) (nothing refl) x.7)
+  step_puts s s2 (met t k side p v w o) r x = subst (Puts P s.tasks) (sym (tasks_of x.15)) (wakes_puts (owner_of w s.waits) s.tasks x.4 x.5 w p _ r (goes_puts s.tasks s.tasks x.4 t x.0 _ (r t x.0 x.6.0) (nothing refl) x.13) x.14)
+  step_puts s s2 (parked t w bs) r x = one s.tasks (nothing refl) t (record x.0 { mode = waiting w }) (r t x.0 x.2.0) (tasks_of x.8)
+  step_puts s s2 (posted t w p v) r x = subst (Puts P s.tasks) (sym (tasks_of x.6)) (goes_puts s.tasks s.tasks x.1 t x.0 _ (r t x.0 x.2.0) (nothing refl) x.5)
+  step_puts s s2 (settled w k side p v) r x = subst (Puts P s.tasks) (sym (tasks_of x.9)) (wakes_puts (owner_of w s.waits) s.tasks s.tasks x.3 w p _ r (nothing refl) x.8)
+  step_puts s s2 (defaulted t v) r x = subst (Puts P s.tasks) (sym (tasks_of x.7)) (goes_puts s.tasks s.tasks x.2 t x.0 _ (r t x.0 x.3.0) (nothing refl) x.6)
+  step_puts s s2 (closed t p) r x = subst (Puts P s.tasks) (sym (tasks_of x.4)) (goes_puts s.tasks s.tasks x.1 t x.0 _ (r t x.0 x.2.0) (nothing refl) x.3)
+  step_puts s s2 (registered t name args v) r x = subst (Puts P s.tasks) (sym (tasks_of x.6)) (goes_puts s.tasks s.tasks x.2 t x.0 _ (r t x.0 x.3.0) (nothing refl) x.5)
+  step_puts s s2 (printed t line) r x = subst (Puts P s.tasks) (sym (tasks_of x.4)) (goes_puts s.tasks s.tasks x.1 t x.0 _ (r t x.0 x.2.0) (nothing refl) x.3)
+  step_puts s s2 (ticked m ports) r x = nothing (tasks_of x.4)
+  step_puts s s2 (is_over t Ended) r x = one s.tasks (nothing refl) t (record x.0 { mode = over }) (r t x.0 x.2.0) (tasks_of x.4)
+  step_puts s s2 (is_over t (Faulted fault place result)) r x = one s.tasks (nothing refl) t (record x.0 { mode = over }) (r t x.0 x.1.0) (tasks_of x.4)
+
+-- a body at rest
+abbrev pub IsRested : TaskBody → Type 0
+IsRested b = body_at b ≢ local
+
+pub rested_kept : (program : ProgramView) → Kept program IsRested
+rested_kept program = record {
+  goes = λ b c v h r. rest_rested program (body_fill v b) c r;
+  starts = λ b c seed h at r. rest_rested program (new_task program seed) c r;
+}
 
 pub bounded_more : {A : Type 0} (f : ℕ → Option A) (k : ℕ) (v : Option A) → Bounded f → Bounded (update eqb f k v)
 bounded_more f k v b = (b.0 + suc k, λ m le. update_apart f k v m (λ (e : m ≡ k). let j : b.0 + suc k ≤ m = le in omega (arith, j, e)) ∙ b.1 m (let j : b.0 + suc k ≤ m = le in omega (arith, j)))
 
-pub puts_bounded : (f g : Tasks) → Puts f g → Bounded f → Bounded g
+pub puts_bounded : {P : TaskBody → Type 0} (f g : Tasks) → Puts P f g → Bounded f → Bounded g
 puts_bounded f g (nothing e) all = subst (λ (z : Tasks). Bounded z) (sym e) all
 puts_bounded f g (one m p t y ny e) all = subst (λ (z : Tasks). Bounded z) (sym e) (bounded_more m t (Some y) (puts_bounded f m p all))
 

@@ -25,16 +25,16 @@ abbrev pub main0 : BodyView
 main0 = new_body timing_out.main
 
 abbrev pub main1 : BodyView
-main1 = later 1 (fill (port 1) main0)
+main1 = later timing_out 1 (fill (port 1) main0)
 
 abbrev pub main2 : BodyView
-main2 = later 1 (fill (port 2) main1)
+main2 = later timing_out 1 (fill (port 2) main1)
 
 abbrev pub main3 : BodyView
-main3 = later 4 (fill (vector (item nil (item (port 1) none))) main2)
+main3 = later timing_out 4 (fill (vector (item nil (item (port 1) none))) main2)
 
 abbrev pub main4 : BodyView
-main4 = later 2 (fill nil main3)
+main4 = later timing_out 2 (fill nil main3)
 
 abbrev pub c : Channel
 c = new_channel no_buffer 0
@@ -68,7 +68,7 @@ abbrev pub alts : OpView
 alts = choosing (item (port 2) (item (port 1) none)) false None
 
 pub opens : Opening timing_out s0
-opens = (script main0, (main0, walk 0 main0 refl, refl), refl)
+opens = (script main0, (main0, walk timing_out 0 main0 refl, refl), refl)
 
 pub makes_t : Step timing_out s0 (made 0 1 (timeout 100) (Some 0)) s1
 makes_t = (main_task main0, s1.tasks, (refl, refl, (at_column 8, refl), refl), refl, refl, (omega arith, omega arith), goes timing_out s0.tasks 0 (main_task main0) main0 (port 1) 1 refl (refl, refl), refl)

@@ -46,22 +46,22 @@ local-false : (a : At) → is_local a ≡ false → a ≢ local
 local-false a e f = let k : true ≡ false = sym (ap is_local f) ∙ e in cc
 
 -- the body after n local steps
-abbrev pub later : ℕ → BodyView → BodyView
-later zero b = b
-later (suc n) b = later n (step b)
+abbrev pub later : ProgramView → ℕ → BodyView → BodyView
+later program zero b = b
+later program (suc n) b = later program n (step program b)
 
 -- the body rests after n local steps
-abbrev pub Walks : ℕ → BodyView → Type 0
-Walks zero b = is_local (at b) ≡ false
-Walks (suc n) b = (is_local (at b) ≡ true) × Walks n (step b)
+abbrev pub Walks : ProgramView → ℕ → BodyView → Type 0
+Walks program zero b = is_local (at b) ≡ false
+Walks program (suc n) b = (is_local (at b) ≡ true) × Walks program n (step program b)
 
-pub walk : (n : ℕ) (b : BodyView) → Walks n b → Rest b (later n b)
-walk zero b w = record { reached = here; over = local-false (at b) w }
-walk (suc n) b w = let r = walk n (step b) w.1 in record { reached = after (local-true (at b) w.0) r.reached; over = r.over }
+pub walk : (program : ProgramView) (n : ℕ) (b : BodyView) → Walks program n b → Rest program b (later program n b)
+walk program zero b w = record { reached = here; over = local-false (at b) w }
+walk program (suc n) b w = let r = walk program n (step program b) w.1 in record { reached = after (local-true (at b) w.0) r.reached; over = r.over }
 
 -- a task of a script goes on with the answer, and rests after n local steps
-pub goes : (program : ProgramView) (tasks : Tasks) (t : ℕ) (x : Task) (b : BodyView) (v : Tree) (n : ℕ) → x.body ≡ script b → Walks n (fill v b) → Goes program tasks t x v (update eqb tasks t (Some (runs x.result (script (later n (fill v b))))))
-goes program tasks t x b v n e w = (script (later n (fill v b)), subst (λ z. BodyRest program (body_fill v z) (script (later n (fill v b)))) (sym e) (later n (fill v b), walk n (fill v b) w, refl), refl)
+pub goes : (program : ProgramView) (tasks : Tasks) (t : ℕ) (x : Task) (b : BodyView) (v : Tree) (n : ℕ) → x.body ≡ script b → Walks program n (fill v b) → Goes program tasks t x v (update eqb tasks t (Some (runs x.result (script (later program n (fill v b))))))
+goes program tasks t x b v n e w = (script (later program n (fill v b)), subst (λ z. BodyRest program (body_fill v z) (script (later program n (fill v b)))) (sym e) (later program n (fill v b), walk program n (fill v b) w, refl), refl)
 
 -- where a form of line 1 stands
 abbrev pub at_column : ℕ → Place

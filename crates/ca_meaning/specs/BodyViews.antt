@@ -1,20 +1,12 @@
 -- The body that a `Body` stands for, and what the code tells of where it stands.
-use Rattle.std.specs.Prelude.{[], Bool, true, false}
-use Rattle.ca_term.specs.Kernel.{Kernel}
-use Rattle.ca_term.specs.Closed.{IsClosed}
+use Rattle.std.specs.Prelude.{Bool, true, false}
 use Rattle.ca_term.specs.View.{kernel}
 use Rattle.ca_meaning.specs.Body.{BodyView, At, local, at_op, ended, faulted, nowhere}
 use Rattle.ca_meaning.specs.BodyParts.{BodyParts}
-use Rattle.ca_meaning.specs.Served.{IsServed}
 use Rattle.ca_meaning.specs.declared.body.Stand.{Stand}
 
 abbrev pub body_view : BodyParts → BodyView
-body_view b = record { term = kernel b.term; turns = b.turns; depth = b.depth }
-
--- no name is free, and every form is served
-pub record IsBody (t : Kernel) : Type 0 where
-  pub bound : IsClosed [] t
-  pub served : IsServed t
+body_view b = record { term = kernel b.term; turns = b.turns; depth = b.depth; fault = b.fault }
 
 abbrev pub stand_of : At → Stand
 stand_of local = Stand.Local

@@ -3,11 +3,10 @@ use Rattle.std.specs.Prelude.{◌≡◌, ℕ, [], Some, Bool, true, false, eqb}
 use Rattle.ca_term.specs.declared.event.Side.TheVariants.{Take, Put}
 use Rattle.ca_term.specs.Program.{ProgramView}
 use Rattle.ca_term.specs.Event.{EventView, made, spawned, done, met, parked, posted, settled, defaulted, closed, registered, printed, ticked, over}
-use Rattle.ca_meaning.specs.Body.{nowhere}
 use Rattle.ca_meaning.specs.Channel.{Channel}
 use Rattle.ca_meaning.specs.Wait.{front}
 use Rattle.ca_meaning.specs.Row.{unsettled, settle_row}
-use Rattle.ca_meaning.specs.Task.{body_at}
+use Rattle.ca_meaning.specs.Task.{TaskBody, script, system_task}
 use Rattle.ca_meaning.specs.State.{State, Task, running}
 use Rattle.ca_meaning.specs.Steps.{Step}
 
@@ -31,8 +30,13 @@ is_of t (over u how) = eqb u t
 abbrev pub HasEvent : ProgramView → State → ℕ → Type 0
 HasEvent program s t = (e : EventView) × (s2 : State) × Step program s e s2 × (is_of t e ≡ true)
 
--- no task runs, but at a form that isn't served yet; no channel settles; no deadline is open
+-- a script's text: system tasks, whose tables aren't told yet, have no events
+abbrev pub IsScript : TaskBody → Type 0
+IsScript (script b) = Unit {0}
+IsScript (system_task b) = ⊥
+
+-- no task of a script's text runs, no channel settles, no deadline is open
 pub record IsQuiet (s : State) : Type 0 where
-  pub no_task : (t : ℕ) (x : Task) → s.tasks t ≡ Some x → x.mode ≡ running → body_at x.body ≡ nowhere
+  pub no_task : (t : ℕ) (x : Task) → s.tasks t ≡ Some x → x.mode ≡ running → IsScript x.body → ⊥
   pub no_settle : (p : ℕ) (c : Channel) → s.channels p ≡ Some c → settle_row c (front Take p s.waits) (front Put p s.waits) ≡ unsettled
   pub no_deadline : s.deadlines ≡ []

@@ -1,10 +1,11 @@
 pub mod Redex
 pub mod Operands
 pub mod Asking
+pub mod Started
 pub mod Body
 pub mod Rest
 pub mod Parts
-pub mod Served
+pub mod IsBody
 pub mod Size
 pub mod BodyParts
 pub mod BodyViews

@@ -1,14 +1,14 @@
 -- A task's body: a script's text, or a system task. Where it stands, the body with its operation
 -- replaced by the answer, and the body after all its local steps.
-use Rattle.std.specs.Prelude.{◌≡◌, ℕ, List, [], ◌∷◌, ◌++◌, get_or}
+use Rattle.std.specs.Prelude.{◌≡◌, ℕ, [], ◌∷◌, ◌++◌}
 use Rattle.ca_value.specs.Tree.{Tree, Trees, port, vector, none, item}
 use Rattle.ca_term.specs.declared.place.Place.{Place}
 use Rattle.ca_term.specs.declared.head.SystemTask.{SystemTask}
-use Rattle.ca_term.specs.Kernel.{Founds, const, puts}
 use Rattle.ca_term.specs.Operation.{OpView, SeedView, go, system, choosing}
-use Rattle.ca_term.specs.Program.{ProgramView, ProcedureView}
+use Rattle.ca_term.specs.Program.{ProgramView}
 use Rattle.ca_meaning.specs.Body.{BodyView, At, nowhere, at_op, at, fill, new_body}
 use Rattle.ca_meaning.specs.Rest.{Rest}
+use Rattle.ca_meaning.specs.Started.{procedure_at, started}
 use Rattle.ca_meaning.specs.Operands.{values_in}
 
 -- A system task stands in a state of its table. Each kind that is served adds its states here, and its
@@ -45,22 +45,12 @@ body_fill v (script b) = script (fill v b)
 body_fill v (system_task b) = system_task (system_fill v b)
 
 abbrev pub BodyRest : ProgramView → TaskBody → TaskBody → Type 0
-BodyRest program (script b) c = (d : BodyView) × Rest b d × (c ≡ script d)
+BodyRest program (script b) c = (d : BodyView) × Rest program b d × (c ≡ script d)
 BodyRest program (system_task b) c = (d : SystemBody) × SystemRest program b d × (c ≡ system_task d)
-
--- the values beside the names that they are put in for
-abbrev pub named : List ℕ → List Tree → Founds
-named [] vs = []
-named (n ∷ ns) [] = []
-named (n ∷ ns) (v ∷ vs) = (n, v) ∷ named ns vs
-
-abbrev pub procedure_at : List ProcedureView → ℕ → ProcedureView
-procedure_at ps n = get_or ps n (record { parameters = []; body = const Tree.nil })
 
 -- a go block's body is its text with the values, and last the result port, in place of their names
 abbrev pub new_task : ProgramView → SeedView → TaskBody
-new_task program (go n values result place) =
-    let text = procedure_at program.bodies n in script (new_body (puts (named text.parameters (values_in values ++ port result ∷ [])) text.body))
+new_task program (go n values result place) = script (new_body (started (procedure_at program.bodies n) (values_in values ++ port result ∷ [])))
 new_task program (system kind values place) = system_task (new_system kind values place)
 
 -- what a task gets where its operation is done on that port with that answer: an alts gets both

@@ -2,6 +2,7 @@
 //! nothing: what it says is in `specs/`, and the proof is of the definitions that all code is measured
 //! against.
 
+pub mod bodies;
 pub mod channels;
 pub mod ends;
 pub mod solo;

@@ -9,12 +9,20 @@
 //! `specs/Steps.antt`, then `body`.
 #![tactic(auto)]
 
+mod asking;
 pub mod body;
 mod contract;
 pub mod ending;
 pub mod laws;
+mod line;
+mod making;
+mod modes;
+mod operands;
 pub mod redex;
 pub mod replace;
 pub mod rest;
 pub mod row;
+mod standing;
+mod started;
 pub mod text;
+mod want;

@@ -1,6 +1,8 @@
 pub mod Kernel
 pub mod View
 pub mod Closed
+pub mod Fits
 pub mod Program
 pub mod Operation
 pub mod Event
+pub mod Cost

@@ -1,7 +1,9 @@
 ghost use Rattle.std.specs.Prelude.{◌≡◌, IfOk};
 ghost use Rattle.ca_value.specs.Seq.{list};
+ghost use Rattle.ca_term.specs.Operation.{seed_view};
 ghost use Rattle.ca_term.specs.View.{kernel, kernels, named, bindings, found, founds};
 
+use crate::operation::{GoSeed, Seed, SystemSeed};
 use crate::term::{Binding, Found, Term};
 use ca_value::memory::OutOfMemory;
 use ca_value::seq::Seq;
@@ -113,4 +115,25 @@ pub fn copy_names(alloc: Global, names: &Seq<u64>) -> Result<Seq<u64>, OutOfMemo
     ensures { IfOk result (λ s. list s ≡ list names.now) }
 {
     Ok(Seq::from_vec(Vec::from_slice(alloc, names.as_slice())?))
+}
+
+impl Seed {
+    /// An equal seed.
+    pub fn copy(&self, alloc: Global) -> Result<Seed, OutOfMemory>
+        ensures { IfOk result (λ s. seed_view s ≡ seed_view self.now) }
+    {
+        match self {
+            Seed::Go(seed) => Ok(Seed::Go(GoSeed {
+                body: seed.body,
+                values: seed.values.copy(alloc)?,
+                result: seed.result,
+                place: seed.place,
+            })),
+            Seed::System(seed) => Ok(Seed::System(SystemSeed {
+                kind: seed.kind,
+                values: seed.values.copy(alloc)?,
+                place: seed.place,
+            })),
+        }
+    }
 }
