@@ -1,18 +1,20 @@
 -- A run of the main text alone goes on by one event.
-use Rattle.std.proofs.Common.{◌≡◌, ℕ, List, [], ◌∷◌, ◌++◌, Some, None, refl, subst, false}
+use Rattle.std.proofs.Common.{◌≡◌, ℕ, List, [], ◌∷◌, ◌++◌, Some, None, refl, ap, subst, false}
 use Rattle.std.specs.Map.{update}
 use Rattle.std.proofs.Math.Dec.{eqb}
 use Rattle.std.proofs.lemmas.Map.{update_here}
 use Rattle.ca_value.specs.Tree.{Tree, nil}
 use Rattle.ca_term.specs.declared.place.Place.{Place}
-use Rattle.ca_term.specs.declared.event.Ending.TheVariants.{Ended}
+use Rattle.ca_term.specs.declared.fault.Fault.{Fault}
+use Rattle.ca_term.specs.declared.event.Ending.TheVariants.{Ended, Faulted}
 use Rattle.ca_term.specs.Program.{ProgramView}
 use Rattle.ca_term.specs.Operation.{printing}
 use Rattle.ca_term.specs.Event.{EventView, printed, over as is_over}
-use Rattle.ca_meaning.specs.Body.{BodyView, at, at_op, ended, fill, new_body}
+use Rattle.ca_meaning.specs.Body.{BodyView, at, at_op, ended, faulted, fill, new_body}
+use Rattle.ca_meaning.specs.Refusal.{fault_at}
 use Rattle.ca_meaning.specs.Rest.{Rest}
 use Rattle.ca_meaning.specs.Task.{script}
-use Rattle.ca_meaning.specs.State.{State, Task, over, runs, opening_state}
+use Rattle.ca_meaning.specs.State.{State, Task, over, runs, opening_state, shut_result}
 use Rattle.ca_meaning.specs.Steps.{Step, Steps}
 use Rattle.ca_meaning.specs.Legal.{Reaches, Legal, GoesOn, is_end_of_main}
 use Rattle.ca_meaning.specs.Ends.{IsEnded}
@@ -73,3 +75,11 @@ runs_end program es b v r here =
     let s : State = record (r.state) { tasks = update eqb r.state.tasks 0 (Some (record x { mode = over })) } in
     let step : Step program r.state (is_over 0 Ended) s = (x, v, (r.main, refl), here, refl) in
     (record { state = s; reaches = reaches_more program r.state s es (is_over 0 Ended) r.reaches step; goes_on = goes_on es (is_over 0 Ended) r.no_end }, (es, refl))
+
+pub runs_fault : (program : ProgramView) (es : List EventView) (b : BodyView) (f : Fault) (p : Place) → Runs program es b → at b ≡ faulted f p → Legal program (es ++ is_over 0 (Faulted f p None) ∷ [])
+runs_fault program es b f p r here =
+    let x : Task = runs None (script b) in
+    let s : State = record (r.state) { tasks = update eqb r.state.tasks 0 (Some (record x { mode = over })); channels = shut_result None r.state.channels } in
+    let faults : fault_at r.state (at b) ≡ Some (f, p) = ap (fault_at r.state) here in
+    let step : Step program r.state (is_over 0 (Faulted f p None)) s = (x, (r.main, refl), faults, refl, refl) in
+    record { state = s; reaches = reaches_more program r.state s es (is_over 0 (Faulted f p None)) r.reaches step; goes_on = goes_on es (is_over 0 (Faulted f p None)) r.no_end }

@@ -5,6 +5,7 @@ ghost use Rattle.ca_term.specs.View.{kernel, kernels, named, bindings, found, fo
 
 use crate::operation::{GoSeed, Seed, SystemSeed};
 use crate::term::{Binding, Found, Term};
+use ca_value::copy::copies;
 use ca_value::memory::OutOfMemory;
 use ca_value::seq::Seq;
 use std::alloc::Global;
@@ -125,13 +126,13 @@ impl Seed {
         match self {
             Seed::Go(seed) => Ok(Seed::Go(GoSeed {
                 body: seed.body,
-                values: seed.values.copy(alloc)?,
+                values: copies(alloc, seed.values.as_slice())?,
                 result: seed.result,
                 place: seed.place,
             })),
             Seed::System(seed) => Ok(Seed::System(SystemSeed {
                 kind: seed.kind,
-                values: seed.values.copy(alloc)?,
+                values: copies(alloc, seed.values.as_slice())?,
                 place: seed.place,
             })),
         }

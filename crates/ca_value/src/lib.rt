@@ -13,6 +13,7 @@ pub mod builtin;
 pub mod copy;
 pub mod equal;
 pub mod fault;
+mod length;
 pub mod map;
 pub mod measure;
 pub mod memory;
