@@ -4,3 +4,4 @@ pub mod Closed
 pub mod Program
 pub mod Operation
 pub mod Event
+pub mod Cost

@@ -11,6 +11,7 @@
 #![tactic(auto)]
 
 pub mod copy;
+mod cost;
 pub mod event;
 pub mod fault;
 pub mod head;
