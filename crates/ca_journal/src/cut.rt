@@ -16,7 +16,7 @@ pub enum CutAt {
     /// The main text has a value.
     MainOver,
     /// The main text faulted.
-    MainFaulted,
+    Faulted,
     /// The budget is used up.
     Limit,
 }
@@ -75,7 +75,7 @@ fn main_end(event: &Event) -> Option<CutAt>
     match event {
         Event::End { task: 0, ending } => match ending {
             Ending::Ended => Some(CutAt::MainOver),
-            Ending::Faulted { .. } => Some(CutAt::MainFaulted),
+            Ending::Faulted { .. } => Some(CutAt::Faulted),
         },
         _ => None,
     }
