@@ -2,3 +2,5 @@ pub mod Branches
 pub mod Merging
 pub mod Queues
 pub mod Rising
+pub mod Cuts
+pub mod Cutting

@@ -1,5 +1,5 @@
 -- Which of several queues of entries comes next: the first of those whose front has the least number.
-use Rattle.std.specs.Prelude.{ℕ, suc, List, [], ◌∷◌, Option, Some, None, option_map, Bool, true, ◌&&◌, cond, nat_lt, nat_le, map, slice_get}
+use Rattle.std.specs.Prelude.{ℕ, suc, List, [], ◌∷◌, Option, Some, None, option_map, cond, nat_lt, map, slice_get}
 use Rattle.std.specs.declared.collections.VecDeque.{VecDeque}
 use Rattle.ca_journal.specs.declared.entry.Entry.{Entry}
 use Rattle.ca_journal.specs.declared.merge.Least.{Least}
@@ -21,12 +21,3 @@ nearer i (Some n) (Some b) = cond (nat_lt b.number n) (Some b) (Some (record { p
 abbrev pub least_from : ℕ → List (List Numbered) → Option Least
 least_from i [] = None
 least_from i (q ∷ qs) = nearer i (first_number q) (least_from (suc i) qs)
-
--- no number is lower than the one before it, nor the first than this one
-abbrev pub rises_from : ℕ → List Numbered → Bool
-rises_from n [] = true
-rises_from n (e ∷ es) = nat_le n e.number && rises_from e.number es
-
-abbrev pub all_rise : List (List Numbered) → Bool
-all_rise [] = true
-all_rise (es ∷ lists) = rises_from 0 es && all_rise lists

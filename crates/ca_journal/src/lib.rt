@@ -11,6 +11,7 @@
 //! `print`; `line` has the lines of the journal, one function for each kind of event.
 #![tactic(auto)]
 
+pub mod cut;
 pub mod entry;
 mod line;
 pub mod merge;

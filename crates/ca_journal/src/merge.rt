@@ -1,7 +1,8 @@
 ghost use Rattle.std.specs.Prelude.{◌≡◌, ◌<◌, [], ◌++◌, true, length, map, drop, IfOk, IfNone, IfSome, option_map, option_to_list, slice_get, slice_set, slice_index_or, vec_len};
 ghost use Rattle.ca_journal.specs.Events.{events};
 ghost use Rattle.ca_journal.specs.Merge.{entries, entry_view, events_of, in_order, joined, EachAscends};
-ghost use Rattle.ca_journal.specs.Least.{waiting, first_number, nearer, least_from, rises_from, all_rise};
+ghost use Rattle.ca_journal.specs.Least.{waiting, first_number, nearer, least_from};
+ghost use Rattle.ca_journal.specs.Rising.{rises_from, all_rise};
 
 use crate::entry::{Entries, Entry, Journal};
 use ca_value::memory::OutOfMemory;

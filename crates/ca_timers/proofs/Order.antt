@@ -1,8 +1,8 @@
 -- The order of deadlines, and what it means for those that are due.
-use Rattle.std.proofs.Common.{◌≡◌, ℕ, zero, suc, ◌≤◌, ◌<◌, List, [], ◌∷◌, length, get_or, map, Bool, true, false, cond, Option, Some, None, refl, sym, ◌∙◌, ap, arith}
+use Rattle.std.proofs.Common.{◌≡◌, ℕ, zero, suc, ◌≤◌, ◌<◌, List, [], ◌∷◌, length, get_or, drop, map, Bool, true, false, cond, Option, Some, None, refl, sym, ◌∙◌, ap, arith}
 use Rattle.std.specs.Prelude.{insert, slice_get, filter, nat_le, not}
 use Rattle.std.proofs.lemmas.Bool.Decides.{nat_tests}
-use Rattle.ca_value.specs.Deadlines.{Deadline, is_before, opened, due}
+use Rattle.ca_value.specs.Deadlines.{Deadline, is_before, opened, due, open_after}
 use Rattle.ca_timers.specs.Timers.{NoneBefore, AreOrdered}
 
 -- what stands no earlier than a later one is later too
@@ -95,3 +95,32 @@ due_at m (d ∷ ds) k o = by (nat_le d.moment m) refl k (λ j. due_at m ds j o.1
   by true h (suc j) r = r j
   by false h zero r = behind h 0 ∙ ap (λ (b : Bool). cond b (Some d.port) None) (sym h)
   by false h (suc j) r = behind h (suc j) ∙ none (slice_get ds j) (slice_get (due m ds) j) (behind h j) (r j)
+
+-- where a deadline is not due, those behind it stay open
+stay_behind : (m : ℕ) (d : Deadline) (ds : List Deadline) → nat_le d.moment m ≡ false → NoneBefore d ds → open_after m ds ≡ ds
+stay_behind m d [] h all = refl
+stay_behind m d (e ∷ ds) h all = by (nat_le e.moment m) (later e all.0) (stay_behind m d ds h all.1) where
+  later : (e : Deadline) → is_before e d ≡ false → nat_le e.moment m ≡ false
+  later e k = grind (arith, nat_tests)
+
+  by : (b : Bool) → b ≡ false → open_after m ds ≡ ds → cond (not b) (e ∷ open_after m ds) (open_after m ds) ≡ e ∷ ds
+  by true k r = absurd (let q : true ≡ false = k in cc)
+  by false k r = ap (λ (s : List Deadline). e ∷ s) r
+
+-- without the first due deadline the others are due, and the same stay open
+pub pop_leaves : (m : ℕ) (ds : List Deadline) (p : ℕ) → AreOrdered ds → slice_get (due m ds) 0 ≡ Some p → (due m (drop 1 ds) ≡ drop 1 (due m ds)) × (open_after m (drop 1 ds) ≡ open_after m ds)
+pop_leaves m [] p o h = absurd (let q : None ≡ Some p = h in cc)
+pop_leaves m (d ∷ ds) p o h = by (nat_le d.moment m) refl h where
+  by : (b : Bool) → nat_le d.moment m ≡ b → slice_get (map (λ (d : Deadline). d.port) (cond b (d ∷ filter (λ (d : Deadline). nat_le d.moment m) ds) (filter (λ (d : Deadline). nat_le d.moment m) ds))) 0 ≡ Some p → (due m ds ≡ drop 1 (map (λ (d : Deadline). d.port) (cond b (d ∷ filter (λ (d : Deadline). nat_le d.moment m) ds) (filter (λ (d : Deadline). nat_le d.moment m) ds)))) × (open_after m ds ≡ cond (not b) (d ∷ open_after m ds) (open_after m ds))
+  by true k r = (refl, refl)
+  by false k r =
+      let gone : slice_get (due m ds) 0 ≡ None = ap (λ (xs : List ℕ). slice_get xs 0) (none_due m d ds k o.0) in
+      absurd (let q : None ≡ Some p = sym gone ∙ r in cc)
+
+-- where none is due, all stay open
+pub none_leaves : (m : ℕ) (ds : List Deadline) → AreOrdered ds → slice_get (due m ds) 0 ≡ None → open_after m ds ≡ ds
+none_leaves m [] o h = refl
+none_leaves m (d ∷ ds) o h = by (nat_le d.moment m) refl h where
+  by : (b : Bool) → nat_le d.moment m ≡ b → slice_get (map (λ (d : Deadline). d.port) (cond b (d ∷ filter (λ (d : Deadline). nat_le d.moment m) ds) (filter (λ (d : Deadline). nat_le d.moment m) ds))) 0 ≡ None → cond (not b) (d ∷ open_after m ds) (open_after m ds) ≡ d ∷ ds
+  by true k r = absurd (let q : Some d.port ≡ None = r in cc)
+  by false k r = ap (λ (s : List Deadline). d ∷ s) (stay_behind m d ds k o.0)

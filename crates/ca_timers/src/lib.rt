@@ -12,4 +12,5 @@
 #![tactic(auto)]
 
 pub mod clock;
+pub mod law;
 pub mod timers;

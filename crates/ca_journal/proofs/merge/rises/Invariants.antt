@@ -1,6 +1,6 @@
 use Rattle.std.proofs.Common.{◌≡◌, map, drop}
 use Rattle.ca_journal.specs.Merge.{entry_view}
-use Rattle.ca_journal.specs.Least.{rises_from}
+use Rattle.ca_journal.specs.Rising.{rises_from}
 use Rattle.ca_journal.proofs.merge.rises.Given as goal
 
 abbrev pub invariant-loop-entry : goal.invariant-loop-entry

@@ -1,4 +1,4 @@
-use Rattle.std.proofs.Common.{◌≡◌, List, map, Option, Some, None}
+use Rattle.std.proofs.Common.{◌≡◌, map, Option, Some, None}
 use Rattle.std.specs.Prelude.{option_map, IfNone}
 use Rattle.ca_journal.specs.Merge.{Numbered, entry_view}
 use Rattle.ca_journal.specs.Least.{waiting, least_from}

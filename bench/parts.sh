@@ -1,0 +1,58 @@
+#!/usr/bin/env bash
+# Times the parts of a run, as nanoseconds for one call with 10, 1,000 and 100,000 entries: add and remove of
+# each buffer, pop_due and add of the timers with deadlines that come in order and with scattered ones, due
+# by place; and the merge of 16 lists and the print of a journal with 1,000,000 entries. What makes the
+# entries is timed alone and taken off.
+#
+#   bench/parts.sh [TIMES]     TIMES calls of each (1,000,000 if not said; scattered a hundredth of it)
+set -eu
+
+program=crates/ca_parts_bench/out/ca_parts_bench
+cd "$(dirname "$0")/.."
+(cd crates/ca_parts_bench && rt run >/dev/null 2>&1)
+times=${1:-1000000}
+
+# The nanoseconds of a line of the input: the best of five, since other programs may run beside it.
+whole() {
+    local best= start end once
+    for _ in 1 2 3 4 5; do
+        start=$(date +%s%N)
+        echo "$1" | "$program" >/dev/null
+        end=$(date +%s%N)
+        once=$((end - start))
+        if [ -z "$best" ] || [ "$once" -lt "$best" ]; then best=$once; fi
+    done
+    echo "$best"
+}
+
+# Nanoseconds of one call: the work KIND with N entries done COUNT times, without making the entries.
+each() {
+    local made done
+    made=$(whole "$1 $2 0")
+    done=$(whole "$1 $2 $3")
+    echo "$(((done - made) * 10 / $3))"
+}
+
+# Tenths of nanoseconds as nanoseconds.
+shown() {
+    echo "$(($1 / 10)).$(($1 % 10)) ns"
+}
+
+for kind in fixed dropping sliding ordered scattered due; do
+    count=$times
+    if [ "$kind" = scattered ]; then count=$((times / 100)); fi
+    line="$kind:"
+    for entries in 10 1000 100000; do
+        line="$line $(shown "$(each "$kind" "$entries" "$count")")"
+    done
+    echo "$line"
+done
+
+million=1000000
+lists=$(whole "lists $million 0")
+merge=$(whole "merge $million 0")
+echo "merge of $million entries in 16 lists: $(shown $(((merge - lists) * 10 / million))) an entry"
+journal=$(whole "journal $million 0")
+print=$(whole "print $million 1")
+bytes=$(echo "print $million 1" | "$program" | cut -d' ' -f2)
+echo "print of $million entries: $(shown $(((print - journal) * 10 / million))) an entry, $((bytes * 1000 / (print - journal))) million bytes a second"
