@@ -8,7 +8,7 @@ use Rattle.ca_term.specs.declared.place.Place.{Place}
 use Rattle.ca_term.specs.declared.head.Head.{Head}
 use Rattle.ca_term.specs.declared.term.Term.{Term, Apply, Const, Do as Term-Do, Let as Term-Let, the_lemmas}
 use Rattle.ca_value.specs.Tree.{nil as nil_tree}
-use Rattle.ca_value.specs.declared.value.Value.{Nil, the_lemmas as value_lemmas}
+use Rattle.ca_value.specs.declared.value.Value.TheVariants.{Nil}
 use Rattle.ca_reader.specs.Reads.{count}
 use Rattle.std.specs.declared.boxed.Box.{Box}
 use Rattle.ca_reader.specs.declared.form.Bracket.TheVariants.{Round, Square}
@@ -250,4 +250,4 @@ pub form_tree-Vector : (g : Form) (bs : Seq Form) → g.shape ≡ Vector bs → 
 form_tree-Vector g bs h = form_tree-is g ∙ ap (λ s. form s g.place) (ap shape_tree h ∙ shape_tree-Vector bs)
 
 pub kernel-nil : kernel (Const Nil) ≡ const nil_tree
-kernel-nil = search (rules, the_lemmas, value_lemmas)
+kernel-nil = search (rules, the_lemmas)

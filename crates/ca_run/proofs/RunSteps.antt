@@ -4,7 +4,7 @@ use Rattle.ca_value.specs.Seq.{list}
 use Rattle.ca_value.specs.declared.seq.Seq.{Seq}
 use Rattle.ca_value.specs.Tree.{Tree, nil}
 use Rattle.ca_value.specs.View.{view}
-use Rattle.ca_value.specs.declared.value.Value.{Nil, the_lemmas}
+use Rattle.ca_value.specs.declared.value.Value.TheVariants.{Nil}
 use Rattle.ca_term.specs.declared.event.Event.{Event}
 use Rattle.ca_term.specs.declared.event.Ending.TheVariants.{Ended}
 use Rattle.ca_term.specs.Program.{ProgramView}
@@ -29,7 +29,7 @@ pub events-push : (j k : Seq Event) (e : Event) → list k ≡ list j ++ e ∷ [
 events-push j k e h = ap (map event_view) h ∙ map-snoc (list j) e
 
 pub view-Nil : view Nil ≡ nil
-view-Nil = search (rules, the_lemmas)
+view-Nil = refl
 
 -- a body of served forms stands at no operation but a Print
 pub prints_at : (b : BodyView) (w : WantView) → IsServedAt (at b) → at b ≡ at_op w → is_printing w.op ≡ true

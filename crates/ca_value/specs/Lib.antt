@@ -3,6 +3,9 @@ pub mod Tree
 pub mod View
 pub mod Pairs
 pub mod Measure
+pub mod Measured
+pub mod Code
+pub mod Falls
 pub mod Equality
 pub mod Printed
 pub mod IsValue

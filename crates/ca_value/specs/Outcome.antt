@@ -1,16 +1,13 @@
 -- What a builtin answers: a value or a fault.
 use Rattle.std.specs.Prelude.{◌≡◌, ℤ, Bool, if◌then◌else◌, nat_le, List, [], ◌∷◌, Option, Some, None, Result, Ok, Err}
 use Rattle.ca_value.specs.declared.value.Value.{Value}
-use Rattle.ca_value.specs.declared.value.Pairs.{Pairs}
-use Rattle.ca_value.specs.declared.seq.Seq.{Seq}
+use Rattle.ca_value.specs.declared.value.Vector.{Vector as SharedItems}
 use Rattle.ca_value.specs.declared.fault.ApplyError.{ApplyError}
 use Rattle.ca_value.specs.declared.fault.ValueFault.{ValueFault}
 use Rattle.ca_value.specs.declared.fault.ValueFault.TheVariants.{WrongKind, TooHeavy, TooNested}
 use Rattle.ca_value.specs.Tree.{Tree, int, bool}
 use Rattle.ca_value.specs.Measure.{weight_of, depth_of}
-use Rattle.ca_value.specs.Seq.{list}
-use Rattle.ca_value.specs.Pairs.{pairs_list}
-use Rattle.ca_value.specs.View.{view, views, pair_views}
+use Rattle.ca_value.specs.View.{view, vector_trees}
 
 abbrev pub Answer : Type 0 → Type 0
 Answer A = Result A ValueFault
@@ -68,15 +65,16 @@ abbrev pub outcome : Answer Value → Outcome
 outcome (Ok v) = Ok (view v)
 outcome (Err f) = Err f
 
-abbrev pub items_outcome : Answer (Seq Value) → Answer (List Tree)
-items_outcome (Ok s) = Ok (views (list s))
-items_outcome (Err f) = Err f
-
-abbrev pub pairs_outcome : Answer Pairs → Answer (List (Tree × Tree))
-pairs_outcome (Ok s) = Ok (pair_views (pairs_list s))
-pairs_outcome (Err f) = Err f
+abbrev pub vector_outcome : Answer SharedItems → Answer (List Tree)
+vector_outcome (Ok s) = Ok (vector_trees s)
+vector_outcome (Err f) = Err f
 
 -- the error is this outcome's fault; want of memory says nothing
 abbrev pub IsFault : ApplyError → Outcome → Type 0
 IsFault (ApplyError.Fault f) o = o ≡ Err f
 IsFault ApplyError.OutOfMemory o = Unit {0}
+
+-- a call gives exactly the outcome; want of memory says nothing
+abbrev pub Gives : Result Value ApplyError → Outcome → Type 0
+Gives (Ok v) o = o ≡ Ok (view v)
+Gives (Err e) o = IsFault e o

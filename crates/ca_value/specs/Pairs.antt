@@ -2,10 +2,10 @@
 use Rattle.std.specs.Prelude.{ℕ, List}
 use Rattle.ca_value.specs.Seq.{list, spare}
 use Rattle.ca_value.specs.declared.value.Pair.{Pair}
-use Rattle.ca_value.specs.declared.value.Pairs.{Pairs, out-Pairs}
+use Rattle.ca_value.specs.declared.value.Pairs.{Pairs}
 
 abbrev pub pairs_list : Pairs → List Pair
-pairs_list s = list (out-Pairs s).pairs
+pairs_list s = list s.pairs
 
 abbrev pub pairs_spare : Pairs → ℕ
-pairs_spare s = spare (out-Pairs s).pairs
+pairs_spare s = spare s.pairs

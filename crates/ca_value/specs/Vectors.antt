@@ -51,6 +51,10 @@ part_between ts i j =
     then Ok (vector_from (slice_range ts (unsigned_abs i) (unsigned_abs j)))
     else Err OutOfRange
 
+-- the part of the items from one end up to the other
+abbrev pub cut_of : List Tree → Tree → Option Tree → Outcome
+cut_of ts s e = integer_of s >>= λ i. end_of ts e >>= λ j. part_between ts i j
+
 abbrev pub subvec_of : Tree → Tree → Option Tree → Outcome
 subvec_of c s e = vector_of c >>= λ ts. integer_of s >>= λ i. end_of ts e >>= λ j. part_between ts i j
 

@@ -3,8 +3,10 @@ ghost use Rattle.ca_value.specs.Seq.{list};
 ghost use Rattle.ca_value.specs.View.{view, views, trees};
 ghost use Rattle.ca_value.specs.Outcome.{outcome, judged, IsFault};
 ghost use Rattle.ca_value.specs.IsValue.{IsValue, AreValues};
+ghost use Rattle.ca_value.specs.Maps.{contains_of};
 ghost use Rattle.ca_value.specs.Builtins.{answer, builtin_result, admits};
 
+pub mod direct;
 mod judge;
 mod kinds;
 mod maps;
@@ -12,15 +14,16 @@ mod names;
 mod numbers;
 mod predicates;
 mod range;
+mod rows;
+pub mod scalars;
 mod text;
 mod vectors;
 
 use crate::fault::ApplyError;
 use crate::memory::OutOfMemory;
 use crate::value::{Items, Value};
-use judge::{bool_value, int_value, judge};
-use kinds::{Answer, both, first_and_rest, one_and_option, only, two_and_option};
-use maps::Half;
+use judge::{bool_value, int_value};
+use kinds::{Answer, both, first_and_rest, only};
 use numbers::{Choice, Operation, Order};
 use predicates::Test;
 use std::alloc::Global;
@@ -126,27 +129,34 @@ fn evaluate(alloc: Global, builtin: Builtin, args: Items) -> Result<Answer<Value
         Builtin::IsNeg => Ok(bool_value(Test::Negative.passes_value(&only(args)))),
         Builtin::IsEven => Ok(bool_value(Test::Even.passes_value(&only(args)))),
         Builtin::IsOdd => Ok(bool_value(Test::Odd.passes_value(&only(args)))),
-        Builtin::Str => Ok(judge(Ok(Value::Text(text::str(alloc, args.as_slice())?)))),
-        Builtin::Vector => Ok(judge(Ok(Value::Vector(args)))),
-        Builtin::HashMap => Ok(judge(Ok(maps::hash_map(alloc, args)?))),
-        Builtin::Conj => Ok(judge(vectors::conj(first_and_rest(args))?)),
-        Builtin::Nth => Ok(judge(vectors::nth(two_and_option(args)))),
-        Builtin::Get => Ok(judge(maps::get(two_and_option(args)))),
+        Builtin::Str => rows::str(alloc, args),
+        Builtin::Vector => rows::vector(alloc, args),
+        Builtin::HashMap => rows::hash_map(alloc, args),
+        Builtin::Conj => rows::conj(alloc, args),
+        Builtin::Nth => rows::nth(alloc, args),
+        Builtin::Get => rows::get(alloc, args),
         Builtin::Count => Ok(int_value(maps::count(&only(args)))),
         Builtin::IsEmpty => Ok(bool_value(maps::is_empty(&only(args)))),
-        Builtin::First => Ok(judge(vectors::first(alloc, only(args)))),
-        Builtin::Last => Ok(judge(vectors::last(alloc, only(args)))),
-        Builtin::Peek => Ok(judge(vectors::last(alloc, only(args)))),
-        Builtin::Pop => Ok(judge(vectors::pop(only(args)))),
-        Builtin::Subvec => Ok(judge(vectors::subvec(two_and_option(args)))),
-        Builtin::Assoc => Ok(judge(maps::assoc(alloc, first_and_rest(args))?)),
-        Builtin::Dissoc => Ok(judge(maps::dissoc(first_and_rest(args)))),
-        Builtin::Keys => Ok(judge(maps::halves(alloc, only(args), Half::Key)?)),
-        Builtin::Vals => Ok(judge(maps::halves(alloc, only(args), Half::Value)?)),
-        Builtin::Contains => Ok(bool_value(maps::contains(both(args)))),
-        Builtin::Range => range::range(alloc, one_and_option(args)),
-        Builtin::Part => Ok(judge(vectors::part(alloc, both(args)))),
-        Builtin::Items => Ok(judge(maps::items(alloc, only(args))?)),
+        Builtin::First => rows::first(alloc, args),
+        Builtin::Last => rows::last(alloc, args),
+        Builtin::Peek => rows::last(alloc, args),
+        Builtin::Pop => rows::pop(alloc, args),
+        Builtin::Subvec => rows::subvec(alloc, args),
+        Builtin::Assoc => rows::assoc(alloc, args),
+        Builtin::Dissoc => rows::dissoc(alloc, args),
+        Builtin::Keys => rows::keys(alloc, args),
+        Builtin::Vals => rows::vals(alloc, args),
+        Builtin::Contains => Ok(bool_value(contains(both(args)))),
+        Builtin::Range => rows::range(alloc, args),
+        Builtin::Part => rows::part(alloc, args),
+        Builtin::Items => rows::items(alloc, args),
         Builtin::WorkerCount => Ok(int_value(numbers::worker_count(&only(args)))),
     }
+}
+
+// `contains` of two values that are let go.
+fn contains(args: (Value, Value)) -> Answer<bool>
+    ensures { result ≡ contains_of (view args.0) (view args.1) }
+{
+    maps::contains(&args.0, &args.1)
 }

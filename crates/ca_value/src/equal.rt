@@ -1,11 +1,11 @@
 ghost use Rattle.std.specs.Prelude.{◌≡◌};
 ghost use Rattle.ca_value.specs.Seq.{list};
-ghost use Rattle.ca_value.specs.Tree.{map};
-ghost use Rattle.ca_value.specs.View.{view, pair_view, pairs_view, trees};
+ghost use Rattle.ca_value.specs.Tree.{map, trees_of, pairs_of};
+ghost use Rattle.ca_value.specs.View.{view, pair_view, pairs_view, trees, vector_trees, map_pairs};
 ghost use Rattle.ca_value.specs.Equality.{equals, equal_items, within, has_pair};
 
 use crate::seq::Seq;
-use crate::value::{Pair, Pairs, Value};
+use crate::value::{Map, Pair, Pairs, Spine, Table, Value, Vector};
 
 impl Value {
     /// Whether the two are equal. Maps are, whatever the order of their pairs.
@@ -23,6 +23,20 @@ impl Value {
             (Value::Map(a), Value::Map(b)) => a.equal(b),
             (Value::Port(a), Value::Port(b)) => a.n == b.n,
             _ => false,
+        }
+    }
+}
+
+impl Value {
+    /// The same as `equal`, with integers and keywords compared where it is called.
+    #[inline(always)]
+    pub(crate) fn is_same(&self, other: &Value) -> bool
+        ensures { result ≡ equals (view self.now) (view other.now) }
+    {
+        match (self, other) {
+            (Value::Int(a), Value::Int(b)) => *a == *b,
+            (Value::Key(a), Value::Key(b)) => a.as_slice() == b.as_slice(),
+            _ => self.equal(other),
         }
     }
 }
@@ -81,5 +95,27 @@ impl Pair {
             }
         }
         false
+    }
+}
+
+impl Vector {
+    // Whether the items are equal, one by one.
+    #[cycle(equal)]
+    fn equal(&self, other: &Vector) -> bool
+        ensures { result ≡ equal_items (trees_of (vector_trees self.now)) (trees_of (vector_trees other.now)) }
+    {
+        let (one, two): (&Spine, &Spine) = (&self.spine, &other.spine);
+        one.items.equal(&two.items)
+    }
+}
+
+impl Map {
+    // Whether they are equal as maps, whatever their order.
+    #[cycle(equal)]
+    fn equal(&self, other: &Map) -> bool
+        ensures { result ≡ equals (map (pairs_of (map_pairs self.now))) (map (pairs_of (map_pairs other.now))) }
+    {
+        let (one, two): (&Table, &Table) = (&self.table, &other.table);
+        one.pairs.equal(&two.pairs)
     }
 }

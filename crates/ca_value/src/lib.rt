@@ -13,10 +13,10 @@ pub mod builtin;
 pub mod copy;
 pub mod equal;
 pub mod fault;
+pub mod map;
 pub mod measure;
 pub mod memory;
 pub mod print;
 pub mod seq;
-#[cfg(test)]
-mod tests;
 pub mod value;
+pub mod vector;

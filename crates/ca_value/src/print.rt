@@ -1,11 +1,12 @@
 ghost use Rattle.std.specs.Prelude.{◌≡◌, ◌∷◌, ◌++◌, OnOk, IfOk};
 ghost use Rattle.ca_value.specs.Seq.{list};
-ghost use Rattle.ca_value.specs.View.{view, pair_view, pairs_view, trees};
+ghost use Rattle.ca_value.specs.View.{view, pair_view, pairs_view, trees, vector_trees, map_pairs};
+ghost use Rattle.ca_value.specs.Tree.{trees_of, pairs_of};
 ghost use Rattle.ca_value.specs.Printed.{plain_text, readable_text, printed_text, printed, printed_items, printed_pairs, quoted, escaped};
 
 use crate::memory::OutOfMemory;
 use crate::seq::{Seq, Text};
-use crate::value::{Pair, Pairs, Value};
+use crate::value::{Map, Pair, Pairs, Spine, Table, Value, Vector};
 use std::alloc::Global;
 
 /// How texts stand in a printed value: as they are, or readably, in quotes and with their escapes.
@@ -81,6 +82,28 @@ impl Value {
                 into.append(itoa::Buffer::new().format(port.n).as_bytes())
             }
         }
+    }
+}
+
+impl Vector {
+    // The items, joined by a space.
+    #[cycle(printed)]
+    fn append_values(&self, style: Style, into: &mut Text) -> Result<(), OutOfMemory>
+        ensures { OnOk result (list into.new ≡ list into.old ++ printed_items style (trees_of (vector_trees self.now))) }
+    {
+        let spine: &Spine = &self.spine;
+        spine.items.append_values(style, into)
+    }
+}
+
+impl Map {
+    // The pairs, joined by a comma and a space.
+    #[cycle(printed)]
+    fn append_pairs(&self, style: Style, into: &mut Text) -> Result<(), OutOfMemory>
+        ensures { OnOk result (list into.new ≡ list into.old ++ printed_pairs style (pairs_of (map_pairs self.now))) }
+    {
+        let table: &Table = &self.table;
+        table.pairs.append_pairs(style, into)
     }
 }
 

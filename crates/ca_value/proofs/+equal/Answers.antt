@@ -1,4 +1,4 @@
-use Rattle.std.proofs.Common.{◌≡◌, ◌≢◌, true, length, sym, ◌∙◌, arith, rules}
+use Rattle.std.proofs.Common.{◌≡◌, ◌≢◌, true, false, length, sym, ◌∙◌, arith, rules}
 use Rattle.std.proofs.lemmas.Bool.Decides.{nat_tests}
 use Rattle.ca_value.specs.Seq.{list}
 use Rattle.ca_value.specs.View.{pair_view, pairs_view}
@@ -26,3 +26,9 @@ value::Pairs::is_within-loop-pair-preserved t c =
     let next = within-next c.as_slice-pair-items.result.now c.loop-pair.pair-index c.pair-item.result (pairs_view c.args.other.now) c.pair-item.is c.loop-pair-test.true in
     let found : has_pair (equals (pair_view c.pair-item.result).0) (equals (pair_view c.pair-item.result).1) (pairs_view c.args.other.now) ≡ true = search rules in
     sym (rw found at next) ∙ c.loop-pair.invariant
+
+pub value::Pairs::is_within-returns-then-not-is_in : goal.value::Pairs::is_within-returns-then-not-is_in
+value::Pairs::is_within-returns-then-not-is_in t c =
+    let next = within-next c.as_slice-pair-items.result.now c.loop-pair.pair-index c.pair-item.result (pairs_view c.args.other.now) c.pair-item.is c.loop-pair-test.true in
+    let lost : has_pair (equals (pair_view c.pair-item.result).0) (equals (pair_view c.pair-item.result).1) (pairs_view c.args.other.now) ≡ false = search rules in
+    sym (rw lost at next) ∙ c.loop-pair.invariant

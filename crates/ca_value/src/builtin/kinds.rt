@@ -1,12 +1,11 @@
 ghost use Rattle.std.specs.Prelude.{◌≡◌, ◌<◌, ◌≤◌, [], ◌∷◌, length, option_to_list};
 ghost use Rattle.ca_value.specs.Seq.{list};
 ghost use Rattle.ca_value.specs.View.{view};
-ghost use Rattle.ca_value.specs.Outcome.{items_outcome, pairs_outcome};
-ghost use Rattle.ca_value.specs.Kinds.{integer_of, vector_of, sequence_of, mapping_of};
+ghost use Rattle.ca_value.specs.Outcome.{vector_outcome};
+ghost use Rattle.ca_value.specs.Kinds.{integer_of, vector_of};
 
 use crate::fault::ValueFault;
-use crate::value::{Items, Pairs, Value};
-use std::alloc::Global;
+use crate::value::{Items, Value, Vector};
 
 /// What a builtin gives with no memory taken.
 pub type Answer<T> = Result<T, ValueFault>;
@@ -21,37 +20,13 @@ pub fn integer(value: &Value) -> Answer<i64>
     }
 }
 
-/// The items, where the value is a vector.
-#[tactic(auto, using(crate::proofs::Views::vector_of_view))]
-pub fn vector(value: Value) -> Answer<Items>
-    ensures { items_outcome result ≡ vector_of (view value) }
+/// The vector, where the value is one.
+#[tactic(auto, using(crate::proofs::Lists::items_of_trees_of))]
+pub fn vector(value: Value) -> Answer<Vector>
+    ensures { vector_outcome result ≡ vector_of (view value) }
 {
     match value {
         Value::Vector(items) => Ok(items),
-        _ => Err(ValueFault::WrongKind),
-    }
-}
-
-/// The items of a vector, none of nil.
-#[tactic(auto, using(crate::proofs::Views::sequence_of_view))]
-pub fn sequence(alloc: Global, value: Value) -> Answer<Items>
-    ensures { items_outcome result ≡ sequence_of (view value) }
-{
-    match value {
-        Value::Vector(items) => Ok(items),
-        Value::Nil => Ok(Items::new(alloc)),
-        _ => Err(ValueFault::WrongKind),
-    }
-}
-
-/// The pairs of a map, none of nil.
-#[tactic(auto, using(crate::proofs::Views::mapping_of_view))]
-pub fn mapping(alloc: Global, value: Value) -> Answer<Pairs>
-    ensures { pairs_outcome result ≡ mapping_of (view value) }
-{
-    match value {
-        Value::Map(pairs) => Ok(pairs),
-        Value::Nil => Ok(Pairs::new(alloc)),
         _ => Err(ValueFault::WrongKind),
     }
 }

@@ -152,6 +152,13 @@ pub fn quotient(operands: (Value, Value)) -> Answer<i64>
     ensures { result ≡ with_two quotient_of (view operands.0) (view operands.1) }
 {
     let (dividend, divisor) = integers(operands)?;
+    divide(dividend, divisor)
+}
+
+/// The quotient of two integers.
+pub fn divide(dividend: i64, divisor: i64) -> Answer<i64>
+    ensures { result ≡ quotient_of dividend divisor }
+{
     if divisor == 0 {
         return Err(ValueFault::ZeroDivisor);
     }
@@ -163,6 +170,13 @@ pub fn remainder(operands: (Value, Value)) -> Answer<i64>
     ensures { result ≡ with_two remainder_of (view operands.0) (view operands.1) }
 {
     let (dividend, divisor) = integers(operands)?;
+    remain(dividend, divisor)
+}
+
+/// The remainder of two integers.
+pub fn remain(dividend: i64, divisor: i64) -> Answer<i64>
+    ensures { result ≡ remainder_of dividend divisor }
+{
     if divisor == 0 {
         return Err(ValueFault::ZeroDivisor);
     }
@@ -174,6 +188,13 @@ pub fn modulus(operands: (Value, Value)) -> Answer<i64>
     ensures { result ≡ with_two modulus_of (view operands.0) (view operands.1) }
 {
     let (dividend, divisor) = integers(operands)?;
+    modulo(dividend, divisor)
+}
+
+/// The modulus of two integers.
+pub fn modulo(dividend: i64, divisor: i64) -> Answer<i64>
+    ensures { result ≡ modulus_of dividend divisor }
+{
     if divisor == 0 {
         return Err(ValueFault::ZeroDivisor);
     }

@@ -45,7 +45,7 @@ fn between(alloc: Global, low: i64, high: i64) -> Result<Answer<Value>, OutOfMem
         return Ok(Err(ValueFault::TooHeavy));
     }
     let items = integers(alloc, low, count)?;
-    Ok(Ok(Value::Vector(items)))
+    Ok(Ok(Value::vector(alloc, items)?))
 }
 
 // How far high is above low, or 0.

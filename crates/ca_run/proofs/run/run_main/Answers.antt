@@ -1,7 +1,7 @@
 use Rattle.std.proofs.Common.{◌≡◌, ◌≢◌, [], ◌∷◌, ◌++◌, refl, ap, ◌∙◌, rules}
 use Rattle.ca_value.specs.Seq.{list}
 use Rattle.ca_value.specs.View.{view}
-use Rattle.ca_value.specs.declared.value.Value.{Nil}
+use Rattle.ca_value.specs.declared.value.Value.TheVariants.{Nil}
 use Rattle.ca_term.specs.Program.{program_view}
 use Rattle.ca_term.specs.Operation.{want_view}
 use Rattle.ca_term.specs.declared.event.Ending.TheVariants.{Ended}

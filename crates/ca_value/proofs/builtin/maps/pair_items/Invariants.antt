@@ -1,5 +1,4 @@
-use Rattle.std.proofs.Common.{◌≡◌, ◌++◌, ◌≤◌, length, map as map_list}
-use Rattle.std.specs.Vec.Iter.{into_iter_items}
+use Rattle.std.proofs.Common.{◌≡◌, ◌+◌, ◌≤◌, length, take, map}
 use Rattle.ca_value.specs.Seq.{list, spare}
 use Rattle.ca_value.specs.View.{views, pair_views}
 use Rattle.ca_value.specs.Maps.{pair_vector}
@@ -7,6 +6,6 @@ use Rattle.ca_value.proofs.builtin.maps.pair_items.Given as goal
 
 abbrev pub invariant-loop-pair : goal.invariant-loop-pair
 invariant-loop-pair l = record {
-  same : views (list l.items) ++ map_list pair_vector (pair_views (into_iter_items l.pair-iterator)) ≡ map_list pair_vector (pair_views (into_iter_items l.initial.pair-iterator));
-  room : length (into_iter_items l.pair-iterator) ≤ spare l.items;
+  same : views (list l.items) ≡ map pair_vector (pair_views (take l.pair-index l.pairs));
+  room : length l.pairs ≤ spare l.items + l.pair-index;
 }

@@ -6,7 +6,6 @@ use Rattle.ca_value.specs.Seq.{list}
 use Rattle.ca_value.specs.View.{views}
 use Rattle.ca_value.specs.Kinds.{vector_from}
 use Rattle.ca_value.specs.Vectors.{distance_of, integers_from}
-use Rattle.ca_value.proofs.Views.{view_vector}
 use Rattle.ca_value.proofs.RangeLaws.{light_range, heavy_range}
 use Rattle.ca_value.proofs.builtin.range.between.Goals as goal
 
@@ -26,5 +25,5 @@ returns c =
     let P : ℕ → Type 0 = λ n. n < 65536 in
     let few : distance_of c.args.low c.args.high < 65536 = subst P count c.if-count-ge-GREATEST_WEIGHT.false in
     let made : views (list c.in_ok-items.items) ≡ integers_from c.args.low c.distance-count.result = simp to_z-of_z at c.in_ok-items.ensures in
-    ap Ok (view_vector c.in_ok-items.items ∙ ap vector_from (made ∙ ap (integers_from c.args.low) count))
+    ap Ok (c.in_ok-vector.ensures ∙ ap vector_from (made ∙ ap (integers_from c.args.low) count))
     ∙ sym (light_range c.args.low (distance_of c.args.low c.args.high) few)

@@ -1,0 +1,8 @@
+use Rattle.std.proofs.Common.{◌≡◌, drop}
+use Rattle.std.specs.Prelude.{is_some}
+use Rattle.ca_value.specs.View.{view, pair_views}
+use Rattle.ca_value.specs.Maps.{value_at}
+use Rattle.ca_value.proofs.builtin.maps.has_key.Given as goal
+
+abbrev pub invariant-loop-pair : goal.invariant-loop-pair
+invariant-loop-pair l = is_some (value_at (pair_views (drop l.pair-index l.pairs)) (view l.key)) ≡ is_some (value_at (pair_views l.pairs) (view l.key))
