@@ -13,6 +13,7 @@ use crate::asking::default_operand;
 use crate::line::line;
 use crate::making::{number_to_make, what_of};
 use crate::operands::{is_true, last_operand, operand, values};
+use ca_term::copy::copy_values;
 use ca_term::head::{AltsOptions, Head, MakeKind, SeedKind};
 use ca_term::operation::{GoSeed, Op, Seed, SystemSeed, Want, What};
 use ca_term::place::Place;
@@ -87,7 +88,7 @@ fn ports(alloc: Global, value: &Value) -> Result<Items, OutOfMemory>
     ensures { IfOk result (λ s. trees (list s) ≡ ports_in (view value.now)) }
 {
     match value {
-        Value::Vector(items) => items.copy(alloc),
+        Value::Vector(items) => copy_values(alloc, items.as_slice()),
         _ => Ok(Items::new(alloc)),
     }
 }
