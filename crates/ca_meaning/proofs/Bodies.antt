@@ -1,5 +1,5 @@
 -- A body keeps what holds of every body, and never stands nowhere.
-use Rattle.std.proofs.Common.{◌≡◌, ◌≢◌, ℕ, zero, suc, ◌<◌, List, [], ◌∷◌, length, map, get_or, refl, arith, Bool, true, false, cond, nat_le, Option, Some, None, Result, Ok, Err}
+use Rattle.std.proofs.Common.{◌≡◌, ◌≢◌, ℕ, zero, suc, ◌<◌, List, [], ◌∷◌, length, map, get_or, refl, arith, Bool, true, false, cond, nat_le, Option, Some, None, Result, Ok, Err, IfOk}
 use Rattle.std.specs.Prelude.{All}
 use Rattle.ca_value.specs.Tree.{Tree}
 use Rattle.ca_term.specs.declared.place.Place.{Place}
@@ -263,3 +263,7 @@ op_stands nowhere h = cc
 pub op_without_fault : (f : Option FaultAt) (a : At) → is_at_op (at_or f a) ≡ true → (at_or f a ≡ a) × (is_at_op a ≡ true)
 op_without_fault None a h = (refl, h)
 op_without_fault (Some f) a h = cc
+
+pub if_ok_more : {A E : Type 0} {P Q : A → Type 0} (r : Result A E) → ((a : A) → P a → Q a) → IfOk r P → IfOk r Q
+if_ok_more (Ok a) f h = f a h
+if_ok_more (Err e) f h = tt

@@ -13,11 +13,11 @@ use crate::asking::default_operand;
 use crate::line::line;
 use crate::making::{number_to_make, what_of};
 use crate::operands::{is_true, last_operand, operand, values};
+use ca_term::copy::copy_values;
 use ca_term::head::{AltsOptions, Head, MakeKind, SeedKind};
 use ca_term::operation::{GoSeed, Op, Seed, SystemSeed, Want, What};
 use ca_term::place::Place;
 use ca_term::term::Term;
-use ca_value::copy::copies;
 use ca_value::memory::OutOfMemory;
 use ca_value::seq::Seq;
 use ca_value::value::{Items, PortId, Value};
@@ -88,7 +88,7 @@ fn ports(alloc: Global, value: &Value) -> Result<Items, OutOfMemory>
     ensures { IfOk result (λ s. trees (list s) ≡ ports_in (view value.now)) }
 {
     match value {
-        Value::Vector(items) => copies(alloc, items.as_slice()),
+        Value::Vector(items) => copy_values(alloc, items.as_slice()),
         _ => Ok(Items::new(alloc)),
     }
 }

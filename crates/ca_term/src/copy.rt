@@ -1,13 +1,14 @@
 ghost use Rattle.std.specs.Prelude.{◌≡◌, IfOk};
 ghost use Rattle.ca_value.specs.Seq.{list};
+ghost use Rattle.ca_value.specs.View.{trees};
 ghost use Rattle.ca_term.specs.Operation.{seed_view};
 ghost use Rattle.ca_term.specs.View.{kernel, kernels, named, bindings, found, founds};
 
 use crate::operation::{GoSeed, Seed, SystemSeed};
 use crate::term::{Binding, Found, Term};
-use ca_value::copy::copies;
 use ca_value::memory::OutOfMemory;
 use ca_value::seq::Seq;
+use ca_value::value::{Items, Value};
 use std::alloc::Global;
 
 impl Term {
@@ -126,15 +127,27 @@ impl Seed {
         match self {
             Seed::Go(seed) => Ok(Seed::Go(GoSeed {
                 body: seed.body,
-                values: copies(alloc, seed.values.as_slice())?,
+                values: copy_values(alloc, seed.values.as_slice())?,
                 result: seed.result,
                 place: seed.place,
             })),
             Seed::System(seed) => Ok(Seed::System(SystemSeed {
                 kind: seed.kind,
-                values: copies(alloc, seed.values.as_slice())?,
+                values: copy_values(alloc, seed.values.as_slice())?,
                 place: seed.place,
             })),
         }
     }
+}
+
+/// Equal values, each of which shares its parts.
+pub fn copy_values(alloc: Global, values: &[Value]) -> Result<Items, OutOfMemory>
+    ensures { IfOk result (λ s. trees (list s) ≡ trees values.now) }
+{
+    let mut copies = Seq::new(alloc);
+    copies.reserve(values.len() as u64)?;
+    for value in values {
+        copies.push(value.copy(alloc)?);
+    }
+    Ok(copies)
 }

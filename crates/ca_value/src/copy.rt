@@ -49,7 +49,7 @@ impl Pair {
 }
 
 /// Copies of the values.
-pub fn copies(alloc: Global, values: &[Value]) -> Result<Items, OutOfMemory>
+pub(crate) fn copies(alloc: Global, values: &[Value]) -> Result<Items, OutOfMemory>
     ensures { IfOk result (λ s. views (list s) ≡ views values.now) }
 {
     let mut copies = Seq::new(alloc);

@@ -13,7 +13,6 @@ pub mod builtin;
 pub mod copy;
 pub mod equal;
 pub mod fault;
-mod length;
 pub mod map;
 pub mod measure;
 pub mod memory;

@@ -1,7 +1,6 @@
 use Rattle.std.proofs.Common.{◌≡◌, subst, sym, ap, ◌∙◌, IfOk, rules}
 use Rattle.ca_value.specs.Seq.{list}
 use Rattle.ca_value.specs.Tree.{nil}
-use Rattle.ca_value.specs.declared.value.Value.{the_lemmas as value_lemmas}
 use Rattle.ca_value.specs.declared.value.Value.TheVariants.{Nil}
 use Rattle.ca_term.specs.declared.term.Term.{Term, Const, the_lemmas}
 use Rattle.ca_term.specs.Kernel.{const}
@@ -15,7 +14,7 @@ use Rattle.ca_meaning.proofs.contract.function_text.Goals as goal
 
 pub returns-in-None : goal.returns-in-None
 returns-in-None c =
-    let e : kernel (Const Nil) ≡ const nil = search (rules, the_lemmas, value_lemmas) in
+    let e : kernel (Const Nil) ≡ const nil = search (rules, the_lemmas) in
     e ∙ sym (ap (λ (p : ProcedureView). started p (values_in (values_of (kernels (list c.args.operands.now))))) (procedure-none (program_view c.args.program.now).functions c.args.number (sym c.in-None.ensures)))
 
 pub returns-in-Some : goal.returns-in-Some
