@@ -1,1 +1,5 @@
+mod Grew
 mod Samples
+mod Sound
+mod SoundPlain
+mod Well
