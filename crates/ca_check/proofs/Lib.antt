@@ -1,5 +1,7 @@
 mod Grew
 mod Samples
 mod Sound
+mod SoundChannels
+mod SoundNames
 mod SoundPlain
 mod Well

@@ -32,6 +32,7 @@ pub record IsSigned (k : Known) (base : ℕ) (n : ℕ) (f : Signature) : Type 0 
   pub takes : Takes k.functions n (f.arity + length f.hidden)
   pub below : Below base f.hidden
   pub plain : f.plain ≡ true → k.plain n ≡ true
+  pub bare : f.plain ≡ true → f.hidden ≡ []
 
 abbrev pub AreSigned : Known → ℕ → ℕ → List Signature → Type 0
 AreSigned k base n [] = Unit {0}

@@ -70,10 +70,10 @@ pub spread_one_length : (p : Place) (n : ℕ) (b : Binder) (m : Meaning) → len
 spread_one_length p n (one x) m = refl
 spread_one_length p n (many xs q) m = ap suc (items_length p n xs 0)
 
-pub spread_one_sound : (g : Ground) (p : Place) (n : ℕ) (b : Binder) (m : Meaning) → Sound g 0 m → NamedSound g n (spread_one p n b m)
-spread_one_sound g p n (one x) m f = (weaken g 0 n m (omega arith) f, tt)
+pub spread_one_sound : (g : Ground) (p : Place) (n : ℕ) (b : Binder) (m : Meaning) → Sound g n m → NamedSound g n (spread_one p n b m)
+spread_one_sound g p n (one x) m f = (f, tt)
 spread_one_sound g p n (many xs q) m f =
-  (sound_cond g n (nat_lt 4096 (length xs)) (fail TooMany q) m (sound_fail g n TooMany q) (weaken g 0 n m (omega arith) f), items_sound g p n xs 0 (suc n) (omega arith))
+  (sound_cond g n (nat_lt 4096 (length xs)) (fail TooMany q) m (sound_fail g n TooMany q) f, items_sound g p n xs 0 (suc n) (omega arith))
 
 abbrev pub widths : List Bound → ℕ
 widths [] = 0
@@ -85,7 +85,7 @@ spread_length p n (b ∷ bs) = length-append (spread_one p n b.by b.means) (spre
 
 pub spread_sound : (g : Ground) (p : Place) (n : ℕ) (bs : List Bound) → BoundsSound g bs → NamedSound g n (spread p n bs)
 spread_sound g p n [] f = tt
-spread_sound g p n (b ∷ bs) f = named_append g n (spread_one p n b.by b.means) (spread p (n + width b.by) bs) (spread_one_sound g p n b.by b.means f.0)
+spread_sound g p n (b ∷ bs) f = named_append g n (spread_one p n b.by b.means) (spread p (n + width b.by) bs) (spread_one_sound g p n b.by b.means (weaken g 0 n b.means (omega arith) f.0))
   (named_weaken g (n + width b.by) (n + length (spread_one p n b.by b.means)) (spread p (n + width b.by) bs) (omega (arith, spread_one_length p n b.by b.means)) (spread_sound g p (n + width b.by) bs f.1))
 
 pub sound_letting : (g : Ground) (n : ℕ) (bs : List Bound) (body : Meaning) (p : Place) → BoundsSound g bs → Sound g n body → Sound g n (letting bs body p)
@@ -275,3 +275,32 @@ sound_dotimes g (Some i) ms p f h = sound_hide g 0 i.means (λ n. counting i.nam
 pub sound_row_dotimes : (g : Ground) (p : Place) (qs : List Part) → PartsSound g qs → Sound g 0 (row_dotimes p qs)
 sound_row_dotimes g p [] f = sound_fail g 0 BadForm p
 sound_row_dotimes g p (b ∷ qs) f = sound_dotimes g (one_bound (bindings_in b)) (meanings qs) p (sound_one_bound g (bindings_in b) (bindings_sound g b f.1)) (means_sound g qs f.2)
+
+pub sound_letting_one : (g : Ground) (n : ℕ) (b : Bound) (body : Meaning) (p : Place) → Sound g n b.means → Sound g 0 body → Sound g n (letting (b ∷ []) body p)
+sound_letting_one g n b body p f h = at_size g n (letting (b ∷ []) body p) (λ env s l st. sound_lets g (size env) (spread p (size env) (b ∷ [])) body
+  (named_append g (size env) (spread_one p (size env) b.by b.means) [] (spread_one_sound g p (size env) b.by b.means (weaken g n (size env) b.means l f)) tt)
+  (weaken g 0 (size env + length (spread p (size env) (b ∷ []))) body (omega arith) h) env s st)
+
+pub sound_nth_bound : (g : Ground) (n : ℕ) (b : Binder) (h j : ℕ) (p : Place) → h < n → j < n → Sound g n (nth_bound b h j p).means
+sound_nth_bound g n b h j p l k = sound_operation g n (Builtin Nth) (local h ∷ local j ∷ []) p (sound_local g n h l, (sound_local g n j k, tt)) (λ target. refl)
+
+pub sound_doseq_one : (g : Ground) (b : Bound) (body : Meaning) (p : Place) → Sound g 0 b.means → Sound g 0 body → Sound g 0 (doseq (Some (b ∷ [])) body p)
+sound_doseq_one g b body p f h = at_size g 0 (doseq (Some (b ∷ [])) body p) (λ env s l st.
+  sound_lets g (size env) (unnamed (operation (Builtin Items) (b.means ∷ []) p) ∷ unnamed (operation (Builtin Count) (local (size env) ∷ []) p) ∷ [])
+    (block (counting [] (size env + 1) (letting (nth_bound b.by (size env) (size env + 2) p ∷ []) body p ∷ []) p ∷ []))
+    (sound_operation g (size env) (Builtin Items) (b.means ∷ []) p (weaken g 0 (size env) b.means (omega arith) f, tt) (λ target. refl),
+      (sound_operation g (suc (size env)) (Builtin Count) (local (size env) ∷ []) p (sound_local g (suc (size env)) (size env) (omega arith), tt) (λ target. refl), tt))
+    (sound_body g (size env + 2) (counting [] (size env + 1) (letting (nth_bound b.by (size env) (size env + 2) p ∷ []) body p ∷ []) p)
+      (sound_counting g (size env + 2) [] (size env + 1) (letting (nth_bound b.by (size env) (size env + 2) p ∷ []) body p ∷ []) p (omega arith)
+        (λ n l2. (sound_letting_one g (suc n) (nth_bound b.by (size env) (size env + 2) p) body p
+          (sound_nth_bound g (suc n) b.by (size env) (size env + 2) p (omega (arith, l2)) (omega (arith, l2))) h, tt)))) env s st)
+
+pub sound_doseq : (g : Ground) (o : Option (List Bound)) (body : Meaning) (p : Place) → ((bs : List Bound) → o ≡ Some bs → BoundsSound g bs) → Sound g 0 body → Sound g 0 (doseq o body p)
+sound_doseq g None body p f h = sound_fail g 0 BadForm p
+sound_doseq g (Some []) body p f h = sound_fail g 0 BadForm p
+sound_doseq g (Some (b ∷ [])) body p f h = sound_doseq_one g b body p (f (b ∷ []) refl).0 h
+sound_doseq g (Some (b ∷ c ∷ bs)) body p f h = sound_fail g 0 BadForm p
+
+pub sound_row_doseq : (g : Ground) (p : Place) (qs : List Part) → PartsSound g qs → Sound g 0 (row_doseq p qs)
+sound_row_doseq g p [] f = sound_fail g 0 BadForm p
+sound_row_doseq g p (b ∷ qs) f = sound_doseq g (bindings_in b) (block (meanings qs)) p (bindings_sound g b f.1) (block_sound g 0 qs f.2)
