@@ -4,4 +4,5 @@ mod Sound
 mod SoundChannels
 mod SoundNames
 mod SoundPlain
+mod SoundWalk
 mod Well

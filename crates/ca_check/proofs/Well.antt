@@ -1,6 +1,7 @@
 -- A term that stands in a scope of so many names, each binder taking the next number: what a walk makes. It
 -- fits, binds its names anew, and each name in it is bound.
 use Rattle.std.proofs.Common.{◌≡◌, ◌⊎◌, inl, inr, ⊎_elim, ℕ, zero, suc, ◌+◌, ◌<◌, ◌≤◌, List, [], ◌∷◌, ◌++◌, length, refl, sym, ap, ◌∙◌, subst, arith, Option, Some, None, Bool, true, false, cond, ◌&&◌, ◌||◌, not, ◌==◌, nat_lt, IsTrue}
+use Rattle.std.proofs.lemmas.List.{append-nil, append_assoc, length-append}
 use Rattle.std.proofs.lemmas.Bool.{ltb-true, ltb-false, eqb-true, cases_lt, and_parts}
 use Rattle.ca_term.specs.declared.place.Place.{Place}
 use Rattle.ca_term.specs.declared.head.Head.{Head}
@@ -313,52 +314,96 @@ mutual
   bindings_closed k base us n (binding m t bs) ns w o c = (closed k base us n None t ns w.1 o.0 c,
     bindings_closed k base us (suc n) bs (m ∷ ns) w.2 o.1 (covers_next base us n m ns w.0 c))
 
--- the test for plain terms says what it should
-pub plain_head : (plain : ℕ → Bool) (h : Head) → is_plain_head plain h ≡ true → IsPlainHead plain h
-plain_head plain Recur e = tt
-plain_head plain (Builtin b) e = tt
-plain_head plain (Call n) e = e
-plain_head plain Take e = cc
-plain_head plain Put e = cc
-plain_head plain (Alts o) e = cc
-plain_head plain (Make m) e = cc
-plain_head plain (Spawn m) e = cc
-plain_head plain Close e = cc
-plain_head plain (Register m) e = cc
-plain_head plain Print e = cc
-plain_head plain Post e = cc
+-- the test for plain terms says what it should, also where more functions are plain
+abbrev pub Implies : (ℕ → Bool) → (ℕ → Bool) → Type 0
+Implies plain more = (n : ℕ) → plain n ≡ true → more n ≡ true
+
+pub plain_head : (plain more : ℕ → Bool) → Implies plain more → (h : Head) → is_plain_head plain h ≡ true → IsPlainHead more h
+plain_head plain more f Recur e = tt
+plain_head plain more f (Builtin b) e = tt
+plain_head plain more f (Call n) e = f n e
+plain_head plain more f Take e = cc
+plain_head plain more f Put e = cc
+plain_head plain more f (Alts o) e = cc
+plain_head plain more f (Make m) e = cc
+plain_head plain more f (Spawn m) e = cc
+plain_head plain more f Close e = cc
+plain_head plain more f (Register m) e = cc
+plain_head plain more f Print e = cc
+plain_head plain more f Post e = cc
 
 mutual
-  pub plain_term : (plain : ℕ → Bool) (t : Kernel) → is_plain plain t ≡ true → IsPlain plain t
-  plain_term plain (const v) e = tt
-  plain_term plain (var n) e = tt
-  plain_term plain (branch c a b) e =
+  pub plain_term : (plain more : ℕ → Bool) → Implies plain more → (t : Kernel) → is_plain plain t ≡ true → IsPlain more t
+  plain_term plain more f (const v) e = tt
+  plain_term plain more f (var n) e = tt
+  plain_term plain more f (branch c a b) e =
     let x : ((is_plain plain c && is_plain plain a) ≡ true) × (is_plain plain b ≡ true) = and_parts (is_plain plain c && is_plain plain a) (is_plain plain b) e in
     let y : (is_plain plain c ≡ true) × (is_plain plain a ≡ true) = and_parts (is_plain plain c) (is_plain plain a) x.0 in
-    (plain_term plain c y.0, plain_term plain a y.1, plain_term plain b x.1)
-  plain_term plain (bind bs body) e =
+    (plain_term plain more f c y.0, plain_term plain more f a y.1, plain_term plain more f b x.1)
+  plain_term plain more f (bind bs body) e =
     let x : (are_plain_bindings plain bs ≡ true) × (is_plain plain body ≡ true) = and_parts (are_plain_bindings plain bs) (is_plain plain body) e in
-    (plain_bindings plain bs x.0, plain_term plain body x.1)
-  plain_term plain (loop fs bs body) e =
+    (plain_bindings plain more f bs x.0, plain_term plain more f body x.1)
+  plain_term plain more f (loop fs bs body) e =
     let x : (are_plain_bindings plain bs ≡ true) × (is_plain plain body ≡ true) = and_parts (are_plain_bindings plain bs) (is_plain plain body) e in
-    (plain_bindings plain bs x.0, plain_term plain body x.1)
-  plain_term plain (seq ts) e = plain_terms plain ts e
-  plain_term plain (frame body) e = plain_term plain body e
-  plain_term plain (turn names text now) e =
+    (plain_bindings plain more f bs x.0, plain_term plain more f body x.1)
+  plain_term plain more f (seq ts) e = plain_terms plain more f ts e
+  plain_term plain more f (frame body) e = plain_term plain more f body e
+  plain_term plain more f (turn names text now) e =
     let x : (is_plain plain text ≡ true) × (is_plain plain now ≡ true) = and_parts (is_plain plain text) (is_plain plain now) e in
-    (plain_term plain text x.0, plain_term plain now x.1)
-  plain_term plain (apply h ts p) e =
+    (plain_term plain more f text x.0, plain_term plain more f now x.1)
+  plain_term plain more f (apply h ts p) e =
     let x : (is_plain_head plain h ≡ true) × (are_plain plain ts ≡ true) = and_parts (is_plain_head plain h) (are_plain plain ts) e in
-    (plain_head plain h x.0, plain_terms plain ts x.1)
+    (plain_head plain more f h x.0, plain_terms plain more f ts x.1)
 
-  pub plain_terms : (plain : ℕ → Bool) (ts : Kernels) → are_plain plain ts ≡ true → ArePlain plain ts
-  plain_terms plain none e = tt
-  plain_terms plain (item t ts) e =
+  pub plain_terms : (plain more : ℕ → Bool) → Implies plain more → (ts : Kernels) → are_plain plain ts ≡ true → ArePlain more ts
+  plain_terms plain more f none e = tt
+  plain_terms plain more f (item t ts) e =
     let x : (is_plain plain t ≡ true) × (are_plain plain ts ≡ true) = and_parts (is_plain plain t) (are_plain plain ts) e in
-    (plain_term plain t x.0, plain_terms plain ts x.1)
+    (plain_term plain more f t x.0, plain_terms plain more f ts x.1)
 
-  pub plain_bindings : (plain : ℕ → Bool) (bs : Bindings) → are_plain_bindings plain bs ≡ true → ArePlainBindings plain bs
-  plain_bindings plain empty e = tt
-  plain_bindings plain (binding n t bs) e =
+  pub plain_bindings : (plain more : ℕ → Bool) → Implies plain more → (bs : Bindings) → are_plain_bindings plain bs ≡ true → ArePlainBindings more bs
+  plain_bindings plain more f empty e = tt
+  plain_bindings plain more f (binding n t bs) e =
     let x : (is_plain plain t ≡ true) × (are_plain_bindings plain bs ≡ true) = and_parts (is_plain plain t) (are_plain_bindings plain bs) e in
-    (plain_term plain t x.0, plain_bindings plain bs x.1)
+    (plain_term plain more f t x.0, plain_bindings plain more f bs x.1)
+
+-- what a term uses comes behind what was seen
+abbrev pub Extends : List ℕ → List ℕ → Type 0
+Extends seen out = (extra : List ℕ) × (out ≡ seen ++ extra)
+
+pub extends_on : (a b c : List ℕ) → Extends a b → Extends b c → Extends a c
+extends_on a b c x y = (x.0 ++ y.0, y.1 ∙ ap (λ (l : List ℕ). l ++ y.0) x.1 ∙ append_assoc a x.0 y.0)
+
+pub noted_extends : (n m : ℕ) (seen : List ℕ) → Extends seen (noted n m seen)
+noted_extends n m seen = by (nat_lt m n && not (is_among m seen)) where
+  by : (b : Bool) → Extends seen (cond b (seen ++ m ∷ []) seen)
+  by true = (m ∷ [], refl)
+  by false = ([], sym (append-nil seen))
+
+mutual
+  pub uses_extends : (n : ℕ) (t : Kernel) (seen : List ℕ) → Extends seen (uses n t seen)
+  uses_extends n (const v) seen = ([], sym (append-nil seen))
+  uses_extends n (var m) seen = noted_extends n m seen
+  uses_extends n (branch c a b) seen = extends_on seen (uses n a (uses n c seen)) (uses n b (uses n a (uses n c seen)))
+    (extends_on seen (uses n c seen) (uses n a (uses n c seen)) (uses_extends n c seen) (uses_extends n a (uses n c seen))) (uses_extends n b (uses n a (uses n c seen)))
+  uses_extends n (bind bs body) seen = extends_on seen (uses_bindings n bs seen) (uses n body (uses_bindings n bs seen)) (uses_bindings_extend n bs seen) (uses_extends n body (uses_bindings n bs seen))
+  uses_extends n (loop fs bs body) seen = extends_on seen (uses_bindings n bs seen) (uses n body (uses_bindings n bs seen)) (uses_bindings_extend n bs seen) (uses_extends n body (uses_bindings n bs seen))
+  uses_extends n (seq ts) seen = uses_items_extend n ts seen
+  uses_extends n (frame body) seen = ([], sym (append-nil seen))
+  uses_extends n (turn names text now) seen = ([], sym (append-nil seen))
+  uses_extends n (apply h ts p) seen = uses_items_extend n ts seen
+
+  pub uses_items_extend : (n : ℕ) (ts : Kernels) (seen : List ℕ) → Extends seen (uses_items n ts seen)
+  uses_items_extend n none seen = ([], sym (append-nil seen))
+  uses_items_extend n (item t ts) seen = extends_on seen (uses n t seen) (uses_items n ts (uses n t seen)) (uses_extends n t seen) (uses_items_extend n ts (uses n t seen))
+
+  pub uses_bindings_extend : (n : ℕ) (bs : Bindings) (seen : List ℕ) → Extends seen (uses_bindings n bs seen)
+  uses_bindings_extend n empty seen = ([], sym (append-nil seen))
+  uses_bindings_extend n (binding m t bs) seen = extends_on seen (uses n t seen) (uses_bindings n bs (uses n t seen)) (uses_extends n t seen) (uses_bindings_extend n bs (uses n t seen))
+
+-- a list that is extended and not longer is the same
+pub extended_same : (seen out : List ℕ) → Extends seen out → length out ≡ length seen → out ≡ seen
+extended_same seen out x e = by x.0 x.1 where
+  by : (extra : List ℕ) → out ≡ seen ++ extra → out ≡ seen
+  by [] f = f ∙ append-nil seen
+  by (y ∷ ys) f = absurd (omega (arith, e, ap length f, length-append seen (y ∷ ys)))
