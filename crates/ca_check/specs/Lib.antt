@@ -12,3 +12,4 @@ pub mod Tops
 pub mod Uses
 pub mod Walk
 pub mod Words
+pub mod Worked

@@ -8,6 +8,7 @@
 //! `special` and `error`.
 #![tactic(auto)]
 
-pub mod error;
 mod context;
+pub mod error;
+pub mod laws;
 mod special;
