@@ -1,27 +1,27 @@
 -- Each accepted script gives a checked program: from the end, where all functions and go bodies are known, back
 -- through its top-level forms.
-use Rattle.std.proofs.Common.{◌≡◌, ◌≢◌, ℕ, zero, suc, ◌+◌, ◌<◌, ◌≤◌, List, [], ◌∷◌, ◌++◌, length, map, refl, sym, ap, ◌∙◌, subst, arith, ⊎_elim, inl, inr, Option, Some, None, Bool, true, false, cond, ◌&&◌, ◌||◌, ◌==◌, nat_lt, nat_eq, slice_get, slice_index_or, Result, Ok, Err, All}
+use Rattle.std.proofs.Common.{◌≡◌, ℕ, zero, suc, ◌+◌, List, [], ◌∷◌, ◌++◌, length, map, refl, sym, ap, ◌∙◌, subst, arith, ⊎_elim, inr, Some, None, Bool, true, false, cond, ◌&&◌, ◌||◌, ◌==◌, nat_lt, slice_get, Result, Ok, Err, All}
 use Rattle.std.specs.Option.{option_map_or}
 use Rattle.std.proofs.lemmas.List.{length-append, append-nil, append_assoc}
 use Rattle.std.proofs.lemmas.Bool.{eqb-true, and_parts, or_cases}
 use Rattle.ca_value.specs.Tree.{nil}
 use Rattle.ca_term.specs.declared.place.Place.{Place}
-use Rattle.ca_term.specs.Kernel.{Kernel, Bindings, const, bind, empty, binding}
+use Rattle.ca_term.specs.Kernel.{Kernel, const, bind}
 use Rattle.ca_term.specs.Closed.{IsIn}
 use Rattle.ca_term.specs.Fits.{Known, Takes, IsPlain}
 use Rattle.ca_term.specs.Program.{ProcedureView, ProgramView, arity, known_in, IsText, IsProcedure, ArePlainFrom, IsProgram}
-use Rattle.ca_reader.specs.Form.{FormTree, FormTrees, none, item, place_of}
+use Rattle.ca_reader.specs.Form.{FormTrees, none, item, place_of}
 use Rattle.ca_check.specs.declared.error.CheckErrorKind.{CheckErrorKind}
 use Rattle.ca_check.specs.declared.error.CheckErrorKind.TheVariants.{Redefined, TooMany}
 use Rattle.ca_check.specs.Depth.{depth_of}
-use Rattle.ca_check.specs.Uses.{uses, aims_out, is_plain}
+use Rattle.ca_check.specs.Uses.{uses, aims_out, is_plain, IsGoBody}
 use Rattle.ca_check.specs.Outcome.{Gathered, Outcome, done, refused, after}
-use Rattle.ca_check.specs.Meaning.{Env, Signature, Meaning, size}
+use Rattle.ca_check.specs.Meaning.{Signature, Meaning}
 use Rattle.ca_check.specs.Tops.{Tops, Written, Top, definition, function, expression, wrong, top, is_taken, main_env, numbers, names_of, judged_body, straight, signature, function_env, plain_with, is_empty, with_function, Settled, settled, add_function, shallow, Ended, bound_before, bound_top, one_top, is_past, list_parts}
 use Rattle.ca_check.specs.Expansion.{tops, is_namespace, script, program_of, expansion_of}
-use Rattle.ca_check.proofs.Well.{Well, WellBindings, fits, anew, closed, Below, below_append, uses_only, uses_below, is_new, Implies, plain_term}
-use Rattle.ca_check.proofs.Grew.{Each, each_append, Agrees, agrees_prefix, Grew, IfDone, if_after, if_cond, any_done}
-use Rattle.ca_check.proofs.Sound.{Ground, IsSigned, AreSigned, Stands, Makes, Sound}
+use Rattle.ca_check.proofs.Well.{Well, WellBindings, fits, anew, closed, Below, uses_only, uses_below, Implies, plain_term}
+use Rattle.ca_check.proofs.Grew.{Each, each_append, Agrees, agrees_prefix, IsMade, Grew, IfDone, if_cond}
+use Rattle.ca_check.proofs.Sound.{Ground, IsSigned, AreSigned, Makes, Sound}
 use Rattle.ca_check.proofs.SoundTops.{TopSound, sound_top, signed_more, signed_behind, numbers_length, names_length, function_procedure, Settles, settled_settles}
 
 -- whether the function of that number is plain
@@ -50,6 +50,14 @@ all_of_each P [] e k d l = absurd (omega (arith, l))
 all_of_each P (x ∷ xs) e zero d l = e.0
 all_of_each P (x ∷ xs) e (suc k) d l = all_of_each P xs e.1 k d (omega (arith, l))
 
+pub each_first : {A : Type 0} (P Q : A → Type 0) (xs : List A) → Each (λ x. P x × Q x) xs → Each P xs
+each_first P Q [] e = tt
+each_first P Q (x ∷ xs) e = (e.0.0, each_first P Q xs e.1)
+
+pub each_second : {A : Type 0} (P Q : A → Type 0) (xs : List A) → Each (λ x. P x × Q x) xs → Each Q xs
+each_second P Q [] e = tt
+each_second P Q (x ∷ xs) e = (e.0.1, each_second P Q xs e.1)
+
 -- what the program knows at the end
 pub record Final (k : Known) (r : Ended) (s : Gathered) : Type 0 where
   pub functions : k.functions ≡ map arity r.tops.procedures
@@ -60,7 +68,7 @@ pub record Final (k : Known) (r : Ended) (s : Gathered) : Type 0 where
 pub record Held (k : Known) (t : Tops) (s : Gathered) (r : Ended) (s2 : Gathered) (procedures : List ProcedureView) : Type 0 where
   pub bodies : List ProcedureView
   pub extends : s2.bodies ≡ s.bodies ++ bodies
-  pub bodies_fit : Each (IsProcedure k) bodies
+  pub bodies_fit : Each (IsMade k) bodies
   pub functions_fit : Each (IsProcedure k) procedures
   pub plain : ArePlainFrom k.plain (length t.procedures) procedures
   pub main : WellBindings k (length t.scope) r.bindings
@@ -90,11 +98,11 @@ bound_ran k x m d p rest t s h f = by (m (main_env t) s) (λ a. h (main_env t) s
       let after_it : Held k behind s1 r s2 y.procedures = y.holds pair (signed_more k (length t.scope) (length (t.scope ++ x ∷ [])) 0 t.functions (omega (arith, longer)) a)
         (record { functions = fin.functions; bodies = fin.bodies; plain = fin.plain }) in
       let first : Grew k s s1 (Well k (length t.scope) None u) = w a in
-      let made : Each (IsProcedure k) first.more × Well k (length t.scope) None u = first.holds (agrees_prefix s1.bodies after_it.bodies k.bodies (subst (λ l. Agrees l k.bodies) after_it.extends fin.bodies)) in
+      let made : Each (IsMade k) first.more × Well k (length t.scope) None u = first.holds (agrees_prefix s1.bodies after_it.bodies k.bodies (subst (λ l. Agrees l k.bodies) after_it.extends fin.bodies)) in
       record {
         bodies = first.more ++ after_it.bodies;
         extends = after_it.extends ∙ ap (λ (l : List ProcedureView). l ++ after_it.bodies) first.extends ∙ append_assoc s.bodies first.more after_it.bodies;
-        bodies_fit = each_append (IsProcedure k) first.more after_it.bodies made.0 after_it.bodies_fit;
+        bodies_fit = each_append (IsMade k) first.more after_it.bodies made.0 after_it.bodies_fit;
         functions_fit = after_it.functions_fit;
         plain = after_it.plain;
         main = (refl, made.1, subst (λ n. WellBindings k n r.bindings) longer after_it.main) } }
@@ -122,12 +130,12 @@ function_ran k w t s r s1 e s2 x y = record {
       let after_it : Held k (with_function w r.hidden r.body t) s1 e s2 y.procedures =
         y.holds (length-append t.functions (sig ∷ []) ∙ omega (arith, pair, length-append t.procedures (made ∷ [])))
           (signed_behind k (length t.scope) 0 t.functions sig a (subst (λ n. IsSigned k (length t.scope) n sig) (omega arith) is_signed)) fin in
-      let holds : Each (IsProcedure k) first.more × Well k (length t.scope + length (names_of w.parameters)) None r.body =
+      let holds : Each (IsMade k) first.more × Well k (length t.scope + length (names_of w.parameters)) None r.body =
         first.holds (agrees_prefix s1.bodies after_it.bodies k.bodies (subst (λ l. Agrees l k.bodies) after_it.extends fin.bodies)) in
       record {
         bodies = first.more ++ after_it.bodies;
         extends = after_it.extends ∙ ap (λ (l : List ProcedureView). l ++ after_it.bodies) first.extends ∙ append_assoc s.bodies first.more after_it.bodies;
-        bodies_fit = each_append (IsProcedure k) first.more after_it.bodies holds.0 after_it.bodies_fit;
+        bodies_fit = each_append (IsMade k) first.more after_it.bodies holds.0 after_it.bodies_fit;
         functions_fit = (function_procedure k (length t.scope) r.hidden (names_of w.parameters) r.body x.below x.same holds.1, after_it.functions_fit);
         plain = (λ i. plain_body pair fin i, subst (λ n. ArePlainFrom k.plain n y.procedures) (length-append t.procedures (made ∷ []) ∙ omega arith) after_it.plain);
         main = after_it.main } } where
@@ -183,12 +191,16 @@ add_ran k w p rest t s h f = by (judged_body w (straight (Some (length w.paramet
     → IfDone (after (after o (λ r s2. cond (nat_lt 60 (depth_of r.body)) (refused TooMany p) (done (with_function w r.hidden r.body t) s2))) (λ t2 s2. after (shallow p t2 s2) rest)) (Ran k t s)
   then_added (refused e q) x = tt
   then_added (done r s1) x = low r s1 x (nat_lt 60 (depth_of r.body))
-  by : (o : Outcome Kernel) → IfDone (after (after o (λ first s1.
-      after (settled 66 (aims_out first) (uses (length t.scope) first []) w p t s) (λ r s2.
-        cond (nat_lt 60 (depth_of r.body)) (refused TooMany p) (done (with_function w r.hidden r.body t) s2)))) (λ t2 s2. after (shallow p t2 s2) rest)) (Ran k t s)
-  by (refused e q) = tt
-  by (done first s1) = then_added (settled 66 (aims_out first) (uses (length t.scope) first []) w p t s)
+  not_deep : (first : Kernel) (b : Bool) → IfDone (after (cond b (refused TooMany p) (after (settled 66 (aims_out first) (uses (length t.scope) first []) w p t s) (λ r s2.
+      cond (nat_lt 60 (depth_of r.body)) (refused TooMany p) (done (with_function w r.hidden r.body t) s2)))) (λ t2 s2. after (shallow p t2 s2) rest)) (Ran k t s)
+  not_deep first true = tt
+  not_deep first false = then_added (settled 66 (aims_out first) (uses (length t.scope) first []) w p t s)
     (settled_settles k w p t s (aims_out first) h 66 (uses (length t.scope) first []) (uses_below (length t.scope) first [] tt))
+  by : (o : Outcome Kernel) → IfDone (after (after o (λ first s1.
+      cond s1.deep (refused TooMany p) (after (settled 66 (aims_out first) (uses (length t.scope) first []) w p t s) (λ r s2.
+        cond (nat_lt 60 (depth_of r.body)) (refused TooMany p) (done (with_function w r.hidden r.body t) s2))))) (λ t2 s2. after (shallow p t2 s2) rest)) (Ran k t s)
+  by (refused e q) = tt
+  by (done first s1) = not_deep first s1.deep
 
 pub one_ran : (k : Known) (x : Top) (p : Place) (rest : Tops → Gathered → Outcome Ended) (t : Tops) (s : Gathered) → TopSound (record { known = k; base = length t.scope }) x
   → ((t : Tops) (s : Gathered) → IfDone (rest t s) (Ran k t s)) → IfDone (one_top x p rest t s) (Ran k t s)
@@ -231,7 +243,7 @@ pub ended_program : (r : Ended) (s : Gathered)
 ended_program r s f = record {
     plain = plain_in r.tops.functions;
     functions_fit = all_of_each (IsProcedure k) r.tops.procedures (subst (λ l. Each (IsProcedure k) l) (sym ran.extends) held.functions_fit);
-    bodies_fit = all_of_each (IsProcedure k) s.bodies (subst (λ l. Each (IsProcedure k) l) (sym held.extends) held.bodies_fit);
+    bodies_fit = all_of_each (IsProcedure k) s.bodies (each_first (IsProcedure k) IsGoBody s.bodies (subst (λ l. Each (IsMade k) l) (sym held.extends) held.bodies_fit));
     main_fits = main_text k (bind r.bindings (const nil)) (held.main, tt);
     plain_functions = subst (λ l. ArePlainFrom (plain_in r.tops.functions) 0 l) (sym ran.extends) held.plain } where
   k : Known
@@ -249,3 +261,20 @@ accepted_program fs p e = by (script fs start untouched) (λ k. script_ran k fs 
   by : (o : Outcome Ended) → ((k : Known) → IfDone o (Ran k start untouched)) → program_of o ≡ Ok p → IsProgram p
   by (refused k q) f e = cc
   by (done r s) f e = subst (λ o. IfProgram o) e (ended_program r s f)
+
+-- the go bodies of a script that was gone through
+pub ended_bodies : (r : Ended) (s : Gathered) → ((k : Known) → Ran k start untouched r s) → All IsGoBody s.bodies
+ended_bodies r s f = all_of_each IsGoBody s.bodies (each_second (IsProcedure k) IsGoBody s.bodies (subst (λ l. Each (IsMade k) l) (sym held.extends) held.bodies_fit)) where
+  k : Known
+  k = known_in (plain_in r.tops.functions) (record { functions = r.tops.procedures; bodies = s.bodies; main = bind r.bindings (const nil) })
+  held : Held k start untouched r s (f k).procedures
+  held = (f k).holds refl tt (record { functions = refl; bodies = agrees_self s.bodies; plain = λ n. refl })
+
+pub accepted_bodies : (fs : FormTrees) (p : ProgramView) → expansion_of fs ≡ Ok p → All IsGoBody p.bodies
+accepted_bodies fs p e = by (script fs start untouched) (λ k. script_ran k fs start untouched) e where
+  IfBodies : Result ProgramView (CheckErrorKind × Place) → Type 0
+  IfBodies (Ok p) = All IsGoBody p.bodies
+  IfBodies (Err e) = Unit {0}
+  by : (o : Outcome Ended) → ((k : Known) → IfDone o (Ran k start untouched)) → program_of o ≡ Ok p → All IsGoBody p.bodies
+  by (refused k q) f e = cc
+  by (done r s) f e = subst (λ o. IfBodies o) e (ended_bodies r s f)

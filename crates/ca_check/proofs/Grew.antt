@@ -1,12 +1,13 @@
 -- What a walk leaves: go bodies that are added, each of them right, if the numbers of their parameters are those
 -- that the program knows. A go body that isn't made yet has no parameters.
-use Rattle.std.proofs.Common.{◌≡◌, ◌⊎◌, inl, inr, ⊎_elim, ℕ, zero, suc, ◌+◌, List, [], ◌∷◌, ◌++◌, length, refl, sym, ap, ◌∙◌, subst, arith, Bool, true, false, cond, nat_le, slice_set}
+use Rattle.std.proofs.Common.{◌≡◌, ◌⊎◌, inl, ⊎_elim, ℕ, List, [], ◌∷◌, ◌++◌, length, refl, sym, ap, ◌∙◌, subst, Bool, true, false, cond, nat_le, slice_set}
 use Rattle.std.proofs.lemmas.List.{append-nil, append_assoc}
 use Rattle.ca_value.specs.Tree.{nil}
 use Rattle.ca_term.specs.Kernel.{Kernel, const}
 use Rattle.ca_term.specs.Program.{ProcedureView, arity, IsProcedure}
 use Rattle.ca_term.specs.Fits.{Known, Takes}
 use Rattle.ca_check.specs.Depth.{depth_of}
+use Rattle.ca_check.specs.Uses.{IsGoBody}
 use Rattle.ca_check.specs.Outcome.{Gathered, Outcome, done, refused, after, limited}
 use Rattle.ca_check.specs.Go.{unmade}
 
@@ -47,10 +48,14 @@ agrees_at [] b ys (k ∷ ks) n a = ⊎_elim (λ e. absurd (n e)) (λ e. sym e) a
 agrees_at (x ∷ xs) b ys [] n a = a
 agrees_at (x ∷ xs) b ys (k ∷ ks) n a = agrees_at xs b ys ks n a.1
 
+-- a go body that is right
+abbrev pub IsMade : Known → ProcedureView → Type 0
+IsMade k b = IsProcedure k b × IsGoBody b
+
 pub record Grew (k : Known) (s s2 : Gathered) (P : Type 0) : Type 0 where
   pub more : List ProcedureView
   pub extends : s2.bodies ≡ s.bodies ++ more
-  pub holds : Agrees s2.bodies k.bodies → Each (IsProcedure k) more × P
+  pub holds : Agrees s2.bodies k.bodies → Each (IsMade k) more × P
 
 pub stays : (k : Known) (s : Gathered) (P : Type 0) → P → Grew k s s P
 stays k s P p = record { more = []; extends = sym (append-nil s.bodies); holds = λ a. (tt, p) }
@@ -63,9 +68,9 @@ pub behind_it : (k : Known) (s s1 s2 : Gathered) (P Q : Type 0) → Grew k s s1 
 behind_it k s s1 s2 P Q x y = record {
   more = x.more ++ y.more;
   extends = y.extends ∙ ap (λ (l : List ProcedureView). l ++ y.more) x.extends ∙ append_assoc s.bodies x.more y.more;
-  holds = λ a. let h : Each (IsProcedure k) x.more × P = x.holds (agrees_prefix s1.bodies y.more k.bodies (subst (λ l. Agrees l k.bodies) y.extends a)) in
-    let i : Each (IsProcedure k) y.more × Q = y.holds a in
-    (each_append (IsProcedure k) x.more y.more h.0 i.0, (h.1, i.1)) }
+  holds = λ a. let h : Each (IsMade k) x.more × P = x.holds (agrees_prefix s1.bodies y.more k.bodies (subst (λ l. Agrees l k.bodies) y.extends a)) in
+    let i : Each (IsMade k) y.more × Q = y.holds a in
+    (each_append (IsMade k) x.more y.more h.0 i.0, (h.1, i.1)) }
 
 -- where something was done, it is this
 abbrev pub IfDone : {A : Type 0} → Outcome A → (A → Gathered → Type 0) → Type 0

@@ -1,26 +1,22 @@
 -- Each word of the expansion makes terms that stand well in their scope, of parts that do.
-use Rattle.std.proofs.Common.{◌≡◌, ◌⊎◌, inl, inr, ℕ, zero, suc, ◌+◌, ◌<◌, ◌≤◌, List, [], ◌∷◌, ◌++◌, length, map, refl, sym, ap, ◌∙◌, subst, arith, Option, Some, None, Bool, true, false, cond, slice_set, pos}
+use Rattle.std.proofs.Common.{◌≡◌, inl, ℕ, zero, suc, ◌+◌, ◌<◌, ◌≤◌, List, [], ◌∷◌, ◌++◌, length, map, refl, sym, ap, ◌∙◌, subst, arith, Option, Some, None, Bool, true, false, cond, slice_set}
 use Rattle.std.proofs.lemmas.List.{length-append, length-map, append_assoc}
-use Rattle.ca_value.specs.Tree.{Tree, nil, int}
+use Rattle.ca_value.specs.Tree.{Tree, nil}
 use Rattle.ca_value.specs.declared.builtin.Builtin.TheVariants.{IsNil}
 use Rattle.ca_term.specs.declared.place.Place.{Place}
 use Rattle.ca_term.specs.declared.head.Head.{Head}
-use Rattle.ca_term.specs.declared.head.Head.TheVariants.{Recur, Builtin, Make, Spawn, Close, Post}
-use Rattle.ca_term.specs.declared.head.MakeKind.TheVariants.{Fixed}
-use Rattle.ca_term.specs.declared.head.SeedKind.{SeedKind}
-use Rattle.ca_term.specs.Kernel.{Kernel, Kernels, Bindings, const, var, branch, bind, loop, seq, apply, none, item, empty, binding}
-use Rattle.ca_term.specs.Closed.{IsIn}
+use Rattle.ca_term.specs.declared.head.Head.TheVariants.{Recur, Builtin, Close, Post}
+use Rattle.ca_term.specs.Kernel.{Kernel, Kernels, Bindings, var, branch, bind, loop, seq, apply, none, item, empty, binding}
 use Rattle.ca_term.specs.Fits.{Known, Suits, Takes, count_terms, count_bindings}
-use Rattle.ca_term.specs.Program.{ProcedureView, arity, IsProcedure}
+use Rattle.ca_term.specs.Program.{ProcedureView, IsProcedure}
 use Rattle.ca_term.specs.View.{kernels_of}
-use Rattle.ca_check.specs.declared.context.Context.TheVariants.{Go}
 use Rattle.ca_check.specs.declared.error.CheckErrorKind.{CheckErrorKind}
 use Rattle.ca_check.specs.Uses.{uses}
-use Rattle.ca_check.specs.Outcome.{Gathered, Outcome, done, refused, after, limited}
+use Rattle.ca_check.specs.Outcome.{Gathered, Outcome, after, limited}
 use Rattle.ca_check.specs.Meaning.{Env, Signature, Meaning, Named, size, inner, named, fail, constant, nothing, local, iff, unless, before_others, in_order, operation, block, unnamed, binds, behind, lets, loops, name_as, hide, numbered, joined, hiding}
-use Rattle.ca_check.specs.Go.{task, in_task, unmade, spawned, go}
-use Rattle.ca_check.proofs.Well.{Well, WellTerms, WellInOrder, WellBindings, fits, anew, closed, Below, below_more, below_append, Only, Within, uses_only, uses_below, in_left, in_right, Covers}
-use Rattle.ca_check.proofs.Grew.{Each, each_append, Agrees, agrees_prefix, agrees_unmade, agrees_at, set_between, Grew, stays, gives, behind_it, IfDone, if_after, if_cond, if_limited}
+use Rattle.ca_check.specs.Go.{task, in_task, unmade, go}
+use Rattle.ca_check.proofs.Well.{Well, WellTerms, WellInOrder, WellBindings, fits, anew, closed, Below, below_more, below_append, uses_only, uses_below, in_left, in_right}
+use Rattle.ca_check.proofs.Grew.{Each, Agrees, agrees_unmade, agrees_at, set_between, IsMade, Grew, stays, gives, behind_it, IfDone, if_after, if_limited}
 
 -- what the program knows, and how many names of the main text the functions may use
 pub record Ground : Type 0 where
@@ -326,9 +322,9 @@ sound_go g n body p f = at_size g n (go body p) (λ env s l st.
         extends = now;
         holds = λ a.
           let b : Agrees (s.bodies ++ made ∷ x.more) g.known.bodies = subst (λ l. Agrees l g.known.bodies) now a in
-          let h : Each (IsProcedure g.known) x.more × Well g.known (size (in_task env)) None t =
+          let h : Each (IsMade g.known) x.more × Well g.known (size (in_task env)) None t =
             x.holds (subst (λ l. Agrees l g.known.bodies) (sym is) (agrees_unmade s.bodies made x.more g.known.bodies b)) in
-          ((body_procedure g.known (size env) t (subst (λ m. Well g.known m None t) (size_named [] env) h.1), h.0),
+          (((body_procedure g.known (size env) t (subst (λ m. Well g.known m None t) (size_named [] env) h.1), (size env, refl)), h.0),
            ((refl, (tt, (tt, tt)), tt),
             ((subst (λ i. Takes g.known.bodies (length s.bodies) i) (sym (vars_count (uses (size env) t [] ++ size env ∷ [])))
                 (agrees_at s.bodies made x.more g.known.bodies (λ e. omega (arith, e, some)) b),

@@ -1,10 +1,10 @@
 -- The rows of the forms of core.async make terms that stand well.
-use Rattle.std.proofs.Common.{◌≡◌, ℕ, zero, suc, ◌+◌, ◌<◌, ◌≤◌, List, [], ◌∷◌, ◌++◌, length, map, refl, sym, ap, ◌∙◌, subst, arith, Option, Some, None, Bool, true, false, cond}
+use Rattle.std.proofs.Common.{◌≡◌, ℕ, ◌+◌, ◌<◌, List, [], ◌∷◌, length, refl, sym, subst, arith, Option, Some, None, true}
 use Rattle.ca_value.specs.Tree.{nil, bool}
 use Rattle.ca_value.specs.declared.builtin.Builtin.TheVariants.{WorkerCount, Vector, IsNil, IsSome, Min, Count}
 use Rattle.ca_term.specs.declared.place.Place.{Place}
 use Rattle.ca_term.specs.declared.head.Head.{Head}
-use Rattle.ca_term.specs.declared.head.Head.TheVariants.{Builtin, Take, Put, Alts, Make, Spawn, Register, Post}
+use Rattle.ca_term.specs.declared.head.Head.TheVariants.{Builtin, Take, Put, Alts, Make, Register, Post}
 use Rattle.ca_term.specs.declared.head.AltsOptions.{AltsOptions}
 use Rattle.ca_term.specs.declared.head.MakeKind.{MakeKind}
 use Rattle.ca_term.specs.declared.head.SystemTask.{SystemTask}
@@ -14,21 +14,19 @@ use Rattle.ca_term.specs.Kernel.{Kernel, const, var, branch, apply}
 use Rattle.ca_term.specs.declared.head.PlainFunction.{PlainFunction}
 use Rattle.ca_term.specs.Fits.{Known, Suits}
 use Rattle.ca_term.specs.View.{kernels_of}
-use Rattle.ca_reader.specs.Form.{FormTree, place_of}
+use Rattle.ca_reader.specs.Form.{place_of}
 use Rattle.ca_check.specs.declared.context.Context.{Context}
 use Rattle.ca_check.specs.declared.context.Context.TheVariants.{Main, Go, Function}
 use Rattle.ca_check.specs.declared.error.CheckErrorKind.{CheckErrorKind}
 use Rattle.ca_check.specs.declared.error.CheckErrorKind.TheVariants.{BadForm, ParkOutsideGo, BlockOutsideMain}
-use Rattle.ca_check.specs.Outcome.{Gathered, refused}
-use Rattle.ca_check.specs.Meaning.{Env, Meaning, size, inner, constant, fail, in_order, operation, hiding}
+use Rattle.ca_check.specs.Meaning.{Meaning, inner, fail, in_order, operation, hiding}
 use Rattle.ca_check.specs.Binders.{Pair, Part}
-use Rattle.ca_check.specs.Plain.{meanings}
 use Rattle.ca_check.specs.Names.{Given, applied, wrong, given}
-use Rattle.ca_check.specs.Channels.{parking, blocking, row_of_one, row_of_two, row_of_three, row_take, row_put, options_in, operands_in, alts_of, row_alts, whole, built, made, started, registered, nth_of, tried, unless_default, row_offer, row_poll, buffer_named, word_in, with_buffer, chan_of, row_chan, row_promise, row_mult, yes, row_tap, row_mix, changing, row_change_of_one, row_change_of_two, stopping, pub_of, row_pub, placed, subscribing, row_sub, row_unsub, row_unsub_all, piping, row_pipe, merging, is_sized, row_merge, transform_named, repeated, pipelining, workers, pipeline_over, pipeline_of, row_pipeline, putting_onto, row_onto, row_to}
+use Rattle.ca_check.specs.Channels.{parking, blocking, row_of_one, row_of_two, row_take, row_put, options_in, operands_in, alts_of, row_alts, whole, built, made, started, registered, nth_of, tried, unless_default, row_offer, row_poll, buffer_named, word_in, with_buffer, chan_of, row_chan, row_promise, row_mult, yes, row_tap, row_mix, changing, row_change_of_one, row_change_of_two, stopping, pub_of, row_pub, placed, subscribing, row_sub, row_unsub, row_unsub_all, piping, row_pipe, merging, is_sized, row_merge, transform_named, repeated, pipelining, workers, pipeline_over, pipeline_of, row_pipeline, putting_onto, row_onto, row_to}
 use Rattle.ca_check.proofs.Grew.{if_after, any_done}
-use Rattle.ca_check.proofs.Sound.{Ground, Stands, Makes, Sound, sound_constant, sound_fail, sound_cond, AllSound, sound_operation, WellNumbered, sound_hiding, at_size}
+use Rattle.ca_check.proofs.Sound.{Ground, Sound, sound_constant, sound_fail, sound_cond, AllSound, sound_operation, WellNumbered, sound_hiding}
 use Rattle.ca_check.proofs.Well.{Well, WellTerms, WellInOrder}
-use Rattle.ca_check.proofs.SoundPlain.{PairsSound, PartsSound, means_sound}
+use Rattle.ca_check.proofs.SoundPlain.{PairsSound, PartsSound}
 use Rattle.ca_check.proofs.SoundNames.{IsGiven, given_sound}
 
 -- a head that takes so many operands, wherever it stands

@@ -1,5 +1,5 @@
 -- Symbols and calls make terms that stand well, and what is given to a system task is a plain function.
-use Rattle.std.proofs.Common.{◌≡◌, ℕ, zero, suc, ◌+◌, ◌<◌, ◌≤◌, List, [], ◌∷◌, ◌++◌, length, map, refl, sym, ap, ◌∙◌, subst, arith, Option, Some, None, Bool, true, false, cond, ◌&&◌, nat_lt, nat_eq, IsTrue, is_some}
+use Rattle.std.proofs.Common.{◌≡◌, ℕ, suc, ◌+◌, ◌<◌, List, [], ◌∷◌, ◌++◌, length, map, refl, sym, ap, ◌∙◌, subst, arith, Option, Some, None, Bool, true, false, cond, ◌&&◌, nat_lt, nat_eq, IsTrue, is_some}
 use Rattle.std.specs.Str.{bytes_eq}
 use Rattle.std.proofs.lemmas.List.{length-append, length-map}
 use Rattle.std.proofs.lemmas.Bool.{eqb-true, and_parts}
@@ -10,17 +10,16 @@ use Rattle.ca_value.specs.declared.builtin.Builtin.TheVariants.{Get}
 use Rattle.ca_term.specs.declared.place.Place.{Place}
 use Rattle.ca_term.specs.declared.head.Head.TheVariants.{Builtin, Call}
 use Rattle.ca_term.specs.declared.head.PlainFunction.{PlainFunction}
-use Rattle.ca_term.specs.Kernel.{Kernel, const}
+use Rattle.ca_term.specs.Kernel.{const}
 use Rattle.ca_term.specs.Fits.{Known, Takes, IsApplied}
 use Rattle.ca_term.specs.View.{kernels_of}
 use Rattle.ca_reader.specs.Form.{FormTree, Atom, form, atom, group, symbol, nil as nil_atom, bool as bool_atom, int as int_atom, text as text_atom, key as keyword}
-use Rattle.ca_check.specs.declared.error.CheckErrorKind.TheVariants.{UnknownName, BadArity, BadForm, NotPlain, TooMany}
+use Rattle.ca_check.specs.declared.error.CheckErrorKind.TheVariants.{UnknownName, BadArity, NotPlain, TooMany}
 use Rattle.ca_check.specs.Words.{special, builtin}
-use Rattle.ca_check.specs.Outcome.{Gathered}
 use Rattle.ca_check.specs.Meaning.{Env, Signature, Meaning, size, last_of, lookup, constant, local, fail, operation}
-use Rattle.ca_check.specs.Names.{find_function, is_known, symbol_of, row_symbol, written, builtin_call, function_call, call_of_builtin, call_of_function, call_of, row_call, row_keyword, Given, applied, wrong, given_builtin, given_function, given_name, given_atom, given}
+use Rattle.ca_check.specs.Names.{find_function, symbol_of, row_symbol, written, builtin_call, function_call, call_of_builtin, call_of_function, call_of, row_call, row_keyword, Given, applied, wrong, given_builtin, given_function, given_name, given_atom, given}
 use Rattle.ca_check.proofs.Well.{WellTerms, Below}
-use Rattle.ca_check.proofs.Sound.{Ground, IsSigned, AreSigned, Stands, Makes, Sound, weaken, sound_constant, sound_low, sound_local, sound_fail, sound_cond, AllSound, all_append, makes_operation, sound_operation}
+use Rattle.ca_check.proofs.Sound.{Ground, IsSigned, AreSigned, Makes, Sound, sound_constant, sound_low, sound_local, sound_fail, sound_cond, AllSound, all_append, sound_operation}
 
 -- a name's number is one of the scope
 pub below_of : (x : List ℕ) (ys : List (List ℕ)) (i : ℕ) (best : Option ℕ) (n : ℕ) → ((m : ℕ) → best ≡ Some m → m < i) → last_of x ys i best ≡ Some n → n < i + length ys

@@ -1,32 +1,27 @@
 -- Each accepted script gives a checked program.
-use Rattle.std.proofs.Common.{◌≡◌, ℕ, zero, suc, ◌+◌, ◌<◌, ◌≤◌, List, [], ◌∷◌, ◌++◌, length, map, refl, sym, ap, ◌∙◌, subst, arith, ⊎_elim, inl, inr, Option, Some, None, Bool, true, false, cond, ◌&&◌, ◌||◌, ◌==◌, nat_lt, nat_eq, slice_get, Result, Ok, Err, All}
-use Rattle.std.specs.Option.{option_map_or}
+use Rattle.std.proofs.Common.{◌≡◌, ℕ, zero, suc, ◌+◌, ◌<◌, ◌≤◌, List, [], ◌∷◌, ◌++◌, length, refl, ap, subst, arith, ⊎_elim, inl, inr, Option, Some, None, Bool, true, false, cond, nat_lt, nat_eq}
 use Rattle.std.specs.List.{list_any}
-use Rattle.std.proofs.lemmas.List.{length-append, length-map, append-nil, append_assoc}
-use Rattle.std.proofs.lemmas.Bool.{eqb-true, and_parts, or_cases, cases_lt}
-use Rattle.ca_value.specs.Tree.{nil}
+use Rattle.std.proofs.lemmas.List.{length-append, length-map}
+use Rattle.std.proofs.lemmas.Bool.{eqb-true, cases_lt}
 use Rattle.ca_term.specs.declared.place.Place.{Place}
-use Rattle.ca_term.specs.Kernel.{Kernel, const, bind, empty, binding}
+use Rattle.ca_term.specs.Kernel.{Kernel}
 use Rattle.ca_term.specs.Closed.{IsIn}
-use Rattle.ca_term.specs.Fits.{Known, Takes, IsPlain}
-use Rattle.ca_term.specs.Program.{ProcedureView, ProgramView, arity, known_in, IsText, IsProcedure, ArePlainFrom, IsProgram}
+use Rattle.ca_term.specs.Fits.{Known}
+use Rattle.ca_term.specs.Program.{IsProcedure}
 use Rattle.ca_reader.specs.declared.form.Bracket.TheVariants.{Round, Square, Curly}
-use Rattle.ca_reader.specs.Form.{FormTree, FormTrees, Atom, form, atom, group, none, item, place_of}
+use Rattle.ca_reader.specs.Form.{FormTree, form, atom, group}
 use Rattle.ca_check.specs.declared.special.Special.{Special}
-use Rattle.ca_check.specs.declared.error.CheckErrorKind.{CheckErrorKind}
-use Rattle.ca_check.specs.declared.error.CheckErrorKind.TheVariants.{Redefined, BadForm, TooMany}
-use Rattle.ca_check.specs.Depth.{depth_of}
-use Rattle.ca_check.specs.Uses.{uses, aims_out, is_plain}
+use Rattle.ca_check.specs.declared.error.CheckErrorKind.TheVariants.{TooMany}
+use Rattle.ca_check.specs.Uses.{uses}
 use Rattle.ca_check.specs.Outcome.{Gathered, Outcome, done, refused, after}
-use Rattle.ca_check.specs.Meaning.{Env, Signature, Meaning, Named, size, local, block, loops}
-use Rattle.ca_check.specs.Binders.{Part, Binder, is_pattern, whole_name, patterns, unpacked}
+use Rattle.ca_check.specs.Meaning.{Env, Signature, Meaning}
+use Rattle.ca_check.specs.Binders.{Part, Binder, is_pattern, whole_name}
 use Rattle.ca_check.specs.Plain.{meanings}
-use Rattle.ca_check.specs.Walk.{walk, parts}
-use Rattle.ca_check.specs.Tops.{Tops, Written, Top, definition, function, expression, wrong, top_name, definition_of, def_top, parameters_in, function_of, note_in, defn_behind, defn_top, word_at_head, behind_head, list_top, list_parts, top, is_taken, main_env, numbers, same_names, names_of, judged_body, over_parameters, straight, looped, body_of, signature, function_env, plain_with, is_empty, with_function, Settled, settled, add_function, shallow, Ended, bound_before, bound_top, one_top, is_past}
-use Rattle.ca_check.specs.Expansion.{tops, is_namespace, script, program_of, expansion_of}
-use Rattle.ca_check.proofs.Well.{Well, WellBindings, fits, anew, closed, Below, below_more, below_append, Only, Within, uses_only, uses_below, uses_extends, extended_same, in_left, in_right, Covers, Implies, plain_term}
-use Rattle.ca_check.proofs.Grew.{Each, each_append, Agrees, agrees_prefix, Grew, IfDone, if_after, if_cond, any_done}
-use Rattle.ca_check.proofs.Sound.{Ground, IsSigned, AreSigned, Stands, Makes, Sound, Aimed, aimed, weaken, sound_local, sound_cond, NamedSound, sound_block, sound_loops}
+use Rattle.ca_check.specs.Walk.{walk}
+use Rattle.ca_check.specs.Tops.{Tops, Written, Top, definition, function, expression, wrong, top_name, definition_of, def_top, parameters_in, function_of, note_in, defn_behind, defn_top, word_at_head, behind_head, list_top, list_parts, top, numbers, same_names, names_of, over_parameters, straight, looped, body_of, signature, function_env, Settled, settled}
+use Rattle.ca_check.proofs.Well.{Well, fits, anew, closed, Below, below_more, below_append, Only, uses_only, uses_below, uses_extends, extended_same, in_left, in_right}
+use Rattle.ca_check.proofs.Grew.{Grew, IfDone, if_cond}
+use Rattle.ca_check.proofs.Sound.{Ground, IsSigned, AreSigned, Stands, Makes, Sound, aimed, weaken, sound_local, sound_cond, NamedSound, sound_block, sound_loops}
 use Rattle.ca_check.proofs.SoundPlain.{PartsSound, means_sound, sound_over_patterns}
 use Rattle.ca_check.proofs.SoundWalk.{sound_walk, sound_parts}
 

@@ -43,7 +43,7 @@ blocking m p Main = m
 blocking m p Go = fail BlockOutsideMain p
 blocking m p Function = fail BlockOutsideMain p
 
--- one operation over so many operands as are written: over one, two, three
+-- one operation over the one operand, the two operands that are written
 abbrev pub row_of_one : Head → Place → List Part → Meaning
 row_of_one h p (a ∷ []) = operation h (a.means ∷ []) p
 row_of_one h p ps = fail BadForm p
@@ -51,10 +51,6 @@ row_of_one h p ps = fail BadForm p
 abbrev pub row_of_two : Head → Place → List Part → Meaning
 row_of_two h p (a ∷ b ∷ []) = operation h (a.means ∷ b.means ∷ []) p
 row_of_two h p ps = fail BadForm p
-
-abbrev pub row_of_three : Head → Place → List Part → Meaning
-row_of_three h p (a ∷ b ∷ c ∷ []) = operation h (a.means ∷ b.means ∷ c.means ∷ []) p
-row_of_three h p ps = fail BadForm p
 
 -- (<! c), (<!! c)
 abbrev pub row_take : (Meaning → Place → Context → Meaning) → Place → List Part → Meaning

@@ -209,11 +209,11 @@ settled (suc n) looping hidden f p t s = after (body_of looping f p (function_en
     (cond (nat_eq (length used) (length hidden)) (done (record { body = body; hidden = hidden }) s2) (settled n looping used f p t s)))
 
 -- A first walk meets each error, and tells which `def` names the body uses and whether a `recur` aims at the
--- function. A body is at most 60 deep.
+-- function; a body in which a term was too deep is told by the mark. A body is at most 60 deep.
 abbrev pub add_function : Written → Place → Tops → Gathered → Outcome Tops
 add_function f p t s = after (judged_body f (straight (Some (length f.parameters)) f p) (function_env (signature f [] false) t) s) (λ first s1.
-  after (settled 66 (aims_out first) (uses (length t.scope) first []) f p t s) (λ r s2.
-    cond (nat_lt 60 (depth_of r.body)) (refused TooMany p) (done (with_function f r.hidden r.body t) s2)))
+  cond s1.deep (refused TooMany p) (after (settled 66 (aims_out first) (uses (length t.scope) first []) f p t s) (λ r s2.
+    cond (nat_lt 60 (depth_of r.body)) (refused TooMany p) (done (with_function f r.hidden r.body t) s2))))
 
 -- nothing at the top-level form at p was too deep
 abbrev pub shallow : Place → Tops → Gathered → Outcome Tops

@@ -1,7 +1,8 @@
 -- Which names a term uses from outside, and which a `recur` in it goes back to.
-use Rattle.std.specs.Prelude.{ℕ, List, [], ◌∷◌, ◌++◌, Bool, true, false, cond, ◌&&◌, ◌||◌, not, ◌==◌, nat_lt}
+use Rattle.std.specs.Prelude.{◌≡◌, ℕ, List, [], ◌∷◌, ◌++◌, Bool, true, false, cond, ◌&&◌, ◌||◌, not, ◌==◌, nat_lt}
 use Rattle.ca_term.specs.declared.head.Head.{Head}
 use Rattle.ca_term.specs.declared.head.Head.TheVariants.{Recur, Builtin, Call}
+use Rattle.ca_term.specs.Program.{ProcedureView}
 use Rattle.ca_term.specs.Kernel.{Kernel, Kernels, Bindings, const, var, branch, bind, loop, seq, frame, turn, apply, none, item, empty, binding}
 
 abbrev pub is_among : ℕ → List ℕ → Bool
@@ -81,3 +82,8 @@ abbrev mutual
   pub are_plain_bindings : (ℕ → Bool) → Bindings → Bool
   are_plain_bindings plain empty = true
   are_plain_bindings plain (binding n t bs) = is_plain plain t && are_plain_bindings plain bs
+
+-- A go body's parameters are the names that it uses from outside, in order of first use, and its result port, which
+-- is the first name of its own.
+abbrev pub IsGoBody : ProcedureView → Type 0
+IsGoBody b = (r : ℕ) × (b.parameters ≡ uses r b.body [] ++ r ∷ [])

@@ -84,11 +84,18 @@ unknown_source_and_function = trees_of (round 1 (symbol_at 2 (codes "pub") ∷ s
 
 -- (defn f [a b c d e g h i j k l m n o p q r] 1)
 abbrev pub seventeen_parameters : FormTrees
-seventeen_parameters = trees_of (round 1 (symbol_at 2 (codes "defn") ∷ symbol_at 7 (codes "f") ∷ square 9 (symbol_at 10 (codes "a") ∷ symbol_at 12 (codes "b") ∷ symbol_at 14 (codes "c") ∷ symbol_at 16 (codes "d") ∷ symbol_at 18 (codes "e") ∷ symbol_at 20 (codes "g") ∷ symbol_at 22 (codes "h") ∷ symbol_at 24 (codes "i") ∷ symbol_at 26 (codes "j") ∷ symbol_at 28 (codes "k") ∷ symbol_at 30 (codes "l") ∷ symbol_at 32 (codes "m") ∷ symbol_at 34 (codes "n") ∷ symbol_at 36 (codes "o") ∷ symbol_at 38 (codes "p") ∷ symbol_at 40 (codes "q") ∷ symbol_at 42 (codes "r") ∷ []) ∷ number_at 45 1 ∷ []) ∷ [])
+seventeen_parameters = trees_of (round 1 (symbol_at 2 (codes "defn") ∷ symbol_at 7 (codes "f") ∷ square 9 (symbol_at 10 (codes "a")
+    ∷ symbol_at 12 (codes "b") ∷ symbol_at 14 (codes "c") ∷ symbol_at 16 (codes "d") ∷ symbol_at 18 (codes "e") ∷ symbol_at 20 (codes "g")
+    ∷ symbol_at 22 (codes "h") ∷ symbol_at 24 (codes "i") ∷ symbol_at 26 (codes "j") ∷ symbol_at 28 (codes "k") ∷ symbol_at 30 (codes "l")
+    ∷ symbol_at 32 (codes "m") ∷ symbol_at 34 (codes "n") ∷ symbol_at 36 (codes "o") ∷ symbol_at 38 (codes "p") ∷ symbol_at 40 (codes "q")
+    ∷ symbol_at 42 (codes "r") ∷ []) ∷ number_at 45 1 ∷ []) ∷ [])
 
 -- (def d 7) (defn f [n] (if n d (f n)))
 abbrev pub hidden_parameter : FormTrees
-hidden_parameter = trees_of (round 1 (symbol_at 2 (codes "def") ∷ symbol_at 6 (codes "d") ∷ number_at 8 7 ∷ []) ∷ round 11 (symbol_at 12 (codes "defn") ∷ symbol_at 17 (codes "f") ∷ square 19 (symbol_at 20 (codes "n") ∷ []) ∷ round 23 (symbol_at 24 (codes "if") ∷ symbol_at 27 (codes "n") ∷ symbol_at 29 (codes "d") ∷ round 31 (symbol_at 32 (codes "f") ∷ symbol_at 34 (codes "n") ∷ []) ∷ []) ∷ []) ∷ [])
+hidden_parameter = trees_of (round 1 (symbol_at 2 (codes "def") ∷ symbol_at 6 (codes "d") ∷ number_at 8 7 ∷ [])
+    ∷ round 11 (symbol_at 12 (codes "defn") ∷ symbol_at 17 (codes "f") ∷ square 19 (symbol_at 20 (codes "n") ∷ [])
+    ∷ round 23 (symbol_at 24 (codes "if") ∷ symbol_at 27 (codes "n") ∷ symbol_at 29 (codes "d") ∷ round 31 (symbol_at 32 (codes "f")
+    ∷ symbol_at 34 (codes "n") ∷ []) ∷ []) ∷ []) ∷ [])
 
 -- (defn g [n] (recur n))
 abbrev pub recur_to_function : FormTrees
@@ -96,11 +103,15 @@ recur_to_function = trees_of (round 1 (symbol_at 2 (codes "defn") ∷ symbol_at 
 
 -- (def a 1) (def b 2) (go (println b a b))
 abbrev pub captures : FormTrees
-captures = trees_of (round 1 (symbol_at 2 (codes "def") ∷ symbol_at 6 (codes "a") ∷ number_at 8 1 ∷ []) ∷ round 11 (symbol_at 12 (codes "def") ∷ symbol_at 16 (codes "b") ∷ number_at 18 2 ∷ []) ∷ round 21 (symbol_at 22 (codes "go") ∷ round 25 (symbol_at 26 (codes "println") ∷ symbol_at 34 (codes "b") ∷ symbol_at 36 (codes "a") ∷ symbol_at 38 (codes "b") ∷ []) ∷ []) ∷ [])
+captures = trees_of (round 1 (symbol_at 2 (codes "def") ∷ symbol_at 6 (codes "a") ∷ number_at 8 1 ∷ [])
+    ∷ round 11 (symbol_at 12 (codes "def") ∷ symbol_at 16 (codes "b") ∷ number_at 18 2 ∷ []) ∷ round 21 (symbol_at 22 (codes "go")
+    ∷ round 25 (symbol_at 26 (codes "println") ∷ symbol_at 34 (codes "b") ∷ symbol_at 36 (codes "a") ∷ symbol_at 38 (codes "b") ∷ []) ∷ [])
+    ∷ [])
 
 -- (go (go 1)) (go 2)
 abbrev pub go_blocks : FormTrees
-go_blocks = trees_of (round 1 (symbol_at 2 (codes "go") ∷ round 5 (symbol_at 6 (codes "go") ∷ number_at 9 1 ∷ []) ∷ []) ∷ round 13 (symbol_at 14 (codes "go") ∷ number_at 17 2 ∷ []) ∷ [])
+go_blocks = trees_of (round 1 (symbol_at 2 (codes "go") ∷ round 5 (symbol_at 6 (codes "go") ∷ number_at 9 1 ∷ []) ∷ [])
+    ∷ round 13 (symbol_at 14 (codes "go") ∷ number_at 17 2 ∷ []) ∷ [])
 
 -- (and 1 2)
 abbrev pub conjunction : FormTrees
@@ -112,7 +123,8 @@ pattern = trees_of (round 1 (symbol_at 2 (codes "let") ∷ square 6 (square 7 (s
 
 -- (loop [[a] 1] a)
 abbrev pub loop_over_pattern : FormTrees
-loop_over_pattern = trees_of (round 1 (symbol_at 2 (codes "loop") ∷ square 7 (square 8 (symbol_at 9 (codes "a") ∷ []) ∷ number_at 12 1 ∷ []) ∷ symbol_at 15 (codes "a") ∷ []) ∷ [])
+loop_over_pattern = trees_of (round 1 (symbol_at 2 (codes "loop") ∷ square 7 (square 8 (symbol_at 9 (codes "a") ∷ []) ∷ number_at 12 1 ∷ [])
+    ∷ symbol_at 15 (codes "a") ∷ []) ∷ [])
 
 -- (dotimes [i 3] i)
 abbrev pub counted_loop : FormTrees
@@ -120,7 +132,8 @@ counted_loop = trees_of (round 1 (symbol_at 2 (codes "dotimes") ∷ square 10 (s
 
 -- (alts!! 1 :default 2 :priority 3)
 abbrev pub choice_with_options : FormTrees
-choice_with_options = trees_of (round 1 (symbol_at 2 (codes "alts!!") ∷ number_at 9 1 ∷ key_at 11 (codes "default") ∷ number_at 20 2 ∷ key_at 22 (codes "priority") ∷ number_at 32 3 ∷ []) ∷ [])
+choice_with_options = trees_of (round 1 (symbol_at 2 (codes "alts!!") ∷ number_at 9 1 ∷ key_at 11 (codes "default") ∷ number_at 20 2
+    ∷ key_at 22 (codes "priority") ∷ number_at 32 3 ∷ []) ∷ [])
 
 -- (sub 1 2 3)
 abbrev pub subscription : FormTrees
@@ -128,7 +141,8 @@ subscription = trees_of (round 1 (symbol_at 2 (codes "sub") ∷ number_at 6 1 �
 
 -- (pipeline 1 2 (map :k) 3)
 abbrev pub pipeline_by_keyword : FormTrees
-pipeline_by_keyword = trees_of (round 1 (symbol_at 2 (codes "pipeline") ∷ number_at 11 1 ∷ number_at 13 2 ∷ round 15 (symbol_at 16 (codes "map") ∷ key_at 20 (codes "k") ∷ []) ∷ number_at 24 3 ∷ []) ∷ [])
+pipeline_by_keyword = trees_of (round 1 (symbol_at 2 (codes "pipeline") ∷ number_at 11 1 ∷ number_at 13 2
+    ∷ round 15 (symbol_at 16 (codes "map") ∷ key_at 20 (codes "k") ∷ []) ∷ number_at 24 3 ∷ []) ∷ [])
 
 -- terms at a column
 abbrev pub on : ℕ → Head → List Kernel → Kernel

@@ -1,8 +1,9 @@
-ghost use Rattle.std.specs.Prelude.{◌≡◌, Ok, Err};
+ghost use Rattle.std.specs.Prelude.{◌≡◌, Ok, Err, All};
 ghost use Rattle.ca_term.specs.Program.{ProgramView, IsProgram};
 ghost use Rattle.ca_reader.specs.Form.{FormTrees};
 ghost use Rattle.ca_check.specs.declared.error.CheckErrorKind.TheVariants.{UnknownName, Redefined, BadArity, BadForm, RecurNotTail, ParkOutsideGo, BlockOutsideMain, NotPlain, TooMany};
 ghost use Rattle.ca_check.specs.Expansion.{expansion_of};
+ghost use Rattle.ca_check.specs.Uses.{IsGoBody};
 ghost use Rattle.ca_check.specs.Worked as worked;
 
 /// The program of an accepted script is a checked one: every name in it is bound, once on each path; each
@@ -10,6 +11,11 @@ ghost use Rattle.ca_check.specs.Worked as worked;
 /// there and takes so many values; what a system task applies is plain.
 pub fn programs_are_checked()
     ensures { (forms : FormTrees) (program : ProgramView) → expansion_of forms ≡ Ok program → IsProgram program }
+{}
+
+/// A go body takes exactly the names that it uses from outside, in order of first use, and its result port.
+pub fn captures_are_the_names_used()
+    ensures { (forms : FormTrees) (program : ProgramView) → expansion_of forms ≡ Ok program → All IsGoBody program.bodies }
 {}
 
 /// Scripts whose expansion can be read beside the table of forms. The first ones are refused.
