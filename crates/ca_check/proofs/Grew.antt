@@ -69,8 +69,9 @@ behind_it k s s1 s2 P Q x y = record {
   more = x.more ++ y.more;
   extends = y.extends ∙ ap (λ (l : List ProcedureView). l ++ y.more) x.extends ∙ append_assoc s.bodies x.more y.more;
   holds = λ a. let h : Each (IsMade k) x.more × P = x.holds (agrees_prefix s1.bodies y.more k.bodies (subst (λ l. Agrees l k.bodies) y.extends a)) in
-    let i : Each (IsMade k) y.more × Q = y.holds a in
-    (each_append (IsMade k) x.more y.more h.0 i.0, (h.1, i.1)) }
+      let i : Each (IsMade k) y.more × Q = y.holds a in
+      (each_append (IsMade k) x.more y.more h.0 i.0, (h.1, i.1));
+}
 
 -- where something was done, it is this
 abbrev pub IfDone : {A : Type 0} → Outcome A → (A → Gathered → Type 0) → Type 0
@@ -78,7 +79,7 @@ IfDone (done a s) P = P a s
 IfDone (refused e p) P = Unit {0}
 
 pub if_after : {A B : Type 0} (o : Outcome A) (f : A → Gathered → Outcome B) (P : A → Gathered → Type 0) (Q : B → Gathered → Type 0)
-  → IfDone o P → ((a : A) (s : Gathered) → P a s → IfDone (f a s) Q) → IfDone (after o f) Q
+    → IfDone o P → ((a : A) (s : Gathered) → P a s → IfDone (f a s) Q) → IfDone (after o f) Q
 if_after (done a s) f P Q h g = g a s h
 if_after (refused e p) f P Q h g = tt
 
@@ -93,4 +94,4 @@ if_cond false x y Q g h = h
 -- nil in place of a term that is too deep
 pub if_limited : (k : Known) (W : Kernel → Type 0) (s s2 : Gathered) (t : Kernel) → W (const nil) → Grew k s s2 (W t) → IfDone (limited t s2) (λ u s3. Grew k s s3 (W u))
 if_limited k W s s2 t w x = if_cond (nat_le (depth_of t) 400) (done t s2) (done (const nil) (record s2 { deep = true })) (λ u s3. Grew k s s3 (W u))
-  x (record { more = x.more; extends = x.extends; holds = λ a. ((x.holds a).0, w) })
+    x (record { more = x.more; extends = x.extends; holds = λ a. ((x.holds a).0, w) })

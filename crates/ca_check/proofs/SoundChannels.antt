@@ -67,7 +67,7 @@ pub sound_row_put : (g : Ground) (w : Meaning → Place → Context → Meaning)
 sound_row_put g w p [] u f = sound_fail g 0 BadForm p
 sound_row_put g w p (a ∷ []) u f = sound_fail g 0 BadForm p
 sound_row_put g w p (a ∷ b ∷ []) u f = λ env s st. u (operation Put (a.means ∷ b.means ∷ []) p) p env.context
-  (sound_operation g 0 Put (a.means ∷ b.means ∷ []) p (f.0, (f.2.0, tt)) (λ target. tt)) env s st
+    (sound_operation g 0 Put (a.means ∷ b.means ∷ []) p (f.0, (f.2.0, tt)) (λ target. tt)) env s st
 sound_row_put g w p (a ∷ b ∷ c ∷ qs) u f = sound_fail g 0 BadForm p
 
 pub sound_alts_of : (g : Ground) (w : Meaning → Place → Context → Meaning) (o : Option AltsOptions) (ms : List Meaning) (p : Place) → PlaceSound g w → AllSound g 0 ms → Sound g 0 (alts_of w o ms p)
@@ -87,11 +87,11 @@ sound_row_alts g w p qs u f = sound_alts_of g w (options_in qs) (operands_in qs)
 
 -- so many operands, and so many further terms
 pub sound_fixed : (g : Ground) (n i j : ℕ) (ms : List Meaning) (more body : ℕ → List Kernel) → AllSound g n ms → length ms ≡ i → ((h : ℕ) → length (more h) ≡ j)
-  → ((h : ℕ) → WellNumbered g.known (h + i) (more h)) → ((h : ℕ) (target : Option ℕ) → WellInOrder g.known (h + i + j) target (kernels_of (body h)))
-  → Sound g n (hiding ms more body)
+    → ((h : ℕ) → WellNumbered g.known (h + i) (more h)) → ((h : ℕ) (target : Option ℕ) → WellInOrder g.known (h + i + j) target (kernels_of (body h)))
+    → Sound g n (hiding ms more body)
 sound_fixed g n i j ms more body f e d wm wb = sound_hiding g n ms more body f
-  (λ h. subst (λ m. WellNumbered g.known (h + m) (more h)) (sym e) (wm h))
-  (λ h target. subst (λ m. WellInOrder g.known m target (kernels_of (body h))) (omega (arith, e, d h)) (wb h target))
+    (λ h. subst (λ m. WellNumbered g.known (h + m) (more h)) (sym e) (wm h))
+    (λ h target. subst (λ m. WellInOrder g.known m target (kernels_of (body h))) (omega (arith, e, d h)) (wb h target))
 
 -- small fixed terms in a scope of n names
 pub nth_well : (k : Known) (n : ℕ) (target : Option ℕ) (h i : ℕ) (p : Place) → h < n → Well k n target (nth_of h i p)
@@ -107,16 +107,16 @@ pub sound_row_offer : (g : Ground) (p : Place) (qs : List Part) → PartsSound g
 sound_row_offer g p [] f = sound_fail g 0 BadForm p
 sound_row_offer g p (a ∷ []) f = sound_fail g 0 BadForm p
 sound_row_offer g p (c ∷ v ∷ []) f = sound_fixed g 0 2 1 (c.means ∷ v.means ∷ [])
-  (λ h. tried (built Vector (var h ∷ var (h + 1) ∷ []) p ∷ []) p ∷ []) (λ h. unless_default (h + 2) p ∷ []) (f.0, (f.2.0, tt)) refl (λ h. refl)
-  (λ h. (tried_well g.known (h + 2) (built Vector (var h ∷ var (h + 1) ∷ []) p ∷ []) p ((refl, (omega arith, (omega arith, tt))), tt), tt))
-  (λ h target. unless_default_well g.known (h + 2 + 1) target (h + 2) p (omega arith))
+    (λ h. tried (built Vector (var h ∷ var (h + 1) ∷ []) p ∷ []) p ∷ []) (λ h. unless_default (h + 2) p ∷ []) (f.0, (f.2.0, tt)) refl (λ h. refl)
+    (λ h. (tried_well g.known (h + 2) (built Vector (var h ∷ var (h + 1) ∷ []) p ∷ []) p ((refl, (omega arith, (omega arith, tt))), tt), tt))
+    (λ h target. unless_default_well g.known (h + 2 + 1) target (h + 2) p (omega arith))
 sound_row_offer g p (a ∷ b ∷ c ∷ qs) f = sound_fail g 0 BadForm p
 
 pub sound_row_poll : (g : Ground) (p : Place) (qs : List Part) → PartsSound g qs → Sound g 0 (row_poll p qs)
 sound_row_poll g p [] f = sound_fail g 0 BadForm p
 sound_row_poll g p (c ∷ []) f = sound_fixed g 0 1 1 (c.means ∷ []) (λ h. tried (var h ∷ []) p ∷ []) (λ h. unless_default (h + 1) p ∷ []) (f.0, tt) refl (λ h. refl)
-  (λ h. (tried_well g.known (h + 1) (var h ∷ []) p (omega arith, tt), tt))
-  (λ h target. unless_default_well g.known (h + 1 + 1) target (h + 1) p (omega arith))
+    (λ h. (tried_well g.known (h + 1) (var h ∷ []) p (omega arith, tt), tt))
+    (λ h target. unless_default_well g.known (h + 1 + 1) target (h + 1) p (omega arith))
 sound_row_poll g p (a ∷ b ∷ qs) f = sound_fail g 0 BadForm p
 
 pub sound_with_buffer : (g : Ground) (kind : MakeKind) (qs : List Pair) (p : Place) → PairsSound g qs → Sound g 0 (with_buffer kind qs p)
@@ -141,9 +141,9 @@ sound_row_promise g p (a ∷ qs) f = sound_fail g 0 BadForm p
 pub sound_row_mult : (g : Ground) (p : Place) (qs : List Part) → PartsSound g qs → Sound g 0 (row_mult p qs)
 sound_row_mult g p [] f = sound_fail g 0 BadForm p
 sound_row_mult g p (c ∷ []) f = sound_fixed g 0 1 2 (c.means ∷ []) (λ h. made MakeKind.Unbuffered [] p ∷ made MakeKind.Mult (var h ∷ []) p ∷ [])
-  (λ h. started SystemTask.Mult (var (h + 2) ∷ var h ∷ var (h + 1) ∷ []) p ∷ var (h + 2) ∷ []) (f.0, tt) refl (λ h. refl)
-  (λ h. ((tt, tt), ((tt, (omega arith, tt)), tt)))
-  (λ h target. ((tt, (omega arith, (omega arith, (omega arith, tt)))), omega arith))
+    (λ h. started SystemTask.Mult (var (h + 2) ∷ var h ∷ var (h + 1) ∷ []) p ∷ var (h + 2) ∷ []) (f.0, tt) refl (λ h. refl)
+    (λ h. ((tt, tt), ((tt, (omega arith, tt)), tt)))
+    (λ h target. ((tt, (omega arith, (omega arith, (omega arith, tt)))), omega arith))
 sound_row_mult g p (a ∷ b ∷ qs) f = sound_fail g 0 BadForm p
 
 pub sound_yes : (g : Ground) → Sound g 0 yes
@@ -159,15 +159,15 @@ sound_row_tap g p (a ∷ b ∷ c ∷ d ∷ qs) f = sound_fail g 0 BadForm p
 pub sound_row_mix : (g : Ground) (p : Place) (qs : List Part) → PartsSound g qs → Sound g 0 (row_mix p qs)
 sound_row_mix g p [] f = sound_fail g 0 BadForm p
 sound_row_mix g p (o ∷ []) f = sound_fixed g 0 1 2 (o.means ∷ []) (λ h. made MakeKind.Sliding (whole 1 ∷ []) p ∷ made MakeKind.Mix (var h ∷ var (h + 1) ∷ []) p ∷ [])
-  (λ h. started SystemTask.Mix (var (h + 2) ∷ var h ∷ var (h + 1) ∷ []) p ∷ var (h + 2) ∷ []) (f.0, tt) refl (λ h. refl)
-  (λ h. ((tt, (tt, tt)), ((tt, (omega arith, (omega arith, tt))), tt)))
-  (λ h target. ((tt, (omega arith, (omega arith, (omega arith, tt)))), omega arith))
+    (λ h. started SystemTask.Mix (var (h + 2) ∷ var h ∷ var (h + 1) ∷ []) p ∷ var (h + 2) ∷ []) (f.0, tt) refl (λ h. refl)
+    (λ h. ((tt, (tt, tt)), ((tt, (omega arith, (omega arith, tt))), tt)))
+    (λ h target. ((tt, (omega arith, (omega arith, (omega arith, tt)))), omega arith))
 sound_row_mix g p (a ∷ b ∷ qs) f = sound_fail g 0 BadForm p
 
 pub sound_changing : (g : Ground) (name : RegisterName) (ms : List Meaning) (p : Place) → AllSound g 0 ms → Sound g 0 (changing name ms p)
 sound_changing g name ms p f = sound_fixed g 0 1 0 (operation (Register name) ms p ∷ []) (λ h. [])
-  (λ h. apply Post (kernels_of (var h ∷ const (bool true) ∷ [])) p ∷ const nil ∷ []) (sound_operation g 0 (Register name) ms p f (λ target. tt), tt) refl (λ h. refl)
-  (λ h. tt) (λ h target. ((tt, (omega arith, (tt, tt))), tt))
+    (λ h. apply Post (kernels_of (var h ∷ const (bool true) ∷ [])) p ∷ const nil ∷ []) (sound_operation g 0 (Register name) ms p f (λ target. tt), tt) refl (λ h. refl)
+    (λ h. tt) (λ h target. ((tt, (omega arith, (tt, tt))), tt))
 
 pub sound_row_change_of_one : (g : Ground) (name : RegisterName) (p : Place) (qs : List Part) → PartsSound g qs → Sound g 0 (row_change_of_one name p qs)
 sound_row_change_of_one g name p [] f = sound_fail g 0 BadForm p
@@ -186,9 +186,9 @@ sound_stopping g n ms e p env s st = if_after (in_order ms (inner env) s) _ (λ 
 pub sound_pub_of : (g : Ground) (r : Given) (c : Meaning) (q p : Place) → IsGiven g r → Sound g 0 c → Sound g 0 (pub_of r c q p)
 sound_pub_of g (wrong e) c q p r f = sound_stopping g 0 (c ∷ []) e q
 sound_pub_of g (applied fn ks) c q p r f = sound_fixed g 0 1 1 (c ∷ []) (λ h. made MakeKind.Pub (var h ∷ []) p ∷ [])
-  (λ h. started (SystemTask.Pub fn) (var (h + 1) ∷ var h ∷ ks) p ∷ var (h + 1) ∷ []) (f, tt) refl (λ h. refl)
-  (λ h. ((tt, (omega arith, tt)), tt))
-  (λ h target. ((r.0, (omega arith, (omega arith, r.1 (h + 1 + 1)))), omega arith))
+    (λ h. started (SystemTask.Pub fn) (var (h + 1) ∷ var h ∷ ks) p ∷ var (h + 1) ∷ []) (f, tt) refl (λ h. refl)
+    (λ h. ((tt, (omega arith, tt)), tt))
+    (λ h target. ((r.0, (omega arith, (omega arith, r.1 (h + 1 + 1)))), omega arith))
 
 pub sound_row_pub : (g : Ground) (p : Place) (qs : List Part) → PartsSound g qs → Sound g 0 (row_pub p qs)
 sound_row_pub g p [] f = sound_fail g 0 BadForm p
@@ -198,18 +198,21 @@ sound_row_pub g p (a ∷ b ∷ c ∷ qs) f = sound_fail g 0 BadForm p
 
 -- in a scope of n names, q being the last
 pub placed_well : (k : Known) (hp ht q : ℕ) (p : Place) → hp < q → ht < q → Well k q None (placed hp ht q p)
-placed_well k hp ht q p l m =
-  ((refl, (tt, tt), (refl, (tt, tt), (omega arith, (tt, (omega arith, tt)), (omega arith, (tt, (omega (arith, l), (omega (arith, m), (omega arith, (omega arith, tt))))), tt)))),
-   (((refl, (nth_well k (q + 4) None (q + 3) 0 p (omega arith), (omega arith, tt))), (tt, (omega arith, (omega arith, (omega arith, tt)))), tt), omega arith))
+placed_well k hp ht q p l m = (
+  (refl, (tt, tt), (refl, (tt, tt), (omega arith, (tt, (omega arith, tt)), (omega arith, (tt, (omega (arith, l), (omega (arith, m), (omega arith, (omega arith, tt))))), tt)))),
+  (((refl, (nth_well k (q + 4) None (q + 3) 0 p (omega arith), (omega arith, tt))), (tt, (omega arith, (omega arith, (omega arith, tt)))), tt), omega arith),
+)
 
 pub sound_subscribing : (g : Ground) (ms : List Meaning) (p : Place) → length ms ≡ 4 → AllSound g 0 ms → Sound g 0 (subscribing ms p)
 sound_subscribing g ms p e f = sound_fixed g 0 4 2 ms
-  (λ n. registered RegisterName.Find (var n ∷ var (n + 1) ∷ []) p
+    (λ n. registered RegisterName.Find (var n ∷ var (n + 1) ∷ []) p
     ∷ branch (built IsNil (var (n + 4) ∷ []) p) (placed n (n + 1) (n + 5) p) (var (n + 4)) ∷ [])
-  (λ n. registered RegisterName.Tap (nth_of (n + 5) 0 p ∷ var (n + 2) ∷ var (n + 3) ∷ []) p ∷ const nil ∷ []) f e (λ h. refl)
-  (λ n. ((tt, (omega arith, (omega arith, tt))),
-    (((refl, (omega arith, tt)), subst (λ m. Well g.known m None (placed n (n + 1) (n + 5) p)) (omega arith) (placed_well g.known n (n + 1) (n + 5) p (omega arith) (omega arith)), omega arith), tt)))
-  (λ n target. ((tt, (nth_well g.known (n + 4 + 2) None (n + 5) 0 p (omega arith), (omega arith, (omega arith, tt)))), tt))
+    (λ n. registered RegisterName.Tap (nth_of (n + 5) 0 p ∷ var (n + 2) ∷ var (n + 3) ∷ []) p ∷ const nil ∷ []) f e (λ h. refl)
+    (λ n. (
+      (tt, (omega arith, (omega arith, tt))),
+      (((refl, (omega arith, tt)), subst (λ m. Well g.known m None (placed n (n + 1) (n + 5) p)) (omega arith) (placed_well g.known n (n + 1) (n + 5) p (omega arith) (omega arith)), omega arith), tt),
+    ))
+    (λ n target. ((tt, (nth_well g.known (n + 4 + 2) None (n + 5) 0 p (omega arith), (omega arith, (omega arith, tt)))), tt))
 
 pub sound_row_sub : (g : Ground) (p : Place) (qs : List Part) → PartsSound g qs → Sound g 0 (row_sub p qs)
 sound_row_sub g p [] f = sound_fail g 0 BadForm p
@@ -224,11 +227,11 @@ sound_row_unsub g p [] f = sound_fail g 0 BadForm p
 sound_row_unsub g p (a ∷ []) f = sound_fail g 0 BadForm p
 sound_row_unsub g p (a ∷ b ∷ []) f = sound_fail g 0 BadForm p
 sound_row_unsub g p (b ∷ t ∷ c ∷ []) f = sound_fixed g 0 3 1 (b.means ∷ t.means ∷ c.means ∷ [])
-  (λ n. registered RegisterName.Find (var n ∷ var (n + 1) ∷ []) p ∷ [])
-  (λ n. branch (built IsSome (var (n + 3) ∷ []) p) (registered RegisterName.Untap (nth_of (n + 3) 0 p ∷ var (n + 2) ∷ []) p) (const nil) ∷ const nil ∷ [])
-  (f.0, (f.2.0, (f.2.2.0, tt))) refl (λ h. refl)
-  (λ n. ((tt, (omega arith, (omega arith, tt))), tt))
-  (λ n target. (((refl, (omega arith, tt)), (tt, (nth_well g.known (n + 3 + 1) None (n + 3) 0 p (omega arith), (omega arith, tt))), tt), tt))
+    (λ n. registered RegisterName.Find (var n ∷ var (n + 1) ∷ []) p ∷ [])
+    (λ n. branch (built IsSome (var (n + 3) ∷ []) p) (registered RegisterName.Untap (nth_of (n + 3) 0 p ∷ var (n + 2) ∷ []) p) (const nil) ∷ const nil ∷ [])
+    (f.0, (f.2.0, (f.2.2.0, tt))) refl (λ h. refl)
+    (λ n. ((tt, (omega arith, (omega arith, tt))), tt))
+    (λ n target. (((refl, (omega arith, tt)), (tt, (nth_well g.known (n + 3 + 1) None (n + 3) 0 p (omega arith), (omega arith, tt))), tt), tt))
 sound_row_unsub g p (a ∷ b ∷ c ∷ d ∷ qs) f = sound_fail g 0 BadForm p
 
 pub sound_row_unsub_all : (g : Ground) (p : Place) (qs : List Part) → PartsSound g qs → Sound g 0 (row_unsub_all p qs)
@@ -239,7 +242,7 @@ sound_row_unsub_all g p (a ∷ b ∷ c ∷ qs) f = sound_fail g 0 BadForm p
 
 pub sound_piping : (g : Ground) (ms : List Meaning) (p : Place) → length ms ≡ 3 → AllSound g 0 ms → Sound g 0 (piping ms p)
 sound_piping g ms p e f = sound_fixed g 0 3 0 ms (λ h. []) (λ h. started SystemTask.Pipe (var h ∷ var (h + 1) ∷ var (h + 2) ∷ []) p ∷ var (h + 1) ∷ []) f e (λ h. refl)
-  (λ h. tt) (λ h target. ((tt, (omega arith, (omega arith, (omega arith, tt)))), omega arith))
+    (λ h. tt) (λ h target. ((tt, (omega arith, (omega arith, (omega arith, tt)))), omega arith))
 
 pub sound_row_pipe : (g : Ground) (p : Place) (qs : List Part) → PartsSound g qs → Sound g 0 (row_pipe p qs)
 sound_row_pipe g p [] f = sound_fail g 0 BadForm p
@@ -250,48 +253,49 @@ sound_row_pipe g p (a ∷ b ∷ c ∷ d ∷ qs) f = sound_fail g 0 BadForm p
 
 pub sound_merging : (g : Ground) (v o : Meaning) (p : Place) → Sound g 0 v → Sound g 0 o → Sound g 0 (merging v o p)
 sound_merging g v o p f h = sound_fixed g 0 2 0 (v ∷ o ∷ []) (λ h. []) (λ h. started SystemTask.Merge (var h ∷ var (h + 1) ∷ []) p ∷ var (h + 1) ∷ []) (f, (h, tt)) refl (λ h. refl)
-  (λ h. tt) (λ h target. ((tt, (omega arith, (omega arith, tt))), omega arith))
+    (λ h. tt) (λ h target. ((tt, (omega arith, (omega arith, tt))), omega arith))
 
 pub sound_row_merge : (g : Ground) (p : Place) (qs : List Part) → PartsSound g qs → Sound g 0 (row_merge p qs)
 sound_row_merge g p [] f = sound_fail g 0 BadForm p
 sound_row_merge g p (v ∷ []) f = sound_merging g v.means (row_chan p []) p f.0 (sound_row_chan g p [] tt)
 sound_row_merge g p (v ∷ b ∷ []) f = sound_cond g 0 (is_sized (buffer_named (word_in b)) b.within) (merging v.means (row_chan p (b ∷ [])) p) (fail BadForm p)
-  (sound_merging g v.means (row_chan p (b ∷ [])) p f.0 (sound_row_chan g p (b ∷ []) f.2)) (sound_fail g 0 BadForm p)
+    (sound_merging g v.means (row_chan p (b ∷ [])) p f.0 (sound_row_chan g p (b ∷ []) f.2)) (sound_fail g 0 BadForm p)
 sound_row_merge g p (a ∷ b ∷ c ∷ qs) f = sound_fail g 0 BadForm p
 
 pub repeated_well : (k : Known) (n i : ℕ) (target : Option ℕ) (job : Kernel) (p : Place) → n < i → Well k (i + 1) None job → Well k i target (repeated n i job p)
 repeated_well k n i target job p l w =
-  ((refl, tt, tt), ((refl, (omega arith, (omega (arith, l), tt))), (w, (refl, ((refl, (omega arith, tt)), tt))), tt))
+    ((refl, tt, tt), ((refl, (omega arith, (omega (arith, l), tt))), (w, (refl, ((refl, (omega arith, tt)), tt))), tt))
 
 pub sound_pipelining : (g : Ground) (xf : Transform) (fn : PlainFunction) (ks : List Kernel) (ms : List Meaning) (p : Place) → length ms ≡ 4
-  → IsGiven g (applied fn ks) → AllSound g 0 ms → Sound g 0 (pipelining xf fn ks ms p)
+    → IsGiven g (applied fn ks) → AllSound g 0 ms → Sound g 0 (pipelining xf fn ks ms p)
 sound_pipelining g xf fn ks ms p e r f = sound_fixed g 0 4 3 ms
-  (λ n. made MakeKind.Fixed (var n ∷ []) p ∷ made MakeKind.Fixed (var n ∷ []) p ∷ made MakeKind.Fixed (whole 1 ∷ []) p ∷ [])
-  (λ n. repeated n (n + 7) (started (SystemTask.Job xf fn) (var (n + 4) ∷ ks) p) p
+    (λ n. made MakeKind.Fixed (var n ∷ []) p ∷ made MakeKind.Fixed (var n ∷ []) p ∷ made MakeKind.Fixed (whole 1 ∷ []) p ∷ [])
+    (λ n. repeated n (n + 7) (started (SystemTask.Job xf fn) (var (n + 4) ∷ ks) p) p
     ∷ started SystemTask.Feed (var (n + 2) ∷ var (n + 4) ∷ var (n + 5) ∷ []) p
     ∷ started SystemTask.Collect (var (n + 5) ∷ var (n + 1) ∷ var (n + 3) ∷ var (n + 6) ∷ []) p
     ∷ var (n + 6) ∷ []) f e (λ h. refl)
-  (λ n. ((tt, (omega arith, tt)), ((tt, (omega arith, tt)), ((tt, (tt, tt)), tt))))
-  (λ n target.
-    (subst (λ m. Well g.known m None (repeated n (n + 7) (started (SystemTask.Job xf fn) (var (n + 4) ∷ ks) p) p)) (omega arith)
-      (repeated_well g.known n (n + 7) None (started (SystemTask.Job xf fn) (var (n + 4) ∷ ks) p) p (omega arith) (r.0, (omega arith, r.1 (n + 7 + 1)))),
-    ((tt, (omega arith, (omega arith, (omega arith, tt)))), ((tt, (omega arith, (omega arith, (omega arith, (omega arith, tt))))), omega arith))))
+    (λ n. ((tt, (omega arith, tt)), ((tt, (omega arith, tt)), ((tt, (tt, tt)), tt))))
+    (λ n target. (
+      subst (λ m. Well g.known m None (repeated n (n + 7) (started (SystemTask.Job xf fn) (var (n + 4) ∷ ks) p) p)) (omega arith)
+          (repeated_well g.known n (n + 7) None (started (SystemTask.Job xf fn) (var (n + 4) ∷ ks) p) p (omega arith) (r.0, (omega arith, r.1 (n + 7 + 1)))),
+      ((tt, (omega arith, (omega arith, (omega arith, tt)))), ((tt, (omega arith, (omega arith, (omega arith, (omega arith, tt))))), omega arith)),
+    ))
 
 pub sound_workers : (g : Ground) (n : Meaning) (p : Place) → Sound g 0 n → Sound g 0 (workers n p)
 sound_workers g n p f = sound_operation g 0 (Builtin WorkerCount) (n ∷ []) p (f, tt) (λ target. refl)
 
 pub sound_pipeline_over : (g : Ground) (xf : Transform) (r : Given) (q : Place) (n t f z : Meaning) (p : Place) → IsGiven g r → Sound g 0 n → Sound g 0 t → Sound g 0 f → Sound g 0 z
-  → Sound g 0 (pipeline_over xf r q n t f z p)
+    → Sound g 0 (pipeline_over xf r q n t f z p)
 sound_pipeline_over g xf (wrong e) q n t f z p r gn gt gf gz = sound_stopping g 0 (n ∷ t ∷ []) e q
 sound_pipeline_over g xf (applied fn ks) q n t f z p r gn gt gf gz = sound_pipelining g xf fn ks (workers n p ∷ t ∷ f ∷ z ∷ []) p refl r (sound_workers g n p gn, (gt, (gf, (gz, tt))))
 
 pub sound_pipeline_of : (g : Ground) (o : Option Transform) (qs : List Pair) (n t f z : Meaning) (p : Place) → Sound g 0 n → Sound g 0 t → Sound g 0 f → Sound g 0 z
-  → Sound g 0 (pipeline_of o qs n t f z p)
+    → Sound g 0 (pipeline_of o qs n t f z p)
 sound_pipeline_of g None qs n t f z p gn gt gf gz = sound_fail g 0 BadForm p
 sound_pipeline_of g (Some xf) [] n t f z p gn gt gf gz = sound_fail g 0 BadForm p
 sound_pipeline_of g (Some xf) (a ∷ []) n t f z p gn gt gf gz = sound_fail g 0 BadForm p
 sound_pipeline_of g (Some xf) (a ∷ b ∷ []) n t f z p gn gt gf gz = λ env s st.
-  sound_pipeline_over g xf (given b.form env) (place_of b.form) n t f z p (given_sound g b.form env st.2) gn gt gf gz env s st
+    sound_pipeline_over g xf (given b.form env) (place_of b.form) n t f z p (given_sound g b.form env st.2) gn gt gf gz env s st
 sound_pipeline_of g (Some xf) (a ∷ b ∷ c ∷ qs) n t f z p gn gt gf gz = sound_fail g 0 BadForm p
 
 pub sound_row_pipeline : (g : Ground) (p : Place) (qs : List Part) → PartsSound g qs → Sound g 0 (row_pipeline p qs)
@@ -305,8 +309,8 @@ sound_row_pipeline g p (a ∷ b ∷ c ∷ d ∷ e ∷ i ∷ qs) f = sound_fail g
 
 pub sound_putting_onto : (g : Ground) (ms : List Meaning) (p : Place) → length ms ≡ 3 → AllSound g 0 ms → Sound g 0 (putting_onto ms p)
 sound_putting_onto g ms p e f = sound_fixed g 0 3 1 ms (λ h. made MakeKind.Fixed (whole 1 ∷ []) p ∷ [])
-  (λ h. started SystemTask.Onto (var h ∷ var (h + 1) ∷ var (h + 2) ∷ var (h + 3) ∷ []) p ∷ var (h + 3) ∷ []) f e (λ h. refl)
-  (λ h. ((tt, (tt, tt)), tt)) (λ h target. ((tt, (omega arith, (omega arith, (omega arith, (omega arith, tt))))), omega arith))
+    (λ h. started SystemTask.Onto (var h ∷ var (h + 1) ∷ var (h + 2) ∷ var (h + 3) ∷ []) p ∷ var (h + 3) ∷ []) f e (λ h. refl)
+    (λ h. ((tt, (tt, tt)), tt)) (λ h target. ((tt, (omega arith, (omega arith, (omega arith, (omega arith, tt))))), omega arith))
 
 pub sound_row_onto : (g : Ground) (p : Place) (qs : List Part) → PartsSound g qs → Sound g 0 (row_onto p qs)
 sound_row_onto g p [] f = sound_fail g 0 BadForm p
@@ -318,8 +322,8 @@ sound_row_onto g p (a ∷ b ∷ c ∷ d ∷ qs) f = sound_fail g 0 BadForm p
 pub sound_row_to : (g : Ground) (p : Place) (qs : List Part) → PartsSound g qs → Sound g 0 (row_to p qs)
 sound_row_to g p [] f = sound_fail g 0 BadForm p
 sound_row_to g p (v ∷ []) f = sound_fixed g 0 1 2 (v.means ∷ [])
-  (λ h. made MakeKind.Sized (built Min (whole 100 ∷ built Count (var h ∷ []) p ∷ []) p ∷ []) p ∷ made MakeKind.Fixed (whole 1 ∷ []) p ∷ [])
-  (λ h. started SystemTask.Onto (var (h + 1) ∷ var h ∷ const (bool true) ∷ var (h + 2) ∷ []) p ∷ var (h + 1) ∷ []) (f.0, tt) refl (λ h. refl)
-  (λ h. ((tt, ((refl, (tt, ((refl, (omega arith, tt)), tt))), tt)), ((tt, (tt, tt)), tt)))
-  (λ h target. ((tt, (omega arith, (omega arith, (tt, (omega arith, tt))))), omega arith))
+    (λ h. made MakeKind.Sized (built Min (whole 100 ∷ built Count (var h ∷ []) p ∷ []) p ∷ []) p ∷ made MakeKind.Fixed (whole 1 ∷ []) p ∷ [])
+    (λ h. started SystemTask.Onto (var (h + 1) ∷ var h ∷ const (bool true) ∷ var (h + 2) ∷ []) p ∷ var (h + 1) ∷ []) (f.0, tt) refl (λ h. refl)
+    (λ h. ((tt, ((refl, (tt, ((refl, (omega arith, tt)), tt))), tt)), ((tt, (tt, tt)), tt)))
+    (λ h target. ((tt, (omega arith, (omega arith, (tt, (omega arith, tt))))), omega arith))
 sound_row_to g p (a ∷ b ∷ qs) f = sound_fail g 0 BadForm p

@@ -63,9 +63,10 @@ pub sound_function_call : (g : Ground) (n i : ℕ) (f : Signature) (ms : List Me
 sound_function_call g n i f ms p a h = by (nat_eq (length ms) f.arity) (eqb-true (length ms) f.arity) where
   count : length ms ≡ f.arity → length (ms ++ map local f.hidden) ≡ f.arity + length f.hidden
   count e = length-append ms (map local f.hidden) ∙ omega (arith, e, length-map f.hidden local)
+
   by : (b : Bool) → (b ≡ true → length ms ≡ f.arity) → Sound g n (cond b (operation (Call i) (ms ++ map local f.hidden) p) (fail BadArity p))
   by true e = sound_operation g n (Call i) (ms ++ map local f.hidden) p (all_append g n ms (map local f.hidden) h (lows_sound g n f.hidden a.below))
-    (λ target. subst (λ c. Takes g.known.functions i c) (sym (count (e refl))) a.takes)
+      (λ target. subst (λ c. Takes g.known.functions i c) (sym (count (e refl))) a.takes)
   by false e = sound_fail g n BadArity p
 
 pub sound_row_call : (g : Ground) (s : List ℕ) (q : Place) (ms : List Meaning) (p : Place) → AllSound g 0 ms → Sound g 0 (row_call s q ms p)
@@ -73,9 +74,11 @@ sound_row_call g s q ms p f env st r = by (lookup s env.scope) where
   built : (o : Option BuiltinName) → Sound g 0 (call_of_builtin o q ms p)
   built None = sound_fail g 0 UnknownName q
   built (Some b) = sound_builtin_call g 0 b ms p f
+
   called : (o : Option (ℕ × Signature)) → ((x : ℕ × Signature) → o ≡ Some x → IsSigned g.known g.base x.0 x.1) → Makes g env st (call_of_function o (call_of_builtin (builtin s) q ms p) ms p env st)
   called None h = built (builtin s) env st r
   called (Some x) h = sound_function_call g 0 x.0 x.1 ms p (h x refl) f env st r
+
   by : (o : Option ℕ) → Makes g env st (call_of o s q ms p env st)
   by (Some n) = tt
   by None = called (find_function s env.functions 0) (find_signed g.known g.base 0 s env.functions r.2)
@@ -83,9 +86,9 @@ sound_row_call g s q ms p f env st r = by (lookup s env.scope) where
 pub sound_keyword : (g : Ground) (k : List ℕ) (q : Place) (ms : List Meaning) (p : Place) → AllSound g 0 ms → Sound g 0 (row_keyword k q ms p)
 sound_keyword g k q [] p f = sound_fail g 0 BadArity p
 sound_keyword g k q (m ∷ []) p f = sound_written g 0 k q (operation (Builtin Get) (m ∷ constant (key k) ∷ []) p)
-  (sound_operation g 0 (Builtin Get) (m ∷ constant (key k) ∷ []) p (f.0, (sound_constant g 0 (key k), tt)) (λ target. refl))
+    (sound_operation g 0 (Builtin Get) (m ∷ constant (key k) ∷ []) p (f.0, (sound_constant g 0 (key k), tt)) (λ target. refl))
 sound_keyword g k q (m ∷ d ∷ []) p f = sound_written g 0 k q (operation (Builtin Get) (m ∷ constant (key k) ∷ d ∷ []) p)
-  (sound_operation g 0 (Builtin Get) (m ∷ constant (key k) ∷ d ∷ []) p (f.0, (sound_constant g 0 (key k), (f.1.0, tt))) (λ target. refl))
+    (sound_operation g 0 (Builtin Get) (m ∷ constant (key k) ∷ d ∷ []) p (f.0, (sound_constant g 0 (key k), (f.1.0, tt))) (λ target. refl))
 sound_keyword g k q (m ∷ d ∷ e ∷ ms) p f = sound_fail g 0 BadArity p
 
 -- a function that a system task can apply, and constants
@@ -105,6 +108,7 @@ given_by_function g None r h f = f
 given_by_function g (Some x) r h f = by (x.1.plain && nat_eq x.1.arity 1) (and_parts x.1.plain (nat_eq x.1.arity 1)) where
   one : x.1.plain ≡ true → x.1.arity ≡ 1 → x.1.arity + length x.1.hidden ≡ 1
   one a b = omega (arith, b, ap length ((h x refl).bare a))
+
   by : (b : Bool) → (b ≡ true → (x.1.plain ≡ true) × (nat_eq x.1.arity 1 ≡ true)) → IsGiven g (cond b (applied (PlainFunction.Defined x.0) []) (wrong NotPlain))
   by true p = ((subst (λ c. Takes g.known.functions x.0 c) (one (p refl).0 (eqb-true x.1.arity 1 (p refl).1)) (h x refl).takes, (h x refl).plain (p refl).0), λ n. tt)
   by false p = tt
@@ -112,7 +116,7 @@ given_by_function g (Some x) r h f = by (x.1.plain && nat_eq x.1.arity 1) (and_p
 pub given_by_name : (g : Ground) (o : Option ℕ) (s : List ℕ) (fs : List Signature) → AreSigned g.known g.base 0 fs → IsGiven g (given_name o s fs)
 given_by_name g (Some n) s fs a = tt
 given_by_name g None s fs a = given_by_function g (find_function s fs 0) (given_builtin (builtin s) (is_some (special s))) (find_signed g.known g.base 0 s fs a)
-  (given_by_builtin g (builtin s) (is_some (special s)))
+    (given_by_builtin g (builtin s) (is_some (special s)))
 
 pub given_by_atom : (g : Ground) (a : Atom) (env : Env) → AreSigned g.known g.base 0 env.functions → IsGiven g (given_atom a env)
 given_by_atom g (symbol s) env h = given_by_name g (lookup s env.scope) s env.functions h

@@ -36,7 +36,7 @@ BoundsSound g [] = Unit {0}
 BoundsSound g (b ∷ bs) = Sound g 0 b.means × BoundsSound g bs
 
 pub with_bound_sound : (g : Ground) (b : Option Binder) (m : Meaning) (r : Option (List Bound)) → Sound g 0 m → ((bs : List Bound) → r ≡ Some bs → BoundsSound g bs)
-  → (bs : List Bound) → with_bound b m r ≡ Some bs → BoundsSound g bs
+    → (bs : List Bound) → with_bound b m r ≡ Some bs → BoundsSound g bs
 with_bound_sound g None m r f h bs e = cc
 with_bound_sound g (Some b) m None f h bs e = cc
 with_bound_sound g (Some b) m (Some cs) f h [] e = tt
@@ -59,8 +59,10 @@ bindings_sound g q f bs e = by (is_vector q.form) (bounds_sound g q.within f) e 
 
 pub items_sound : (g : Ground) (p : Place) (h : ℕ) (xs : List (List ℕ)) (i n : ℕ) → h < n → NamedSound g n (spread_items p h xs i)
 items_sound g p h [] i n l = tt
-items_sound g p h (x ∷ xs) i n l = (sound_operation g n (Builtin PartOf) (local h ∷ constant (int (pos i)) ∷ []) p (sound_local g n h l, (sound_constant g n (int (pos i)), tt)) (λ target. refl),
-  items_sound g p h xs (suc i) (suc n) (omega (arith, l)))
+items_sound g p h (x ∷ xs) i n l = (
+  sound_operation g n (Builtin PartOf) (local h ∷ constant (int (pos i)) ∷ []) p (sound_local g n h l, (sound_constant g n (int (pos i)), tt)) (λ target. refl),
+  items_sound g p h xs (suc i) (suc n) (omega (arith, l)),
+)
 
 pub items_length : (p : Place) (h : ℕ) (xs : List (List ℕ)) (i : ℕ) → length (spread_items p h xs i) ≡ length xs
 items_length p h [] i = refl
@@ -73,7 +75,7 @@ spread_one_length p n (many xs q) m = ap suc (items_length p n xs 0)
 pub spread_one_sound : (g : Ground) (p : Place) (n : ℕ) (b : Binder) (m : Meaning) → Sound g n m → NamedSound g n (spread_one p n b m)
 spread_one_sound g p n (one x) m f = (f, tt)
 spread_one_sound g p n (many xs q) m f =
-  (sound_cond g n (nat_lt 4096 (length xs)) (fail TooMany q) m (sound_fail g n TooMany q) f, items_sound g p n xs 0 (suc n) (omega arith))
+    (sound_cond g n (nat_lt 4096 (length xs)) (fail TooMany q) m (sound_fail g n TooMany q) f, items_sound g p n xs 0 (suc n) (omega arith))
 
 abbrev pub widths : List Bound → ℕ
 widths [] = 0
@@ -86,11 +88,11 @@ spread_length p n (b ∷ bs) = length-append (spread_one p n b.by b.means) (spre
 pub spread_sound : (g : Ground) (p : Place) (n : ℕ) (bs : List Bound) → BoundsSound g bs → NamedSound g n (spread p n bs)
 spread_sound g p n [] f = tt
 spread_sound g p n (b ∷ bs) f = named_append g n (spread_one p n b.by b.means) (spread p (n + width b.by) bs) (spread_one_sound g p n b.by b.means (weaken g 0 n b.means (omega arith) f.0))
-  (named_weaken g (n + width b.by) (n + length (spread_one p n b.by b.means)) (spread p (n + width b.by) bs) (omega (arith, spread_one_length p n b.by b.means)) (spread_sound g p (n + width b.by) bs f.1))
+    (named_weaken g (n + width b.by) (n + length (spread_one p n b.by b.means)) (spread p (n + width b.by) bs) (omega (arith, spread_one_length p n b.by b.means)) (spread_sound g p (n + width b.by) bs f.1))
 
 pub sound_letting : (g : Ground) (n : ℕ) (bs : List Bound) (body : Meaning) (p : Place) → BoundsSound g bs → Sound g n body → Sound g n (letting bs body p)
 sound_letting g n bs body p f h = at_size g n (letting bs body p) (λ env s l st. sound_lets g (size env) (spread p (size env) bs) body (spread_sound g p (size env) bs f)
-  (weaken g n (size env + length (spread p (size env) bs)) body (omega (arith, l)) h) env s st)
+    (weaken g n (size env + length (spread p (size env) bs)) body (omega (arith, l)) h) env s st)
 
 pub sound_let_of : (g : Ground) (o : Option (List Bound)) (body : Meaning) (p : Place) → ((bs : List Bound) → o ≡ Some bs → BoundsSound g bs) → Sound g 0 body → Sound g 0 (let_of o body p)
 sound_let_of g None body p f h = sound_fail g 0 BadForm p
@@ -134,13 +136,13 @@ pub sound_and : (g : Ground) (n : ℕ) (ms : List Meaning) → AllSound g n ms �
 sound_and g n [] f = sound_constant g n (bool true)
 sound_and g n (a ∷ []) f = f.0
 sound_and g n (a ∷ b ∷ ms) f = sound_hide g n a (λ h. iff (local h) (and_of (b ∷ ms)) (local h)) f.0
-  (λ h l. sound_iff g (suc h) (local h) (and_of (b ∷ ms)) (local h) (sound_local g (suc h) h (omega arith)) (weaken g n (suc h) (and_of (b ∷ ms)) (omega (arith, l)) (sound_and g n (b ∷ ms) f.1)) (sound_local g (suc h) h (omega arith)))
+    (λ h l. sound_iff g (suc h) (local h) (and_of (b ∷ ms)) (local h) (sound_local g (suc h) h (omega arith)) (weaken g n (suc h) (and_of (b ∷ ms)) (omega (arith, l)) (sound_and g n (b ∷ ms) f.1)) (sound_local g (suc h) h (omega arith)))
 
 pub sound_or : (g : Ground) (n : ℕ) (ms : List Meaning) → AllSound g n ms → Sound g n (or_of ms)
 sound_or g n [] f = sound_constant g n nil
 sound_or g n (a ∷ []) f = f.0
 sound_or g n (a ∷ b ∷ ms) f = sound_hide g n a (λ h. iff (local h) (local h) (or_of (b ∷ ms))) f.0
-  (λ h l. sound_iff g (suc h) (local h) (local h) (or_of (b ∷ ms)) (sound_local g (suc h) h (omega arith)) (sound_local g (suc h) h (omega arith)) (weaken g n (suc h) (or_of (b ∷ ms)) (omega (arith, l)) (sound_or g n (b ∷ ms) f.1)))
+    (λ h l. sound_iff g (suc h) (local h) (local h) (or_of (b ∷ ms)) (sound_local g (suc h) h (omega arith)) (sound_local g (suc h) h (omega arith)) (weaken g n (suc h) (or_of (b ∷ ms)) (omega (arith, l)) (sound_or g n (b ∷ ms) f.1)))
 
 -- a test of a name
 abbrev pub TestSound : Ground → (Place → ℕ → Meaning) → Type 0
@@ -169,7 +171,7 @@ sound_one_bound g (Some (b ∷ c ∷ bs)) f = tt
 pub sound_if_bound : (g : Ground) (test : Place → ℕ → Meaning) (x : Option Named) (a b : Meaning) (p : Place) → TestSound g test → IfNamed g x → Sound g 0 a → Sound g 0 b → Sound g 0 (if_bound test x a b p)
 sound_if_bound g test None a b p t f ga gb = sound_fail g 0 BadForm p
 sound_if_bound g test (Some x) a b p t f ga gb = sound_hide g 0 x.means (λ h. iff (test p h) (name_as x.name (local h) a) b) f
-  (λ h l. sound_iff g (suc h) (test p h) (name_as x.name (local h) a) b (t p h)
+    (λ h l. sound_iff g (suc h) (test p h) (name_as x.name (local h) a) b (t p h)
     (sound_name_as g (suc h) x.name (local h) a (sound_local g (suc h) h (omega arith)) (weaken g 0 (suc (suc h)) a (omega arith) ga)) (weaken g 0 (suc h) b (omega arith) gb))
 
 pub sound_row_if_bound : (g : Ground) (test : Place → ℕ → Meaning) (p : Place) (qs : List Part) → TestSound g test → PartsSound g qs → Sound g 0 (row_if_bound test p qs)
@@ -177,13 +179,13 @@ sound_row_if_bound g test p [] t f = sound_fail g 0 BadForm p
 sound_row_if_bound g test p (a ∷ []) t f = sound_fail g 0 BadForm p
 sound_row_if_bound g test p (a ∷ b ∷ []) t f = sound_fail g 0 BadForm p
 sound_row_if_bound g test p (x ∷ a ∷ b ∷ []) t f = sound_if_bound g test (one_bound (bindings_in x)) (block (a.means ∷ [])) b.means p t
-  (sound_one_bound g (bindings_in x) (bindings_sound g x f.1)) (sound_body g 0 a.means f.2.0) f.2.2.0
+    (sound_one_bound g (bindings_in x) (bindings_sound g x f.1)) (sound_body g 0 a.means f.2.0) f.2.2.0
 sound_row_if_bound g test p (a ∷ b ∷ c ∷ d ∷ qs) t f = sound_fail g 0 BadForm p
 
 pub sound_row_when_bound : (g : Ground) (test : Place → ℕ → Meaning) (p : Place) (qs : List Part) → TestSound g test → PartsSound g qs → Sound g 0 (row_when_bound test p qs)
 sound_row_when_bound g test p [] t f = sound_fail g 0 BadForm p
 sound_row_when_bound g test p (x ∷ qs) t f = sound_if_bound g test (one_bound (bindings_in x)) (block (meanings qs)) nothing p t
-  (sound_one_bound g (bindings_in x) (bindings_sound g x f.1)) (block_sound g 0 qs f.2) (sound_constant g 0 nil)
+    (sound_one_bound g (bindings_in x) (bindings_sound g x f.1)) (block_sound g 0 qs f.2) (sound_constant g 0 nil)
 
 -- loops
 pub again_sound : (g : Ground) (n : ℕ) (bs : List Bound) (m : ℕ) → n + widths bs ≤ m → NamedSound g m (again n bs)
@@ -201,7 +203,7 @@ pub patterns_sound : (g : Ground) (p : Place) (n : ℕ) (bs : List Binder) (m : 
 patterns_sound g p n [] m l = tt
 patterns_sound g p n (one x ∷ bs) m l = patterns_sound g p (suc n) bs m (omega (arith, l))
 patterns_sound g p n (many xs q ∷ bs) m l = named_append g m (spread_items p n xs 0) (patterns p (suc n) bs) (items_sound g p n xs 0 m (omega (arith, l)))
-  (patterns_sound g p (suc n) bs (m + length (spread_items p n xs 0)) (omega (arith, l)))
+    (patterns_sound g p (suc n) bs (m + length (spread_items p n xs 0)) (omega (arith, l)))
 
 -- over so many names from n on
 pub sound_over_patterns : (g : Ground) (p : Place) (n : ℕ) (bs : List Binder) (body : Meaning) (m : ℕ) → n + length bs ≤ m → Sound g 0 body → Sound g m (lets (patterns p n bs) body)
@@ -209,24 +211,24 @@ sound_over_patterns g p n bs body m l h = sound_lets g m (patterns p n bs) body 
 
 pub sound_loop_over_patterns : (g : Ground) (bs : List Bound) (body : Meaning) (p : Place) → BoundsSound g bs → Sound g 0 body → Sound g 0 (loop_over_patterns bs body p)
 sound_loop_over_patterns g bs body p f h = at_size g 0 (loop_over_patterns bs body p) (λ env s l st.
-  sound_lets g (size env) (spread p (size env) bs)
+    sound_lets g (size env) (spread p (size env) bs)
     (block ((λ env2. loops (again (size env) bs) (block (lets (patterns p (size env2) (binders bs)) body ∷ [])) env2) ∷ []))
     (spread_sound g p (size env) bs f)
     (sound_body g (size env + length (spread p (size env) bs)) (λ env2. loops (again (size env) bs) (block (lets (patterns p (size env2) (binders bs)) body ∷ [])) env2)
-      (at_size g (size env + length (spread p (size env) bs)) (λ env2. loops (again (size env) bs) (block (lets (patterns p (size env2) (binders bs)) body ∷ [])) env2)
-        (λ env2 s2 l2 st2. sound_loops g (size env2) (again (size env) bs) (block (lets (patterns p (size env2) (binders bs)) body ∷ []))
-          (again_sound g (size env) bs (size env2) (omega (arith, l2, spread_length p (size env) bs)))
-          (aimed g (size env2 + length (again (size env) bs)) (length (again (size env) bs)) (block (lets (patterns p (size env2) (binders bs)) body ∷ []))
-            (sound_body g (size env2 + length (again (size env) bs)) (lets (patterns p (size env2) (binders bs)) body)
-              (sound_over_patterns g p (size env2) (binders bs) body (size env2 + length (again (size env) bs))
-                (omega (arith, again_length (size env) bs, length-map bs (λ (b : Bound). b.by))) h))) env2 s2 st2))) env s st)
+    (at_size g (size env + length (spread p (size env) bs)) (λ env2. loops (again (size env) bs) (block (lets (patterns p (size env2) (binders bs)) body ∷ [])) env2)
+    (λ env2 s2 l2 st2. sound_loops g (size env2) (again (size env) bs) (block (lets (patterns p (size env2) (binders bs)) body ∷ []))
+    (again_sound g (size env) bs (size env2) (omega (arith, l2, spread_length p (size env) bs)))
+    (aimed g (size env2 + length (again (size env) bs)) (length (again (size env) bs)) (block (lets (patterns p (size env2) (binders bs)) body ∷ []))
+    (sound_body g (size env2 + length (again (size env) bs)) (lets (patterns p (size env2) (binders bs)) body)
+    (sound_over_patterns g p (size env2) (binders bs) body (size env2 + length (again (size env) bs))
+    (omega (arith, again_length (size env) bs, length-map bs (λ (b : Bound). b.by))) h))) env2 s2 st2))) env s st)
 
 pub sound_looping : (g : Ground) (bs : List Bound) (body : Meaning) (p : Place) → BoundsSound g bs → Sound g 0 body → Sound g 0 (looping bs body p)
 sound_looping g bs body p f h = at_size g 0 (looping bs body p) (λ env s l st. by (list_any is_pattern (binders bs)) env s st) where
   by : (b : Bool) (env : Env) (s : Gathered) → Stands g (size env) env → Makes g env s (cond b (loop_over_patterns bs body p env) (loops (spread p (size env) bs) body env) s)
   by true env s st = sound_loop_over_patterns g bs body p f h env s (omega arith, st.1, st.2)
   by false env s st = sound_loops g (size env) (spread p (size env) bs) body (spread_sound g p (size env) bs f)
-    (aimed g (size env + length (spread p (size env) bs)) (length (spread p (size env) bs)) body (weaken g 0 (size env + length (spread p (size env) bs)) body (omega arith) h)) env s st
+      (aimed g (size env + length (spread p (size env) bs)) (length (spread p (size env) bs)) body (weaken g 0 (size env + length (spread p (size env) bs)) body (omega arith) h)) env s st
 
 pub sound_loop_of : (g : Ground) (o : Option (List Bound)) (body : Meaning) (p : Place) → ((bs : List Bound) → o ≡ Some bs → BoundsSound g bs) → Sound g 0 body → Sound g 0 (loop_of o body p)
 sound_loop_of g None body p f h = sound_fail g 0 BadForm p
@@ -241,36 +243,37 @@ sound_row_recur g p qs f env s st = by env.target refl where
   tested : (j : ℕ) → env.target ≡ Some j → (b : Bool) → (b ≡ true → length (meanings qs) ≡ j) → Makes g env s (cond b (operation Recur (meanings qs) p) (fail BadArity p) env s)
   tested j e false h = tt
   tested j e true h = makes_operation g 0 Recur (meanings qs) p env s st (means_sound g qs f) (e ∙ ap (λ n. Some n) (sym (h refl)))
+
   by : (o : Option ℕ) → env.target ≡ o → Makes g env s (recur_of o (meanings qs) p env s)
   by None e = tt
   by (Some j) e = tested j e (nat_eq (length (meanings qs)) j) (eqb-true (length (meanings qs)) j)
 
 pub aimed_next : (g : Ground) (n i : ℕ) (p : Place) → i < n → Aimed g n 1 (recur_with_next i p)
 aimed_next g n i p l = aimed_recur g n (operation (Builtin Inc) (local i ∷ []) p ∷ []) p
-  (sound_operation g n (Builtin Inc) (local i ∷ []) p (sound_local g n i l, tt) (λ target. refl), tt)
+    (sound_operation g n (Builtin Inc) (local i ∷ []) p (sound_local g n i l, tt) (λ target. refl), tt)
 
 pub sound_row_while : (g : Ground) (p : Place) (qs : List Part) → PartsSound g qs → Sound g 0 (row_while p qs)
 sound_row_while g p [] f = sound_fail g 0 BadForm p
 sound_row_while g p (c ∷ qs) f = sound_loops g 0 [] (block (iff c.means (block (meanings qs ++ operation Recur [] p ∷ [])) nothing ∷ [])) tt
-  (aimed_when g 0 0 c.means (block (meanings qs ++ operation Recur [] p ∷ [])) f.0
+    (aimed_when g 0 0 c.means (block (meanings qs ++ operation Recur [] p ∷ [])) f.0
     (aimed_block g 0 0 (meanings qs) (operation Recur [] p) (means_sound g qs f.2) (aimed_recur g 0 [] p tt)))
 
 -- ms stand in a scope of at least m names, to which the name that counts may be added
 pub sound_counting : (g : Ground) (m : ℕ) (i : List ℕ) (n : ℕ) (ms : List Meaning) (p : Place) → n < m → ((h : ℕ) → m ≤ h → AllSound g (suc h) ms) → Sound g m (counting i n ms p)
 sound_counting g m i n ms p l f = at_size g m (counting i n ms p) (λ env s l2 st.
-  sound_loops g (size env) (record { name = i; means = number 0 } ∷ [])
+    sound_loops g (size env) (record { name = i; means = number 0 } ∷ [])
     (block (iff (operation (Builtin Less) (local (size env) ∷ local n ∷ []) p) (block (ms ++ recur_with_next (size env) p ∷ [])) nothing ∷ []))
     (sound_constant g (size env) (int (pos 0)), tt)
     (aimed_when g (size env + 1) 1 (operation (Builtin Less) (local (size env) ∷ local n ∷ []) p) (block (ms ++ recur_with_next (size env) p ∷ []))
-      (sound_operation g (size env + 1) (Builtin Less) (local (size env) ∷ local n ∷ []) p
-        (sound_local g (size env + 1) (size env) (omega arith), (sound_local g (size env + 1) n (omega (arith, l, l2)), tt)) (λ target. refl))
-      (aimed_block g (size env + 1) 1 ms (recur_with_next (size env) p) (all_weaken g (suc (size env)) (size env + 1) ms (omega arith) (f (size env) l2))
-        (aimed_next g (size env + 1) (size env) p (omega arith)))) env s st)
+    (sound_operation g (size env + 1) (Builtin Less) (local (size env) ∷ local n ∷ []) p
+    (sound_local g (size env + 1) (size env) (omega arith), (sound_local g (size env + 1) n (omega (arith, l, l2)), tt)) (λ target. refl))
+    (aimed_block g (size env + 1) 1 ms (recur_with_next (size env) p) (all_weaken g (suc (size env)) (size env + 1) ms (omega arith) (f (size env) l2))
+    (aimed_next g (size env + 1) (size env) p (omega arith)))) env s st)
 
 pub sound_dotimes : (g : Ground) (o : Option Named) (ms : List Meaning) (p : Place) → IfNamed g o → AllSound g 0 ms → Sound g 0 (dotimes o ms p)
 sound_dotimes g None ms p f h = sound_fail g 0 BadForm p
 sound_dotimes g (Some i) ms p f h = sound_hide g 0 i.means (λ n. counting i.name n ms p) f
-  (λ n l. sound_counting g (suc n) i.name n ms p (omega arith) (λ m l2. all_weaken g 0 (suc m) ms (omega arith) h))
+    (λ n l. sound_counting g (suc n) i.name n ms p (omega arith) (λ m l2. all_weaken g 0 (suc m) ms (omega arith) h))
 
 pub sound_row_dotimes : (g : Ground) (p : Place) (qs : List Part) → PartsSound g qs → Sound g 0 (row_dotimes p qs)
 sound_row_dotimes g p [] f = sound_fail g 0 BadForm p
@@ -278,22 +281,26 @@ sound_row_dotimes g p (b ∷ qs) f = sound_dotimes g (one_bound (bindings_in b))
 
 pub sound_letting_one : (g : Ground) (n : ℕ) (b : Bound) (body : Meaning) (p : Place) → Sound g n b.means → Sound g 0 body → Sound g n (letting (b ∷ []) body p)
 sound_letting_one g n b body p f h = at_size g n (letting (b ∷ []) body p) (λ env s l st. sound_lets g (size env) (spread p (size env) (b ∷ [])) body
-  (named_append g (size env) (spread_one p (size env) b.by b.means) [] (spread_one_sound g p (size env) b.by b.means (weaken g n (size env) b.means l f)) tt)
-  (weaken g 0 (size env + length (spread p (size env) (b ∷ []))) body (omega arith) h) env s st)
+    (named_append g (size env) (spread_one p (size env) b.by b.means) [] (spread_one_sound g p (size env) b.by b.means (weaken g n (size env) b.means l f)) tt)
+    (weaken g 0 (size env + length (spread p (size env) (b ∷ []))) body (omega arith) h) env s st)
 
 pub sound_nth_bound : (g : Ground) (n : ℕ) (b : Binder) (h j : ℕ) (p : Place) → h < n → j < n → Sound g n (nth_bound b h j p).means
 sound_nth_bound g n b h j p l k = sound_operation g n (Builtin Nth) (local h ∷ local j ∷ []) p (sound_local g n h l, (sound_local g n j k, tt)) (λ target. refl)
 
 pub sound_doseq_one : (g : Ground) (b : Bound) (body : Meaning) (p : Place) → Sound g 0 b.means → Sound g 0 body → Sound g 0 (doseq (Some (b ∷ [])) body p)
 sound_doseq_one g b body p f h = at_size g 0 (doseq (Some (b ∷ [])) body p) (λ env s l st.
-  sound_lets g (size env) (unnamed (operation (Builtin Items) (b.means ∷ []) p) ∷ unnamed (operation (Builtin Count) (local (size env) ∷ []) p) ∷ [])
-    (block (counting [] (size env + 1) (letting (nth_bound b.by (size env) (size env + 2) p ∷ []) body p ∷ []) p ∷ []))
-    (sound_operation g (size env) (Builtin Items) (b.means ∷ []) p (weaken g 0 (size env) b.means (omega arith) f, tt) (λ target. refl),
-      (sound_operation g (suc (size env)) (Builtin Count) (local (size env) ∷ []) p (sound_local g (suc (size env)) (size env) (omega arith), tt) (λ target. refl), tt))
+    sound_lets g (size env) (unnamed (operation (Builtin Items) (b.means ∷ []) p) ∷ unnamed (operation (Builtin Count) (local (size env) ∷ []) p) ∷ [])
+    (block (counting [] (size env + 1) (letting (nth_bound b.by (size env) (size env + 2) p ∷ []) body p ∷ []) p ∷ [])) (
+      sound_operation g (size env) (Builtin Items) (b.means ∷ []) p (weaken g 0 (size env) b.means (omega arith) f, tt) (λ target. refl),
+      (sound_operation g (suc (size env)) (Builtin Count) (local (size env) ∷ []) p (sound_local g (suc (size env)) (size env) (omega arith), tt) (λ target. refl), tt),
+    )
     (sound_body g (size env + 2) (counting [] (size env + 1) (letting (nth_bound b.by (size env) (size env + 2) p ∷ []) body p ∷ []) p)
-      (sound_counting g (size env + 2) [] (size env + 1) (letting (nth_bound b.by (size env) (size env + 2) p ∷ []) body p ∷ []) p (omega arith)
-        (λ n l2. (sound_letting_one g (suc n) (nth_bound b.by (size env) (size env + 2) p) body p
-          (sound_nth_bound g (suc n) b.by (size env) (size env + 2) p (omega (arith, l2)) (omega (arith, l2))) h, tt)))) env s st)
+    (sound_counting g (size env + 2) [] (size env + 1) (letting (nth_bound b.by (size env) (size env + 2) p ∷ []) body p ∷ []) p (omega arith)
+    (λ n l2. (
+      sound_letting_one g (suc n) (nth_bound b.by (size env) (size env + 2) p) body p
+          (sound_nth_bound g (suc n) b.by (size env) (size env + 2) p (omega (arith, l2)) (omega (arith, l2))) h,
+      tt,
+    )))) env s st)
 
 pub sound_doseq : (g : Ground) (o : Option (List Bound)) (body : Meaning) (p : Place) → ((bs : List Bound) → o ≡ Some bs → BoundsSound g bs) → Sound g 0 body → Sound g 0 (doseq o body p)
 sound_doseq g None body p f h = sound_fail g 0 BadForm p

@@ -100,14 +100,15 @@ in_numbers n m (x ∷ xs) l u = ⊎_elim (λ b. inr (in_numbers (suc n) m xs (om
 
 -- the body of a function in a scope of n names of the main text and so many parameters
 pub function_procedure : (k : Known) (n : ℕ) (hidden : List ℕ) (xs : List (List ℕ)) (t : Kernel) → Below n hidden → length (uses n t hidden) ≡ length hidden
-  → Well k (n + length xs) None t → IsProcedure k (record { parameters = hidden ++ numbers n xs; body = t })
+    → Well k (n + length xs) None t → IsProcedure k (record { parameters = hidden ++ numbers n xs; body = t })
 function_procedure k n hidden xs t b e w = record {
   bound = closed k n hidden (n + length xs) None t (hidden ++ numbers n xs) w
-    (subst (λ us. Only n us t) (extended_same hidden (uses n t hidden) (uses_extends n t hidden) e) (uses_only n t hidden))
-    ((λ m h. in_left m hidden (numbers n xs) h), (λ m l u. in_right m hidden (numbers n xs) (in_numbers n m xs l u)));
+      (subst (λ us. Only n us t) (extended_same hidden (uses n t hidden) (uses_extends n t hidden) e) (uses_only n t hidden))
+      ((λ m h. in_left m hidden (numbers n xs) h), (λ m l u. in_right m hidden (numbers n xs) (in_numbers n m xs l u)));
   anew = anew k (n + length xs) None t (hidden ++ numbers n xs) w
-    (below_append (n + length xs) hidden (numbers n xs) (below_more n (n + length xs) hidden (omega arith) b) (numbers_below n (n + length xs) xs (omega arith)));
-  fits = fits k (n + length xs) None t w }
+      (below_append (n + length xs) hidden (numbers n xs) (below_more n (n + length xs) hidden (omega arith) b) (numbers_below n (n + length xs) xs (omega arith)));
+  fits = fits k (n + length xs) None t w;
+}
 
 -- a function's body is sound in the function's scope
 pub same_names_sound : (g : Ground) (n : ℕ) (xs : List (List ℕ)) (m : ℕ) → n + length xs ≤ m → NamedSound g m (same_names n xs)
@@ -126,50 +127,54 @@ names_length bs = length-map bs whole_name
 
 -- whether in a loop or not, in a scope of n names
 pub body_makes : (k : Known) (f : Written) (p : Place) (t : Tops) (sig : Signature) (s : Gathered) (looping : Bool)
-  → Sound (record { known = k; base = length t.scope }) 0 f.body → AreSigned k (length t.scope) 0 (t.functions ++ sig ∷ [])
-  → IfDone (body_of looping f p (function_env sig t) s) (λ body s2. Grew k s s2 (Well k (length t.scope + length (names_of f.parameters)) None body))
+    → Sound (record { known = k; base = length t.scope }) 0 f.body → AreSigned k (length t.scope) 0 (t.functions ++ sig ∷ [])
+    → IfDone (body_of looping f p (function_env sig t) s) (λ body s2. Grew k s s2 (Well k (length t.scope + length (names_of f.parameters)) None body))
 body_makes k f p t sig s looping h a = by looping where
   g : Ground
   g = record { known = k; base = length t.scope }
+
   within : Env
   within = record (function_env sig t) { scope = t.scope ++ names_of f.parameters }
+
   here : Stands g (length t.scope + length (names_of f.parameters)) within
   here = (omega (arith, length-append t.scope (names_of f.parameters)), omega (arith, length-append t.scope (names_of f.parameters)), a)
+
   moved : (o : Outcome Kernel) → Makes g within s o → IfDone o (λ body s2. Grew k s s2 (Well k (length t.scope + length (names_of f.parameters)) None body))
   moved o m = subst (λ i. IfDone o (λ body s2. Grew k s s2 (Well k i None body))) (length-append t.scope (names_of f.parameters)) m
+
   by : (b : Bool) → IfDone (body_of b f p (function_env sig t) s) (λ body s2. Grew k s s2 (Well k (length t.scope + length (names_of f.parameters)) None body))
   by false = moved (straight None f p (function_env sig t) s)
-    (sound_over_parameters g f p (length t.scope) (length t.scope + length (names_of f.parameters)) (omega (arith, names_length f.parameters)) h within s here)
+      (sound_over_parameters g f p (length t.scope) (length t.scope + length (names_of f.parameters)) (omega (arith, names_length f.parameters)) h within s here)
   by true = moved (looped f p (function_env sig t) s)
-    (sound_loops g (length t.scope + length (names_of f.parameters)) (same_names (length t.scope) (names_of f.parameters)) (over_parameters f p (length t.scope + length f.parameters))
+      (sound_loops g (length t.scope + length (names_of f.parameters)) (same_names (length t.scope) (names_of f.parameters)) (over_parameters f p (length t.scope + length f.parameters))
       (same_names_sound g (length t.scope) (names_of f.parameters) (length t.scope + length (names_of f.parameters)) (omega arith))
       (aimed g (length t.scope + length (names_of f.parameters) + length (same_names (length t.scope) (names_of f.parameters))) (length (same_names (length t.scope) (names_of f.parameters)))
-        (over_parameters f p (length t.scope + length f.parameters))
-        (sound_over_parameters g f p (length t.scope + length f.parameters) (length t.scope + length (names_of f.parameters) + length (same_names (length t.scope) (names_of f.parameters)))
-          (omega (arith, names_length f.parameters, same_names_length (length t.scope) (names_of f.parameters))) h)) within s here)
+      (over_parameters f p (length t.scope + length f.parameters))
+      (sound_over_parameters g f p (length t.scope + length f.parameters) (length t.scope + length (names_of f.parameters) + length (same_names (length t.scope) (names_of f.parameters)))
+      (omega (arith, names_length f.parameters, same_names_length (length t.scope) (names_of f.parameters))) h)) within s here)
 
 -- a settled body
 pub record Settles (k : Known) (f : Written) (t : Tops) (s : Gathered) (r : Settled) (s2 : Gathered) : Type 0 where
   pub below : Below (length t.scope) r.hidden
   pub same : length (uses (length t.scope) r.body r.hidden) ≡ length r.hidden
   pub grew : AreSigned k (length t.scope) 0 (t.functions ++ signature f r.hidden false ∷ [])
-    → Grew k s s2 (Well k (length t.scope + length (names_of f.parameters)) None r.body)
+      → Grew k s s2 (Well k (length t.scope + length (names_of f.parameters)) None r.body)
 
 pub settled_settles : (k : Known) (f : Written) (p : Place) (t : Tops) (s : Gathered) (looping : Bool) → Sound (record { known = k; base = length t.scope }) 0 f.body
-  → (n : ℕ) (hidden : List ℕ) → Below (length t.scope) hidden → IfDone (settled n looping hidden f p t s) (Settles k f t s)
+    → (n : ℕ) (hidden : List ℕ) → Below (length t.scope) hidden → IfDone (settled n looping hidden f p t s) (Settles k f t s)
 settled_settles k f p t s looping h zero hidden b = tt
 settled_settles k f p t s looping h (suc n) hidden b = by (body_of looping f p (function_env (signature f hidden false) t) s)
     (λ a. body_makes k f p t (signature f hidden false) s looping h a) (λ body. settled_settles k f p t s looping h n (uses (length t.scope) body hidden) (uses_below (length t.scope) body hidden b)) where
-  by : (o : Outcome Kernel)
-    → (AreSigned k (length t.scope) 0 (t.functions ++ signature f hidden false ∷ []) → IfDone o (λ body s2. Grew k s s2 (Well k (length t.scope + length (names_of f.parameters)) None body)))
-    → ((body : Kernel) → IfDone (settled n looping (uses (length t.scope) body hidden) f p t s) (Settles k f t s))
-    → IfDone (after o (λ body s2. cond (nat_lt 64 (length (uses (length t.scope) body hidden))) (refused TooMany p)
-        (cond (nat_eq (length (uses (length t.scope) body hidden)) (length hidden)) (done (record { body = body; hidden = hidden }) s2)
+      by : (o : Outcome Kernel)
+          → (AreSigned k (length t.scope) 0 (t.functions ++ signature f hidden false ∷ []) → IfDone o (λ body s2. Grew k s s2 (Well k (length t.scope + length (names_of f.parameters)) None body)))
+          → ((body : Kernel) → IfDone (settled n looping (uses (length t.scope) body hidden) f p t s) (Settles k f t s))
+          → IfDone (after o (λ body s2. cond (nat_lt 64 (length (uses (length t.scope) body hidden))) (refused TooMany p)
+          (cond (nat_eq (length (uses (length t.scope) body hidden)) (length hidden)) (done (record { body = body; hidden = hidden }) s2)
           (settled n looping (uses (length t.scope) body hidden) f p t s)))) (Settles k f t s)
-  by (refused e q) m rest = tt
-  by (done body s2) m rest = if_cond (nat_lt 64 (length (uses (length t.scope) body hidden))) (refused TooMany p) _ (Settles k f t s) tt
-    (same (nat_eq (length (uses (length t.scope) body hidden)) (length hidden)) (eqb-true (length (uses (length t.scope) body hidden)) (length hidden))) where
-    same : (c : Bool) → (c ≡ true → length (uses (length t.scope) body hidden) ≡ length hidden)
-      → IfDone (cond c (done (record { body = body; hidden = hidden }) s2) (settled n looping (uses (length t.scope) body hidden) f p t s)) (Settles k f t s)
-    same true e = record { below = b; same = e refl; grew = m }
-    same false e = rest body
+      by (refused e q) m rest = tt
+      by (done body s2) m rest = if_cond (nat_lt 64 (length (uses (length t.scope) body hidden))) (refused TooMany p) _ (Settles k f t s) tt
+          (same (nat_eq (length (uses (length t.scope) body hidden)) (length hidden)) (eqb-true (length (uses (length t.scope) body hidden)) (length hidden))) where
+            same : (c : Bool) → (c ≡ true → length (uses (length t.scope) body hidden) ≡ length hidden)
+                → IfDone (cond c (done (record { body = body; hidden = hidden }) s2) (settled n looping (uses (length t.scope) body hidden) f p t s)) (Settles k f t s)
+            same true e = record { below = b; same = e refl; grew = m }
+            same false e = rest body

@@ -43,8 +43,10 @@ mutual
   fits k n target (var m) w = tt
   fits k n target (branch c a b) w = (fits k n None c w.0, fits k n target a w.1, fits k n target b w.2)
   fits k n target (bind bs body) w = (bindings_fit k n bs w.0, fits k (n + count_bindings bs) target body w.1)
-  fits k n target (loop [] bs body) w = (bindings_fit k n bs w.0,
-    subst (λ m. Fits (Suits k) (Some m) body) (omega arith) (fits k (n + count_bindings bs) (Some (count_bindings bs)) body w.1))
+  fits k n target (loop [] bs body) w = (
+    bindings_fit k n bs w.0,
+    subst (λ m. Fits (Suits k) (Some m) body) (omega arith) (fits k (n + count_bindings bs) (Some (count_bindings bs)) body w.1),
+  )
   fits k n target (loop (f ∷ fs) bs body) w = absurd w
   fits k n target (seq ts) w = in_order_fit k n target ts w
   fits k n target (frame body) w = absurd w
@@ -84,17 +86,22 @@ is_new n m (x ∷ ns) e g h = ⊎_elim (λ i. omega (arith, e, i, g.0)) (λ i. i
 pub below_behind : (k : Known) (n : ℕ) (bs : Bindings) (ns : List ℕ) → WellBindings k n bs → Below n ns → Below (n + count_bindings bs) (behind bs ns)
 below_behind k n empty ns w g = subst (λ m. Below m ns) (omega arith) g
 below_behind k n (binding m t bs) ns w g = subst (λ i. Below i (behind bs (m ∷ ns))) (omega arith)
-  (below_behind k (suc n) bs (m ∷ ns) w.2 (omega (arith, w.0), below_more n (suc n) ns (omega arith) g))
+    (below_behind k (suc n) bs (m ∷ ns) w.2 (omega (arith, w.0), below_more n (suc n) ns (omega arith) g))
 
 mutual
   pub anew : (k : Known) (n : ℕ) (target : Option ℕ) (t : Kernel) (ns : List ℕ) → Well k n target t → Below n ns → BindsAnew ns t
   anew k n target (const v) ns w g = tt
   anew k n target (var m) ns w g = tt
   anew k n target (branch c a b) ns w g = (anew k n None c ns w.0 g, anew k n target a ns w.1 g, anew k n target b ns w.2 g)
-  anew k n target (bind bs body) ns w g = (bindings_anew k n bs ns w.0 g,
-    anew k (n + count_bindings bs) target body (behind bs ns) w.1 (below_behind k n bs ns w.0 g))
-  anew k n target (loop [] bs body) ns w g = (tt, bindings_anew k n bs ns w.0 g,
-    anew k (n + count_bindings bs) (Some (count_bindings bs)) body (behind bs ns) w.1 (below_behind k n bs ns w.0 g))
+  anew k n target (bind bs body) ns w g = (
+    bindings_anew k n bs ns w.0 g,
+    anew k (n + count_bindings bs) target body (behind bs ns) w.1 (below_behind k n bs ns w.0 g),
+  )
+  anew k n target (loop [] bs body) ns w g = (
+    tt,
+    bindings_anew k n bs ns w.0 g,
+    anew k (n + count_bindings bs) (Some (count_bindings bs)) body (behind bs ns) w.1 (below_behind k n bs ns w.0 g),
+  )
   anew k n target (loop (f ∷ fs) bs body) ns w g = absurd w
   anew k n target (seq ts) ns w g = in_order_anew k n target ts ns w g
   anew k n target (frame body) ns w g = absurd w
@@ -112,8 +119,11 @@ mutual
 
   pub bindings_anew : (k : Known) (n : ℕ) (bs : Bindings) (ns : List ℕ) → WellBindings k n bs → Below n ns → BindingsAnew ns bs
   bindings_anew k n empty ns w g = tt
-  bindings_anew k n (binding m t bs) ns w g = (λ i. is_new n m ns w.0 g i, anew k n None t ns w.1 g,
-    bindings_anew k (suc n) bs (m ∷ ns) w.2 (omega (arith, w.0), below_more n (suc n) ns (omega arith) g))
+  bindings_anew k n (binding m t bs) ns w g = (
+    λ i. is_new n m ns w.0 g i,
+    anew k n None t ns w.1 g,
+    bindings_anew k (suc n) bs (m ∷ ns) w.2 (omega (arith, w.0), below_more n (suc n) ns (omega arith) g),
+  )
 
 -- each name below n in the term is one of us
 abbrev mutual
@@ -212,17 +222,20 @@ mutual
   pub uses_only : (n : ℕ) (t : Kernel) (seen : List ℕ) → Only n (uses n t seen) t
   uses_only n (const v) seen = tt
   uses_only n (var m) seen = λ l. noted_has n m seen l
-  uses_only n (branch c a b) seen =
-    (only_more n (uses n c seen) (uses n b (uses n a (uses n c seen)))
+  uses_only n (branch c a b) seen = (
+    only_more n (uses n c seen) (uses n b (uses n a (uses n c seen)))
         (λ x h. uses_keep n b (uses n a (uses n c seen)) x (uses_keep n a (uses n c seen) x h)) c (uses_only n c seen),
-     only_more n (uses n a (uses n c seen)) (uses n b (uses n a (uses n c seen))) (uses_keep n b (uses n a (uses n c seen))) a (uses_only n a (uses n c seen)),
-     uses_only n b (uses n a (uses n c seen)))
-  uses_only n (bind bs body) seen =
-    (only_more_bindings n (uses_bindings n bs seen) (uses n body (uses_bindings n bs seen)) (uses_keep n body (uses_bindings n bs seen)) bs (uses_bindings_only n bs seen),
-     uses_only n body (uses_bindings n bs seen))
-  uses_only n (loop fs bs body) seen =
-    (only_more_bindings n (uses_bindings n bs seen) (uses n body (uses_bindings n bs seen)) (uses_keep n body (uses_bindings n bs seen)) bs (uses_bindings_only n bs seen),
-     uses_only n body (uses_bindings n bs seen))
+    only_more n (uses n a (uses n c seen)) (uses n b (uses n a (uses n c seen))) (uses_keep n b (uses n a (uses n c seen))) a (uses_only n a (uses n c seen)),
+    uses_only n b (uses n a (uses n c seen)),
+  )
+  uses_only n (bind bs body) seen = (
+    only_more_bindings n (uses_bindings n bs seen) (uses n body (uses_bindings n bs seen)) (uses_keep n body (uses_bindings n bs seen)) bs (uses_bindings_only n bs seen),
+    uses_only n body (uses_bindings n bs seen),
+  )
+  uses_only n (loop fs bs body) seen = (
+    only_more_bindings n (uses_bindings n bs seen) (uses n body (uses_bindings n bs seen)) (uses_keep n body (uses_bindings n bs seen)) bs (uses_bindings_only n bs seen),
+    uses_only n body (uses_bindings n bs seen),
+  )
   uses_only n (seq ts) seen = uses_items_only n ts seen
   uses_only n (frame body) seen = tt
   uses_only n (turn names text now) seen = tt
@@ -231,12 +244,12 @@ mutual
   pub uses_items_only : (n : ℕ) (ts : Kernels) (seen : List ℕ) → OnlyTerms n (uses_items n ts seen) ts
   uses_items_only n none seen = tt
   uses_items_only n (item t ts) seen =
-    (only_more n (uses n t seen) (uses_items n ts (uses n t seen)) (uses_items_keep n ts (uses n t seen)) t (uses_only n t seen), uses_items_only n ts (uses n t seen))
+      (only_more n (uses n t seen) (uses_items n ts (uses n t seen)) (uses_items_keep n ts (uses n t seen)) t (uses_only n t seen), uses_items_only n ts (uses n t seen))
 
   pub uses_bindings_only : (n : ℕ) (bs : Bindings) (seen : List ℕ) → OnlyBindings n (uses_bindings n bs seen) bs
   uses_bindings_only n empty seen = tt
   uses_bindings_only n (binding m t bs) seen =
-    (only_more n (uses n t seen) (uses_bindings n bs (uses n t seen)) (uses_bindings_keep n bs (uses n t seen)) t (uses_only n t seen), uses_bindings_only n bs (uses n t seen))
+      (only_more n (uses n t seen) (uses_bindings n bs (uses n t seen)) (uses_bindings_keep n bs (uses n t seen)) t (uses_only n t seen), uses_bindings_only n bs (uses n t seen))
 
 -- what is used is below
 pub noted_below : (n m : ℕ) (seen : List ℕ) → Below n seen → Below n (noted n m seen)
@@ -274,22 +287,26 @@ pub covers_next : (base : ℕ) (us : List ℕ) (n m : ℕ) (ns : List ℕ) → m
 covers_next base us n m ns e c = (λ x h. inr (c.0 x h), λ x l u. ⊎_elim (λ b. inr (c.1 x l b)) (λ b. inl (omega (arith, e, u, b))) (cases_lt x n))
 
 pub covers_behind : (k : Known) (base : ℕ) (us : List ℕ) (n : ℕ) (bs : Bindings) (ns : List ℕ) → WellBindings k n bs → Covers base us n ns
-  → Covers base us (n + count_bindings bs) (behind bs ns)
+    → Covers base us (n + count_bindings bs) (behind bs ns)
 covers_behind k base us n empty ns w c = subst (λ m. Covers base us m ns) (omega arith) c
 covers_behind k base us n (binding m t bs) ns w c = subst (λ i. Covers base us i (behind bs (m ∷ ns))) (omega arith)
-  (covers_behind k base us (suc n) bs (m ∷ ns) w.2 (covers_next base us n m ns w.0 c))
+    (covers_behind k base us (suc n) bs (m ∷ ns) w.2 (covers_next base us n m ns w.0 c))
 
 -- each name is bound
 mutual
   pub closed : (k : Known) (base : ℕ) (us : List ℕ) (n : ℕ) (target : Option ℕ) (t : Kernel) (ns : List ℕ)
-    → Well k n target t → Only base us t → Covers base us n ns → IsClosed ns t
+      → Well k n target t → Only base us t → Covers base us n ns → IsClosed ns t
   closed k base us n target (const v) ns w o c = tt
   closed k base us n target (var m) ns w o c = ⊎_elim (λ l. c.0 m (o l)) (λ l. c.1 m l w) (cases_lt m base)
   closed k base us n target (branch t a b) ns w o c = (closed k base us n None t ns w.0 o.0 c, closed k base us n target a ns w.1 o.1 c, closed k base us n target b ns w.2 o.2 c)
-  closed k base us n target (bind bs body) ns w o c = (bindings_closed k base us n bs ns w.0 o.0 c,
-    closed k base us (n + count_bindings bs) target body (behind bs ns) w.1 o.1 (covers_behind k base us n bs ns w.0 c))
-  closed k base us n target (loop [] bs body) ns w o c = (bindings_closed k base us n bs ns w.0 o.0 c,
-    closed k base us (n + count_bindings bs) (Some (count_bindings bs)) body (behind bs ns) w.1 o.1 (covers_behind k base us n bs ns w.0 c))
+  closed k base us n target (bind bs body) ns w o c = (
+    bindings_closed k base us n bs ns w.0 o.0 c,
+    closed k base us (n + count_bindings bs) target body (behind bs ns) w.1 o.1 (covers_behind k base us n bs ns w.0 c),
+  )
+  closed k base us n target (loop [] bs body) ns w o c = (
+    bindings_closed k base us n bs ns w.0 o.0 c,
+    closed k base us (n + count_bindings bs) (Some (count_bindings bs)) body (behind bs ns) w.1 o.1 (covers_behind k base us n bs ns w.0 c),
+  )
   closed k base us n target (loop (f ∷ fs) bs body) ns w o c = absurd w
   closed k base us n target (seq ts) ns w o c = in_order_closed k base us n target ts ns w o c
   closed k base us n target (frame body) ns w o c = absurd w
@@ -297,21 +314,23 @@ mutual
   closed k base us n target (apply h ts p) ns w o c = terms_closed k base us n ts ns w.1 o c
 
   pub terms_closed : (k : Known) (base : ℕ) (us : List ℕ) (n : ℕ) (ts : Kernels) (ns : List ℕ)
-    → WellTerms k n ts → OnlyTerms base us ts → Covers base us n ns → AreClosed ns ts
+      → WellTerms k n ts → OnlyTerms base us ts → Covers base us n ns → AreClosed ns ts
   terms_closed k base us n none ns w o c = tt
   terms_closed k base us n (item t ts) ns w o c = (closed k base us n None t ns w.0 o.0 c, terms_closed k base us n ts ns w.1 o.1 c)
 
   pub in_order_closed : (k : Known) (base : ℕ) (us : List ℕ) (n : ℕ) (target : Option ℕ) (ts : Kernels) (ns : List ℕ)
-    → WellInOrder k n target ts → OnlyTerms base us ts → Covers base us n ns → AreClosed ns ts
+      → WellInOrder k n target ts → OnlyTerms base us ts → Covers base us n ns → AreClosed ns ts
   in_order_closed k base us n target none ns w o c = tt
   in_order_closed k base us n target (item t none) ns w o c = (closed k base us n target t ns w o.0 c, tt)
   in_order_closed k base us n target (item t (item u us2)) ns w o c = (closed k base us n None t ns w.0 o.0 c, in_order_closed k base us n target (item u us2) ns w.1 o.1 c)
 
   pub bindings_closed : (k : Known) (base : ℕ) (us : List ℕ) (n : ℕ) (bs : Bindings) (ns : List ℕ)
-    → WellBindings k n bs → OnlyBindings base us bs → Covers base us n ns → AreClosedBindings ns bs
+      → WellBindings k n bs → OnlyBindings base us bs → Covers base us n ns → AreClosedBindings ns bs
   bindings_closed k base us n empty ns w o c = tt
-  bindings_closed k base us n (binding m t bs) ns w o c = (closed k base us n None t ns w.1 o.0 c,
-    bindings_closed k base us (suc n) bs (m ∷ ns) w.2 o.1 (covers_next base us n m ns w.0 c))
+  bindings_closed k base us n (binding m t bs) ns w o c = (
+    closed k base us n None t ns w.1 o.0 c,
+    bindings_closed k base us (suc n) bs (m ∷ ns) w.2 o.1 (covers_next base us n m ns w.0 c),
+  )
 
 -- the test for plain terms says what it should, also where more functions are plain
 abbrev pub Implies : (ℕ → Bool) → (ℕ → Bool) → Type 0
@@ -336,35 +355,35 @@ mutual
   plain_term plain more f (const v) e = tt
   plain_term plain more f (var n) e = tt
   plain_term plain more f (branch c a b) e =
-    let x : ((is_plain plain c && is_plain plain a) ≡ true) × (is_plain plain b ≡ true) = and_parts (is_plain plain c && is_plain plain a) (is_plain plain b) e in
-    let y : (is_plain plain c ≡ true) × (is_plain plain a ≡ true) = and_parts (is_plain plain c) (is_plain plain a) x.0 in
-    (plain_term plain more f c y.0, plain_term plain more f a y.1, plain_term plain more f b x.1)
+      let x : ((is_plain plain c && is_plain plain a) ≡ true) × (is_plain plain b ≡ true) = and_parts (is_plain plain c && is_plain plain a) (is_plain plain b) e in
+      let y : (is_plain plain c ≡ true) × (is_plain plain a ≡ true) = and_parts (is_plain plain c) (is_plain plain a) x.0 in
+      (plain_term plain more f c y.0, plain_term plain more f a y.1, plain_term plain more f b x.1)
   plain_term plain more f (bind bs body) e =
-    let x : (are_plain_bindings plain bs ≡ true) × (is_plain plain body ≡ true) = and_parts (are_plain_bindings plain bs) (is_plain plain body) e in
-    (plain_bindings plain more f bs x.0, plain_term plain more f body x.1)
+      let x : (are_plain_bindings plain bs ≡ true) × (is_plain plain body ≡ true) = and_parts (are_plain_bindings plain bs) (is_plain plain body) e in
+      (plain_bindings plain more f bs x.0, plain_term plain more f body x.1)
   plain_term plain more f (loop fs bs body) e =
-    let x : (are_plain_bindings plain bs ≡ true) × (is_plain plain body ≡ true) = and_parts (are_plain_bindings plain bs) (is_plain plain body) e in
-    (plain_bindings plain more f bs x.0, plain_term plain more f body x.1)
+      let x : (are_plain_bindings plain bs ≡ true) × (is_plain plain body ≡ true) = and_parts (are_plain_bindings plain bs) (is_plain plain body) e in
+      (plain_bindings plain more f bs x.0, plain_term plain more f body x.1)
   plain_term plain more f (seq ts) e = plain_terms plain more f ts e
   plain_term plain more f (frame body) e = plain_term plain more f body e
   plain_term plain more f (turn names text now) e =
-    let x : (is_plain plain text ≡ true) × (is_plain plain now ≡ true) = and_parts (is_plain plain text) (is_plain plain now) e in
-    (plain_term plain more f text x.0, plain_term plain more f now x.1)
+      let x : (is_plain plain text ≡ true) × (is_plain plain now ≡ true) = and_parts (is_plain plain text) (is_plain plain now) e in
+      (plain_term plain more f text x.0, plain_term plain more f now x.1)
   plain_term plain more f (apply h ts p) e =
-    let x : (is_plain_head plain h ≡ true) × (are_plain plain ts ≡ true) = and_parts (is_plain_head plain h) (are_plain plain ts) e in
-    (plain_head plain more f h x.0, plain_terms plain more f ts x.1)
+      let x : (is_plain_head plain h ≡ true) × (are_plain plain ts ≡ true) = and_parts (is_plain_head plain h) (are_plain plain ts) e in
+      (plain_head plain more f h x.0, plain_terms plain more f ts x.1)
 
   pub plain_terms : (plain more : ℕ → Bool) → Implies plain more → (ts : Kernels) → are_plain plain ts ≡ true → ArePlain more ts
   plain_terms plain more f none e = tt
   plain_terms plain more f (item t ts) e =
-    let x : (is_plain plain t ≡ true) × (are_plain plain ts ≡ true) = and_parts (is_plain plain t) (are_plain plain ts) e in
-    (plain_term plain more f t x.0, plain_terms plain more f ts x.1)
+      let x : (is_plain plain t ≡ true) × (are_plain plain ts ≡ true) = and_parts (is_plain plain t) (are_plain plain ts) e in
+      (plain_term plain more f t x.0, plain_terms plain more f ts x.1)
 
   pub plain_bindings : (plain more : ℕ → Bool) → Implies plain more → (bs : Bindings) → are_plain_bindings plain bs ≡ true → ArePlainBindings more bs
   plain_bindings plain more f empty e = tt
   plain_bindings plain more f (binding n t bs) e =
-    let x : (is_plain plain t ≡ true) × (are_plain_bindings plain bs ≡ true) = and_parts (is_plain plain t) (are_plain_bindings plain bs) e in
-    (plain_term plain more f t x.0, plain_bindings plain more f bs x.1)
+      let x : (is_plain plain t ≡ true) × (are_plain_bindings plain bs ≡ true) = and_parts (is_plain plain t) (are_plain_bindings plain bs) e in
+      (plain_term plain more f t x.0, plain_bindings plain more f bs x.1)
 
 -- what a term uses comes behind what was seen
 abbrev pub Extends : List ℕ → List ℕ → Type 0
@@ -384,7 +403,7 @@ mutual
   uses_extends n (const v) seen = ([], sym (append-nil seen))
   uses_extends n (var m) seen = noted_extends n m seen
   uses_extends n (branch c a b) seen = extends_on seen (uses n a (uses n c seen)) (uses n b (uses n a (uses n c seen)))
-    (extends_on seen (uses n c seen) (uses n a (uses n c seen)) (uses_extends n c seen) (uses_extends n a (uses n c seen))) (uses_extends n b (uses n a (uses n c seen)))
+      (extends_on seen (uses n c seen) (uses n a (uses n c seen)) (uses_extends n c seen) (uses_extends n a (uses n c seen))) (uses_extends n b (uses n a (uses n c seen)))
   uses_extends n (bind bs body) seen = extends_on seen (uses_bindings n bs seen) (uses n body (uses_bindings n bs seen)) (uses_bindings_extend n bs seen) (uses_extends n body (uses_bindings n bs seen))
   uses_extends n (loop fs bs body) seen = extends_on seen (uses_bindings n bs seen) (uses n body (uses_bindings n bs seen)) (uses_bindings_extend n bs seen) (uses_extends n body (uses_bindings n bs seen))
   uses_extends n (seq ts) seen = uses_items_extend n ts seen

@@ -236,18 +236,18 @@ row_pub p ps = fail BadForm p
 abbrev pub placed : ℕ → ℕ → ℕ → Place → Kernel
 placed hp ht q p = bind
     (numbered q (made MakeKind.Unbuffered [] p ∷ made MakeKind.Unbuffered [] p ∷ made MakeKind.Mult (var q ∷ []) p
-      ∷ registered RegisterName.Place (var hp ∷ var ht ∷ var (q + 2) ∷ var q ∷ []) p ∷ []))
+    ∷ registered RegisterName.Place (var hp ∷ var ht ∷ var (q + 2) ∷ var q ∷ []) p ∷ []))
     (seq (kernels_of (
-      branch (built Equal (nth_of (q + 3) 0 p ∷ var (q + 2) ∷ []) p)
-        (started SystemTask.Mult (var (q + 2) ∷ var q ∷ var (q + 1) ∷ []) p) (const nil)
-      ∷ var (q + 3) ∷ [])))
+    branch (built Equal (nth_of (q + 3) 0 p ∷ var (q + 2) ∷ []) p)
+    (started SystemTask.Mult (var (q + 2) ∷ var q ∷ var (q + 1) ∷ []) p) (const nil)
+    ∷ var (q + 3) ∷ [])))
 
 -- (let [hp p ht t hc c hz z h <Register find hp ht> pair (if (nil? h) (placed ..) h)]
 --   <Register tap (nth pair 0) hc hz> nil)
 abbrev pub subscribing : List Meaning → Place → Meaning
 subscribing ms p = hiding ms
     (λ n. registered RegisterName.Find (var n ∷ var (n + 1) ∷ []) p
-      ∷ branch (built IsNil (var (n + 4) ∷ []) p) (placed n (n + 1) (n + 5) p) (var (n + 4)) ∷ [])
+    ∷ branch (built IsNil (var (n + 4) ∷ []) p) (placed n (n + 1) (n + 5) p) (var (n + 4)) ∷ [])
     (λ n. registered RegisterName.Tap (nth_of (n + 5) 0 p ∷ var (n + 2) ∷ var (n + 3) ∷ []) p ∷ const nil ∷ [])
 
 -- (sub p t c), (sub p t c z)
@@ -261,7 +261,7 @@ abbrev pub row_unsub : Place → List Part → Meaning
 row_unsub p (b ∷ t ∷ c ∷ []) = hiding (b.means ∷ t.means ∷ c.means ∷ [])
     (λ n. registered RegisterName.Find (var n ∷ var (n + 1) ∷ []) p ∷ [])
     (λ n. branch (built IsSome (var (n + 3) ∷ []) p) (registered RegisterName.Untap (nth_of (n + 3) 0 p ∷ var (n + 2) ∷ []) p) (const nil)
-      ∷ const nil ∷ [])
+    ∷ const nil ∷ [])
 row_unsub p ps = fail BadForm p
 
 -- (unsub-all p), (unsub-all p t)
@@ -306,7 +306,7 @@ transform_named k = None
 abbrev pub repeated : ℕ → ℕ → Kernel → Place → Kernel
 repeated n i job p = loop [] (binding i (whole 0) empty) (seq (kernels_of (
     branch (built Less (var i ∷ var n ∷ []) p) (seq (kernels_of (
-      job ∷ apply Recur (kernels_of (built Inc (var i ∷ []) p ∷ [])) p ∷ []))) (const nil) ∷ [])))
+    job ∷ apply Recur (kernels_of (built Inc (var i ∷ []) p ∷ [])) p ∷ []))) (const nil) ∷ [])))
 
 -- (let [n (worker-count n) t t f f z z j <Make chan fixed n> q <Make chan fixed n> r <Make chan fixed 1>]
 --   n times <Spawn job j xf>, <Spawn feed f j q> <Spawn collect q t z r> r)
@@ -314,9 +314,9 @@ abbrev pub pipelining : Transform → PlainFunction → List Kernel → List Mea
 pipelining xf g ks ms p = hiding ms
     (λ n. made MakeKind.Fixed (var n ∷ []) p ∷ made MakeKind.Fixed (var n ∷ []) p ∷ made MakeKind.Fixed (whole 1 ∷ []) p ∷ [])
     (λ n. repeated n (n + 7) (started (SystemTask.Job xf g) (var (n + 4) ∷ ks) p) p
-      ∷ started SystemTask.Feed (var (n + 2) ∷ var (n + 4) ∷ var (n + 5) ∷ []) p
-      ∷ started SystemTask.Collect (var (n + 5) ∷ var (n + 1) ∷ var (n + 3) ∷ var (n + 6) ∷ []) p
-      ∷ var (n + 6) ∷ [])
+    ∷ started SystemTask.Feed (var (n + 2) ∷ var (n + 4) ∷ var (n + 5) ∷ []) p
+    ∷ started SystemTask.Collect (var (n + 5) ∷ var (n + 1) ∷ var (n + 3) ∷ var (n + 6) ∷ []) p
+    ∷ var (n + 6) ∷ [])
 
 abbrev pub workers : Meaning → Place → Meaning
 workers n p = operation (Builtin WorkerCount) (n ∷ []) p

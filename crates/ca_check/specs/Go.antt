@@ -39,4 +39,4 @@ abbrev pub go : Meaning → Place → Meaning
 go body p env s = after (task body (size env) p (in_task env) (record s { bodies = s.bodies ++ unmade ∷ [] })) (λ t s2.
     let captured : List ℕ = uses (size env) t [] in
     done (spawned (length s.bodies) (size env) captured p)
-        (record s2 { bodies = slice_set s2.bodies (length s.bodies) (record { parameters = captured ++ size env ∷ []; body = t }) }))
+    (record s2 { bodies = slice_set s2.bodies (length s.bodies) (record { parameters = captured ++ size env ∷ []; body = t }) }))

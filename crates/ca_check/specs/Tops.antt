@@ -191,7 +191,8 @@ abbrev pub with_function : Written → List ℕ → Kernel → Tops → Tops
 with_function f hidden body t = record t {
   functions = t.functions ++ signature f hidden (is_empty hidden && is_plain (plain_with (length t.functions) t.functions) body) ∷ [];
   procedures = t.procedures ++ record { parameters = hidden ++ numbers (length t.scope) (names_of f.parameters); body = body } ∷ [];
-  defined = suc t.defined }
+  defined = suc t.defined;
+}
 
 -- the body of a function, and its hidden parameters: the numbers of the `def` names that it uses, its calls included
 pub record Settled : Type 0 where
@@ -199,20 +200,20 @@ pub record Settled : Type 0 where
   pub hidden : List ℕ
 
 -- The body is walked, its calls of itself passing the names that it uses, until no further name comes up. There are
--- at most 64 of them, so this takes fewer than 66 walks; it takes one or two, since a call of itself brings no
--- new names.
+-- at most 64 of them, and each walk but the last adds one, so 66 walks are enough. (A call of itself brings no new
+-- name, so one is; nothing hangs on that.)
 abbrev pub settled : ℕ → Bool → List ℕ → Written → Place → Tops → Gathered → Outcome Settled
 settled zero looping hidden f p t s = refused TooMany p
 settled (suc n) looping hidden f p t s = after (body_of looping f p (function_env (signature f hidden false) t) s) (λ body s2.
-  let used : List ℕ = uses (length t.scope) body hidden in
-  cond (nat_lt 64 (length used)) (refused TooMany p)
+    let used : List ℕ = uses (length t.scope) body hidden in
+    cond (nat_lt 64 (length used)) (refused TooMany p)
     (cond (nat_eq (length used) (length hidden)) (done (record { body = body; hidden = hidden }) s2) (settled n looping used f p t s)))
 
 -- A first walk meets each error, and tells which `def` names the body uses and whether a `recur` aims at the
 -- function; a body in which a term was too deep is told by the mark. A body is at most 60 deep.
 abbrev pub add_function : Written → Place → Tops → Gathered → Outcome Tops
 add_function f p t s = after (judged_body f (straight (Some (length f.parameters)) f p) (function_env (signature f [] false) t) s) (λ first s1.
-  cond s1.deep (refused TooMany p) (after (settled 66 (aims_out first) (uses (length t.scope) first []) f p t s) (λ r s2.
+    cond s1.deep (refused TooMany p) (after (settled 66 (aims_out first) (uses (length t.scope) first []) f p t s) (λ r s2.
     cond (nat_lt 60 (depth_of r.body)) (refused TooMany p) (done (with_function f r.hidden r.body t) s2))))
 
 -- nothing at the top-level form at p was too deep
@@ -230,7 +231,7 @@ bound_before n t o = after o (λ r s. done (record r { bindings = binding n t r.
 -- The form's value gets the name x. The term stands in the main text's Let, so it is at most 399 deep.
 abbrev pub bound_top : List ℕ → Meaning → ℕ → Place → (Tops → Gathered → Outcome Ended) → Tops → Gathered → Outcome Ended
 bound_top x m defined p rest t s = after (m (main_env t) s) (λ u s2.
-  cond (s2.deep || nat_lt 399 (depth_of u)) (refused TooMany p)
+    cond (s2.deep || nat_lt 399 (depth_of u)) (refused TooMany p)
     (bound_before (length t.scope) u (rest (record t { scope = t.scope ++ x ∷ []; defined = t.defined + defined }) s2)))
 
 -- at most 16 parameters
@@ -239,7 +240,7 @@ one_top wrong p rest t s = refused BadForm p
 one_top (definition x m) p rest t s = cond (is_taken x t) (refused Redefined p) (bound_top x m 1 p rest t s)
 one_top (expression m) p rest t s = bound_top [] m 0 p rest t s
 one_top (function f) p rest t s = cond (is_taken f.name t) (refused Redefined p)
-  (cond (nat_lt 16 (length f.parameters)) (refused TooMany p)
+    (cond (nat_lt 16 (length f.parameters)) (refused TooMany p)
     (after (add_function f p t s) (λ t2 s2. after (shallow p t2 s2) rest)))
 
 -- The form is past a count: the 4,097th at top level, the 1,025th `def` or `defn`, or a list of more than 4,096

@@ -223,7 +223,7 @@ loop_over_pattern_program = value (with_names ((0, whole 1) ∷ (1, built 1 Buil
 abbrev pub counted_loop_program : ProgramView
 counted_loop_program = value (with_names ((0, whole 3) ∷ []) (looping ((1, whole 0) ∷ [])
     (branch (built 1 BuiltinName.Less (var 1 ∷ var 0 ∷ []))
-      (seq (kernels_of (var 1 ∷ on 1 Recur (built 1 BuiltinName.Inc (var 1 ∷ []) ∷ []) ∷ []))) (const nil) ∷ []) ∷ []))
+    (seq (kernels_of (var 1 ∷ on 1 Recur (built 1 BuiltinName.Inc (var 1 ∷ []) ∷ []) ∷ []))) (const nil) ∷ []) ∷ []))
 
 -- the default is evaluated before the priority
 abbrev pub choice_with_options_program : ProgramView
@@ -233,24 +233,27 @@ choice_with_options_program = value (on 1 (Alts AltsOptions.DefaultThenPriority)
 abbrev pub subscription_program : ProgramView
 subscription_program = value (with_names
     ((0, whole 1) ∷ (1, whole 2) ∷ (2, whole 3) ∷ (3, const (bool true))
-      ∷ (4, on 1 (Register RegisterName.Find) (var 0 ∷ var 1 ∷ []))
-      ∷ (5, branch (built 1 BuiltinName.IsNil (var 4 ∷ []))
+    ∷ (4, on 1 (Register RegisterName.Find) (var 0 ∷ var 1 ∷ []))
+    ∷ (
+      5,
+      branch (built 1 BuiltinName.IsNil (var 4 ∷ []))
           (with_names
-            ((5, on 1 (Make MakeKind.Unbuffered) []) ∷ (6, on 1 (Make MakeKind.Unbuffered) []) ∷ (7, on 1 (Make MakeKind.Mult) (var 5 ∷ []))
-              ∷ (8, on 1 (Register RegisterName.Place) (var 0 ∷ var 1 ∷ var 7 ∷ var 5 ∷ [])) ∷ [])
-            (branch (built 1 BuiltinName.Equal (built 1 BuiltinName.Nth (var 8 ∷ whole 0 ∷ []) ∷ var 7 ∷ []))
-                (started 1 SystemTask.Mult (var 7 ∷ var 5 ∷ var 6 ∷ [])) (const nil) ∷ var 8 ∷ []))
-          (var 4)) ∷ [])
+          ((5, on 1 (Make MakeKind.Unbuffered) []) ∷ (6, on 1 (Make MakeKind.Unbuffered) []) ∷ (7, on 1 (Make MakeKind.Mult) (var 5 ∷ []))
+          ∷ (8, on 1 (Register RegisterName.Place) (var 0 ∷ var 1 ∷ var 7 ∷ var 5 ∷ [])) ∷ [])
+          (branch (built 1 BuiltinName.Equal (built 1 BuiltinName.Nth (var 8 ∷ whole 0 ∷ []) ∷ var 7 ∷ []))
+          (started 1 SystemTask.Mult (var 7 ∷ var 5 ∷ var 6 ∷ [])) (const nil) ∷ var 8 ∷ []))
+          (var 4),
+    ) ∷ [])
     (on 1 (Register RegisterName.Tap) (built 1 BuiltinName.Nth (var 5 ∷ whole 0 ∷ []) ∷ var 2 ∷ var 3 ∷ []) ∷ const nil ∷ []))
 
 -- the names are n, t, f, z, j, q and r; a loop counts by number 7; the keyword is the last operand of each job
 abbrev pub pipeline_by_keyword_program : ProgramView
 pipeline_by_keyword_program = value (with_names
     ((0, built 1 BuiltinName.WorkerCount (whole 1 ∷ [])) ∷ (1, whole 2) ∷ (2, whole 3) ∷ (3, const (bool true))
-      ∷ (4, on 1 (Make MakeKind.Fixed) (var 0 ∷ [])) ∷ (5, on 1 (Make MakeKind.Fixed) (var 0 ∷ [])) ∷ (6, on 1 (Make MakeKind.Fixed) (whole 1 ∷ [])) ∷ [])
+    ∷ (4, on 1 (Make MakeKind.Fixed) (var 0 ∷ [])) ∷ (5, on 1 (Make MakeKind.Fixed) (var 0 ∷ [])) ∷ (6, on 1 (Make MakeKind.Fixed) (whole 1 ∷ [])) ∷ [])
     (looping ((7, whole 0) ∷ []) (branch (built 1 BuiltinName.Less (var 7 ∷ var 0 ∷ []))
-        (seq (kernels_of (started 1 (SystemTask.Job Transform.Map PlainFunction.Keyword) (var 4 ∷ const (key (codes "k")) ∷ [])
-          ∷ on 1 Recur (built 1 BuiltinName.Inc (var 7 ∷ []) ∷ []) ∷ []))) (const nil) ∷ [])
-      ∷ started 1 SystemTask.Feed (var 2 ∷ var 4 ∷ var 5 ∷ [])
-      ∷ started 1 SystemTask.Collect (var 5 ∷ var 1 ∷ var 3 ∷ var 6 ∷ [])
-      ∷ var 6 ∷ []))
+    (seq (kernels_of (started 1 (SystemTask.Job Transform.Map PlainFunction.Keyword) (var 4 ∷ const (key (codes "k")) ∷ [])
+    ∷ on 1 Recur (built 1 BuiltinName.Inc (var 7 ∷ []) ∷ []) ∷ []))) (const nil) ∷ [])
+    ∷ started 1 SystemTask.Feed (var 2 ∷ var 4 ∷ var 5 ∷ [])
+    ∷ started 1 SystemTask.Collect (var 5 ∷ var 1 ∷ var 3 ∷ var 6 ∷ [])
+    ∷ var 6 ∷ []))
