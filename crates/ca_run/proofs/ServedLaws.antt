@@ -128,9 +128,12 @@ pub rest_keeps : (program : ProgramView) (S : Option ℕ → Head → ℕ → Ty
 rest_keeps program S judges b c here h = h
 rest_keeps program S judges b c (after l s) h = rest_keeps program S judges _ c s (stepped program S judges b.term h)
 
-pub body_of_program : (program : ProgramView) (plain : ℕ → Bool) (t : Kernel) → IsBodyBy (ServedBy (known_in plain program)) t → IsBodyOf program t
-body_of_program program plain t b =
-    (plain, record { bound = b.bound; fits = fits-gentler (ServedBy (known_in plain program)) (Suits (known_in plain program)) (λ target h k s. s.0) None t b.fits })
+pub body_of_program : (program : ProgramView) (checked : IsProgram program) (plain : ℕ → Bool) (t : Kernel) → IsBodyBy (ServedBy (known_in plain program)) t → IsBodyOf program t
+body_of_program program checked plain t b = record {
+  checked = checked;
+  plain = plain;
+  suits = record { bound = b.bound; fits = fits-gentler (ServedBy (known_in plain program)) (Suits (known_in plain program)) (λ target h k s. s.0) None t b.fits };
+}
 
 -- an operation at which a served redex stands is a print
 asks : (p : Place) (f : Option Fault) (op : OpView) (w : WantView) → asking p f op ≡ at_op w → op ≡ w.op

@@ -1,5 +1,5 @@
 use Rattle.std.proofs.Common.{◌≡◌, ◌≢◌, ◌<◌, ◌-◌, ℕ, Bool}
-use Rattle.ca_term.specs.Program.{program_view, known_in}
+use Rattle.ca_term.specs.Program.{program_view, known_in, IsProgram}
 use Rattle.ca_meaning.specs.Body.{at, local}
 use Rattle.ca_meaning.specs.BodyViews.{body_view}
 use Rattle.ca_meaning.specs.IsBody.{IsBodyBy}
@@ -13,6 +13,7 @@ abbrev pub invariant-loop-alloc : goal.invariant-loop-alloc
 invariant-loop-alloc l = record {
   runs : Runs (program_view l.program) (events l.journal) (body_view l.body);
   rested : at (body_view l.body) ≢ local;
+  checked : IsProgram (program_view l.program);
   plain : ℕ → Bool;
   all : AllServed (program_view l.program) plain;
   served : IsBodyBy (ServedBy (known_in plain (program_view l.program))) (body_view l.body).term;

@@ -1,0 +1,9 @@
+mod Checked
+mod Grew
+mod Sound
+mod SoundChannels
+mod SoundNames
+mod SoundPlain
+mod SoundTops
+mod SoundWalk
+mod Well

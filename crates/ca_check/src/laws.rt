@@ -1,0 +1,46 @@
+ghost use Rattle.std.specs.Prelude.{◌≡◌, Ok, Err, All};
+ghost use Rattle.ca_term.specs.Program.{ProgramView, IsProgram};
+ghost use Rattle.ca_reader.specs.Form.{FormTrees};
+ghost use Rattle.ca_check.specs.declared.error.CheckErrorKind.TheVariants.{UnknownName, Redefined, BadArity, BadForm, RecurNotTail, ParkOutsideGo, BlockOutsideMain, NotPlain, TooMany};
+ghost use Rattle.ca_check.specs.Expansion.{expansion_of};
+ghost use Rattle.ca_check.specs.Uses.{IsGoBody};
+ghost use Rattle.ca_check.specs.Worked as worked;
+
+/// The program of an accepted script is a checked one: every name in it is bound, once on each path; each
+/// `recur` stands in tail position and has its arity; every function, builtin and go body that it names is
+/// there and takes so many values; what a system task applies is plain.
+pub fn programs_are_checked()
+    ensures { (forms : FormTrees) (program : ProgramView) → expansion_of forms ≡ Ok program → IsProgram program }
+{}
+
+/// A go body takes exactly the names that it uses from outside, in order of first use, and its result port.
+pub fn captures_are_the_names_used()
+    ensures { (forms : FormTrees) (program : ProgramView) → expansion_of forms ≡ Ok program → All IsGoBody program.bodies }
+{}
+
+/// Scripts whose expansion can be read beside the table of forms. The first ones are refused.
+pub fn worked_expansions()
+    ensures unknown_name { expansion_of worked.unknown_name ≡ Err (UnknownName, worked.at 10) }
+    ensures wrong_first_part { expansion_of worked.wrong_first_part ≡ Err (BadArity, worked.at 5) }
+    ensures wrong_form_with_wrong_part { expansion_of worked.wrong_form_with_wrong_part ≡ Err (BadForm, worked.at 1) }
+    ensures recur_before_another { expansion_of worked.recur_before_another ≡ Err (RecurNotTail, worked.at 14) }
+    ensures take_outside_go { expansion_of worked.take_outside_go ≡ Err (ParkOutsideGo, worked.at 1) }
+    ensures blocking_take_in_go { expansion_of worked.blocking_take_in_go ≡ Err (BlockOutsideMain, worked.at 5) }
+    ensures no_argument { expansion_of worked.no_argument ≡ Err (BadArity, worked.at 1) }
+    ensures builtin_defined { expansion_of worked.builtin_defined ≡ Err (Redefined, worked.at 1) }
+    ensures definition_inside { expansion_of worked.definition_inside ≡ Err (BadForm, worked.at 5) }
+    ensures operation_given { expansion_of worked.operation_given ≡ Err (NotPlain, worked.at 8) }
+    ensures unknown_source_and_function { expansion_of worked.unknown_source_and_function ≡ Err (UnknownName, worked.at 6) }
+    ensures seventeen_parameters { expansion_of worked.seventeen_parameters ≡ Err (TooMany, worked.at 1) }
+    ensures hidden_parameter { expansion_of worked.hidden_parameter ≡ Ok worked.hidden_parameter_program }
+    ensures recur_to_function { expansion_of worked.recur_to_function ≡ Ok worked.recur_to_function_program }
+    ensures captures { expansion_of worked.captures ≡ Ok worked.captures_program }
+    ensures go_blocks { expansion_of worked.go_blocks ≡ Ok worked.go_blocks_program }
+    ensures conjunction { expansion_of worked.conjunction ≡ Ok worked.conjunction_program }
+    ensures pattern { expansion_of worked.pattern ≡ Ok worked.pattern_program }
+    ensures loop_over_pattern { expansion_of worked.loop_over_pattern ≡ Ok worked.loop_over_pattern_program }
+    ensures counted_loop { expansion_of worked.counted_loop ≡ Ok worked.counted_loop_program }
+    ensures choice_with_options { expansion_of worked.choice_with_options ≡ Ok worked.choice_with_options_program }
+    ensures subscription { expansion_of worked.subscription ≡ Ok worked.subscription_program }
+    ensures pipeline_by_keyword { expansion_of worked.pipeline_by_keyword ≡ Ok worked.pipeline_by_keyword_program }
+{}
