@@ -1,6 +1,7 @@
-ghost use Rattle.std.specs.Prelude.{◌≡◌};
+ghost use Rattle.std.specs.Prelude.{◌≡◌, slice_get, option_map};
+ghost use Rattle.ca_value.specs.Seq.{list};
 ghost use Rattle.ca_term.specs.View.{kernel};
-ghost use Rattle.ca_term.specs.Program.{IsBound, ProgramParts, program_view};
+ghost use Rattle.ca_term.specs.Program.{IsProgram, ProgramParts, program_view, procedure_view};
 
 use crate::term::Term;
 use ca_value::seq::Seq;
@@ -14,8 +15,10 @@ pub struct Procedure {
     pub body: Term,
 }
 
-/// A checked script: its functions and its go bodies, each by number, and its main text. Every name
-/// in it is bound.
+/// A checked script: its functions and its go bodies, each by number, and its main text. Every name in it
+/// is bound, once on each path; every `recur` stands in tail position of its loop and has its arity; every
+/// function, builtin and go body that it names is there and takes so many values; a function that a system
+/// task applies has no operation.
 #[derive(Drop)]
 pub struct Program {
     functions: Seq<Procedure>,
@@ -26,7 +29,7 @@ pub struct Program {
 impl Model for Program {
     ghost use Rattle.ca_term.specs.contracts.term.Term as term_row;
     ghost use Rattle.std.specs.Coded.{codes};
-    ghost use Rattle.ca_term.specs.Program.{IsBound, ProgramParts, program_view};
+    ghost use Rattle.ca_term.specs.Program.{IsProgram, ProgramParts, program_view};
 
     ghost Value = { ProgramParts };
 
@@ -34,13 +37,13 @@ impl Model for Program {
 
     ghost view = { λ p. record { functions = p.functions; bodies = p.bodies; main = p.main } };
 
-    ghost invariant = { λ p. IsBound (program_view (record { functions = p.functions; bodies = p.bodies; main = p.main })) };
+    ghost invariant = { λ p. IsProgram (program_view (record { functions = p.functions; bodies = p.bodies; main = p.main })) };
 }
 
 impl Program {
     /// The program of these texts.
     pub fn of(functions: Seq<Procedure>, bodies: Seq<Procedure>, main: Term) -> Program
-        requires { IsBound (program_view (record { functions = functions; bodies = bodies; main = main })) }
+        requires { IsProgram (program_view (record { functions = functions; bodies = bodies; main = main })) }
         ensures { result ≡ record { functions = functions; bodies = bodies; main = main } }
     {
         Program {
@@ -53,8 +56,22 @@ impl Program {
     /// The main text.
     pub fn main(&self) -> &Term
         ensures text { kernel result.now ≡ (program_view self.now).main }
-        ensures bound { IsBound (program_view self.now) }
+        ensures checked { IsProgram (program_view self.now) }
     {
         &self.main
+    }
+
+    /// The function of that number; None exactly past the last.
+    pub fn function(&self, number: u64) -> Option<&Procedure>
+        ensures { option_map (λ t. procedure_view t.now) result ≡ slice_get (program_view self.now).functions number }
+    {
+        self.functions.get(number)
+    }
+
+    /// The go body of that number; None exactly past the last.
+    pub fn body(&self, number: u64) -> Option<&Procedure>
+        ensures { option_map (λ t. procedure_view t.now) result ≡ slice_get (program_view self.now).bodies number }
+    {
+        self.bodies.get(number)
     }
 }
