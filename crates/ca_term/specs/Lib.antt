@@ -5,3 +5,6 @@ pub mod Fits
 pub mod Program
 pub mod Operation
 pub mod Event
+pub mod Operands
+pub mod Asking
+pub mod Turns
