@@ -1,7 +1,7 @@
 -- Maps as lists of pairs: what holds where a key is, and where it is not.
-use Rattle.std.proofs.Common.{◌≡◌, ℕ, ◌<◌, Bool, true, false, List, [], ◌∷◌, ◌++◌, length, Option, Some, None, refl, sym, ap, ◌∙◌, arith, add-one}
-use Rattle.std.specs.Prelude.{slice_get, slice_set, slice_index_or, remove, option_map, is_some, MatchOption}
-use Rattle.std.proofs.lemmas.Option.{MatchOption-at_some, MatchOption-at_none, slice_get-get_or}
+use Rattle.std.proofs.Common.{◌≡◌, ℕ, ◌<◌, Bool, true, false, List, [], ◌∷◌, ◌++◌, length, Option, Some, None, refl, ap, arith, add-one}
+use Rattle.std.specs.Prelude.{slice_get, slice_set, slice_index_or, remove, option_map, MatchOption}
+use Rattle.std.proofs.lemmas.Option.{MatchOption-at_some, MatchOption-at_none}
 use Rattle.ca_value.specs.Tree.{Tree, nil, pairs_of}
 use Rattle.ca_value.specs.Equality.{equals, has_key}
 use Rattle.ca_value.specs.Maps.{place_of, value_at, put, without}
@@ -38,14 +38,3 @@ at_place ps k i e = MatchOption-at_some (IsAbsent ps k) (IsAtPlace ps k) i e (pl
 
 pub absent : (ps : List (Tree × Tree)) (k : Tree) → place_of ps k ≡ None → IsAbsent ps k
 absent ps k e = MatchOption-at_none (IsAbsent ps k) (IsAtPlace ps k) e (placed ps k)
-
--- a key has a value exactly where it has a place
-same_presence : (ps : List (Tree × Tree)) (k : Tree) (o : Option ℕ) → place_of ps k ≡ o → is_some o ≡ is_some (value_at ps k)
-same_presence ps k None e = ap is_some (sym (absent ps k e).missing)
-same_presence ps k (Some i) e =
-    let at = at_place ps k i e in
-    let there : slice_get ps i ≡ Some (slice_index_or ps i (nil, nil)) = slice_get-get_or ps i (nil, nil) at.within in
-    ap is_some (sym (at.found ∙ ap (option_map (λ (p : Tree × Tree). p.1)) there))
-
-pub place_is_some : (ps : List (Tree × Tree)) (k : Tree) → is_some (place_of ps k) ≡ is_some (value_at ps k)
-place_is_some ps k = same_presence ps k (place_of ps k) refl

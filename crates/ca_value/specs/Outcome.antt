@@ -73,3 +73,8 @@ vector_outcome (Err f) = Err f
 abbrev pub IsFault : ApplyError → Outcome → Type 0
 IsFault (ApplyError.Fault f) o = o ≡ Err f
 IsFault ApplyError.OutOfMemory o = Unit {0}
+
+-- a call gives exactly the outcome; want of memory says nothing
+abbrev pub Gives : Result Value ApplyError → Outcome → Type 0
+Gives (Ok v) o = o ≡ Ok (view v)
+Gives (Err e) o = IsFault e o

@@ -15,7 +15,7 @@ abbrev pub vector_trees : SharedItems → List Tree
 vector_trees s = arc_value s.spine
 
 abbrev pub map_pairs : SharedPairs → List (Tree × Tree)
-map_pairs s = arc_value s.spine
+map_pairs s = arc_value s.table
 
 abbrev pub view : Value → Tree
 view Nil = nil

@@ -1,10 +1,11 @@
 ghost use Rattle.std.specs.Prelude.{◌≡◌, IfOk};
 ghost use Rattle.ca_value.specs.Seq.{list};
-ghost use Rattle.ca_value.specs.View.{view, pair_view};
+ghost use Rattle.ca_value.specs.Pairs.{pairs_list};
+ghost use Rattle.ca_value.specs.View.{view, views, pair_view, pair_views};
 
 use crate::memory::OutOfMemory;
 use crate::seq::{Seq, Text};
-use crate::value::{Pair, Value};
+use crate::value::{Items, Pair, Pairs, Value};
 use std::alloc::Global;
 use std::sync::Arc;
 
@@ -45,4 +46,28 @@ impl Pair {
             value: self.value.copy(alloc)?,
         })
     }
+}
+
+/// Copies of the values.
+pub(crate) fn copies(alloc: Global, values: &[Value]) -> Result<Items, OutOfMemory>
+    ensures { IfOk result (λ s. views (list s) ≡ views values.now) }
+{
+    let mut copies = Seq::new(alloc);
+    copies.reserve(values.len() as u64)?;
+    for value in values {
+        copies.push(value.copy(alloc)?);
+    }
+    Ok(copies)
+}
+
+/// Copies of the pairs.
+pub(crate) fn pair_copies(alloc: Global, pairs: &[Pair]) -> Result<Pairs, OutOfMemory>
+    ensures { IfOk result (λ s. pair_views (pairs_list s) ≡ pair_views pairs.now) }
+{
+    let mut copies = Seq::new(alloc);
+    copies.reserve(pairs.len() as u64)?;
+    for pair in pairs {
+        copies.push(pair.copy(alloc)?);
+    }
+    Ok(Pairs::of(copies))
 }

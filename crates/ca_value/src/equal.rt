@@ -27,6 +27,20 @@ impl Value {
     }
 }
 
+impl Value {
+    /// The same as `equal`, with integers and keywords compared where it is called.
+    #[inline(always)]
+    pub(crate) fn is_same(&self, other: &Value) -> bool
+        ensures { result ≡ equals (view self.now) (view other.now) }
+    {
+        match (self, other) {
+            (Value::Int(a), Value::Int(b)) => *a == *b,
+            (Value::Key(a), Value::Key(b)) => a.as_slice() == b.as_slice(),
+            _ => self.equal(other),
+        }
+    }
+}
+
 impl Seq<Value> {
     /// Whether the items are equal, one by one.
     #[cycle(equal)]
@@ -101,7 +115,7 @@ impl Map {
     fn equal(&self, other: &Map) -> bool
         ensures { result ≡ equals (map (pairs_of (map_pairs self.now))) (map (pairs_of (map_pairs other.now))) }
     {
-        let (one, two): (&Table, &Table) = (&self.spine, &other.spine);
+        let (one, two): (&Table, &Table) = (&self.table, &other.table);
         one.pairs.equal(&two.pairs)
     }
 }

@@ -13,11 +13,10 @@ pub mod builtin;
 pub mod copy;
 pub mod equal;
 pub mod fault;
+pub mod map;
 pub mod measure;
 pub mod memory;
 pub mod print;
 pub mod seq;
-pub mod shared;
-#[cfg(test)]
-mod tests;
 pub mod value;
+pub mod vector;

@@ -1,7 +1,7 @@
-ghost use Rattle.std.specs.Prelude.{◌≡◌, ◌-◌, ◌^◌, ◌<◌, ◌≤◌, SomeIff, nat_le};
+ghost use Rattle.std.specs.Prelude.{◌≡◌, ℕ, ◌+◌, ◌-◌, ◌^◌, ◌<◌, ◌≤◌, IfSome, SomeIff, nat_le};
 ghost use Rattle.ca_value.specs.View.{view};
 ghost use Rattle.ca_value.specs.Measure.{weight_of, depth_of};
-ghost use Rattle.ca_value.specs.Measured.{capped};
+ghost use Rattle.ca_value.specs.Measured.{capped, IsDepthAfter};
 
 use crate::value::Value;
 
@@ -70,4 +70,29 @@ impl Value {
             _ => true,
         }
     }
+}
+
+/// The weight of a list that weighed so much before a part of it gave way to another; None where only a
+/// count tells.
+pub(crate) fn weight_after(before: u64, old: u64, new: u64) -> Option<u64>
+    ensures { (w o n e : ℕ) → before ≡ capped w → old ≡ capped o → new ≡ capped n → o ≤ w → e + o ≡ w + n → IfSome result (λ r. r ≡ capped e) }
+{
+    if before == u64::MAX {
+        return None;
+    }
+    Some(before.saturating_sub(old).saturating_add(new))
+}
+
+/// The depth of a list that was so deep before a part of it gave way to another; None where the deepest
+/// may have gone.
+pub(crate) fn depth_after(before: u64, old: u64, new: u64) -> Option<u64>
+    ensures { (d o n e : ℕ) → before ≡ capped d → old ≡ capped o → new ≡ capped n → IsDepthAfter d o n e → IfSome result (λ r. r ≡ capped e) }
+{
+    if old <= new {
+        return Some(before.max(new));
+    }
+    if old < before {
+        return Some(before.max(new));
+    }
+    None
 }

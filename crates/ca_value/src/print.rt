@@ -102,7 +102,7 @@ impl Map {
     fn append_pairs(&self, style: Style, into: &mut Text) -> Result<(), OutOfMemory>
         ensures { OnOk result (list into.new ≡ list into.old ++ printed_pairs style (pairs_of (map_pairs self.now))) }
     {
-        let table: &Table = &self.spine;
+        let table: &Table = &self.table;
         table.pairs.append_pairs(style, into)
     }
 }

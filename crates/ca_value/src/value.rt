@@ -1,8 +1,8 @@
-ghost use Rattle.std.specs.Prelude.{◌≡◌, ◌+◌, ◌<◌, ◌≤◌, [], ◌∷◌, ◌++◌, false, length, OnOk, IfSome, None, slice_get, slice_set, slice_index_or, remove, option_map};
+ghost use Rattle.std.specs.Prelude.{◌≡◌, ◌+◌, ◌<◌, ◌≤◌, [], ◌∷◌, ◌++◌, false, length, OnOk, IfOk, IfSome, None, slice_get, slice_set, slice_index_or, remove, option_map};
 ghost use Rattle.ca_value.specs.Seq.{list};
 ghost use Rattle.ca_value.specs.Pairs.{pairs_list, pairs_spare};
-ghost use Rattle.ca_value.specs.Tree.{nil};
-ghost use Rattle.ca_value.specs.View.{view, pair_view, pair_views, pairs_view};
+ghost use Rattle.ca_value.specs.Tree.{nil, text, key as keyword, vector, map, trees_of, pairs_of};
+ghost use Rattle.ca_value.specs.View.{view, views, pair_view, pair_views, pairs_view};
 ghost use Rattle.ca_value.specs.Equality.{has_key};
 
 use crate::memory::OutOfMemory;
@@ -117,10 +117,11 @@ pub struct Vector {
 #[cycle(value)]
 #[derive(Drop)]
 pub struct Map {
-    pub(crate) spine: Arc<Table>,
+    pub(crate) table: Arc<Table>,
 }
 
-/// A value of the language. `Key` is a keyword, without its colon.
+/// A value of the language. `Key` is a keyword, without its colon. What is larger than a number is shared
+/// by its copies, so a copy costs nothing.
 #[cycle(value)]
 #[derive(Drop)]
 pub enum Value {
@@ -142,12 +143,12 @@ impl Pair {
         Pair { key, value }
     }
 
-    /// The pair with another value.
-    pub fn with_value(self, value: Value) -> Pair
-        ensures { pair_view result ≡ ((pair_view self).0, view value) }
+    /// The key and the value, with no copy.
+    pub fn into_parts(self) -> (Value, Value)
+        ensures { pair_view self ≡ (view result.0, view result.1) }
     {
-        let Pair { key, value: _ } = self;
-        Pair { key, value }
+        let Pair { key, value } = self;
+        (key, value)
     }
 
     /// The key alone, with no copy; the value is let go.
@@ -234,16 +235,17 @@ impl Pairs {
         pairs
     }
 
-    /// The pairs with another value at the place of a pair.
-    pub fn with_value(self, place: u64, value: Value) -> Pairs
-        requires { place < length (pairs_list self) }
-        ensures set { let pairs = pair_views (pairs_list self) in pair_views (pairs_list result) ≡ slice_set pairs place ((slice_index_or pairs place (nil, nil)).0, view value) }
-        ensures spare { pairs_spare self ≤ pairs_spare result }
+    /// Puts the value at the place of a pair, whose key stays, and gives the one that stood there.
+    pub fn set_value(&mut self, place: u64, value: Value) -> Value
+        requires { place < length (pairs_list self.old) }
+        ensures old { view result ≡ (slice_index_or (pair_views (pairs_list self.old)) place (nil, nil)).1 }
+        ensures set { let pairs = pair_views (pairs_list self.old) in pair_views (pairs_list self.new) ≡ slice_set pairs place ((slice_index_or pairs place (nil, nil)).0, view value) }
+        ensures spare { pairs_spare self.old ≤ pairs_spare self.new }
     {
-        let Pairs { mut pairs } = self;
-        let pair = pairs.replace(place, Pair::new(Value::Nil, Value::Nil));
-        pairs.set(place, pair.with_value(value));
-        Pairs { pairs }
+        let pair = self.pairs.replace(place, Pair::new(Value::Nil, Value::Nil));
+        let (key, old) = pair.into_parts();
+        self.pairs.set(place, Pair::new(key, value));
+        old
     }
 
     /// The pairs without that at the place.
@@ -264,5 +266,35 @@ impl Pairs {
         ensures { pairs_list result ≡ list pairs }
     {
         Pairs { pairs }
+    }
+}
+
+impl Value {
+    /// The vector of the items.
+    pub fn vector(alloc: Global, items: Items) -> Result<Value, OutOfMemory>
+        ensures { IfOk result (λ v. view v ≡ vector (trees_of (views (list items)))) }
+    {
+        Ok(Value::Vector(Vector::of(alloc, items)?))
+    }
+
+    /// The map of the pairs.
+    pub fn map(alloc: Global, pairs: Pairs) -> Result<Value, OutOfMemory>
+        ensures { IfOk result (λ v. view v ≡ map (pairs_of (pair_views (pairs_list pairs)))) }
+    {
+        Ok(Value::Map(Map::of(alloc, pairs)?))
+    }
+
+    /// The text.
+    pub fn text(alloc: Global, bytes: Text) -> Result<Value, OutOfMemory>
+        ensures { IfOk result (λ v. view v ≡ text (list bytes)) }
+    {
+        Ok(Value::Text(Arc::new(alloc, bytes)?))
+    }
+
+    /// The keyword.
+    pub fn key(alloc: Global, bytes: Text) -> Result<Value, OutOfMemory>
+        ensures { IfOk result (λ v. view v ≡ keyword (list bytes)) }
+    {
+        Ok(Value::Key(Arc::new(alloc, bytes)?))
     }
 }

@@ -2,6 +2,9 @@
 //! the input is the name of the work and how often it is done. `bench/values.sh` runs it.
 #![tactic(auto)]
 
+mod grow;
+mod kept;
+mod lane;
 mod work;
 
 use std::io;
@@ -13,7 +16,7 @@ fn main(rt: HostRuntime) -> io::Result<()> {
             continue;
         };
         let count = count.parse::<u64>().unwrap_or(0);
-        let done = work::repeat(rt.alloc(), name, count);
+        let done = work::repeat(&rt, rt.alloc(), name, count);
         println!(rt; "{name} {done}")?;
     }
     Ok(())

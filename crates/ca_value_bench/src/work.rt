@@ -1,19 +1,77 @@
+use crate::grow::{map_grown, vector_grown, vector_set};
+use crate::kept::{Kept, LONG, integer, kept_of, texts};
+use crate::lane::{Lane, copy_each};
+use ca_value::builtin::direct::{apply_one, apply_two};
 use ca_value::builtin::{Builtin, apply_builtin};
-use ca_value::seq::Seq;
-use ca_value::value::{Items, Value};
+use ca_value::value::Value;
 use std::alloc::Global;
+use std::mem;
+use std::thread::Threads;
 
-/// The most items of the vector that `conj` grows.
-const LONGEST: u64 = 64;
+/// A work whose turns are alike.
+#[derive(Clone, Copy)]
+enum Work {
+    Loop,
+    Move,
+    Copy,
+    Plus,
+    Less,
+    Nth,
+    Count,
+    Keep,
+    Join,
+}
+
+// The work of the name.
+fn named(name: &str) -> Option<Work> {
+    match name {
+        "loop" => Some(Work::Loop),
+        "move" => Some(Work::Move),
+        "copy" => Some(Work::Copy),
+        "plus" => Some(Work::Plus),
+        "less" => Some(Work::Less),
+        "nth" => Some(Work::Nth),
+        "count" => Some(Work::Count),
+        "keep" => Some(Work::Keep),
+        "str" => Some(Work::Join),
+        _ => None,
+    }
+}
 
 /// Does the work of this name so often, and says how often it gave a value before it first gave none.
-pub fn repeat(alloc: Global, name: &str, count: u64) -> u64 {
-    if name == "conj" {
-        return conj_at_end(alloc, count);
+pub fn repeat<R: Threads + Sync>(rt: &R, alloc: Global, name: &str, count: u64) -> u64 {
+    if let Some((name, size)) = name.split_once('-') {
+        return sized(rt, alloc, name, size.parse::<u64>().unwrap_or(1), count);
     }
-    let map = map_of_eight(alloc);
+    let mut kept = kept_of(alloc, LONG, 8);
+    if name == "assoc" {
+        return vector_set(alloc, count, kept.vector);
+    }
+    let Some(work) = named(name) else {
+        return 0;
+    };
     for n in 0..count {
-        if !step(alloc, name, n, &map) {
+        if !step(alloc, work, n, &mut kept) {
+            return n;
+        }
+    }
+    count
+}
+
+// The same, of a work with a size: how long a vector grows, how many pairs a map has, how many threads.
+fn sized<R: Threads + Sync>(rt: &R, alloc: Global, name: &str, size: u64, count: u64) -> u64 {
+    if name == "conj" {
+        return vector_grown(alloc, count, size);
+    }
+    if name == "put" {
+        return map_grown(alloc, count, size);
+    }
+    if name == "threads" || name == "sharing" {
+        return in_threads(rt, alloc, size, name == "sharing", count);
+    }
+    let kept = kept_of(alloc, 0, size);
+    for n in 0..count {
+        if !get(alloc, &kept) {
             return n;
         }
     }
@@ -21,98 +79,110 @@ pub fn repeat(alloc: Global, name: &str, count: u64) -> u64 {
 }
 
 // One turn of the work.
-fn step(alloc: Global, name: &str, n: u64, map: &Value) -> bool {
-    let small = Value::Int((n % 1000) as i64);
-    if name == "pair" {
-        return pair(alloc, small, Value::Int(1)).is_some();
-    }
-    if name == "plus" {
-        return applied(alloc, Builtin::Add, pair(alloc, small, Value::Int(1)));
-    }
-    if name == "texts" {
-        return texts(alloc).is_some();
-    }
-    if name == "str" {
-        return applied(alloc, Builtin::Str, texts(alloc));
-    }
-    if name == "copy" {
-        return copied(alloc, map).is_some();
-    }
-    if name == "get" {
-        return applied(alloc, Builtin::Get, copied(alloc, map));
-    }
-    false
-}
-
-// Whether the builtin has a value at these arguments.
-fn applied(alloc: Global, builtin: Builtin, args: Option<Items>) -> bool {
-    match args {
-        Some(args) => builtin.admits(args.len()) && apply_builtin(alloc, builtin, args).is_ok(),
-        None => false,
+#[inline(always)]
+fn step(alloc: Global, work: Work, n: u64, kept: &mut Kept) -> bool {
+    match work {
+        Work::Loop => nothing(n),
+        Work::Move => moved(n, kept),
+        Work::Copy => copied(alloc, kept),
+        Work::Plus => plus(alloc, n),
+        Work::Less => less(alloc, n),
+        Work::Nth => nth(alloc, n, kept),
+        Work::Count => counted(alloc, kept),
+        Work::Keep => grown_kept(alloc, kept),
+        Work::Join => joined(alloc),
     }
 }
 
-fn pair(alloc: Global, first: Value, second: Value) -> Option<Items> {
-    let mut items = Items::new(alloc);
-    if items.reserve(2).is_err() {
-        return None;
+// What every turn costs.
+#[inline(never)]
+fn nothing(n: u64) -> bool {
+    n < u64::MAX
+}
+
+#[inline(never)]
+fn copied(alloc: Global, kept: &Kept) -> bool {
+    kept.vector.copy(alloc).is_ok()
+}
+
+// An integer takes the place of another.
+#[inline(never)]
+fn moved(n: u64, kept: &mut Kept) -> bool {
+    match mem::replace(&mut kept.slot, integer(n)) {
+        Value::Int(_) => true,
+        _ => n == 0,
     }
-    items.push(first);
-    items.push(second);
-    Some(items)
 }
 
-// Two short texts.
-fn texts(alloc: Global) -> Option<Items> {
-    let first = Seq::from_bytes(alloc, b"hello, ").ok()?;
-    let second = Seq::from_bytes(alloc, b"world").ok()?;
-    let first = Value::text(alloc, first).ok()?;
-    pair(alloc, first, Value::text(alloc, second).ok()?)
+#[inline(never)]
+fn plus(alloc: Global, n: u64) -> bool {
+    apply_two(alloc, Builtin::Add, &integer(n), &Value::Int(1)).is_ok()
 }
 
-// A copy of the map, and its sixth key.
-fn copied(alloc: Global, map: &Value) -> Option<Items> {
-    let map = map.copy(alloc).ok()?;
-    pair(alloc, map, Value::Int(5))
+#[inline(never)]
+fn less(alloc: Global, n: u64) -> bool {
+    apply_two(alloc, Builtin::Less, &integer(n), &Value::Int(1)).is_ok()
 }
 
-// The map of eight numbers to themselves.
-fn map_of_eight(alloc: Global) -> Value {
-    let mut items = Vec::new(alloc);
-    for n in 0..8 {
-        if items.push(Value::Int(n)).is_err() || items.push(Value::Int(n)).is_err() {
-            return Value::Nil;
+#[inline(never)]
+fn nth(alloc: Global, n: u64, kept: &Kept) -> bool {
+    apply_two(alloc, Builtin::Nth, &kept.vector, &integer(n % LONG)).is_ok()
+}
+
+#[inline(never)]
+fn get(alloc: Global, kept: &Kept) -> bool {
+    apply_two(alloc, Builtin::Get, &kept.map, &kept.key).is_ok()
+}
+
+#[inline(never)]
+fn counted(alloc: Global, kept: &Kept) -> bool {
+    apply_one(alloc, Builtin::Count, &kept.vector).is_ok()
+}
+
+// One item more at the end of a vector that stays as it is, so that its items are copied.
+#[inline(never)]
+fn grown_kept(alloc: Global, kept: &Kept) -> bool {
+    match kept.vector.copy(alloc) {
+        Ok(copy) => ca_value::builtin::direct::conj_one(alloc, copy, Value::Int(7)).is_ok(),
+        Err(_) => false,
+    }
+}
+
+#[inline(never)]
+fn joined(alloc: Global) -> bool {
+    match texts(alloc) {
+        Some(args) if Builtin::Str.admits(args.len()) => {
+            apply_builtin(alloc, Builtin::Str, args).is_ok()
         }
+        _ => false,
     }
-    let args = Seq::from_vec(items);
-    if !Builtin::HashMap.admits(args.len()) {
-        return Value::Nil;
-    }
-    apply_builtin(alloc, Builtin::HashMap, args).unwrap_or(Value::Nil)
 }
 
-// Adds numbers at the end of a vector, which begins anew where it has grown long.
-fn conj_at_end(alloc: Global, count: u64) -> u64 {
-    let mut vector = empty_vector(alloc);
-    for n in 0..count {
-        if n % LONGEST == 0 {
-            vector = empty_vector(alloc);
-        }
-        let Some(args) = pair(alloc, vector, Value::Int(7)) else {
-            return n;
+// Copies a vector so often in each of the threads, one vector for all or one for each.
+fn in_threads<R: Threads + Sync>(
+    rt: &R,
+    alloc: Global,
+    threads: u64,
+    one_for_all: bool,
+    count: u64,
+) -> u64 {
+    let first = kept_of(alloc, LONG, 0).vector;
+    let mut lanes = Vec::new(alloc);
+    for label in 0..threads {
+        let value = if one_for_all {
+            first.copy(alloc).unwrap_or(Value::Nil)
+        } else {
+            kept_of(alloc, LONG, 0).vector
         };
-        if !Builtin::Conj.admits(args.len()) {
-            return n;
-        }
-        match apply_builtin(alloc, Builtin::Conj, args) {
-            Ok(longer) => vector = longer,
-            Err(_) => return n,
+        let lane = Lane::new(alloc, value, label);
+        if lanes.push(lane).is_err() {
+            return 0;
         }
     }
-    count
-}
-
-// The vector of no items, or nil where memory is refused.
-fn empty_vector(alloc: Global) -> Value {
-    Value::vector(alloc, Items::new(alloc)).unwrap_or(Value::Nil)
+    copy_each(rt, alloc, lanes.as_mut_slice(), count);
+    let mut least = count;
+    for lane in &lanes {
+        least = least.min(lane.done);
+    }
+    least
 }

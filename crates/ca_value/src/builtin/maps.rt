@@ -1,81 +1,65 @@
-ghost use Rattle.std.specs.Prelude.{◌≡◌, ◌<◌, ◌+◌, ◌≤◌, [], IfOk, option_map, unwrap_or, if◌then◌else◌, map as map_list, is_some};
+ghost use Rattle.std.specs.Prelude.{◌≡◌, [], ◌∷◌, IfOk, option_map, unwrap_or, if◌then◌else◌, map as map_list, is_some};
 ghost use Rattle.ca_value.specs.Seq.{list};
-ghost use Rattle.ca_value.specs.Pairs.{pairs_list, pairs_spare};
+ghost use Rattle.ca_value.specs.Pairs.{pairs_list};
 ghost use Rattle.ca_value.specs.Tree.{nil};
-ghost use Rattle.ca_value.specs.View.{view, views, pair_view, pair_views, vector_trees};
+ghost use Rattle.ca_value.specs.View.{view, views, pair_view, pair_views, vector_trees, map_pairs};
 ghost use Rattle.ca_value.specs.Outcome.{outcome};
 ghost use Rattle.ca_value.specs.Kinds.{map_from};
-ghost use Rattle.ca_value.specs.Maps.{place_of, value_at, put, put_all, paired, item_under, get_of, count_of, item_set, items_assoc, assoc_of, without, without_all, dissoc_of, is_empty_of, vector_or_nil, halves_of, contains_of, walked, pair_vector};
+ghost use Rattle.ca_value.specs.Maps.{value_at, put, put_all, paired, item_under, get_of, count_of, item_set, items_assoc, assoc_of, without, without_all, dissoc_of, is_empty_of, vector_or_nil, halves_of, contains_of, walked, pair_vector};
 ghost use Rattle.ca_value.specs.Vectors.{item_at};
 ghost use Rattle.ca_value.specs.Operations.{half_of};
 
 use super::kinds::{Answer, integer};
 use super::vectors::item_copy;
 use crate::fault::ValueFault;
+use crate::map::place;
 use crate::memory::OutOfMemory;
-use crate::value::{Items, Pair, Pairs, Value, Vector};
+use crate::value::{Items, Map, Pair, Pairs, Value, Vector};
 use std::alloc::Global;
-
-// The place of the pair with an equal key.
-fn find(pairs: &Pairs, key: &Value) -> Option<u64>
-    ensures { result ≡ place_of (pair_views (pairs_list pairs.now)) (view key.now) }
-{
-    let pairs = pairs.as_slice();
-    for i in 0..pairs.len() {
-        if key.equal(&pairs[i].key) {
-            return Some(i as u64);
-        }
-    }
-    None
-}
 
 // A copy of the value of the key.
 fn value_copy(alloc: Global, pairs: &[Pair], key: &Value) -> Result<Option<Value>, OutOfMemory>
     ensures { IfOk result (λ o. option_map view o ≡ value_at (pair_views pairs.now) (view key.now)) }
 {
-    for pair in pairs {
-        if key.equal(&pair.key) {
-            return Ok(Some(pair.value.copy(alloc)?));
-        }
+    match value_under(pairs, key) {
+        Some(value) => Ok(Some(value.copy(alloc)?)),
+        None => Ok(None),
     }
-    Ok(None)
 }
 
-// Sets the value of the key, in the place of an equal key or at the end, where there is room.
-fn set_value(mut pairs: Pairs, key: Value, value: Value) -> Pairs
-    requires { 0 < pairs_spare pairs }
-    ensures set { pair_views (pairs_list result) ≡ put (pair_views (pairs_list pairs)) (view key) (view value) }
-    ensures spare { pairs_spare pairs ≤ pairs_spare result + 1 }
+// The value of the key, where it lies.
+fn value_under<'a>(pairs: &'a [Pair], key: &Value) -> Option<&'a Value>
+    ensures { option_map (λ v. view v.now) result ≡ value_at (pair_views pairs.now) (view key.now) }
 {
-    match find(&pairs, &key) {
-        Some(place) => pairs.with_value(place, value),
-        None => {
-            pairs.push(Pair::new(key, value));
-            pairs
+    for pair in pairs {
+        if key.is_same(&pair.key) {
+            return Some(&pair.value);
         }
     }
+    None
 }
 
 // Sets keys and values that stand in turn.
-fn set_values(mut pairs: Pairs, args: Items) -> Result<Pairs, OutOfMemory>
-    ensures { IfOk result (λ s. pair_views (pairs_list s) ≡ put_all (pair_views (pairs_list pairs)) (paired (views (list args)))) }
+fn set_all(alloc: Global, mut map: Map, args: Items) -> Result<Map, OutOfMemory>
+    ensures { IfOk result (λ m. map_pairs m ≡ put_all (map_pairs map) (paired (views (list args)))) }
 {
-    pairs.reserve(args.len() / 2)?;
     let mut rest = args.into_vec().into_iter();
     while let Some(key) = rest.next() {
         let Some(value) = rest.next() else {
-            return Ok(pairs);
+            return Ok(map);
         };
-        pairs = set_value(pairs, key, value);
+        map.put(alloc, key, value)?;
     }
-    Ok(pairs)
+    Ok(map)
 }
 
 /// The map of keys and values that stand in turn.
 pub fn hash_map(alloc: Global, args: Items) -> Result<Value, OutOfMemory>
     ensures { IfOk result (λ v. view v ≡ map_from (put_all [] (paired (views (list args))))) }
 {
-    Value::map(alloc, set_values(Pairs::new(alloc), args)?)
+    let mut pairs = Pairs::new(alloc);
+    pairs.reserve(args.len() / 2)?;
+    Ok(Value::Map(set_all(alloc, Map::of(alloc, pairs)?, args)?))
 }
 
 /// The value of a key of a map, or the item of a vector at an index; else the default, which is nil
@@ -145,13 +129,59 @@ pub fn assoc(alloc: Global, args: (Value, Items)) -> Result<Answer<Value>, OutOf
 {
     let (collection, settings) = args;
     match collection {
-        Value::Map(pairs) => {
-            let pairs = set_values(pairs.into_pairs(alloc)?, settings)?;
-            Ok(Ok(Value::map(alloc, pairs)?))
-        }
+        Value::Map(map) => Ok(Ok(Value::Map(set_all(alloc, map, settings)?))),
         Value::Nil => Ok(Ok(hash_map(alloc, settings)?)),
         Value::Vector(items) => set_items(alloc, items, settings),
         _ => Ok(Err(ValueFault::WrongKind)),
+    }
+}
+
+/// The collection with one key or place set, in its own memory where it is no one else's.
+#[tactic(auto, using(crate::proofs::Lists::items_of_trees_of, crate::proofs::Lists::entries_of_pairs_of))]
+pub fn assoc_one(
+    alloc: Global,
+    collection: Value,
+    key: Value,
+    value: Value,
+) -> Result<Answer<Value>, OutOfMemory>
+    ensures { IfOk result (λ r. outcome r ≡ assoc_of (view collection) (view key ∷ view value ∷ [])) }
+{
+    match collection {
+        Value::Map(map) => Ok(Ok(map_with(alloc, map, key, value)?)),
+        Value::Nil => {
+            let map = Map::of(alloc, Pairs::new(alloc))?;
+            Ok(Ok(map_with(alloc, map, key, value)?))
+        }
+        Value::Vector(items) => vector_with(alloc, items, &key, value),
+        _ => Ok(Err(ValueFault::WrongKind)),
+    }
+}
+
+// The map with the value of the key set.
+fn map_with(alloc: Global, mut map: Map, key: Value, value: Value) -> Result<Value, OutOfMemory>
+    ensures { IfOk result (λ v. view v ≡ map_from (put (map_pairs map) (view key) (view value))) }
+{
+    map.put(alloc, key, value)?;
+    Ok(Value::Map(map))
+}
+
+// The vector with the item set at a place that is an integer.
+fn vector_with(
+    alloc: Global,
+    mut items: Vector,
+    key: &Value,
+    value: Value,
+) -> Result<Answer<Value>, OutOfMemory>
+    ensures { IfOk result (λ r. outcome r ≡ items_assoc (vector_trees items) ((view key.now, view value) ∷ [])) }
+{
+    let place = match integer(key) {
+        Ok(place) => place,
+        Err(fault) => return Ok(Err(fault)),
+    };
+    if set_item(alloc, &mut items, place, value)? {
+        Ok(Ok(Value::Vector(items)))
+    } else {
+        Ok(Err(ValueFault::OutOfRange))
     }
 }
 
@@ -204,7 +234,7 @@ fn set_item(
 fn without_key(pairs: Pairs, key: &Value) -> Pairs
     ensures { pair_views (pairs_list result) ≡ without (pair_views (pairs_list pairs)) (view key.now) }
 {
-    match find(&pairs, key) {
+    match place(pairs.as_slice(), key) {
         Some(place) => pairs.without(place),
         None => pairs,
     }
@@ -310,7 +340,7 @@ fn has_key(pairs: &[Pair], key: &Value) -> bool
     ensures { result ≡ is_some (value_at (pair_views pairs.now) (view key.now)) }
 {
     for pair in pairs {
-        if key.equal(&pair.key) {
+        if key.is_same(&pair.key) {
             return true;
         }
     }

@@ -1,4 +1,4 @@
-ghost use Rattle.std.specs.Prelude.{◌≡◌, ◌≢◌, pos, int_rem, [], ◌∷◌};
+ghost use Rattle.std.specs.Prelude.{◌≡◌, ◌≢◌, pos, int_rem};
 ghost use Rattle.ca_value.specs.Seq.{list};
 ghost use Rattle.ca_value.specs.View.{view, views};
 ghost use Rattle.ca_value.specs.Kinds.{with_integer, with_two, with_integers};
@@ -87,25 +87,6 @@ pub fn run(operation: Operation, start: i64, args: &[Value]) -> Answer<i64>
     total
 }
 
-/// The operation over two integers.
-pub fn run_two(operation: Operation, start: i64, a: &Value, b: &Value) -> Answer<i64>
-    ensures { result ≡ with_integers (running (operation_of operation) start) (view a.now ∷ view b.now ∷ []) }
-{
-    let a = integer(a)?;
-    let b = integer(b)?;
-    let first = operation.apply(start, a)?;
-    Ok(operation.apply(first, b)?)
-}
-
-/// Whether the two integers stand in this order.
-pub fn compare_two(order: Order, a: &Value, b: &Value) -> Answer<bool>
-    ensures { result ≡ with_integers (in_order (order_of order)) (view a.now ∷ view b.now ∷ []) }
-{
-    let a = integer(a)?;
-    let b = integer(b)?;
-    Ok(order.holds(a, b))
-}
-
 /// The negation of one integer, or the first less the others.
 pub fn difference(args: &[Value]) -> Answer<i64>
     ensures { result ≡ with_integers difference_of (views args.now) }
@@ -171,6 +152,13 @@ pub fn quotient(operands: (Value, Value)) -> Answer<i64>
     ensures { result ≡ with_two quotient_of (view operands.0) (view operands.1) }
 {
     let (dividend, divisor) = integers(operands)?;
+    divide(dividend, divisor)
+}
+
+/// The quotient of two integers.
+pub fn divide(dividend: i64, divisor: i64) -> Answer<i64>
+    ensures { result ≡ quotient_of dividend divisor }
+{
     if divisor == 0 {
         return Err(ValueFault::ZeroDivisor);
     }
@@ -182,6 +170,13 @@ pub fn remainder(operands: (Value, Value)) -> Answer<i64>
     ensures { result ≡ with_two remainder_of (view operands.0) (view operands.1) }
 {
     let (dividend, divisor) = integers(operands)?;
+    remain(dividend, divisor)
+}
+
+/// The remainder of two integers.
+pub fn remain(dividend: i64, divisor: i64) -> Answer<i64>
+    ensures { result ≡ remainder_of dividend divisor }
+{
     if divisor == 0 {
         return Err(ValueFault::ZeroDivisor);
     }
@@ -193,6 +188,13 @@ pub fn modulus(operands: (Value, Value)) -> Answer<i64>
     ensures { result ≡ with_two modulus_of (view operands.0) (view operands.1) }
 {
     let (dividend, divisor) = integers(operands)?;
+    modulo(dividend, divisor)
+}
+
+/// The modulus of two integers.
+pub fn modulo(dividend: i64, divisor: i64) -> Answer<i64>
+    ensures { result ≡ modulus_of dividend divisor }
+{
     if divisor == 0 {
         return Err(ValueFault::ZeroDivisor);
     }

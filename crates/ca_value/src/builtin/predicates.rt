@@ -19,7 +19,7 @@ pub fn is_false_like(value: &Value) -> bool
     }
 }
 
-// Whether the value is nil; false is not.
+/// Whether the value is nil; false is not.
 pub fn is_nil_value(value: &Value) -> bool
     ensures { result ≡ is_nil (view value.now) }
 {
@@ -72,8 +72,8 @@ pub enum Test {
 }
 
 impl Test {
-    // Whether the integer passes.
-    fn passes(self, n: i64) -> bool
+    /// Whether the integer passes.
+    pub fn passes(self, n: i64) -> bool
         ensures { result ≡ test_of self n }
     {
         match self {

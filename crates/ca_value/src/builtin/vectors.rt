@@ -1,4 +1,4 @@
-ghost use Rattle.std.specs.Prelude.{◌≡◌, IfOk, option_map, slice_get, unwrap_or, length, ◌-◌};
+ghost use Rattle.std.specs.Prelude.{◌≡◌, [], ◌∷◌, IfOk, option_map, slice_get, unwrap_or, length, ◌-◌};
 ghost use Rattle.ca_value.specs.Seq.{list};
 ghost use Rattle.ca_value.specs.Tree.{nil};
 ghost use Rattle.ca_value.specs.View.{view, views, vector_trees};
@@ -39,21 +39,50 @@ pub fn conj(alloc: Global, args: (Value, Items)) -> Result<Answer<Value>, OutOfM
     Ok(Ok(Value::Vector(items)))
 }
 
+/// The vector with one more item at its end, in its own memory where it is no one else's.
+pub fn conj_one(
+    alloc: Global,
+    collection: Value,
+    value: Value,
+) -> Result<Answer<Value>, OutOfMemory>
+    ensures { IfOk result (λ r. outcome r ≡ appended (view collection) (view value ∷ [])) }
+{
+    let mut items = match vector(collection) {
+        Ok(items) => items,
+        Err(fault) => return Ok(Err(fault)),
+    };
+    items.push(alloc, value)?;
+    Ok(Ok(Value::Vector(items)))
+}
+
 /// The item of a collection at an index, with a default. Outside a vector it is the default; of nil the
 /// default or nil.
 pub fn nth(alloc: Global, args: (Value, Value, Option<Value>)) -> Result<Answer<Value>, OutOfMemory>
     ensures { IfOk result (λ r. outcome r ≡ nth_of (view args.0) (view args.1) (option_map view args.2)) }
 {
     let (collection, index, default) = args;
-    match integer(&index) {
-        Ok(index) => item_or(alloc, &collection, index, default),
+    item_under(alloc, &collection, &index, default)
+}
+
+/// The same, with the operands borrowed.
+#[inline(never)]
+pub fn item_under(
+    alloc: Global,
+    collection: &Value,
+    index: &Value,
+    default: Option<Value>,
+) -> Result<Answer<Value>, OutOfMemory>
+    ensures { IfOk result (λ r. outcome r ≡ nth_of (view collection.now) (view index.now) (option_map view default)) }
+{
+    match integer(index) {
+        Ok(index) => item_or(alloc, collection, index, default),
         Err(fault) => Ok(Err(fault)),
     }
 }
 
 // The same, at an index that is an integer.
 #[tactic(auto, using(crate::proofs::Lists::items_of_trees_of))]
-pub fn item_or(
+fn item_or(
     alloc: Global,
     collection: &Value,
     index: i64,

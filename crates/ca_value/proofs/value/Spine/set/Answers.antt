@@ -15,8 +15,8 @@ invariant_of-self c =
     let inside : c.args.place < length xs = omega (arith, size, c.requires) in
     let s = set_in ys xs c.args.place c.args.value c.replace-old.result inside c.replace-old.ensures.old e in
     rw (← c.as_slice-items.ensures) (record {
-      weighs = c.weight_after-weight.ensures _ _ _ c.self.invariant.weighs c.capped_weight.ensures c.capped_weight-weight.ensures s.lighter s.weighs;
-      reaches = c.depth_after-depth.ensures _ _ _ c.self.invariant.reaches c.capped_depth.ensures c.capped_depth-depth.ensures s.reaches;
+      weighs = c.items_weight_after-weight.ensures _ _ _ c.self.invariant.weighs c.capped_weight.ensures c.capped_weight-weight.ensures s.lighter s.weighs;
+      reaches = c.items_depth_after-depth.ensures _ _ _ c.self.invariant.reaches c.capped_depth.ensures c.capped_depth-depth.ensures s.reaches;
     })
 
 pub returns : goal.returns
