@@ -6,3 +6,6 @@ pub mod Program
 pub mod Operation
 pub mod Event
 pub mod Cost
+pub mod Operands
+pub mod Asking
+pub mod Turns

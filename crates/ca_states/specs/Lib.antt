@@ -1,0 +1,7 @@
+pub mod Code
+pub mod Machine
+pub mod Touched
+pub mod Valid
+pub mod ValidCode
+pub mod Views
+pub mod Told

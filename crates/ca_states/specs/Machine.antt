@@ -1,0 +1,180 @@
+-- What a runner does. It stands at a block of the code, with a value in each slot; it runs the block's
+-- instructions and then leaves by its exit. It knows no term.
+use Rattle.std.specs.Prelude.{◌≡◌, ℕ, zero, suc, ◌-◌, List, [], ◌∷◌, ◌++◌, length, map, cond, nat_lt, replicate, slice_index_or, Result, Ok, Err}
+use Rattle.ca_value.specs.Tree.{Tree, nil, int, trees_of}
+use Rattle.ca_value.specs.Outcome.{Outcome}
+use Rattle.ca_value.specs.Builtins.{builtin_result}
+use Rattle.ca_value.specs.declared.builtin.Builtin.{Builtin}
+use Rattle.ca_value.specs.declared.builtin.Builtin.TheVariants.{Conj, Assoc}
+use Rattle.ca_term.specs.declared.place.Place.{Place}
+use Rattle.ca_term.specs.declared.fault.Fault.{Fault}
+use Rattle.ca_term.specs.declared.fault.Fault.TheVariants.{Spun, TooDeep}
+use Rattle.ca_term.specs.Operation.{WantView, OpView}
+use Rattle.ca_term.specs.Operands.{truth}
+use Rattle.ca_term.specs.Asking.{task_fault, asked}
+use Rattle.ca_term.specs.Turns.{is_spun, is_too_deep}
+use Rattle.ca_states.specs.declared.code.EntryPoint.{EntryPoint}
+use Rattle.ca_states.specs.declared.code.Exit.{Exit}
+use Rattle.ca_states.specs.declared.code.Exit.TheVariants.{Jump, Branch, Test, Call, Return, Cut}
+use Rattle.ca_states.specs.Code.{Instruction, constant, copying, moving, clearing, one, two, two_int, pushing, putting, many, CodeView, block_at, function_at}
+
+-- a slot's value; one that was never written holds nil
+abbrev pub read : List Tree → ℕ → Tree
+read s a = slice_index_or s a nil
+
+-- the slots with another value in one of them; there are always enough
+abbrev pub write : List Tree → ℕ → Tree → List Tree
+write [] zero v = v ∷ []
+write [] (suc a) v = nil ∷ write [] a v
+write (t ∷ s) zero v = v ∷ s
+write (t ∷ s) (suc a) v = t ∷ write s a v
+
+-- so many slots, from one on
+abbrev pub slots_from : ℕ → ℕ → List ℕ
+slots_from a zero = []
+slots_from a (suc n) = a ∷ slots_from (suc a) n
+
+-- the values of the slots
+abbrev pub reads : List Tree → List ℕ → List Tree
+reads s ks = map (read s) ks
+
+-- What a slot holds once its value was taken out. Integers cost nothing to keep; nothing hangs on this.
+unfoldable pub left_by : Tree → Tree
+left_by (int z) = int z
+left_by t = nil
+
+-- the slots with one value, and with several, taken out
+abbrev pub taken : List Tree → ℕ → List Tree
+taken s a = write s a (left_by (read s a))
+
+abbrev pub taken_all : List Tree → List ℕ → List Tree
+taken_all s [] = s
+taken_all s (a ∷ ks) = taken_all (taken s a) ks
+
+-- what an instruction comes to: the slots after it, or a fault
+pub data Effect : Type 0 where
+  done : List Tree → Effect
+  failed : Fault → Place → Effect
+
+-- a builtin's value comes into a slot
+abbrev pub answered : List Tree → ℕ → Place → Outcome → Effect
+answered s to p (Ok v) = done (write s to v)
+answered s to p (Err f) = failed (task_fault f) p
+
+abbrev pub applied : Builtin → List Tree → Outcome
+applied b vs = builtin_result b (trees_of vs)
+
+abbrev pub effect : Instruction → List Tree → Effect
+effect (constant to v) s = done (write s to v)
+effect (copying to a) s = done (write s to (read s a))
+effect (moving to a) s = done (write (taken s a) to (read s a))
+effect (clearing a) s = done (taken s a)
+effect (one b to a p) s = answered s to p (applied b (read s a ∷ []))
+effect (two b to a c p) s = answered s to p (applied b (read s a ∷ read s c ∷ []))
+effect (two_int b to a z p) s = answered s to p (applied b (read s a ∷ int z ∷ []))
+effect (pushing to a c p) s = answered (taken s a) to p (applied Conj (read s a ∷ read s c ∷ []))
+effect (putting to a k v p) s = answered (taken s a) to p (applied Assoc (read s a ∷ read s k ∷ read s v ∷ []))
+effect (many b to a n p) s = answered (taken_all s (slots_from a n)) to p (applied b (reads s (slots_from a n)))
+
+-- a call that waits for its value: the block that goes on, the slot that the value comes into, and the slots
+pub record Frame : Type 0 where
+  pub next : ℕ
+  pub answer : ℕ
+  pub slots : List Tree
+
+-- A runner: its block, its slots, the calls that wait, the innermost first, and the turns since the last event.
+pub record State : Type 0 where
+  pub block : ℕ
+  pub slots : List Tree
+  pub frames : List Frame
+  pub turns : ℕ
+
+-- What a runner comes to by one block.
+pub data Move : Type 0 where
+  goes : State → Move
+  -- at the end, with that value and so many turns
+  ends : Tree → ℕ → Move
+  faults : Fault → Place → ℕ → Move
+  -- at an operation: its answer comes into that slot of the runner that goes on
+  waits : WantView → ℕ → State → Move
+
+-- new slots, so many, with the values in the first of them
+abbrev pub begun : ℕ → List Tree → List Tree
+begun width vs = vs ++ replicate (width - length vs) nil
+
+abbrev pub begun_at : CodeView → EntryPoint → List Tree → List Tree
+begun_at C e vs = begun (block_at C e.block).width vs
+
+-- the next turn, unless it is the 1,000,000th since the last event
+abbrev pub turned : ℕ → Place → Move → Move
+turned turns p m = cond (is_spun turns) (faults Spun p turns) m
+
+-- the next call, unless it would stand inside 256; Spun is tested first
+abbrev pub called : ℕ → List Frame → Place → Move → Move
+called turns frames p m = turned turns p (cond (is_too_deep (length frames)) (faults TooDeep p turns) m)
+
+-- the runner at that block
+abbrev pub at_block : ℕ → State → State
+at_block n c = record c { block = n }
+
+abbrev pub tested : Place → State → ℕ → ℕ → Outcome → Move
+tested p c yes_to no_to (Ok v) = goes (at_block (cond (truth v) yes_to no_to) c)
+tested p c yes_to no_to (Err f) = faults (task_fault f) p c.turns
+
+abbrev pub returned : Tree → List Frame → ℕ → Move
+returned v [] turns = ends v turns
+returned v (f ∷ fs) turns = goes (record { block = f.next; slots = write f.slots f.answer v; frames = fs; turns = turns })
+
+abbrev pub waiting : Place → ℕ → State → Result OpView Fault → Move
+waiting p answer c (Ok op) = waits (record { op = op; place = p }) answer c
+waiting p answer c (Err f) = faults f p c.turns
+
+-- a function begins with the values, and the runner waits for its value
+abbrev pub entered : CodeView → EntryPoint → List Tree → Frame → State → State
+entered C e vs f c = record { block = e.block; slots = begun_at C e vs; frames = f ∷ c.frames; turns = suc c.turns }
+
+-- the runner, at the end of its block, leaves by the exit
+abbrev pub leaves : CodeView → Exit → State → Move
+leaves C (Jump next p) c =
+    cond (nat_lt c.block next) (goes (at_block next c)) (turned c.turns p (goes (record c { block = next; turns = suc c.turns })))
+leaves C (Branch a yes_to no_to) c = goes (at_block (cond (truth (read c.slots a)) yes_to no_to) c)
+leaves C (Test b left right yes_to no_to p) c = tested p c yes_to no_to (applied b (read c.slots left ∷ read c.slots right ∷ []))
+leaves C (Call n a k answer next p) c =
+    called c.turns c.frames p
+    (goes (entered C (function_at C n) (reads c.slots (slots_from a k)) (record { next = next; answer = answer; slots = taken_all c.slots (slots_from a k) }) c))
+leaves C (Return a) c = returned (read c.slots a) c.frames c.turns
+leaves C (Cut head a k answer next p) c =
+    waiting p answer (record c { block = next; slots = taken_all c.slots (slots_from a k) }) (asked head (trees_of (reads c.slots (slots_from a k))) p)
+
+abbrev pub went : Effect → State → (State → Move) → Move
+went (done s) c m = m (record c { slots = s })
+went (failed f p) c m = faults f p c.turns
+
+-- the rest of a block, from an instruction on
+abbrev pub runs : CodeView → List Instruction → Exit → State → Move
+runs C [] x c = leaves C x c
+runs C (i ∷ is) x c = went (effect i c.slots) c (runs C is x)
+
+-- one block
+abbrev pub move : CodeView → State → Move
+move C c = runs C (block_at C c.block).instrs (block_at C c.block).exit c
+
+-- a new runner at an entry point
+abbrev pub started : CodeView → EntryPoint → List Tree → State
+started C e vs = record { block = e.block; slots = begun_at C e vs; frames = []; turns = 0 }
+
+-- the runner with the answer to its operation in the slot that it named; the turns are 0 again
+abbrev pub resumed : Tree → ℕ → State → State
+resumed v answer c = record c { slots = write c.slots answer v; turns = 0 }
+
+-- an end, a fault or an operation
+abbrev pub IsHalt : Move → Type 0
+IsHalt (goes c) = ⊥
+IsHalt (ends v turns) = Unit {0}
+IsHalt (faults f p turns) = Unit {0}
+IsHalt (waits want answer c) = Unit {0}
+
+-- the runner comes to this, block by block
+pub data ComesTo (C : CodeView) : State → Move → Type 0 where
+  halts : {c : State} → IsHalt (move C c) → ComesTo C c (move C c)
+  goes_on : (c d : State) (m : Move) → move C c ≡ goes d → ComesTo C d m → ComesTo C c m

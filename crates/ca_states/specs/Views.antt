@@ -1,0 +1,18 @@
+-- What the types that `validate` works with stand for.
+use Rattle.std.specs.Prelude.{ℕ, List, [], ◌∷◌, map}
+use Rattle.ca_value.specs.Seq.{list}
+use Rattle.ca_states.specs.declared.range.Texts.{Texts}
+use Rattle.ca_states.specs.Code.{CodeView, block_view}
+use Rattle.ca_states.specs.declared.touch.Numbers.{Numbers}
+use Rattle.ca_states.specs.declared.touch.Numbers.TheVariants as few
+use Rattle.ca_states.specs.Machine.{slots_from}
+
+abbrev pub numbers : Numbers → List ℕ
+numbers few.None = []
+numbers (few.One a) = a ∷ []
+numbers (few.Two a b) = a ∷ b ∷ []
+numbers (few.Three a b c) = a ∷ b ∷ c ∷ []
+numbers (few.Range from count) = slots_from from count
+
+abbrev pub texts_view : Texts → CodeView
+texts_view t = record { blocks = map block_view (list t.blocks); main = t.main; bodies = list t.bodies; functions = list t.functions; width = t.width }
