@@ -5,3 +5,4 @@ pub mod Valid
 pub mod ValidCode
 pub mod Views
 pub mod Told
+pub mod Runs

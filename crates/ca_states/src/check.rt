@@ -62,7 +62,7 @@ impl Notes {
     }
 
     // Whether all slots of the other set are known, where `entry` are the block's entry slots.
-    #[tactic(auto, using(crate::proofs::Slots::each_up, crate::proofs::Slots::each_up_end))]
+    #[tactic(auto, using(crate::proofs::RowLaws::each_up, crate::proofs::RowLaws::each_up_end))]
     fn are_entry_slots_known(&self, entry: &SlotSet, others: &SlotSet) -> bool
         ensures { result ≡ are_entry_slots_known (told self.now (slots_view entry.now)) (slots_view others.now) }
     {
@@ -77,7 +77,7 @@ impl Notes {
 
 impl SlotSet {
     // Whether they are just so many, from slot 0 on.
-    #[tactic(auto, using(crate::proofs::Slots::each_up, crate::proofs::Slots::each_up_end))]
+    #[tactic(auto, using(crate::proofs::RowLaws::each_up, crate::proofs::RowLaws::each_up_end))]
     fn are_just(&self, count: u64) -> bool
         ensures { result ≡ are_just count (slots_view self.now) }
     {

@@ -101,7 +101,7 @@ impl Notes {
     }
 
     // Whether so many slots from one on are known.
-    #[tactic(auto, using(crate::proofs::Slots::each_range, crate::proofs::Slots::each_range_start, crate::proofs::Slots::each_range_end, crate::proofs::Slots::row_within))]
+    #[tactic(auto, using(crate::proofs::RowLaws::each_range, crate::proofs::RowLaws::each_range_start, crate::proofs::RowLaws::each_range_end, crate::proofs::RowLaws::row_within))]
     fn is_range_known(&self, entry: &SlotSet, from: u64, count: u64) -> bool
         requires { IsTrue (are_below (length (list self.now.marks)) (slots_from from count)) }
         ensures { result ≡ each (told self.now (slots_view entry.now)) (slots_from from count) }
@@ -117,7 +117,7 @@ impl Notes {
     }
 
     /// The slot is known from here on, or unknown.
-    #[tactic(auto, using(crate::proofs::Slots::said_set, crate::proofs::Slots::before_set))]
+    #[tactic(auto, using(crate::proofs::RowLaws::said_set, crate::proofs::RowLaws::before_set))]
     pub fn note(&mut self, known: bool, slot: u64)
         requires { slot < length (list self.old.marks) }
         ensures same { length (list self.new.marks) ≡ length (list self.old.marks) }
@@ -154,7 +154,7 @@ impl Notes {
     }
 
     // So many slots from one on are known from here on, or unknown.
-    #[tactic(auto, using(crate::proofs::Slots::row_within))]
+    #[tactic(auto, using(crate::proofs::RowLaws::row_within))]
     fn note_range(&mut self, known: bool, from: u64, count: u64)
         requires { IsTrue (are_below (length (list self.old.marks)) (slots_from from count)) }
         ensures same { length (list self.new.marks) ≡ length (list self.old.marks) }

@@ -35,7 +35,7 @@ impl Numbers {
 }
 
 // Whether so many slots from one on are below the width.
-#[tactic(auto, using(crate::proofs::Slots::row_none, crate::proofs::Slots::row_past, crate::proofs::Slots::row_test))]
+#[tactic(auto, using(crate::proofs::RowLaws::row_none, crate::proofs::RowLaws::row_past, crate::proofs::RowLaws::row_test))]
 fn is_row_below(width: u64, from: u64, count: u64) -> bool
     ensures { result ≡ are_below width (slots_from from count) }
 {

@@ -1,6 +1,6 @@
 use Rattle.std.proofs.Common.{length, arith}
 use Rattle.ca_value.specs.Seq.{list}
-use Rattle.ca_states.proofs.Slots.{row_within}
+use Rattle.ca_states.proofs.RowLaws.{row_within}
 use Rattle.ca_states.proofs.notes.Notes.is_range_known.Goals as goal
 
 pub overflow_add-from : goal.overflow_add-from

@@ -3,7 +3,7 @@ use Rattle.ca_value.specs.Seq.{list}
 use Rattle.ca_states.specs.Machine.{slots_from}
 use Rattle.ca_states.specs.Valid.{noted, noted_all}
 use Rattle.ca_states.specs.Told.{told}
-use Rattle.ca_states.proofs.Slots.{row_within, row_first, noted_all_same}
+use Rattle.ca_states.proofs.RowLaws.{row_within, row_first, noted_all_same}
 use Rattle.ca_states.proofs.notes.Notes.note_range.Goals as goal
 
 pub overflow_add-from : goal.overflow_add-from

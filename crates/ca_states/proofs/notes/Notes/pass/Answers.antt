@@ -3,7 +3,7 @@ use Rattle.std.specs.Prelude.{IsTrue}
 use Rattle.ca_value.specs.Seq.{list}
 use Rattle.ca_states.specs.Code.{instruction}
 use Rattle.ca_states.specs.Valid.{are_below}
-use Rattle.ca_states.proofs.Slots.{in_range_parts}
+use Rattle.ca_states.proofs.RowLaws.{in_range_parts}
 use Rattle.ca_states.proofs.notes.Notes.pass.Goals as goal
 
 pub are_known-known-requires : goal.are_known-known-requires

@@ -3,7 +3,7 @@ use Rattle.std.specs.Prelude.{IsTrue, ◌&&◌}
 use Rattle.ca_states.specs.Code.{instruction, slots_view}
 use Rattle.ca_states.specs.Valid.{each, is_instruction_in_range, after, reads_known, known_after}
 use Rattle.ca_states.specs.Told.{told}
-use Rattle.ca_states.proofs.Slots.{both, drop_item, reads_known_same, known_after_same}
+use Rattle.ca_states.proofs.RowLaws.{both, drop_item, reads_known_same, known_after_same}
 use Rattle.ca_states.proofs.notes.Notes.pass_all.Goals as goal
 
 pub pass-requires-clause-wide : goal.pass-requires-clause-wide

@@ -3,7 +3,7 @@ use Rattle.std.specs.Prelude.{IsTrue}
 use Rattle.ca_value.specs.Seq.{list}
 use Rattle.ca_states.specs.Valid.{are_below}
 use Rattle.ca_states.specs.Touched.{emptied_at}
-use Rattle.ca_states.proofs.Slots.{below_more}
+use Rattle.ca_states.proofs.RowLaws.{below_more}
 use Rattle.ca_states.proofs.notes.Notes.pass_exit.Goals as goal
 
 pub note_all-requires : goal.note_all-requires

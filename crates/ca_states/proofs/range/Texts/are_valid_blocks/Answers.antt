@@ -4,7 +4,7 @@ use Rattle.ca_value.specs.Seq.{list}
 use Rattle.ca_states.specs.Code.{block_view}
 use Rattle.ca_states.specs.Valid.{are_valid_blocks}
 use Rattle.ca_states.specs.Views.{texts_view}
-use Rattle.ca_states.proofs.Slots.{blocks_from, no_blocks_from}
+use Rattle.ca_states.proofs.RowLaws.{blocks_from, no_blocks_from}
 use Rattle.ca_states.proofs.range.Texts.are_valid_blocks.Goals as goal
 
 pub returns-then-not-is_valid_block-clause-valid : goal.returns-then-not-is_valid_block-clause-valid

@@ -3,7 +3,7 @@ use Rattle.ca_value.specs.Seq.{list}
 use Rattle.ca_states.specs.Code.{no_block, block_view, slots_view}
 use Rattle.ca_states.specs.Valid.{are_entry_slots_known}
 use Rattle.ca_states.specs.Told.{told}
-use Rattle.ca_states.proofs.Slots.{none_at}
+use Rattle.ca_states.proofs.RowLaws.{none_at}
 use Rattle.ca_states.proofs.range.Texts.is_target_known.Goals as goal
 
 pub returns-in-None : goal.returns-in-None

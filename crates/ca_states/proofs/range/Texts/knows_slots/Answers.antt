@@ -6,7 +6,7 @@ use Rattle.ca_states.specs.Touched.{read_at, targets}
 use Rattle.ca_states.specs.Valid.{each, are_below, is_instruction_in_range, reads_known, known_after, past, targets_known}
 use Rattle.ca_states.specs.Views.{texts_view}
 use Rattle.ca_states.specs.Told.{told}
-use Rattle.ca_states.proofs.Slots.{range_parts, below_more, each_same, targets_same, first_fails, second_fails, third_decides, block_reads, known_at_exit, known_at_targets}
+use Rattle.ca_states.proofs.RowLaws.{range_parts, below_more, each_same, targets_same, first_fails, second_fails, third_decides, block_reads, known_at_exit, known_at_targets}
 use Rattle.ca_states.proofs.range.Texts.knows_slots.Goals as goal
 
 pub pass_all-requires-clause-wide : goal.pass_all-requires-clause-wide

@@ -1,0 +1,93 @@
+-- A runner's slots as trees: one is read, written and taken out.
+use Rattle.std.proofs.Common.{◌≡◌, ℕ, ℤ, zero, suc, ◌+◌, ◌-◌, ◌++◌, append_assoc, ◌<◌, List, [], ◌∷◌, length, get_or, set, Some, None, refl, sym, ap, ◌∙◌, subst, arith}
+use Rattle.std.specs.Prelude.{slice_get, Result, Ok, Err, IfOk, IfErr}
+use Rattle.std.proofs.lemmas.List.{length-map}
+use Rattle.ca_value.specs.Tree.{Tree, nil, int}
+use Rattle.ca_value.specs.View.{view, views}
+use Rattle.ca_value.specs.Outcome.{Outcome, Gives, IsFault}
+use Rattle.ca_value.specs.declared.value.Value.{Value}
+use Rattle.ca_value.specs.declared.value.Value.TheVariants.{Nil, Bool, Int, Text, Key, Vector, Map, Port}
+use Rattle.ca_value.specs.declared.fault.ApplyError.{ApplyError}
+use Rattle.ca_states.specs.Machine.{read, write, reads, taken, taken_all, left_by, slots_from}
+use Rattle.ca_states.proofs.RowLaws.{row_first}
+
+pub read_view : (xs : List Value) (a : ℕ) (v : Value) → a < length xs → v ≡ get_or xs a v → view v ≡ read (views xs) a
+read_view [] a v lt e = absurd (omega (arith, lt))
+read_view (x ∷ xs) zero v lt e = ap view e
+read_view (x ∷ xs) (suc a) v lt e = read_view xs a v (omega (arith, lt)) e
+
+pub read_got : (xs : List Value) (a : ℕ) (v : Value) → slice_get xs a ≡ Some v → view v ≡ read (views xs) a
+read_got [] a v e = absurd (let g : None ≡ Some v = e in cc)
+read_got (x ∷ xs) zero v e = let g : x ≡ v = cc in ap view (sym g)
+read_got (x ∷ xs) (suc a) v e = read_got xs a v e
+
+pub write_within : (s : List Tree) (a : ℕ) (v : Tree) → a < length s → write s a v ≡ set s a v
+write_within [] a v lt = absurd (omega (arith, lt))
+write_within (t ∷ s) zero v lt = refl
+write_within (t ∷ s) (suc a) v lt = ap (λ r. t ∷ r) (write_within s a v (omega (arith, lt)))
+
+pub write_view : (xs : List Value) (a : ℕ) (v : Value) → a < length xs → views (set xs a v) ≡ write (views xs) a (view v)
+write_view [] a v lt = absurd (omega (arith, lt))
+write_view (x ∷ xs) zero v lt = refl
+write_view (x ∷ xs) (suc a) v lt = ap (λ r. view x ∷ r) (write_view xs a v (omega (arith, lt)))
+
+pub write_twice : (s : List Tree) (a : ℕ) (v w : Tree) → write (write s a v) a w ≡ write s a w
+write_twice [] zero v w = refl
+write_twice [] (suc a) v w = ap (λ r. nil ∷ r) (write_twice [] a v w)
+write_twice (t ∷ s) zero v w = refl
+write_twice (t ∷ s) (suc a) v w = ap (λ r. t ∷ r) (write_twice s a v w)
+
+-- a call whose value and whose fault are this outcome's gives it
+pub gives_by : (r : Result Value ApplyError) (o : Outcome) → IfOk r (λ v. o ≡ Ok (view v)) → IfErr r (λ e. IsFault e o) → Gives r o
+gives_by (Ok v) o h k = h
+gives_by (Err e) o h k = k
+
+pub write_read : (s : List Tree) (a : ℕ) → a < length s → write s a (read s a) ≡ s
+write_read [] a lt = absurd (omega (arith, lt))
+write_read (t ∷ s) zero lt = refl
+write_read (t ∷ s) (suc a) lt = ap (λ r. t ∷ r) (write_read s a (omega (arith, lt)))
+
+left_int : (t : Tree) (z : ℤ) → t ≡ int z → left_by t ≡ t
+unfolding left_by
+left_int t z e = subst (λ u. left_by u ≡ u) (sym e) refl
+
+-- an integer stays where it is taken out
+pub taken_int : (xs : List Value) (a : ℕ) (v : Value) (z : ℤ) → a < length xs → view v ≡ read (views xs) a → v ≡ Int z → views xs ≡ taken (views xs) a
+taken_int xs a v z lt e i =
+    let here : read (views xs) a ≡ int z = sym e ∙ ap view i in
+    let within : a < length (views xs) = subst (λ n. a < n) (sym (length-map xs view)) lt in
+    sym (ap (write (views xs) a) (left_int (read (views xs) a) z here) ∙ write_read (views xs) a within)
+
+left_other : (v : Value) → ((z : ℤ) → v ≡ Int z → ⊥) → left_by (view v) ≡ nil
+unfolding left_by
+left_other Nil h = refl
+left_other (Bool b) h = refl
+left_other (Int z) h = absurd (h z refl)
+left_other (Text s) h = refl
+left_other (Key s) h = refl
+left_other (Vector s) h = refl
+left_other (Map s) h = refl
+left_other (Port p) h = refl
+
+-- another value leaves nil behind
+pub taken_other : (xs : List Value) (a : ℕ) (v : Value) → a < length xs → view v ≡ read (views xs) a → ((z : ℤ) → v ≡ Int z → ⊥) → views (set xs a Nil) ≡ taken (views xs) a
+taken_other xs a v lt e h = write_view xs a Nil lt ∙ ap (write (views xs) a) (sym (left_other v h) ∙ ap left_by e)
+
+-- the values of slots in a row, read one after another
+pub read_next : (s vs : List Tree) (a i n : ℕ) (v : Tree) → i < n → v ≡ read s (a + i)
+    → (vs ++ v ∷ []) ++ reads s (slots_from (a + (i + 1)) (n - (i + 1))) ≡ vs ++ reads s (slots_from (a + i) (n - i))
+read_next s vs a i n v lt e =
+    append_assoc vs (v ∷ []) (reads s (slots_from (a + (i + 1)) (n - (i + 1))))
+    ∙ ap (λ t. vs ++ t ∷ reads s (slots_from (a + (i + 1)) (n - (i + 1)))) e
+    ∙ ap (λ r. vs ++ reads s r) (sym (row_first a i n lt))
+
+pub take_next : (s t : List Tree) (a i n : ℕ) → i < n → t ≡ taken s (a + i) → taken_all t (slots_from (a + (i + 1)) (n - (i + 1))) ≡ taken_all s (slots_from (a + i) (n - i))
+take_next s t a i n lt e = ap (λ z. taken_all z (slots_from (a + (i + 1)) (n - (i + 1)))) e ∙ ap (taken_all s) (sym (row_first a i n lt))
+
+pub views_push : (xs : List Value) (x : Value) → views (xs ++ x ∷ []) ≡ views xs ++ view x ∷ []
+views_push [] x = refl
+views_push (y ∷ xs) x = ap (λ r. view y ∷ r) (views_push xs x)
+
+pub length_reads : (s : List Tree) (a n : ℕ) → length (reads s (slots_from a n)) ≡ n
+length_reads s a zero = refl
+length_reads s a (suc n) = ap suc (length_reads s (suc a) n)

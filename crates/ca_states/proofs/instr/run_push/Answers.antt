@@ -1,0 +1,21 @@
+use Rattle.std.proofs.Common.{[], ◌∷◌, subst}
+use Rattle.std.specs.Prelude.{IfErr}
+use Rattle.ca_value.specs.Seq.{list}
+use Rattle.ca_value.specs.View.{view, views}
+use Rattle.ca_value.specs.Outcome.{Gives}
+use Rattle.ca_value.specs.declared.builtin.Builtin.TheVariants.{Conj}
+use Rattle.ca_states.specs.Machine.{read, applied, answered}
+use Rattle.ca_states.specs.Runs.{StopsAt}
+use Rattle.ca_states.proofs.SlotLaws.{gives_by}
+use Rattle.ca_states.proofs.instr.run_push.Goals as goal
+
+pub returns-clause-stop : goal.returns-clause-stop
+returns-clause-stop c =
+    let s = views (list c.args.slots.now) in
+    let r = c.conj_one-outcome.result in
+    let o = applied Conj (read s c.args.collection ∷ read s c.args.item ∷ []) in
+    subst (λ z. IfErr c.settle.result (λ e. StopsAt e (answered z c.args.to c.args.place o))) c.take_at-collection.ensures.taken
+    (c.settle.ensures.stop o
+    (subst (λ t. Gives r (applied Conj (t ∷ read s c.args.item ∷ []))) c.take_at-collection.ensures.value
+    (subst (λ t. Gives r (applied Conj (view c.take_at-collection.result ∷ t ∷ []))) c.in-Ok.ensures
+    (gives_by r (applied Conj (view c.take_at-collection.result ∷ view c.in-Ok.item ∷ [])) c.conj_one-outcome.ensures.value c.conj_one-outcome.ensures.fault))))
