@@ -4,13 +4,14 @@
 # by place; and the merge of 16 lists and the print of a journal with 1,000,000 entries. What makes the
 # entries is timed alone and taken off.
 #
-#   bench/parts.sh [TIMES]     TIMES calls of each (1,000,000 if not said; scattered a hundredth of it)
+#   bench/parts.sh [TIMES]     TIMES calls of each (5,000,000 if not said; a thousandth of it for 100,000
+#                              scattered deadlines)
 set -eu
 
 program=crates/ca_parts_bench/out/ca_parts_bench
 cd "$(dirname "$0")/.."
 (cd crates/ca_parts_bench && rt run >/dev/null 2>&1)
-times=${1:-1000000}
+times=${1:-5000000}
 
 # The nanoseconds of a line of the input: the best of five, since other programs may run beside it.
 whole() {
@@ -39,10 +40,10 @@ shown() {
 }
 
 for kind in fixed dropping sliding ordered scattered due; do
-    count=$times
-    if [ "$kind" = scattered ]; then count=$((times / 100)); fi
     line="$kind:"
     for entries in 10 1000 100000; do
+        count=$times
+        if [ "$kind$entries" = scattered100000 ]; then count=$((times / 1000)); fi
         line="$line $(shown "$(each "$kind" "$entries" "$count")")"
     done
     echo "$line"
