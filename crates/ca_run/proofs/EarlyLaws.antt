@@ -5,7 +5,7 @@ use Rattle.ca_value.specs.Tree.{nil as nil_value}
 use Rattle.ca_term.specs.declared.place.Place.{Place}
 use Rattle.ca_term.specs.declared.head.Head.TheVariants.{Print}
 use Rattle.ca_term.specs.Kernel.{Kernel, Kernels, Bindings, const, var, bind, seq, apply, none as no_terms, item as term_item, empty, binding}
-use Rattle.ca_term.specs.Program.{ProgramView, IsProgram}
+use Rattle.ca_term.specs.Program.{ProgramView, IsProgram, known_in}
 use Rattle.ca_term.specs.Closed.{IsIn, behind, IsClosed, AreClosed, AreClosedBindings}
 use Rattle.ca_term.specs.Fits.{Known, Suits, Fits, FitTerms, FitInOrder, FitBindings, IsNew, BindsAnew, TermsAnew, BindingsAnew}
 use Rattle.ca_run.specs.Served.{earlier, unserved, unserved_items, unserved_bindings, first_unserved}
@@ -78,28 +78,28 @@ new_name : (n : ℕ) → IsNew n (below n)
 new_name n i = let l : n < n = below_only n n i in omega (arith, l)
 
 -- no name is free but those in scope, each is bound once, each head suits, and every operation is served
-record Sound (names : List Name) (t : Kernel) : Type 0 where
-  bound_in : IsClosed (below (length names)) t
-  anew : BindsAnew (below (length names)) t
-  fits : (known : Known) (target : Option ℕ) → Fits (Suits known) target t
-  served : (seen : Option Place) → unserved t seen ≡ seen
+pub record Sound (names : List Name) (t : Kernel) : Type 0 where
+  pub bound_in : IsClosed (below (length names)) t
+  pub anew : BindsAnew (below (length names)) t
+  pub fits : (known : Known) (target : Option ℕ) → Fits (Suits known) target t
+  pub served : (seen : Option Place) → unserved t seen ≡ seen
 
-record SoundTerms (names : List Name) (ts : Kernels) : Type 0 where
-  bound_in : AreClosed (below (length names)) ts
-  anew : TermsAnew (below (length names)) ts
-  fits : (known : Known) → FitTerms (Suits known) ts
-  fits_in_order : (known : Known) (target : Option ℕ) → FitInOrder (Suits known) target ts
-  served : (seen : Option Place) → unserved_items ts seen ≡ seen
+pub record SoundTerms (names : List Name) (ts : Kernels) : Type 0 where
+  pub bound_in : AreClosed (below (length names)) ts
+  pub anew : TermsAnew (below (length names)) ts
+  pub fits : (known : Known) → FitTerms (Suits known) ts
+  pub fits_in_order : (known : Known) (target : Option ℕ) → FitInOrder (Suits known) target ts
+  pub served : (seen : Option Place) → unserved_items ts seen ≡ seen
 
-record SoundList (names : List Name) (bs : Bindings) : Type 0 where
-  bound_in : AreClosedBindings (below (length names)) bs
-  anew : BindingsAnew (below (length names)) bs
-  fits : (known : Known) → FitBindings (Suits known) bs
-  served : (seen : Option Place) → unserved_bindings bs seen ≡ seen
+pub record SoundList (names : List Name) (bs : Bindings) : Type 0 where
+  pub bound_in : AreClosedBindings (below (length names)) bs
+  pub anew : BindingsAnew (below (length names)) bs
+  pub fits : (known : Known) → FitBindings (Suits known) bs
+  pub served : (seen : Option Place) → unserved_bindings bs seen ≡ seen
 
-record SoundBindings (names : List Name) (r : Bindings × List Name) : Type 0 where
-  each : SoundList names r.0
-  names_behind : behind r.0 (below (length names)) ≡ below (length r.1)
+pub record SoundBindings (names : List Name) (r : Bindings × List Name) : Type 0 where
+  pub each : SoundList names r.0
+  pub names_behind : behind r.0 (below (length names)) ≡ below (length r.1)
 
 sound_variable : (names : List Name) (s : List ℕ) (t : Kernel) → when (letter_of s) (λ b. when (number_of b names) (λ n. Some (var n))) ≡ Some t → Sound names t
 sound_variable names s t h =
@@ -236,6 +236,6 @@ main_sound fs bs h =
       plain = plain;
       functions_fit = λ k d l. absurd (omega arith);
       bodies_fit = λ k d l. absurd (omega arith);
-      main_fits = record { bound = (s.bound_in, tt); anew = (s.anew, tt); fits = (s.fits _, tt) };
+      main_fits = record { bound = (s.bound_in, tt); anew = (s.anew, tt); fits = (s.fits (known_in plain (early_view bs)), tt) };
       plain_functions = tt;
     }, s.served None)

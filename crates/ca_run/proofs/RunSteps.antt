@@ -4,7 +4,6 @@ use Rattle.ca_value.specs.Seq.{list}
 use Rattle.ca_value.specs.declared.seq.Seq.{Seq}
 use Rattle.ca_value.specs.Tree.{Tree, nil}
 use Rattle.ca_value.specs.View.{view}
-use Rattle.ca_value.specs.declared.value.Value.{the_lemmas}
 use Rattle.ca_value.specs.declared.value.Value.TheVariants.{Nil}
 use Rattle.ca_term.specs.declared.place.Place.{Place}
 use Rattle.ca_term.specs.declared.fault.Fault.{Fault as FaultKind}
@@ -40,7 +39,7 @@ pub events-push : (j k : Seq Event) (e : Event) → list k ≡ list j ++ e ∷ [
 events-push j k e h = ap (map event_view) h ∙ map-snoc (list j) e
 
 pub view-Nil : view Nil ≡ nil
-view-Nil = search (rules, the_lemmas)
+view-Nil = refl
 
 cost-snoc : (es : List EventView) (e : EventView) → cost (es ++ e ∷ []) ≡ cost es + cost_of e
 cost-snoc [] e = omega arith
@@ -104,6 +103,12 @@ at_limit program budget j k e b w runs prints stands push is within past =
     let before : but_last (events k) ≡ events j = ap but_last (events-push j k e push) ∙ but_last-snoc (events j) (event_view e) in
     (record { state = r.state; reaches = r.reaches; goes_on = no_end_goes (events k) r.no_end },
      (subst (λ es. cost es < budget) (sym before) within, no_end_open (events k) r.no_end, past))
+
+-- The same, where the cost is counted beside the journal.
+pub at_budget : (program : ProgramView) (budget n m : ℕ) (j k : Seq Event) (e : Event) (b : BodyView) (w : WantView) → Runs program (events j) b → is_printing w.op ≡ true → at b ≡ at_op w → list k ≡ list j ++ e ∷ [] → event_view e ≡ printed 0 (printed_line w.op) → n ≡ cost (events j) → n < budget → m ≡ n + cost_of (event_view e) → budget ≤ m → Legal program (events k) × HasEnd program budget (events k) limit
+at_budget program budget n m j k e b w runs prints stands push is costs within more past =
+    at_limit program budget j k e b w runs prints stands push is (subst (λ x. x < budget) costs within)
+        (subst (λ x. budget ≤ x) (costs_on j k e n m push costs more) past)
 
 -- where the main text is over
 over_when : (a : At) → a ≢ local → a ≢ nowhere → stand_of a ≢ S.AtOp → ((v : Tree) × (a ≡ ended_at v)) ⊎ ((f : FaultKind) × (p : Place) × (a ≡ faulted_at f p))

@@ -1,5 +1,5 @@
 -- Where a program has no operation that isn't served, its bodies stand at prints alone.
-use Rattle.std.proofs.Common.{◌≡◌, ◌≢◌, ℕ, zero, suc, ◌<◌, List, [], ◌∷◌, length, get_or, All, refl, sym, subst, arith, Bool, true, false, cond, Option, Some, None}
+use Rattle.std.proofs.Common.{◌≡◌, ◌≢◌, ℕ, zero, suc, ◌<◌, List, [], ◌∷◌, length, get_or, All, map, nat_le, refl, sym, subst, arith, Bool, true, false, cond, Option, Some, None}
 use Rattle.ca_term.specs.declared.place.Place.{Place}
 use Rattle.ca_term.specs.declared.fault.Fault.{Fault}
 use Rattle.ca_term.specs.declared.head.Head.{Head}
@@ -16,7 +16,7 @@ use Rattle.ca_meaning.specs.IsBody.{IsBodyBy, IsBodyOf}
 use Rattle.ca_meaning.proofs.PutFits.{fits-gentler}
 use Rattle.ca_meaning.proofs.RedexFits.{seat}
 use Rattle.ca_meaning.proofs.Contracts.{Judges}
-use Rattle.ca_meaning.proofs.Bodies.{stepped, filled, program_judges}
+use Rattle.ca_meaning.proofs.Bodies.{stepped, program_judges}
 use Rattle.ca_run.specs.Served.{is_served, earlier, unserved, unserved_items, unserved_bindings, unserved_among, first_unserved}
 use Rattle.ca_run.specs.Printing.{is_printing}
 
@@ -134,6 +134,10 @@ body_of_program program checked plain t b = record {
   plain = plain;
   suits = record { bound = b.bound; fits = fits-gentler (ServedBy (known_in plain program)) (Suits (known_in plain program)) (λ target h k s. s.0) None t b.fits };
 }
+
+-- the main text is a body of its program
+pub main_of_program : (program : ProgramView) → IsProgram program → IsBodyOf program program.main
+main_of_program program checked = record { checked = checked; plain = checked.plain; suits = record { bound = checked.main_fits.bound; fits = checked.main_fits.fits } }
 
 -- an operation at which a served redex stands is a print
 asks : (p : Place) (f : Option Fault) (op : OpView) (w : WantView) → asking p f op ≡ at_op w → op ≡ w.op
