@@ -8,6 +8,14 @@
 //! `special` and `error`.
 #![tactic(auto)]
 
-pub mod error;
 mod context;
+pub mod error;
+mod functions;
+mod gathered;
+mod operands;
+mod scope;
+mod shapes;
 mod special;
+mod uses;
+mod walk;
+mod words;
