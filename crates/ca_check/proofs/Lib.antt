@@ -7,3 +7,11 @@ mod SoundPlain
 mod SoundTops
 mod SoundWalk
 mod Well
+pub mod FunctionsLaws
+pub mod PartLaws
+pub mod BindLaws
+pub mod ChainLaws
+pub mod ScopeLaws
+pub mod ShapeLaws
+pub mod TermLaws
+pub mod WordsLaws

@@ -13,3 +13,8 @@ pub mod Uses
 pub mod Walk
 pub mod Words
 pub mod Worked
+pub mod WalkView
+pub mod FunctionsView
+pub mod ScopeView
+pub mod Operands
+pub mod Judged

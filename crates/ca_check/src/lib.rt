@@ -11,4 +11,11 @@
 mod context;
 pub mod error;
 pub mod laws;
+mod functions;
+mod gathered;
+mod operands;
+mod scope;
+mod shapes;
 mod special;
+mod uses;
+mod words;
