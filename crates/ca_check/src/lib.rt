@@ -1,0 +1,4 @@
+//! The checker: forms to a program.
+#![tactic(auto)]
+
+pub mod scope;
