@@ -1,4 +1,5 @@
 //! The checker: forms to a program.
 #![tactic(auto)]
 
+pub mod functions;
 pub mod scope;
