@@ -1,3 +1,4 @@
 pub mod Names
 pub mod ScopeView
 pub mod FunctionsView
+pub mod Uses

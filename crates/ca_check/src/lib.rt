@@ -3,3 +3,4 @@
 
 pub mod functions;
 pub mod scope;
+mod uses;
