@@ -1,4 +1,8 @@
-pub mod Names
-pub mod ScopeView
-pub mod FunctionsView
+pub mod Binders
+pub mod Depth
+pub mod Kind
+pub mod Meaning
+pub mod Outcome
+pub mod Plain
 pub mod Uses
+pub mod Words
