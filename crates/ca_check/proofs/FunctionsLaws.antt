@@ -7,7 +7,8 @@ use Rattle.std.specs.List.{position, position_or_len, slice_get}
 use Rattle.std.specs.Str.{bytes_eq}
 use Rattle.std.specs.Map.{lookup, keys_of}
 use Rattle.ca_check.specs.declared.functions.Function.{Function}
-use Rattle.ca_check.specs.Names.{Fun, find, find_from}
+use Rattle.ca_check.specs.Meaning.{Signature}
+use Rattle.ca_check.specs.FunctionsView.{find, find_from}
 use Rattle.ca_check.specs.FunctionsView.{named_function, functions_of}
 
 module _ {V : Type 0} (key : V → List ℕ) (s : List ℕ) where

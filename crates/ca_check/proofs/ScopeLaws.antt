@@ -7,7 +7,7 @@ use Rattle.std.specs.Str.{bytes_eq}
 use Rattle.std.specs.Map.{lookup as lookup_in}
 use Rattle.indexmap.specs.IndexMap.{insert_entry}
 use Rattle.ca_check.specs.declared.scope.Bound.{Bound}
-use Rattle.ca_check.specs.Names.{last_of, lookup}
+use Rattle.ca_check.specs.Meaning.{last_of, lookup}
 use Rattle.ca_check.specs.ScopeView.{name_of, names_of, flat, Finds, Hide}
 
 -- equal texts are equal before others

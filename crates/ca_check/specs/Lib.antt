@@ -1,8 +1,10 @@
 pub mod Binders
 pub mod Depth
+pub mod FunctionsView
 pub mod Kind
 pub mod Meaning
 pub mod Outcome
 pub mod Plain
+pub mod ScopeView
 pub mod Uses
 pub mod Words

@@ -5,7 +5,7 @@ use Rattle.std.specs.Str.{bytes_eq}
 use Rattle.std.specs.Map.{lookup as lookup_in}
 use Rattle.ca_value.specs.Seq.{list}
 use Rattle.ca_check.specs.declared.scope.Bound.{Bound}
-use Rattle.ca_check.specs.Names.{lookup}
+use Rattle.ca_check.specs.Meaning.{lookup}
 
 abbrev pub name_of : Bound → List ℕ
 name_of b = list b.name

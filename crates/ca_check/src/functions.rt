@@ -1,5 +1,5 @@
-ghost use Rattle.std.specs.Prelude.{◌≡◌, ◌<◌, [], ◌∷◌, ◌++◌, length, OnOk, OnErr, IfSome, IfNone, None, Some, List};
-ghost use Rattle.ca_check.specs.Names.{find, Fun};
+ghost use Rattle.std.specs.Prelude.{◌≡◌, ◌<◌, [], ◌∷◌, ◌++◌, length, OnOk, OnErr, IfSome, IfNone, None, Some, take, ◌-◌};
+ghost use Rattle.ca_check.specs.FunctionsView.{find};
 ghost use Rattle.ca_check.specs.FunctionsView.{named_function};
 
 use ca_value::memory::OutOfMemory;
@@ -27,10 +27,10 @@ pub struct Functions {
 
 impl Model for Functions {
     ghost use Rattle.std.specs.Prelude.{List};
-    ghost use Rattle.ca_check.specs.Names.{Fun};
+    ghost use Rattle.ca_check.specs.Meaning.{Signature};
     ghost use Rattle.ca_check.specs.FunctionsView.{functions_of};
 
-    ghost Value = { List Fun };
+    ghost Value = { List Signature };
 
     ghost view = { λ f. functions_of (λ v. v.items) f.table.entries };
 }
@@ -76,7 +76,7 @@ impl Functions {
 
     /// Takes the last one out.
     pub fn remove_last(&mut self)
-        ensures { (fs : List Fun) (f : Fun) → self.old ≡ fs ++ f ∷ [] → self.new ≡ fs }
+        ensures { self.new ≡ take (length self.old - 1) self.old }
     {
         self.table.pop();
     }

@@ -8,6 +8,9 @@
 //! `special` and `error`.
 #![tactic(auto)]
 
-pub mod error;
 mod context;
+pub mod error;
+mod functions;
+mod scope;
 mod special;
+mod uses;

@@ -1,6 +1,6 @@
 ghost use Rattle.std.specs.Prelude.{◌≡◌, ◌≤◌, ◌<◌, [], ◌∷◌, ◌++◌, length, take, ◌-◌, OnOk, OnErr, List, ℕ};
 ghost use Rattle.ca_value.specs.Seq.{list};
-ghost use Rattle.ca_check.specs.Names.{lookup};
+ghost use Rattle.ca_check.specs.Meaning.{lookup};
 
 use ca_value::memory::OutOfMemory;
 use ca_value::seq::{Seq, Text};

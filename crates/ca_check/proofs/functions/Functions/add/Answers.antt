@@ -1,7 +1,8 @@
 use Rattle.std.proofs.Common.{◌≡◌, ap, sym, ◌∙◌, ◌++◌, ◌∷◌, [], List, ℕ, None, Vec, Global}
 use Rattle.indexmap.proofs.CallerLemmas.{insert_entry-new}
 use Rattle.ca_check.specs.declared.functions.Function.{Function}
-use Rattle.ca_check.specs.Names.{find, Fun}
+use Rattle.ca_check.specs.Meaning.{Signature}
+use Rattle.ca_check.specs.FunctionsView.{find}
 use Rattle.ca_check.specs.FunctionsView.{functions_of, named_function}
 use Rattle.ca_check.proofs.FunctionsLaws.{missed, functions_more}
 use Rattle.ca_check.proofs.functions.Functions.add.Goals as goal
@@ -14,5 +15,5 @@ returns-clause-ok c =
   let new : c.insert.new.self.entries ≡ c.self.inside.table.entries ++ (c.in_ok-key.key, c.args.function) ∷ []
     = c.in_ok-insert.ensures.entries ∙ insert_entry-new _ c.self.inside.table c.in_ok-key.key c.args.function (missed key c.in_ok-key.key.items c.self.inside.table.entries 0 free) in
   ap (functions_of key) new ∙ functions_more key c.self.inside.table.entries c.in_ok-key.key c.args.function
-  ∙ ap (λ (fs : List Fun). fs ++ named_function c.in_ok-key.key.items c.args.function ∷ []) c.self.view_is
+  ∙ ap (λ (fs : List Signature). fs ++ named_function c.in_ok-key.key.items c.args.function ∷ []) c.self.view_is
   ∙ ap (λ (s : List ℕ). c.args.self.now ++ named_function s c.args.function ∷ []) c.in_ok-key.ensures.items
