@@ -34,9 +34,13 @@ abbrev pub is_form : Option Special → Bool
 is_form None = false
 is_form (Some k) = cond (is_inner k) false true
 
--- a name that can't be bound: that of a form, one with a `/` in it, or `&`
+-- `&` and a qualified name, one with a `/` in it, name nothing
+abbrev pub is_odd : List ℕ → Bool
+is_odd s = list_any (λ b. b == 47) s || bytes_eq s (codes "&")
+
+-- a name that no local can have: that of a form, or an odd one
 abbrev pub is_reserved : List ℕ → Bool
-is_reserved s = is_form (special s) || list_any (λ b. b == 47) s || bytes_eq s (codes "&")
+is_reserved s = is_form (special s) || is_odd s
 
 abbrev pub free_name : Atom → Option (List ℕ)
 free_name (symbol s) = cond (is_reserved s) None (Some s)

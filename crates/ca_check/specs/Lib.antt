@@ -1,10 +1,14 @@
 pub mod Binders
+pub mod Channels
 pub mod Depth
-pub mod FunctionsView
+pub mod Expansion
+pub mod Go
 pub mod Kind
 pub mod Meaning
+pub mod Names
 pub mod Outcome
 pub mod Plain
-pub mod ScopeView
+pub mod Tops
 pub mod Uses
+pub mod Walk
 pub mod Words
