@@ -1,2 +1,3 @@
 pub mod ScopeLaws
 pub mod FunctionsLaws
+pub mod TermLaws

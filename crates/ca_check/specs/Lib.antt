@@ -12,3 +12,6 @@ pub mod Tops
 pub mod Uses
 pub mod Walk
 pub mod Words
+pub mod WalkView
+pub mod FunctionsView
+pub mod ScopeView

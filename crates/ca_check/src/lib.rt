@@ -11,6 +11,7 @@
 mod context;
 pub mod error;
 mod functions;
+mod gathered;
 mod scope;
 mod special;
 mod uses;
