@@ -1,3 +1,1 @@
-pub mod ScopeLaws
-pub mod FunctionsLaws
-pub mod TermLaws
+mod Samples

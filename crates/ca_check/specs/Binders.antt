@@ -7,11 +7,10 @@ use Rattle.ca_value.specs.Tree.{int}
 use Rattle.ca_value.specs.declared.builtin.Builtin.TheVariants.{Part as PartOf}
 use Rattle.ca_term.specs.declared.place.Place.{Place}
 use Rattle.ca_term.specs.declared.head.Head.TheVariants.{Builtin}
-use Rattle.ca_reader.specs.declared.form.Bracket.{Bracket}
 use Rattle.ca_reader.specs.declared.form.Bracket.TheVariants.{Round, Square, Curly}
-use Rattle.ca_reader.specs.Form.{FormTree, FormTrees, ShapeTree, Atom, form, atom, group, symbol, none, item}
+use Rattle.ca_reader.specs.Form.{FormTree, FormTrees, Atom, form, atom, group, symbol, none, item}
 use Rattle.ca_check.specs.declared.special.Special.{Special}
-use Rattle.ca_check.specs.declared.error.CheckErrorKind.TheVariants.{BadForm, TooMany}
+use Rattle.ca_check.specs.declared.error.CheckErrorKind.TheVariants.{TooMany}
 use Rattle.ca_check.specs.Words.{special, is_inner}
 use Rattle.ca_check.specs.Meaning.{Meaning, Named, size, constant, local, fail, operation, lets}
 

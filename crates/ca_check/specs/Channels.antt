@@ -1,13 +1,13 @@
 -- The rows of the forms of core.async. Most are one operation over their operands; the others are a Let of
 -- their operands under hidden names, and a small fixed term over these.
-use Rattle.std.specs.Prelude.{ℕ, suc, ◌+◌, pos, List, [], ◌∷◌, ◌++◌, length, map, Option, None, Some, Bool, true, false, cond, codes}
+use Rattle.std.specs.Prelude.{ℕ, ◌+◌, pos, List, [], ◌∷◌, Option, None, Some, Bool, true, false, cond, codes}
 use Rattle.std.specs.Str.{bytes_eq}
-use Rattle.ca_value.specs.Tree.{Tree, nil, int, bool, key}
+use Rattle.ca_value.specs.Tree.{nil, int, bool, key}
 use Rattle.ca_value.specs.declared.builtin.Builtin.{Builtin as BuiltinName}
 use Rattle.ca_value.specs.declared.builtin.Builtin.TheVariants.{Equal, Nth, Vector, IsNil, IsSome, Min, Count, Less, Inc, WorkerCount}
 use Rattle.ca_term.specs.declared.place.Place.{Place}
 use Rattle.ca_term.specs.declared.head.Head.{Head}
-use Rattle.ca_term.specs.declared.head.Head.TheVariants.{Recur, Builtin, Take, Put, Alts, Make, Spawn, Close, Register, Print, Post}
+use Rattle.ca_term.specs.declared.head.Head.TheVariants.{Recur, Builtin, Take, Put, Alts, Make, Spawn, Register, Post}
 use Rattle.ca_term.specs.declared.head.AltsOptions.{AltsOptions}
 use Rattle.ca_term.specs.declared.head.MakeKind.{MakeKind}
 use Rattle.ca_term.specs.declared.head.SeedKind.{SeedKind}
@@ -18,7 +18,7 @@ use Rattle.ca_term.specs.declared.head.RegisterName.{RegisterName}
 use Rattle.ca_term.specs.Kernel.{Kernel, const, var, branch, bind, loop, seq, apply, empty, binding}
 use Rattle.ca_term.specs.View.{kernels_of}
 use Rattle.ca_reader.specs.declared.form.Bracket.TheVariants.{Round}
-use Rattle.ca_reader.specs.Form.{FormTree, Atom, form, atom, group, symbol, key as keyword, place_of}
+use Rattle.ca_reader.specs.Form.{FormTree, form, atom, group, symbol, key as keyword, place_of}
 use Rattle.ca_check.specs.declared.context.Context.{Context}
 use Rattle.ca_check.specs.declared.context.Context.TheVariants.{Main, Go, Function}
 use Rattle.ca_check.specs.declared.special.Special.{Special}
@@ -26,7 +26,7 @@ use Rattle.ca_check.specs.declared.error.CheckErrorKind.{CheckErrorKind}
 use Rattle.ca_check.specs.declared.error.CheckErrorKind.TheVariants.{BadForm, ParkOutsideGo, BlockOutsideMain}
 use Rattle.ca_check.specs.Words.{special}
 use Rattle.ca_check.specs.Outcome.{refused, after}
-use Rattle.ca_check.specs.Meaning.{Meaning, Env, inner, fail, constant, in_order, operation, hiding, numbered}
+use Rattle.ca_check.specs.Meaning.{Meaning, inner, fail, constant, in_order, operation, hiding, numbered}
 use Rattle.ca_check.specs.Binders.{Pair, Part}
 use Rattle.ca_check.specs.Plain.{meanings}
 use Rattle.ca_check.specs.Names.{Given, applied, wrong, given}

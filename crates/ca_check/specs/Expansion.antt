@@ -1,5 +1,5 @@
 -- The program of a script's forms, or the first error in them with its place.
-use Rattle.std.specs.Prelude.{◌≡◌, ℕ, zero, suc, List, [], ◌∷◌, length, cond, false, codes, Bool, Result, Ok, Err, nat_lt}
+use Rattle.std.specs.Prelude.{◌≡◌, ℕ, suc, [], length, cond, false, codes, Bool, Result, Ok, Err, nat_lt}
 use Rattle.std.specs.Str.{bytes_eq}
 use Rattle.ca_value.specs.Tree.{nil}
 use Rattle.ca_term.specs.declared.place.Place.{Place}

@@ -11,7 +11,7 @@ use Rattle.ca_term.specs.Kernel.{Kernel, const, var, bind, seq, apply, none, ite
 use Rattle.ca_term.specs.Program.{ProcedureView}
 use Rattle.ca_term.specs.View.{kernels_of}
 use Rattle.ca_check.specs.declared.context.Context.TheVariants.{Go}
-use Rattle.ca_check.specs.Outcome.{Gathered, after, done}
+use Rattle.ca_check.specs.Outcome.{after, done}
 use Rattle.ca_check.specs.Uses.{uses}
 use Rattle.ca_check.specs.Meaning.{Env, Meaning, size, named, nothing, local, iff, operation, block, name_as}
 

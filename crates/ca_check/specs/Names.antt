@@ -1,5 +1,5 @@
 -- What a symbol names: a local or a `def`, a function, a builtin, a form, or nothing; and calls.
-use Rattle.std.specs.Prelude.{◌≡◌, ℕ, suc, List, [], ◌∷◌, ◌++◌, length, map, Option, None, Some, Bool, true, false, cond, ◌&&◌, ◌||◌, nat_eq, nat_le, nat_lt, is_some}
+use Rattle.std.specs.Prelude.{ℕ, suc, List, [], ◌∷◌, ◌++◌, length, map, Option, None, Some, Bool, cond, ◌&&◌, ◌||◌, nat_eq, nat_lt, is_some}
 use Rattle.std.specs.Str.{bytes_eq}
 use Rattle.ca_value.specs.Tree.{key}
 use Rattle.ca_value.specs.Builtins.{admits}

@@ -1,13 +1,13 @@
 -- The rows of the forms that need no channel. A row says what a form at p means by what its parts mean; its
 -- shape is judged first, so a form's own error comes before those of its parts.
-use Rattle.std.specs.Prelude.{ℕ, suc, ◌+◌, pos, List, [], ◌∷◌, ◌++◌, length, map, Option, None, Some, Bool, true, false, cond, nat_lt, nat_eq}
+use Rattle.std.specs.Prelude.{ℕ, ◌+◌, pos, List, [], ◌∷◌, ◌++◌, length, map, Option, None, Some, Bool, true, false, cond, nat_lt, nat_eq}
 use Rattle.std.specs.List.{list_any}
 use Rattle.ca_value.specs.Tree.{int, bool}
 use Rattle.ca_value.specs.declared.builtin.Builtin.TheVariants.{Inc, Less, Nth, Count, Items, IsSome}
 use Rattle.ca_term.specs.declared.place.Place.{Place}
 use Rattle.ca_term.specs.declared.head.Head.TheVariants.{Recur, Builtin}
 use Rattle.ca_check.specs.declared.error.CheckErrorKind.TheVariants.{BadForm, BadArity, RecurNotTail, TooMany}
-use Rattle.ca_check.specs.Meaning.{Meaning, Env, Named, size, constant, nothing, local, fail, iff, unless, operation, block, unnamed, lets, loops, name_as, hide}
+use Rattle.ca_check.specs.Meaning.{Meaning, Named, size, constant, nothing, local, fail, iff, unless, operation, block, unnamed, lets, loops, name_as, hide}
 use Rattle.ca_check.specs.Binders.{Part, Binder, Bound, one, many, bindings_in, spread, letting, is_pattern, whole_name, width, patterns}
 
 abbrev pub meanings : List Part → List Meaning

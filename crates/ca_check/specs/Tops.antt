@@ -1,13 +1,13 @@
 -- What stands at top level: `def`, `defn` and expressions, one after the other.
-use Rattle.std.specs.Prelude.{ℕ, suc, ◌+◌, List, [], ◌∷◌, ◌++◌, length, map, Option, None, Some, Bool, true, false, cond, ◌==◌, ◌&&◌, ◌||◌, nat_lt, slice_get}
+use Rattle.std.specs.Prelude.{ℕ, zero, suc, ◌+◌, List, [], ◌∷◌, ◌++◌, length, map, Option, None, Some, Bool, true, false, cond, ◌==◌, ◌&&◌, ◌||◌, nat_lt, nat_eq, slice_get}
 use Rattle.std.specs.Option.{option_map_or}
 use Rattle.std.specs.List.{list_any}
 use Rattle.std.specs.Str.{bytes_eq}
 use Rattle.ca_term.specs.declared.place.Place.{Place}
-use Rattle.ca_term.specs.Kernel.{Kernel, Bindings, empty, binding}
+use Rattle.ca_term.specs.Kernel.{Kernel, Bindings, binding}
 use Rattle.ca_term.specs.Program.{ProcedureView}
-use Rattle.ca_reader.specs.declared.form.Bracket.TheVariants.{Round, Square, Curly}
-use Rattle.ca_reader.specs.Form.{FormTree, FormTrees, Atom, form, atom, group, none, item, symbol, text}
+use Rattle.ca_reader.specs.declared.form.Bracket.TheVariants.{Round, Square}
+use Rattle.ca_reader.specs.Form.{FormTree, FormTrees, form, atom, group, none, item, symbol, text}
 use Rattle.ca_check.specs.declared.context.Context.TheVariants.{Main, Function}
 use Rattle.ca_check.specs.declared.special.Special.{Special}
 use Rattle.ca_check.specs.declared.error.CheckErrorKind.TheVariants.{Redefined, BadForm, TooMany}
@@ -15,7 +15,7 @@ use Rattle.ca_check.specs.Depth.{depth_of}
 use Rattle.ca_check.specs.Uses.{uses, aims_out, is_plain}
 use Rattle.ca_check.specs.Outcome.{Gathered, Outcome, done, refused, after}
 use Rattle.ca_check.specs.Words.{special}
-use Rattle.ca_check.specs.Meaning.{Meaning, Env, Signature, Named, local, loops, block, unnamed}
+use Rattle.ca_check.specs.Meaning.{Meaning, Env, Signature, Named, local, loops, block}
 use Rattle.ca_check.specs.Binders.{Part, Binder, one, many, binder, counted, whole_name, unpacked, is_odd}
 use Rattle.ca_check.specs.Plain.{meanings}
 use Rattle.ca_check.specs.Names.{is_known, written}
@@ -156,17 +156,20 @@ judged_body f m = noted_text f.note (counted_patterns f.parameters m)
 abbrev pub over_parameters : Written → Place → ℕ → Meaning
 over_parameters f p n = unpacked p n f.parameters f.body
 
--- the body by itself, and in a loop over the parameters
-abbrev pub straight : Written → Place → Meaning
-straight f p env = over_parameters f p (length env.scope) (record env { scope = env.scope ++ names_of f.parameters; target = Some (length f.parameters) })
+-- the body by itself; a `recur` aims at the function where there is a target
+abbrev pub straight : Option ℕ → Written → Place → Meaning
+straight target f p env =
+    over_parameters f p (length env.scope) (record env { scope = env.scope ++ names_of f.parameters; target = target })
 
+-- the body in a loop over the parameters
 abbrev pub looped : Written → Place → Meaning
 looped f p env = loops (same_names (length env.scope) (names_of f.parameters))
     (over_parameters f p (length env.scope + length f.parameters)) (record env { scope = env.scope ++ names_of f.parameters })
 
+-- in a loop where a `recur` aims at the function
 abbrev pub body_of : Bool → Written → Place → Meaning
 body_of true f p = looped f p
-body_of false f p = straight f p
+body_of false f p = straight None f p
 
 -- what is known of the function while its own body is walked: with its hidden parameters, and not as a plain one,
 -- since a function that hands itself to a system task isn't
@@ -190,14 +193,27 @@ with_function f hidden body t = record t {
   procedures = t.procedures ++ record { parameters = hidden ++ numbers (length t.scope) (names_of f.parameters); body = body } ∷ [];
   defined = suc t.defined }
 
--- A function's body is walked twice, from the same go bodies. The first walk meets each error, and tells which
--- `def` names the body uses, which become hidden parameters, and whether a `recur` aims at the function. In the
--- second its calls of itself pass the hidden parameters, and it stands in a loop where a `recur` aims at it.
+-- the body of a function, and its hidden parameters: the numbers of the `def` names that it uses, its calls included
+pub record Settled : Type 0 where
+  pub body : Kernel
+  pub hidden : List ℕ
+
+-- The body is walked, its calls of itself passing the names that it uses, until no further name comes up. There are
+-- at most 64 of them, so this takes fewer than 66 walks; it takes one or two, since a call of itself brings no
+-- new names.
+abbrev pub settled : ℕ → Bool → List ℕ → Written → Place → Tops → Gathered → Outcome Settled
+settled zero looping hidden f p t s = refused TooMany p
+settled (suc n) looping hidden f p t s = after (body_of looping f p (function_env (signature f hidden false) t) s) (λ body s2.
+  let used : List ℕ = uses (length t.scope) body hidden in
+  cond (nat_lt 64 (length used)) (refused TooMany p)
+    (cond (nat_eq (length used) (length hidden)) (done (record { body = body; hidden = hidden }) s2) (settled n looping used f p t s)))
+
+-- A first walk meets each error, and tells which `def` names the body uses and whether a `recur` aims at the
+-- function. A body is at most 60 deep.
 abbrev pub add_function : Written → Place → Tops → Gathered → Outcome Tops
-add_function f p t s = after (judged_body f (straight f p) (function_env (signature f [] false) t) s) (λ first s1.
-  let hidden : List ℕ = uses (length t.scope) first [] in
-  after (body_of (aims_out first) f p (function_env (signature f hidden false) t) s) (λ body s2.
-    cond (nat_lt 64 (length hidden) || nat_lt 60 (depth_of body)) (refused TooMany p) (done (with_function f hidden body t) s2)))
+add_function f p t s = after (judged_body f (straight (Some (length f.parameters)) f p) (function_env (signature f [] false) t) s) (λ first s1.
+  after (settled 66 (aims_out first) (uses (length t.scope) first []) f p t s) (λ r s2.
+    cond (nat_lt 60 (depth_of r.body)) (refused TooMany p) (done (with_function f r.hidden r.body t) s2)))
 
 -- nothing at the top-level form at p was too deep
 abbrev pub shallow : Place → Tops → Gathered → Outcome Tops

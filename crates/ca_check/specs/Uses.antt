@@ -1,7 +1,7 @@
 -- Which names a term uses from outside, and which a `recur` in it goes back to.
 use Rattle.std.specs.Prelude.{ℕ, List, [], ◌∷◌, ◌++◌, Bool, true, false, cond, ◌&&◌, ◌||◌, not, ◌==◌, nat_lt}
 use Rattle.ca_term.specs.declared.head.Head.{Head}
-use Rattle.ca_term.specs.declared.head.Head.TheVariants.{Recur, Builtin, Call, Take, Put, Alts, Make, Spawn, Close, Register, Print, Post}
+use Rattle.ca_term.specs.declared.head.Head.TheVariants.{Recur, Builtin, Call}
 use Rattle.ca_term.specs.Kernel.{Kernel, Kernels, Bindings, const, var, branch, bind, loop, seq, frame, turn, apply, none, item, empty, binding}
 
 abbrev pub is_among : ℕ → List ℕ → Bool

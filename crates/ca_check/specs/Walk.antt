@@ -1,9 +1,9 @@
 -- What each form means. A form's parts come to its row with their forms and meanings; nothing else is recursive.
 use Rattle.std.specs.Prelude.{ℕ, List, [], ◌∷◌, length, Option, None, Some}
-use Rattle.ca_value.specs.Tree.{nil, bool, int, text, key}
+use Rattle.ca_value.specs.Tree.{bool, int, text, key}
 use Rattle.ca_value.specs.declared.builtin.Builtin.TheVariants.{Vector, HashMap}
 use Rattle.ca_term.specs.declared.place.Place.{Place}
-use Rattle.ca_term.specs.declared.head.Head.TheVariants.{Take, Put, Make, Close, Register, Print, Post, Builtin}
+use Rattle.ca_term.specs.declared.head.Head.TheVariants.{Make, Close, Register, Print, Post, Builtin}
 use Rattle.ca_term.specs.declared.head.MakeKind.{MakeKind}
 use Rattle.ca_term.specs.declared.head.RegisterName.{RegisterName}
 use Rattle.ca_reader.specs.declared.form.Bracket.{Bracket}
