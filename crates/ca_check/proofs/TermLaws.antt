@@ -1,12 +1,15 @@
 -- Lists of terms and bindings, one more at their end.
-use Rattle.std.proofs.Common.{◌≡◌, ℕ, suc, ◌+◌, List, [], ◌∷◌, ◌++◌, length, max, refl, sym, ap, ◌∙◌, arith, rules, Global}
+use Rattle.std.proofs.Common.{◌≡◌, ℕ, suc, ◌+◌, List, [], ◌∷◌, ◌++◌, length, max, refl, sym, ap, ◌∙◌, arith, rules, Global, ◌<◌, ◌≤◌, drop, drop-cons, get_or, add-one}
+use Rattle.std.proofs.Math.ListN.{drop_of_length-le}
+use Rattle.std.specs.List.{insert}
+use Rattle.ca_check.specs.Operands.{with_vars, with_second}
 use Rattle.ca_term.specs.declared.term.Binding.{Binding}
 use Rattle.ca_term.specs.declared.term.Found.{Found}
 use Rattle.ca_term.specs.declared.term.Term.{Term, Let, Loop, the_lemmas}
 use Rattle.ca_value.specs.declared.seq.Seq.{Seq}
 use Rattle.ca_value.specs.Seq.{list}
 use Rattle.std.specs.declared.boxed.Box.{Box}
-use Rattle.ca_term.specs.Kernel.{Kernel, Kernels, Bindings, none, item, empty, binding, bind, loop}
+use Rattle.ca_term.specs.Kernel.{Kernel, Kernels, Bindings, none, item, empty, binding, bind, loop, var}
 use Rattle.ca_term.specs.View.{kernel, kernels, kernels_of, bindings, named, founds}
 use Rattle.ca_check.specs.Depth.{depth_of, depth_of_items, depth_of_bindings}
 use Rattle.ca_check.specs.Meaning.{joined, numbered}
@@ -60,3 +63,22 @@ kernel-Let bs body = search (rules, the_lemmas)
 
 pub kernel-Loop : (fs : Seq Found) (bs : Seq Binding) (body : Box Term Global) → kernel (Loop fs bs body) ≡ loop (founds (list fs)) (bindings (list bs)) (kernel body.value)
 kernel-Loop fs bs body = search (rules, the_lemmas)
+
+pub drop_next : (ns : List ℕ) (i : ℕ) → i < length ns → drop i ns ≡ get_or ns i 0 ∷ drop (i + 1) ns
+drop_next ns i h = rw (add-one, drop-cons ns i 0 h) refl
+
+pub drop_all : {A : Type 0} (xs : List A) (i : ℕ) → length xs ≤ i → drop i xs ≡ []
+drop_all xs i h = drop_of_length-le xs {i = i} h
+
+pub with_vars_end : (ts : Kernels) → with_vars ts [] ≡ ts
+with_vars_end none = refl
+with_vars_end (item t ts) = ap (item t) (with_vars_end ts)
+
+pub with_vars_step : (ts : List Term) (t : Term) (n : ℕ) (ns : List ℕ) → kernel t ≡ var n → with_vars (kernels (ts ++ t ∷ [])) ns ≡ with_vars (kernels ts) (n ∷ ns)
+with_vars_step [] t n ns e = ap (λ k. item k (with_vars none ns)) e
+with_vars_step (u ∷ ts) t n ns e = ap (item (kernel u)) (with_vars_step ts t n ns e)
+
+-- as many terms as a list has
+pub second_is : (ts : List Term) (t : Term) → 0 < length ts → kernels (insert ts 1 t) ≡ with_second (kernels ts) (kernel t)
+second_is [] t h = absurd (omega arith)
+second_is (u ∷ ts) t h = refl

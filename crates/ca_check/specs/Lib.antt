@@ -15,3 +15,4 @@ pub mod Words
 pub mod WalkView
 pub mod FunctionsView
 pub mod ScopeView
+pub mod Operands

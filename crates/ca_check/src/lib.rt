@@ -12,6 +12,8 @@ mod context;
 pub mod error;
 mod functions;
 mod gathered;
+mod operands;
 mod scope;
 mod special;
 mod uses;
+mod words;
