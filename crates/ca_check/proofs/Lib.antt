@@ -1,6 +1,8 @@
 pub mod FunctionsLaws
 pub mod PartLaws
+pub mod BindLaws
 mod Samples
 pub mod ScopeLaws
+pub mod ShapeLaws
 pub mod TermLaws
 pub mod WordsLaws

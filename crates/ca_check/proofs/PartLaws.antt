@@ -1,7 +1,7 @@
 -- The forms of a list, read as parts from a place on.
-use Rattle.std.proofs.Common.{◌≡◌, ℕ, zero, suc, List, [], ◌∷◌, ◌++◌, length, map, drop, get_or, ◌<◌, ◌≤◌, ◌+◌, ◌-◌, refl, sym, ap, ◌∙◌, add-one, drop-cons, length-drop, arith, ◌⊎◌, inl, inr, Bool, true, false, cond, nat_eq, Option, Some, None}
+use Rattle.std.proofs.Common.{◌≡◌, ℕ, zero, suc, List, [], ◌∷◌, ◌++◌, length, map, drop, get_or, ◌<◌, ◌≤◌, ◌+◌, ◌-◌, refl, sym, ap, ◌∙◌, add-one, drop-cons, length-drop, arith, ◌⊎◌, inl, inr, Bool, true, false, cond, nat_eq, nat_lt, Option, Some, None, Result, Ok, Err, IfOk, IfErr}
 use Rattle.std.proofs.Math.ListN.{drop_of_length-le}
-use Rattle.std.proofs.lemmas.Bool.{eq-eqb, eqb-true}
+use Rattle.std.proofs.lemmas.Bool.{eq-eqb, eqb-true, lt-ltb, le-ltb}
 use Rattle.std.proofs.lemmas.List.{length-map}
 use Rattle.ca_value.specs.Builtins.{admits}
 use Rattle.ca_value.specs.Tree.{Tree}
@@ -24,6 +24,7 @@ use Rattle.ca_check.specs.Meaning.{Env, Meaning, Signature, in_order, before_oth
 use Rattle.ca_check.specs.Plain.{meanings, row_if, row_if_not, row_recur, recur_of}
 use Rattle.ca_check.specs.Names.{builtin_call, function_call, row_keyword, written}
 use Rattle.ca_check.specs.Operands.{with_vars, with_second}
+use Rattle.ca_check.specs.Binders.{counted}
 use Rattle.ca_check.specs.Walk.{walk}
 use Rattle.ca_check.specs.WalkView.{part, parts_of, Fails}
 use Rattle.ca_check.proofs.TermLaws.{followed, followed_end, kernels_more}
@@ -162,11 +163,12 @@ in_order_vars (n ∷ ns) e s = rw (in_order_vars ns e s) refl
 pub in_order_behind : (ms : List Meaning) (ns : List ℕ) (e : Env) (s : Gathered)
   → in_order (ms ++ map local ns) (inner e) s ≡ after (in_order ms (inner e) s) (λ ts s. done (with_vars ts ns) s)
 in_order_behind [] ns e s = in_order_vars ns e s
-in_order_behind (m ∷ ms) ns e s = rw (before_inner (length (ms ++ map local ns)) e, before_inner (length ms) e) (by (m (inner e) s)) where
-  by : (o : Outcome Kernel) → after o (λ t s. after (in_order (ms ++ map local ns) (inner e) s) (λ ts s. done (item t ts) s))
+in_order_behind (m ∷ ms) ns e s = rw (before_inner (length (ms ++ map local ns)) e, before_inner (length ms) e) (by (m (inner e) s) (λ s2. in_order_behind ms ns e s2)) where
+  by : (o : Outcome Kernel) → ((s2 : Gathered) → in_order (ms ++ map local ns) (inner e) s2 ≡ after (in_order ms (inner e) s2) (λ ts s. done (with_vars ts ns) s))
+    → after o (λ t s. after (in_order (ms ++ map local ns) (inner e) s) (λ ts s. done (item t ts) s))
     ≡ after (after o (λ t s. after (in_order ms (inner e) s) (λ ts s. done (item t ts) s))) (λ ts s. done (with_vars ts ns) s)
-  by (refused x p) = refl
-  by (done t s) = rw (in_order_behind ms ns e s) (rest (in_order ms (inner e) s)) where
+  by (refused x p) ih = refl
+  by (done t s) ih = rw (ih s) (rest (in_order ms (inner e) s)) where
     rest : (o : Outcome Kernels) → after (after o (λ ts s. done (with_vars ts ns) s)) (λ ts s. done (item t ts) s)
       ≡ after (after o (λ ts s. done (item t ts) s)) (λ ts s. done (with_vars ts ns) s)
     rest (refused x p) = refl
@@ -186,27 +188,27 @@ function_off n f fs p e s h = ap (λ (m : Meaning). m e s) (other_count (meaning
     (operation (Call n) (meanings (parts_of (drop 1 fs)) ++ map local f.hidden) p) (fail BadArity p) (λ x. h (sym (count_drop 1 fs) ∙ x)))
 
 -- a keyword at the head
-pub keyword_off : (k : List ℕ) (q p : Place) (fs : List Form) (e : Env) (s : Gathered) → (length fs ≡ 2 → ⊥) → (length fs ≡ 3 → ⊥)
+pub keyword_off : (k : List ℕ) (q p : Place) (fs : List Form) (e : Env) (s : Gathered) → (length fs < 2) ⊎ (3 < length fs)
   → row_keyword k q (meanings (parts_of (drop 1 fs))) p e s ≡ refused BadArity p
-keyword_off k q p [] e s h g = refl
-keyword_off k q p (f ∷ []) e s h g = refl
-keyword_off k q p (f ∷ a ∷ []) e s h g = absurd (h refl)
-keyword_off k q p (f ∷ a ∷ b ∷ []) e s h g = absurd (g refl)
-keyword_off k q p (f ∷ a ∷ b ∷ d ∷ fs) e s h g = refl
+keyword_off k q p [] e s h = refl
+keyword_off k q p (f ∷ []) e s h = refl
+keyword_off k q p (f ∷ a ∷ []) e s h = absurd (elim h [ inl a ↦ omega (arith, a) | inr b ↦ omega (arith, b) ])
+keyword_off k q p (f ∷ a ∷ b ∷ []) e s h = absurd (elim h [ inl a ↦ omega (arith, a) | inr b ↦ omega (arith, b) ])
+keyword_off k q p (f ∷ a ∷ b ∷ d ∷ fs) e s h = refl
 
 abbrev pub Keyed : List ℕ → Place → Place → List Form → Env → Gathered → Type 0
 Keyed k q p fs e s = row_keyword k q (meanings (parts_of (drop 1 fs))) p e s
   ≡ written k q (λ e s. after (in_order (meanings (parts_of (drop 1 fs))) (inner e) s) (λ ts s. limited (apply (Builtin Get) (with_second ts (const (key k))) p) s)) e s
 
-pub keyword_on : (k : List ℕ) (q p : Place) (fs : List Form) (e : Env) (s : Gathered) → (length fs ≡ 2) ⊎ (length fs ≡ 3) → Keyed k q p fs e s
-keyword_on k q p [] e s h = absurd (elim h [ inl a ↦ omega (arith, a) | inr b ↦ omega (arith, b) ])
-keyword_on k q p (f ∷ []) e s h = absurd (elim h [ inl a ↦ omega (arith, a) | inr b ↦ omega (arith, b) ])
-keyword_on k q p (f ∷ a ∷ []) e s h = ap (λ (m : Meaning). written k q m e s) (λ i e s. by e (walk (form_tree a) (inner e) s) i) where
+pub keyword_on : (k : List ℕ) (q p : Place) (fs : List Form) (e : Env) (s : Gathered) → 2 ≤ length fs → length fs ≤ 3 → Keyed k q p fs e s
+keyword_on k q p [] e s h g = absurd (omega (arith, h))
+keyword_on k q p (f ∷ []) e s h g = absurd (omega (arith, h))
+keyword_on k q p (f ∷ a ∷ []) e s h g = ap (λ (m : Meaning). written k q m e s) (λ i e s. by e (walk (form_tree a) (inner e) s) i) where
   by : (e : Env) (o : Outcome Kernel) → after (after o (λ t s. after (done (item (const (key k)) none) s) (λ ts s. done (item t ts) s))) (λ ts s. limited (apply (Builtin Get) ts p) s)
     ≡ after (after o (λ t s. done (item t none) s)) (λ ts s. limited (apply (Builtin Get) (with_second ts (const (key k))) p) s)
   by e (done t s) = refl
   by e (refused x r) = refl
-keyword_on k q p (f ∷ a ∷ b ∷ []) e s h = ap (λ (m : Meaning). written k q m e s) (λ i e s. by e (walk (form_tree a) (inner e) s) i) where
+keyword_on k q p (f ∷ a ∷ b ∷ []) e s h g = ap (λ (m : Meaning). written k q m e s) (λ i e s. by e (walk (form_tree a) (inner e) s) i) where
   by : (e : Env) (o : Outcome Kernel)
     → after (after o (λ t s. after (after (after (walk (form_tree b) (inner e) s) (λ t s. done (item t none) s)) (λ ts s. done (item (const (key k)) ts) s)) (λ ts s. done (item t ts) s))) (λ ts s. limited (apply (Builtin Get) ts p) s)
     ≡ after (after o (λ t s. after (after (walk (form_tree b) (inner e) s) (λ t s. done (item t none) s)) (λ ts s. done (item t ts) s))) (λ ts s. limited (apply (Builtin Get) (with_second ts (const (key k))) p) s)
@@ -216,4 +218,39 @@ keyword_on k q p (f ∷ a ∷ b ∷ []) e s h = ap (λ (m : Meaning). written k 
       ≡ after (after (after o (λ t s. done (item t none) s)) (λ ts s. done (item t ts) s)) (λ ts s. limited (apply (Builtin Get) (with_second ts (const (key k))) p) s)
     last (done u s) = refl
     last (refused x r) = refl
-keyword_on k q p (f ∷ a ∷ b ∷ d ∷ fs) e s h = absurd (elim h [ inl a ↦ omega (arith, a) | inr b ↦ omega (arith, b) ])
+keyword_on k q p (f ∷ a ∷ b ∷ d ∷ fs) e s h g = absurd (omega (arith, g))
+
+-- a text that is short enough
+pub written_short : (k : List ℕ) (q : Place) (m : Meaning) → length k ≤ 65535 → written k q m ≡ m
+written_short k q m h = ap (λ b. cond b (fail TooMany q) m) (le-ltb 65535 (length k) h)
+
+pub written_fails : (x : CheckError) (k : List ℕ) (q : Place) (v : Tree) (m : Meaning) (e : Env) (s : Gathered) → Fails x (written k q (constant v) e s) → Fails x (written k q m e s)
+written_fails OutOfMemory k q v m e s h = tt
+written_fails (Fault c p) k q v m e s h = by (nat_lt 65535 (length k)) h where
+  by : (b : Bool) → cond b (fail TooMany q) (constant v) e s ≡ refused c p → cond b (fail TooMany q) m e s ≡ refused c p
+  by true h = h
+  by false h = absurd (cc)
+
+-- the items of a list are counted first
+pub counted_past : (fs : List Form) (p : Place) (m : Meaning) (e : Env) (s : Gathered) → 4096 < length fs → counted (length (parts_of fs)) p m e s ≡ refused TooMany p
+counted_past fs p m e s h = rw (count_parts fs, lt-ltb 4096 (length fs) h) refl
+
+pub counted_within : (fs : List Form) (p : Place) (m : Meaning) → length fs ≤ 4096 → counted (length (parts_of fs)) p m ≡ m
+counted_within fs p m h = rw (count_parts fs, le-ltb 4096 (length fs) h) refl
+
+-- a fact for all, at some
+pub ok_at : {A E X Y : Type 0} (P : X → Y → A → Type 0) (r : Result A E) (x : X) (y : Y) → IfOk r (λ t. (x : X) (y : Y) → P x y t) → IfOk r (P x y)
+ok_at P (Ok t) x y h = h x y
+ok_at P (Err e) x y h = tt
+
+pub err_at : {A E X Y : Type 0} (P : X → Y → E → Type 0) (r : Result A E) (x : X) (y : Y) → IfErr r (λ t. (x : X) (y : Y) → P x y t) → IfErr r (P x y)
+err_at P (Ok t) x y h = tt
+err_at P (Err e) x y h = h x y
+
+pub ok_for : {A E X : Type 0} (P : X → A → Type 0) (r : Result A E) (x : X) → IfOk r (λ t. (x : X) → P x t) → IfOk r (P x)
+ok_for P (Ok t) x h = h x
+ok_for P (Err e) x h = tt
+
+pub err_for : {A E X : Type 0} (P : X → E → Type 0) (r : Result A E) (x : X) → IfErr r (λ t. (x : X) → P x t) → IfErr r (P x)
+err_for P (Ok t) x h = tt
+err_for P (Err e) x h = h x

@@ -16,3 +16,4 @@ pub mod WalkView
 pub mod FunctionsView
 pub mod ScopeView
 pub mod Operands
+pub mod Judged

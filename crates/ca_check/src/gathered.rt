@@ -5,6 +5,7 @@ ghost use Rattle.ca_term.specs.Kernel.{const, var, branch as branch_of, bind as 
 ghost use Rattle.ca_term.specs.View.{kernel, kernels, bindings};
 ghost use Rattle.ca_check.specs.declared.error.CheckError.{CheckError};
 ghost use Rattle.ca_check.specs.Depth.{depth_of, depth_of_items};
+ghost use Rattle.ca_check.specs.Judged.{part_term};
 ghost use Rattle.ca_check.specs.Meaning.{numbered};
 ghost use Rattle.ca_check.specs.Outcome.{limited, done};
 ghost use Rattle.ca_check.specs.WalkView.{gathered, terms_of};
@@ -14,6 +15,7 @@ use ca_term::head::Head;
 use ca_term::place::Place;
 use ca_term::program::Procedure;
 use ca_term::term::{Binding, Term};
+use ca_value::builtin::Builtin;
 use ca_value::seq::Seq;
 use ca_value::value::Value;
 use std::alloc::Global;
@@ -126,6 +128,22 @@ fn bound_terms(alloc: Global, first: u64, terms: Seq<Made>) -> Result<Seq<Bindin
         number += 1;
     }
     Ok(rest)
+}
+
+/// The item at `index` of the value of the name `whole`, or nil.
+pub fn part_of(alloc: Global, whole: u64, index: u64, place: Place) -> Result<Made, CheckError>
+    requires { index ≤ 4096 }
+    ensures ok { IfOk result (λ t. kernel t ≡ part_term place whole index) }
+    ensures err { IfErr result (λ e. e ≡ CheckError.OutOfMemory) }
+{
+    let mut operands = Seq::new(alloc);
+    operands.reserve(2)?;
+    operands.push(Term::Var(whole));
+    operands.push(Term::Const(Value::Int(index as i64)));
+    Ok(Made {
+        term: Term::Apply(Head::Builtin(Builtin::Part), operands, place),
+        depth: 2,
+    })
 }
 
 impl Bodies {

@@ -14,6 +14,8 @@ mod functions;
 mod gathered;
 mod operands;
 mod scope;
+mod shapes;
 mod special;
 mod uses;
+mod walk;
 mod words;

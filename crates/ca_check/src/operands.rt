@@ -1,4 +1,4 @@
-ghost use Rattle.std.specs.Prelude.{◌≡◌, ◌≤◌, ◌<◌, IfOk, IfErr, OnOk, [], ◌∷◌, length, map, nat_lt, cond};
+ghost use Rattle.std.specs.Prelude.{◌≡◌, ◌≤◌, ◌<◌, IfOk, IfErr, OnOk, [], ◌∷◌, ◌++◌, length, map, nat_lt, cond};
 ghost use Rattle.ca_value.specs.Seq.{list};
 ghost use Rattle.ca_value.specs.Tree.{text, key};
 ghost use Rattle.ca_term.specs.Kernel.{const, item};
@@ -66,6 +66,29 @@ pub fn with_second(operands: Seq<Made>, second: Made) -> Result<Seq<Made>, Check
         items.insert(1, second)?;
     }
     Ok(Seq::from_vec(items))
+}
+
+/// One term alone.
+pub fn single(alloc: Global, term: Made) -> Result<Seq<Made>, CheckError>
+    ensures ok { IfOk result (λ s. list s ≡ term ∷ []) }
+    ensures err { IfErr result (λ e. e ≡ CheckError.OutOfMemory) }
+{
+    let mut terms = Seq::new(alloc);
+    terms.reserve(1)?;
+    terms.push(term);
+    Ok(terms)
+}
+
+/// The terms, and others behind them.
+pub fn joined_terms(mut terms: Seq<Made>, more: Seq<Made>) -> Result<Seq<Made>, CheckError>
+    ensures ok { IfOk result (λ s. list s ≡ list terms ++ list more) }
+    ensures err { IfErr result (λ e. e ≡ CheckError.OutOfMemory) }
+{
+    terms.reserve(more.len())?;
+    for term in more.into_vec() {
+        terms.push(term);
+    }
+    Ok(terms)
 }
 
 /// The name is that of a function, a builtin or a form.
