@@ -1,4 +1,7 @@
+pub mod FixedLaws
 pub mod FunctionsLaws
+pub mod GoLaws
+pub mod OptionLaws
 pub mod PartLaws
 pub mod BindLaws
 mod Samples

@@ -8,11 +8,18 @@
 //! `special` and `error`.
 #![tactic(auto)]
 
+mod channels;
 mod context;
 pub mod error;
+mod fixed;
 mod functions;
 mod gathered;
+mod given;
+mod go;
 mod operands;
+mod options;
+mod pipelines;
+mod publications;
 mod scope;
 mod shapes;
 mod special;
