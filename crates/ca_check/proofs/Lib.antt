@@ -11,6 +11,9 @@ pub mod FunctionsLaws
 pub mod PartLaws
 pub mod BindLaws
 pub mod ChainLaws
+pub mod FixedLaws
+pub mod GoLaws
+pub mod OptionLaws
 pub mod ScopeLaws
 pub mod ShapeLaws
 pub mod TermLaws

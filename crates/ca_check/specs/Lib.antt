@@ -3,6 +3,7 @@ pub mod Channels
 pub mod Depth
 pub mod Expansion
 pub mod Go
+pub mod GoView
 pub mod Kind
 pub mod Meaning
 pub mod Names
@@ -13,6 +14,7 @@ pub mod Uses
 pub mod Walk
 pub mod Words
 pub mod Worked
+pub mod GivenView
 pub mod WalkView
 pub mod FunctionsView
 pub mod ScopeView
