@@ -1,14 +1,14 @@
 -- Small terms are never too deep.
-use Rattle.std.proofs.Common.{◌≡◌, ℕ, zero, suc, ◌+◌, ◌<◌, ◌≤◌, List, [], ◌∷◌, ◌++◌, length, map, max, refl, sym, ap, ap₂, ◌∙◌, arith, Bool, true, false, cond, nat_le, Option, None, Some}
+use Rattle.std.proofs.Common.{◌≡◌, ℕ, suc, ◌+◌, ◌<◌, ◌≤◌, List, [], ◌∷◌, ◌++◌, length, map, refl, ap, ap₂, ◌∙◌, arith, Option, None, Some}
 use Rattle.std.proofs.lemmas.Bool.{le-leb}
 use Rattle.ca_value.specs.declared.seq.Seq.{Seq}
 use Rattle.ca_check.specs.GivenView.{keyword_terms}
 use Rattle.ca_term.specs.declared.term.Term.{Term}
-use Rattle.ca_term.specs.Kernel.{Kernel, Kernels, none, item, const, var, bind, loop, binding}
+use Rattle.ca_term.specs.Kernel.{Kernel, none, item, var, bind, loop, binding}
 use Rattle.ca_term.specs.View.{kernel, kernels, kernels_of}
 use Rattle.ca_check.specs.Depth.{depth_of, depth_of_items}
 use Rattle.ca_check.specs.Operands.{with_vars}
-use Rattle.ca_check.specs.Outcome.{Gathered, Outcome, done, limited}
+use Rattle.ca_check.specs.Outcome.{Gathered, done, limited}
 use Rattle.ca_check.specs.Meaning.{joined, numbered}
 use Rattle.ca_check.specs.WalkView.{terms_of}
 use Rattle.ca_check.proofs.TermLaws.{numbered_depth}

@@ -9,7 +9,7 @@ use Rattle.ca_check.specs.Depth.{depth_of_items}
 use Rattle.ca_check.specs.Go.{task}
 use Rattle.ca_check.specs.GoView.{ending}
 use Rattle.ca_check.specs.Meaning.{Meaning, Env, size, inner}
-use Rattle.ca_check.specs.Outcome.{Gathered, Outcome, done, limited}
+use Rattle.ca_check.specs.Outcome.{Gathered, done, limited}
 use Rattle.ca_check.specs.WalkView.{Fails, terms_of}
 use Rattle.ca_check.proofs.PartLaws.{after_fails}
 

@@ -1,5 +1,5 @@
 -- The shapes of options and buffers, by how many forms there are.
-use Rattle.std.proofs.Common.{◌≡◌, ℕ, zero, suc, List, [], ◌∷◌, length, drop, get_or, refl, sym, arith, Bool, true, false, nat_eq, Option, None, Some}
+use Rattle.std.proofs.Common.{◌≡◌, List, [], ◌∷◌, length, drop, get_or, refl, sym, arith, Bool, true, false, nat_eq, None, Some}
 use Rattle.std.proofs.lemmas.Bool.{eqb-true}
 use Rattle.ca_term.specs.declared.head.AltsOptions.{AltsOptions}
 use Rattle.ca_term.specs.declared.head.MakeKind.{MakeKind}

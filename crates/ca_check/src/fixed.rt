@@ -232,7 +232,7 @@ pub fn unless_default(alloc: Global, answer: u64, place: Place) -> Result<Made, 
     ensures err { IfErr result (λ e. e ≡ CheckError.OutOfMemory) }
 {
     let port = nth_of(alloc, answer, 1, place)?;
-    let default = Made::constant(Value::Key(Text::from_bytes(alloc, b"default")?));
+    let default = Made::constant(Value::key(alloc, Text::from_bytes(alloc, b"default")?)?);
     let sides = pair(alloc, port, default)?;
     let test = apply(alloc, Head::Builtin(Builtin::Equal), sides, place)?;
     let value = nth_of(alloc, answer, 0, place)?;

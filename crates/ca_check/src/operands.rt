@@ -1,4 +1,4 @@
-ghost use Rattle.std.specs.Prelude.{◌≡◌, ◌≤◌, ◌<◌, IfOk, IfErr, OnOk, [], ◌∷◌, length, map, nat_lt, cond};
+ghost use Rattle.std.specs.Prelude.{◌≡◌, ◌≤◌, ◌<◌, IfOk, IfErr, OnOk, [], ◌∷◌, ◌++◌, length, map, nat_lt, cond};
 ghost use Rattle.ca_value.specs.Seq.{list};
 ghost use Rattle.ca_value.specs.Tree.{text, key};
 ghost use Rattle.ca_term.specs.Kernel.{const, item};
@@ -90,4 +90,16 @@ pub fn is_known(functions: &Functions, name: &[u8]) -> bool
     functions.find(name).is_some()
         || words::builtin(name).is_some()
         || Special::named(name).is_some()
+}
+
+/// The terms, and others behind them.
+pub fn joined_terms(mut terms: Seq<Made>, more: Seq<Made>) -> Result<Seq<Made>, CheckError>
+    ensures ok { IfOk result (λ s. list s ≡ list terms ++ list more) }
+    ensures err { IfErr result (λ e. e ≡ CheckError.OutOfMemory) }
+{
+    terms.reserve(more.len())?;
+    for term in more.into_vec() {
+        terms.push(term);
+    }
+    Ok(terms)
 }

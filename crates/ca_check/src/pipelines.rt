@@ -27,13 +27,17 @@ use ca_value::value::Value;
 use std::alloc::Global;
 
 // The operands, and the keyword behind them.
-fn with_keyword(operands: Seq<Made>, keyword: Option<Text>) -> Result<Seq<Made>, CheckError>
+fn with_keyword(
+    alloc: Global,
+    operands: Seq<Made>,
+    keyword: Option<Text>,
+) -> Result<Seq<Made>, CheckError>
     ensures ok { IfOk result (λ s. terms_of (list s) ≡ terms_of (list operands) ++ keyword_terms keyword) }
     ensures err { IfErr result (λ e. e ≡ CheckError.OutOfMemory) }
 {
     match keyword {
         None => Ok(operands),
-        Some(name) => with_last(operands, Made::constant(Value::Key(name))),
+        Some(name) => with_last(operands, Made::constant(Value::key(alloc, name)?)),
     }
 }
 
@@ -51,7 +55,7 @@ pub fn applying(
     ensures err { IfErr result (λ e. e ≡ CheckError.OutOfMemory) }
 {
     let operands = locals(alloc, numbers)?;
-    let operands = with_keyword(operands, keyword)?;
+    let operands = with_keyword(alloc, operands, keyword)?;
     apply(alloc, Head::Spawn(SeedKind::System(task)), operands, place)
 }
 

@@ -1,4 +1,4 @@
-use Rattle.std.proofs.Common.{◌≡◌, map, refl, ◌∙◌, []}
+use Rattle.std.proofs.Common.{◌≡◌, map, ◌∙◌}
 use Rattle.ca_value.specs.Seq.{list}
 use Rattle.ca_term.specs.Kernel.{var}
 use Rattle.ca_term.specs.View.{kernels, kernels_of}

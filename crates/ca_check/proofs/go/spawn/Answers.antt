@@ -1,4 +1,4 @@
-use Rattle.std.proofs.Common.{◌≡◌, ◌≤◌, arith}
+use Rattle.std.proofs.Common.{◌≤◌, arith}
 use Rattle.ca_value.specs.Seq.{list}
 use Rattle.ca_term.specs.View.{kernels}
 use Rattle.ca_check.specs.Depth.{depth_of_items}

@@ -1,10 +1,10 @@
-use Rattle.std.proofs.Common.{◌≡◌, ◌+◌, ◌∷◌, [], suc, arith, ap, sym, ◌∙◌}
+use Rattle.std.proofs.Common.{◌≡◌, ◌+◌, suc, arith, ap, sym, ◌∙◌}
 use Rattle.ca_term.specs.Kernel.{bind, empty, binding}
 use Rattle.ca_term.specs.View.{kernel}
 use Rattle.ca_value.specs.Seq.{list}
 use Rattle.ca_check.specs.GoView.{ending}
 use Rattle.ca_check.specs.Meaning.{numbered}
-use Rattle.ca_check.specs.Outcome.{limited, done}
+use Rattle.ca_check.specs.Outcome.{limited}
 use Rattle.ca_check.specs.WalkView.{gathered, terms_of}
 use Rattle.ca_check.proofs.GoLaws.{task_is}
 use Rattle.ca_check.proofs.go.task.Goals as goal

@@ -1,4 +1,4 @@
-use Rattle.std.proofs.Common.{◌≡◌, Option, sym, ap, ◌∙◌}
+use Rattle.std.proofs.Common.{Option, sym, ap, ◌∙◌}
 use Rattle.ca_term.specs.declared.head.MakeKind.{MakeKind}
 use Rattle.ca_check.specs.Channels.{buffer_named, is_sized}
 use Rattle.ca_check.specs.WalkView.{pairs_of}

@@ -1,4 +1,4 @@
-use Rattle.std.proofs.Common.{◌≡◌, ◌+◌, ◌++◌, length, sym, ap, ◌∙◌}
+use Rattle.std.proofs.Common.{◌≡◌, ◌+◌, length, sym, ap, ◌∙◌}
 use Rattle.ca_value.specs.Seq.{list}
 use Rattle.ca_term.specs.Kernel.{bind}
 use Rattle.ca_term.specs.View.{kernel}
