@@ -7,3 +7,14 @@ mod SoundPlain
 mod SoundTops
 mod SoundWalk
 mod Well
+pub mod FunctionsLaws
+pub mod PartLaws
+pub mod BindLaws
+pub mod ChainLaws
+pub mod FixedLaws
+pub mod GoLaws
+pub mod OptionLaws
+pub mod ScopeLaws
+pub mod ShapeLaws
+pub mod TermLaws
+pub mod WordsLaws

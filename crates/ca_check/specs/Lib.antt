@@ -3,6 +3,7 @@ pub mod Channels
 pub mod Depth
 pub mod Expansion
 pub mod Go
+pub mod GoView
 pub mod Kind
 pub mod Meaning
 pub mod Names
@@ -13,3 +14,9 @@ pub mod Uses
 pub mod Walk
 pub mod Words
 pub mod Worked
+pub mod GivenView
+pub mod WalkView
+pub mod FunctionsView
+pub mod ScopeView
+pub mod Operands
+pub mod Judged
