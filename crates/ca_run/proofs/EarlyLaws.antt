@@ -16,7 +16,7 @@ use Rattle.ca_run.specs.declared.early.Name.{Name}
 use Rattle.ca_run.specs.declared.early.Name.TheVariants.{Letter, Hidden}
 use Rattle.ca_run.specs.declared.early.Word.{Word}
 use Rattle.ca_run.specs.declared.early.Word.TheVariants.{Println, Do, Let}
-use Rattle.ca_run.specs.Early.{when, number_from, number_of, letter_of, letter_in, word_in, list_term, bound, early_term, early_terms, early_let, early_bindings, early_main, early_program, is_small}
+use Rattle.ca_run.specs.Early.{when, number_from, number_of, letter_of, letter_in, word_in, list_term, bound, early_term, early_terms, early_let, early_bindings, early_main}
 
 -- the numbers below n
 abbrev below : ℕ → List ℕ
@@ -231,11 +231,13 @@ plain n = false
 
 pub main_sound : (fs : FormTrees) (bs : Bindings) → early_main [] fs ≡ Some bs → IsProgram (early_view bs) × (first_unserved (early_view bs) ≡ None)
 main_sound fs bs h =
-    let s = early_main-sound [] fs bs h in
-    (record {
-      plain = plain;
-      functions_fit = λ k d l. absurd (omega arith);
-      bodies_fit = λ k d l. absurd (omega arith);
-      main_fits = record { bound = (s.bound_in, tt); anew = (s.anew, tt); fits = (s.fits (known_in plain (early_view bs)), tt) };
-      plain_functions = tt;
-    }, s.served None)
+    let s = early_main-sound [] fs bs h in (
+      record {
+        plain = plain;
+        functions_fit = λ k d l. absurd (omega arith);
+        bodies_fit = λ k d l. absurd (omega arith);
+        main_fits = record { bound = (s.bound_in, tt); anew = (s.anew, tt); fits = (s.fits (known_in plain (early_view bs)), tt) };
+        plain_functions = tt;
+      },
+      s.served None,
+    )

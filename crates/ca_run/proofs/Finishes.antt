@@ -1,7 +1,7 @@
 -- How a call ends, by its answer.
-use Rattle.std.proofs.Common.{◌≡◌, ◌≢◌, ℕ, List, take, ap, subst, Option, Some, None, Result, Ok, Err, Bool, true, false, refl, sym, ◌∙◌, ◌⊎◌, inl, inr, OnOk, OnErr, is_ok, MatchOption, IsSome, arith, ◌<◌, ◌≤◌, codes}
+use Rattle.std.proofs.Common.{◌≡◌, ◌≢◌, ℕ, List, take, subst, Option, Some, None, Result, Ok, Err, Bool, true, false, refl, sym, ◌∙◌, ◌⊎◌, inl, inr, OnOk, OnErr, is_ok, IsSome, arith, ◌<◌, ◌≤◌}
 use Rattle.std.specs.Io.KnownBytes.{Appends}
-use Rattle.ca_meaning.specs.Ends.{RunEnd, ended, faulted, limit}
+use Rattle.ca_meaning.specs.Ends.{ended, faulted, limit}
 use Rattle.ca_value.specs.declared.seq.Seq.{Seq}
 use Rattle.ca_term.specs.declared.event.Event.{Event}
 use Rattle.ca_run.specs.declared.words.Command.{Command}
@@ -11,7 +11,6 @@ use Rattle.ca_run.specs.declared.run.MainEnd.TheVariants.{Ended, Faulted, Limit}
 use Rattle.ca_run.specs.declared.answer.Refusal.{Refusal}
 use Rattle.ca_run.specs.declared.answer.Answer.{Answer}
 use Rattle.ca_run.specs.declared.answer.Answer.TheVariants.{Usage, Refused, Ran}
-use Rattle.ca_journal.specs.Events.{events}
 use Rattle.ca_run.specs.Top.{Refused as RefusedFrom, Completed, Partly, usage}
 use Rattle.ca_run.specs.Answers.{answer_text, status_of, status_of_end, journal_of, refusal_line, end_of, line_of_end, AnswersTo}
 
@@ -74,7 +73,6 @@ known_of Usage = inl (omega arith)
 known_of (Refused r) = inl (omega arith)
 known_of (Ran m) = end_known m.end
 
-
 -- A run that has come to an end has completed with it.
 completed : (before after held taken : Option (List ℕ)) (m : MainRun) (e : MainEnd) → m.end ≡ e → AnswersTo (Some Command.Run) before after (Ran m) → Appends held taken (answer_text (Ran m)) → Completed before after held taken (journal_of (Ran m)) (end_of e)
 completed before after held taken m e is h p = subst (λ (x : MainEnd). Completed before after held taken (Some m.journal) (end_of x)) is (h.0, (answer_text (Ran m), (line_of_end m.end, h.1, refl), p))
@@ -114,7 +112,6 @@ limit_of asked before after held taken Usage s h p = absurd (omega arith)
 limit_of asked before after held taken (Refused r) s h p = absurd (omega arith)
 limit_of asked before after held taken (Ran m) s h p = limit_by before after held taken m m.end refl s (subst (λ c. AnswersTo c before after (Ran m)) (run_asked asked before after m h) h) p
 
-
 -- the line of a refusal
 abbrev pub IsRefusal : Option Command → Option (List ℕ) → Option (List ℕ) → Option (List ℕ) → Option (List ℕ) → Type 0
 IsRefusal asked before after held taken = (line : List ℕ) × (asked ≡ Some Command.Run) × RefusedFrom before after line × Appends held taken line
@@ -150,7 +147,6 @@ usage_of asked before after held taken (Ran m) s h p = absurd (end_not_one m.end
 told_refusal : (asked : Option Command) (before after held taken : Option (List ℕ)) (r : Refusal) (n : ℕ) → AnswersTo asked before after (Refused r) → Appends held taken (take n (refusal_line r)) → Partly asked before after held taken None
 told_refusal None before after held taken r n h p = absurd h
 told_refusal (Some c) before after held taken r n h p = record { text = refusal_line r; count = n; prefix = p; source = h }
-
 
 told_run : (asked : Option Command) (before after held taken : Option (List ℕ)) (m : MainRun) (n : ℕ) → AnswersTo asked before after (Ran m) → Appends held taken (take n (answer_text (Ran m))) → Partly asked before after held taken (Some m.journal)
 told_run None before after held taken m n h p = absurd h

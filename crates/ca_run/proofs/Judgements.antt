@@ -1,5 +1,5 @@
 -- What the source comes to, by what its text does.
-use Rattle.std.proofs.Common.{◌≡◌, ℕ, ◌≤◌, List, length, Option, Some, inr}
+use Rattle.std.proofs.Common.{ℕ, ◌≤◌, List, length, Option, Some, inr}
 use Rattle.std.specs.Io.KnownBytes.{Consumes, IsAtEnd}
 use Rattle.ca_run.specs.declared.words.Command.{Command}
 use Rattle.ca_run.specs.declared.answer.Answer.{Answer}

@@ -1,5 +1,5 @@
 -- The journal that the code makes, event by event.
-use Rattle.std.proofs.Common.{◌≡◌, ◌≢◌, ℕ, ◌+◌, ◌<◌, ◌≤◌, List, [], ◌∷◌, ◌++◌, map, refl, sym, ap, ◌∙◌, subst, rules, arith, true, false, ◌⊎◌, inl, inr, Option, Some, None}
+use Rattle.std.proofs.Common.{◌≡◌, ◌≢◌, ℕ, ◌+◌, ◌<◌, ◌≤◌, List, [], ◌∷◌, ◌++◌, map, refl, sym, ap, ◌∙◌, subst, arith, true, false, ◌⊎◌, inl, inr, None}
 use Rattle.ca_value.specs.Seq.{list}
 use Rattle.ca_value.specs.declared.seq.Seq.{Seq}
 use Rattle.ca_value.specs.Tree.{Tree, nil}
@@ -15,12 +15,11 @@ use Rattle.ca_term.specs.Event.{EventView, event_view, printed, over}
 use Rattle.ca_term.specs.Cost.{cost_of}
 use Rattle.ca_meaning.specs.Body.{BodyView, At, at, local, at_op, ended as ended_at, faulted as faulted_at, nowhere, fill, new_body}
 use Rattle.ca_meaning.specs.BodyViews.{stand_of}
-use Rattle.ca_meaning.specs.declared.body.Stand.{Stand}
 use Rattle.ca_meaning.specs.declared.body.Stand.TheVariants as S
 use Rattle.ca_meaning.specs.Cost.{cost}
 use Rattle.ca_meaning.specs.Rest.{Rest}
 use Rattle.ca_meaning.specs.Legal.{Legal, GoesOn, is_end_of_main}
-use Rattle.ca_meaning.specs.Ends.{RunEnd, ended, faulted, limit, HasEnd, IsEnded, IsFaulted, EndsWith, but_last}
+use Rattle.ca_meaning.specs.Ends.{limit, HasEnd, IsEnded, IsFaulted, but_last}
 use Rattle.ca_meaning.proofs.Rests.{rests}
 use Rattle.ca_meaning.proofs.Running.{NoEnd, Runs, runs_opening, runs_print, runs_end, runs_fault}
 use Rattle.ca_journal.specs.Events.{events}
@@ -61,8 +60,10 @@ no_end_goes (e ∷ (f ∷ es)) h = (h.0, no_end_goes (f ∷ es) h.1)
 
 -- where no event ends the main text, it has neither ended nor faulted
 no_end_open : (es : List EventView) → NoEnd es → (IsEnded es → ⊥) × (IsFaulted es → ⊥)
-no_end_open es h = (λ e. let k : true ≡ false = no_end_last e.0 (over 0 Ended) (subst NoEnd e.1 h) in cc,
-    λ e. let k : true ≡ false = no_end_last e.3.0 (over 0 (Faulted e.0 e.1 e.2)) (subst NoEnd e.3.1 h) in cc)
+no_end_open es h = (
+  λ e. let k : true ≡ false = no_end_last e.0 (over 0 Ended) (subst NoEnd e.1 h) in cc,
+  λ e. let k : true ≡ false = no_end_last e.3.0 (over 0 (Faulted e.0 e.1 e.2)) (subst NoEnd e.3.1 h) in cc,
+)
 
 printing-line : (op : OpView) → is_printing op ≡ true → op ≡ printing (printed_line op)
 printing-line (printing line) h = refl
@@ -100,15 +101,16 @@ pub at_limit : (program : ProgramView) (budget : ℕ) (j k : Seq Event) (e : Eve
 at_limit program budget j k e b w runs prints stands push is within past =
     let c = rests program (fill nil b) in
     let r = printed_on program j k e b c.0 w runs prints stands push is c.1 in
-    let before : but_last (events k) ≡ events j = ap but_last (events-push j k e push) ∙ but_last-snoc (events j) (event_view e) in
-    (record { state = r.state; reaches = r.reaches; goes_on = no_end_goes (events k) r.no_end },
-     (subst (λ es. cost es < budget) (sym before) within, no_end_open (events k) r.no_end, past))
+    let before : but_last (events k) ≡ events j = ap but_last (events-push j k e push) ∙ but_last-snoc (events j) (event_view e) in (
+      record { state = r.state; reaches = r.reaches; goes_on = no_end_goes (events k) r.no_end },
+      (subst (λ es. cost es < budget) (sym before) within, no_end_open (events k) r.no_end, past),
+    )
 
 -- The same, where the cost is counted beside the journal.
 pub at_budget : (program : ProgramView) (budget n m : ℕ) (j k : Seq Event) (e : Event) (b : BodyView) (w : WantView) → Runs program (events j) b → is_printing w.op ≡ true → at b ≡ at_op w → list k ≡ list j ++ e ∷ [] → event_view e ≡ printed 0 (printed_line w.op) → n ≡ cost (events j) → n < budget → m ≡ n + cost_of (event_view e) → budget ≤ m → Legal program (events k) × HasEnd program budget (events k) limit
 at_budget program budget n m j k e b w runs prints stands push is costs within more past =
     at_limit program budget j k e b w runs prints stands push is (subst (λ x. x < budget) costs within)
-        (subst (λ x. budget ≤ x) (costs_on j k e n m push costs more) past)
+    (subst (λ x. budget ≤ x) (costs_on j k e n m push costs more) past)
 
 -- where the main text is over
 over_when : (a : At) → a ≢ local → a ≢ nowhere → stand_of a ≢ S.AtOp → ((v : Tree) × (a ≡ ended_at v)) ⊎ ((f : FaultKind) × (p : Place) × (a ≡ faulted_at f p))
@@ -124,24 +126,29 @@ ends program budget j k end b runs rested there no_op within push is = by (over_
   where
     before : but_last (events j ++ over 0 (ending_of end) ∷ []) ≡ events j
     before = but_last-snoc (events j) (over 0 (ending_of end))
+
     by_end : (v : Tree) → at b ≡ ended_at v → Legal program (events k) × (HasEnd program budget (events k) (end_of end) × EndLine (events k) (end_of end) (line_of_end end))
     by_end v e =
         let which : end ≡ M.Ended = is ∙ ap (λ a. end_at (stand_of a)) e in
         let all : events k ≡ events j ++ over 0 Ended ∷ [] = push ∙ ap (λ x. events j ++ over 0 (ending_of x) ∷ []) which in
         let run = runs_end program (events j) b v runs e in
-        let last : but_last (events k) ≡ events j = ap but_last all ∙ but_last-snoc (events j) (over 0 Ended) in
-        (subst (Legal program) (sym all) run.0,
-         subst (λ x. HasEnd program budget (events k) (end_of x) × EndLine (events k) (end_of x) (line_of_end x)) (sym which)
-         ((subst (λ es. cost es < budget) (sym last) within, (events j, all)), refl))
+        let last : but_last (events k) ≡ events j = ap but_last all ∙ but_last-snoc (events j) (over 0 Ended) in (
+          subst (Legal program) (sym all) run.0,
+          subst (λ x. HasEnd program budget (events k) (end_of x) × EndLine (events k) (end_of x) (line_of_end x)) (sym which)
+              ((subst (λ es. cost es < budget) (sym last) within, (events j, all)), refl),
+        )
+
     by_fault : (f : FaultKind) (p : Place) → at b ≡ faulted_at f p → Legal program (events k) × (HasEnd program budget (events k) (end_of end) × EndLine (events k) (end_of end) (line_of_end end))
     by_fault f p e =
         let which : end ≡ M.Faulted f p = is ∙ ap (λ a. end_at (stand_of a)) e in
         let all : events k ≡ events j ++ over 0 (Faulted f p None) ∷ [] = push ∙ ap (λ x. events j ++ over 0 (ending_of x) ∷ []) which in
         let run = runs_fault program (events j) b f p runs e in
-        let last : but_last (events k) ≡ events j = ap but_last all ∙ but_last-snoc (events j) (over 0 (Faulted f p None)) in
-        (subst (Legal program) (sym all) run,
-         subst (λ x. HasEnd program budget (events k) (end_of x) × EndLine (events k) (end_of x) (line_of_end x)) (sym which)
-         ((subst (λ es. cost es < budget) (sym last) within, (f, p, None, (events j, all))), (f, p, None, (events j, all), refl)))
+        let last : but_last (events k) ≡ events j = ap but_last all ∙ but_last-snoc (events j) (over 0 (Faulted f p None)) in (
+          subst (Legal program) (sym all) run,
+          subst (λ x. HasEnd program budget (events k) (end_of x) × EndLine (events k) (end_of x) (line_of_end x)) (sym which)
+              ((subst (λ es. cost es < budget) (sym last) within, (f, p, None, (events j, all))), (f, p, None, (events j, all), refl)),
+        )
+
     by : ((v : Tree) × (at b ≡ ended_at v)) ⊎ ((f : FaultKind) × (p : Place) × (at b ≡ faulted_at f p)) → Legal program (events k) × (HasEnd program budget (events k) (end_of end) × EndLine (events k) (end_of end) (line_of_end end))
     by (inl v) = by_end v.0 v.1
     by (inr f) = by_fault f.0 f.1 f.2

@@ -1,5 +1,5 @@
 -- Where a program has no operation that isn't served, its bodies stand at prints alone.
-use Rattle.std.proofs.Common.{◌≡◌, ◌≢◌, ℕ, zero, suc, ◌<◌, List, [], ◌∷◌, length, get_or, All, map, nat_le, refl, sym, subst, arith, Bool, true, false, cond, Option, Some, None}
+use Rattle.std.proofs.Common.{◌≡◌, ℕ, zero, suc, ◌<◌, List, [], ◌∷◌, length, All, map, nat_le, refl, subst, arith, Bool, true, false, cond, Option, Some, None}
 use Rattle.ca_term.specs.declared.place.Place.{Place}
 use Rattle.ca_term.specs.declared.fault.Fault.{Fault}
 use Rattle.ca_term.specs.declared.head.Head.{Head}
@@ -10,8 +10,8 @@ use Rattle.ca_term.specs.Program.{ProgramView, ProcedureView, IsProgram, IsProce
 use Rattle.ca_term.specs.Operation.{OpView, WantView}
 use Rattle.ca_meaning.specs.declared.body.FaultAt.{FaultAt}
 use Rattle.ca_meaning.specs.Redex.{redex}
-use Rattle.ca_meaning.specs.Body.{BodyView, At, local, at_op, ended, faulted, nowhere, asking, at_call, at_turn, at_or, at, standing, standing_turn}
-use Rattle.ca_meaning.specs.Rest.{Rest, LocalSteps, here, after}
+use Rattle.ca_meaning.specs.Body.{BodyView, local, at_op, faulted, asking, at_or, at, standing, standing_turn}
+use Rattle.ca_meaning.specs.Rest.{LocalSteps, here, after}
 use Rattle.ca_meaning.specs.IsBody.{IsBodyBy, IsBodyOf}
 use Rattle.ca_meaning.proofs.PutFits.{fits-gentler}
 use Rattle.ca_meaning.proofs.RedexFits.{seat}

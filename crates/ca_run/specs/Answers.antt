@@ -1,12 +1,11 @@
 -- The text, the status and the journal of an answer, and when the answer is right.
-use Rattle.std.specs.Prelude.{◌≡◌, ℕ, List, [], ◌++◌, codes, Option, Some, None}
+use Rattle.std.specs.Prelude.{ℕ, List, [], ◌++◌, codes, Option, Some, None}
 use Rattle.ca_value.specs.declared.seq.Seq.{Seq}
 use Rattle.ca_term.specs.declared.event.Event.{Event}
 use Rattle.ca_meaning.specs.Texts.{output, fault_line}
 use Rattle.ca_meaning.specs.Ends.{RunEnd, ended, faulted, limit}
 use Rattle.ca_reader.specs.Kind.{kind_name}
 use Rattle.ca_run.specs.declared.words.Command.{Command}
-use Rattle.ca_run.specs.declared.run.MainRun.{MainRun}
 use Rattle.ca_run.specs.declared.run.MainEnd.{MainEnd}
 use Rattle.ca_run.specs.declared.run.MainEnd.TheVariants.{Ended, Faulted, Limit}
 use Rattle.ca_run.specs.declared.answer.Answer.{Answer}

@@ -106,4 +106,4 @@ pub record Partly (command : Option Command) (before after held taken : Option (
   pub count : ℕ
   pub prefix : Appends held taken (take count text)
   pub source : MatchOption journal (Told command before after text)
-    (λ j. (end : RunEnd) × Ran before after (events j) end × RunText (events j) end text)
+      (λ j. (end : RunEnd) × Ran before after (events j) end × RunText (events j) end text)

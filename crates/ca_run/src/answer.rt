@@ -5,9 +5,9 @@ ghost use Rattle.ca_journal.specs.Events.{events};
 ghost use Rattle.ca_run.specs.Top.{error_line};
 ghost use Rattle.ca_run.specs.Answers.{answer_text, line_of_end, refusal_line, Judged};
 
+use crate::early::{EarlyError, early};
 use crate::run::{BUDGET, MainEnd, MainRun, run_main};
 use ca_journal::output::{append_fault, output};
-use crate::early::{EarlyError, early};
 use ca_reader::error::{ReadError, ReadErrorKind};
 use ca_reader::read::read;
 use ca_term::place::Place;

@@ -30,7 +30,11 @@ pub struct Finish {
 
 // What the words and the source come to.
 #[tactic(auto, using(crate::proofs::Judgements::answers_by_text))]
-fn judge<S: Source>(alloc: Global, asked: Option<Command>, source: &mut S) -> Result<Answer, ReadError>
+fn judge<S: Source>(
+    alloc: Global,
+    asked: Option<Command>,
+    source: &mut S,
+) -> Result<Answer, ReadError>
     ensures unread { asked ≡ None → source.new ≡ source.old }
     ensures admitted { asked ≡ None → result ≡ Ok Answer.Usage }
     ensures answers { (a : Answer) → result ≡ Ok a → AnswersTo asked (S.left source.old) (S.left source.new) a }

@@ -1,4 +1,4 @@
-use Rattle.std.proofs.Common.{◌≡◌, ◌≢◌, ℕ, ◌+◌, ◌<◌, ◌≤◌, [], ◌∷◌, ◌++◌, Bool, sym, ap, ◌∙◌, subst, rules}
+use Rattle.std.proofs.Common.{◌≡◌, ◌≢◌, ◌+◌, ◌<◌, ◌≤◌, [], ◌∷◌, ◌++◌, sym, ap, ◌∙◌, subst, rules}
 use Rattle.std.proofs.lemmas.Result.{IfOk-weaker}
 use Rattle.ca_value.specs.Seq.{list}
 use Rattle.ca_value.specs.declared.seq.Seq.{Seq}
@@ -10,7 +10,7 @@ use Rattle.ca_term.specs.Operation.{want_view}
 use Rattle.ca_term.specs.declared.event.Event.{Event}
 use Rattle.ca_term.specs.Event.{event_view, over}
 use Rattle.ca_term.specs.Cost.{cost_of}
-use Rattle.ca_meaning.specs.Body.{new_body, at, nowhere}
+use Rattle.ca_meaning.specs.Body.{new_body, at}
 use Rattle.ca_meaning.specs.BodyViews.{body_view, stand_of}
 use Rattle.ca_meaning.specs.IsBody.{IsBodyBy, IsBodyOf}
 use Rattle.ca_meaning.specs.Legal.{Legal}
@@ -32,7 +32,7 @@ of-body-requires c =
     let program = program_view c.args.program.now in
     let same : kernel c.in_ok-copy.field-0 ≡ program.main = search rules in
     known_body program (kernel c.in_ok-copy.field-0)
-        (subst (IsBodyOf program) (sym same) (main_of_program program c.main.ensures.checked))
+    (subst (IsBodyOf program) (sym same) (main_of_program program c.main.ensures.checked))
 
 pub rest-requires : goal.rest-requires
 rest-requires c =
@@ -75,7 +75,7 @@ returns-then-budget-cost-clause-legal c =
     let more : c.loop-alloc.cost + c.cost.result ≡ c.loop-alloc.cost + cost_of (event_view c.event_of-event.result) = search rules in
     let past : c.args.budget ≤ c.loop-alloc.cost + c.cost.result = search rules in
     (at_budget program c.args.budget c.loop-alloc.cost (c.loop-alloc.cost + c.cost.result) c.loop-alloc.journal c.push.new.self c.event_of-event.result b w
-        inv.runs prints c.in_ok-want.ensures pushed c.event_of-event.ensures inv.costs inv.within more past).0
+    inv.runs prints c.in_ok-want.ensures pushed c.event_of-event.ensures inv.costs inv.within more past).0
 
 pub returns-then-budget-cost-clause-end : goal.returns-then-budget-cost-clause-end
 returns-then-budget-cost-clause-end c =
@@ -88,7 +88,7 @@ returns-then-budget-cost-clause-end c =
     let more : c.loop-alloc.cost + c.cost.result ≡ c.loop-alloc.cost + cost_of (event_view c.event_of-event.result) = search rules in
     let past : c.args.budget ≤ c.loop-alloc.cost + c.cost.result = search rules in
     (at_budget program c.args.budget c.loop-alloc.cost (c.loop-alloc.cost + c.cost.result) c.loop-alloc.journal c.push.new.self c.event_of-event.result b w
-        inv.runs prints c.in_ok-want.ensures pushed c.event_of-event.ensures inv.costs inv.within more past).1
+    inv.runs prints c.in_ok-want.ensures pushed c.event_of-event.ensures inv.costs inv.within more past).1
 
 pub rest-requires-in-loop-alloc : goal.rest-requires-in-loop-alloc
 rest-requires-in-loop-alloc c =
@@ -131,9 +131,9 @@ returns-clause-legal c =
     let b = body_view c.loop-alloc.body in
     let no_op : stand_of (at b) ≢ AtOp = search rules in
     IfOk-weaker c.over.result (λ (m : MainRun). IsOver j c.at-2.result m) (λ (m : MainRun). Legal program (events m.journal))
-        (λ m o. (ends program c.args.budget j m.journal m.end b inv.runs inv.rested c.at.ensures.somewhere no_op
-            (subst (λ n. n < c.args.budget) inv.costs inv.within) o.0 (o.1 ∙ ap end_at c.at-2.ensures.stand)).0)
-        c.over.ensures
+    (λ m o. (ends program c.args.budget j m.journal m.end b inv.runs inv.rested c.at.ensures.somewhere no_op
+    (subst (λ n. n < c.args.budget) inv.costs inv.within) o.0 (o.1 ∙ ap end_at c.at-2.ensures.stand)).0)
+    c.over.ensures
 
 pub returns-clause-end : goal.returns-clause-end
 returns-clause-end c =
@@ -143,9 +143,9 @@ returns-clause-end c =
     let b = body_view c.loop-alloc.body in
     let no_op : stand_of (at b) ≢ AtOp = search rules in
     IfOk-weaker c.over.result (λ (m : MainRun). IsOver j c.at-2.result m) (λ (m : MainRun). HasEnd program c.args.budget (events m.journal) (end_of m.end))
-        (λ m o. (ends program c.args.budget j m.journal m.end b inv.runs inv.rested c.at.ensures.somewhere no_op
-            (subst (λ n. n < c.args.budget) inv.costs inv.within) o.0 (o.1 ∙ ap end_at c.at-2.ensures.stand)).1.0)
-        c.over.ensures
+    (λ m o. (ends program c.args.budget j m.journal m.end b inv.runs inv.rested c.at.ensures.somewhere no_op
+    (subst (λ n. n < c.args.budget) inv.costs inv.within) o.0 (o.1 ∙ ap end_at c.at-2.ensures.stand)).1.0)
+    c.over.ensures
 
 pub returns-clause-line : goal.returns-clause-line
 returns-clause-line c =
@@ -155,6 +155,6 @@ returns-clause-line c =
     let b = body_view c.loop-alloc.body in
     let no_op : stand_of (at b) ≢ AtOp = search rules in
     IfOk-weaker c.over.result (λ (m : MainRun). IsOver j c.at-2.result m) (λ (m : MainRun). EndLine (events m.journal) (end_of m.end) (line_of_end m.end))
-        (λ m o. (ends program c.args.budget j m.journal m.end b inv.runs inv.rested c.at.ensures.somewhere no_op
-            (subst (λ n. n < c.args.budget) inv.costs inv.within) o.0 (o.1 ∙ ap end_at c.at-2.ensures.stand)).1.1)
-        c.over.ensures
+    (λ m o. (ends program c.args.budget j m.journal m.end b inv.runs inv.rested c.at.ensures.somewhere no_op
+    (subst (λ n. n < c.args.budget) inv.costs inv.within) o.0 (o.1 ∙ ap end_at c.at-2.ensures.stand)).1.1)
+    c.over.ensures

@@ -1,7 +1,6 @@
-use Rattle.std.proofs.Common.{◌≡◌, ◌≤◌, length, Some, rules, refl, sym, subst}
+use Rattle.std.proofs.Common.{◌≡◌, ◌≤◌, length, Some, rules, sym, subst}
 use Rattle.ca_value.specs.Seq.{list}
 use Rattle.ca_run.specs.declared.words.Command.{Command}
-use Rattle.ca_run.specs.declared.answer.Answer.{Answer}
 use Rattle.ca_run.specs.Top.{greatest_length}
 use Rattle.ca_run.specs.Answers.{Judged, AnswersTo}
 use Rattle.ca_run.proofs.Judgements.{answers_by_text}
@@ -16,4 +15,4 @@ returns-in-Ok-clause-answers g c = λ a e.
     let same : c.in-Ok.answer ≡ a = cc in
     let asked : c.args.asked ≡ Some Command.Run = search rules in
     subst (λ q. AnswersTo q left after a) (sym asked) (subst (AnswersTo (Some Command.Run) left after) same
-        (answers_by_text Command.Run left after (list c.in_ok-input.input) c.in-Ok.answer c.in_ok-input.ensures.bytes (c.in_ok-input.ensures.whole short) short judged))
+    (answers_by_text Command.Run left after (list c.in_ok-input.input) c.in-Ok.answer c.in_ok-input.ensures.bytes (c.in_ok-input.ensures.whole short) short judged))

@@ -1,11 +1,11 @@
-use Rattle.std.proofs.Common.{◌≡◌, ◌<◌, ◌⊎◌, inl, inr, rules, refl, sym, ap, ◌∙◌, subst, arith, IsSome}
+use Rattle.std.proofs.Common.{◌≡◌, rules, refl, sym, subst, arith, IsSome}
 use Rattle.ca_value.specs.declared.seq.Seq.{Seq}
 use Rattle.ca_term.specs.declared.event.Event.{Event}
 use Rattle.ca_run.specs.Words.{command_in}
-use Rattle.ca_run.specs.Answers.{answer_text, AnswersTo, journal_of, status_of}
+use Rattle.ca_run.specs.Answers.{answer_text, AnswersTo}
 use Rattle.ca_run.specs.Top.{Completed, Partly}
 use Rattle.ca_meaning.specs.Ends.{ended, faulted, limit}
-use Rattle.ca_run.proofs.Finishes.{whole_text, part_text, ended_of, faulted_of, limit_of, refused_of, usage_of, partly_of, journal_when, asked_when, close_journal, close_asked}
+use Rattle.ca_run.proofs.Finishes.{whole_text, part_text, ended_of, faulted_of, limit_of, refused_of, usage_of, partly_of, close_journal, close_asked}
 use Rattle.ca_run.proofs.top.main_call.Goals as goal
 
 pub returns-clause-ended : goal.returns-clause-ended
