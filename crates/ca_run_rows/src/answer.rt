@@ -18,7 +18,10 @@ pub fn answer_text<R: Threads + Wait + Sync + AllocGlobal>(
 ) -> Result<String, AllocError> {
     let alloc = rt.alloc();
     let row = Row::of(alloc, line)?;
-    let mut source = Failing::new(MemorySource::new(row.script.as_slice(), row.piece), row.reads.as_slice());
+    let mut source = Failing::new(
+        MemorySource::new(row.script.as_slice(), row.piece),
+        row.reads.as_slice(),
+    );
     let mut sink = Failing::new(MemorySink::new(alloc, row.piece), row.writes.as_slice());
     let mut clock = MemoryClock::new(alloc);
     let finish = main_call(
