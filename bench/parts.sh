@@ -1,7 +1,9 @@
 #!/usr/bin/env bash
 # Times the parts of a run, as nanoseconds for one call with 10, 1,000 and 100,000 entries: add and remove of
 # each buffer, pop_due and add of the timers with deadlines that come in order and with scattered ones, due
-# by place; and the merge of 16 lists and the print of a journal with 1,000,000 entries. What makes the
+# by place; put_in and take_out of a shard; make of a channel, add and remove of a channel's buffer, enqueue
+# and prune of its queue, in a bank of so many channels; tap and untap of a mult with 10, 100 and 1,000 taps,
+# of the last one and of any; and the merge of 16 lists and the print of a journal with 1,000,000 entries. What makes the
 # entries is timed alone and taken off.
 #
 #   bench/parts.sh [TIMES]     TIMES calls of each (5,000,000 if not said; a thousandth of it for 100,000
@@ -39,12 +41,21 @@ shown() {
     echo "$(($1 / 10)).$(($1 % 10)) ns"
 }
 
-for kind in fixed dropping sliding ordered scattered due; do
+for kind in fixed dropping sliding ordered scattered due waits make values handlers; do
     line="$kind:"
     for entries in 10 1000 100000; do
         count=$times
         if [ "$kind$entries" = scattered100000 ]; then count=$((times / 1000)); fi
+        if [ "$kind" = make ]; then count=$((times / 5)); fi
         line="$line $(shown "$(each "$kind" "$entries" "$count")")"
+    done
+    echo "$line"
+done
+
+for kind in taps untap; do
+    line="$kind:"
+    for entries in 10 100 1000; do
+        line="$line $(shown "$(each "$kind" "$entries" "$((times / 10))")")"
     done
     echo "$line"
 done

@@ -1,15 +1,16 @@
 #!/usr/bin/env bash
-# Times `read` on scripts of 1,048,576 bytes, and tries it on scripts that are changed at random.
+# Times `read` on scripts of 1,048,576 bytes, and tries it and `check` on scripts that are changed at random.
 #
 #   bench/reader.sh                    the times, as microseconds for one reading and megabytes a second
 #   bench/reader.sh FOLDER [COUNT]     then COUNT changed scripts (1,000,000 if not said), made from the
 #                                      *.clj files of the folder: how many read, how many have a fault,
-#                                      and how many come back otherwise from printing (there may be none)
+#                                      how many come back otherwise from printing (there may be none), and how
+#                                      many of those that read have a program
 set -eu
 
-program=crates/ca_reader_bench/out/ca_reader_bench
+program=crates/ca_script_bench/out/ca_script_bench
 cd "$(dirname "$0")/.."
-(cd crates/ca_reader_bench && rt run >/dev/null 2>&1 </dev/null)
+(cd crates/ca_script_bench && rt run >/dev/null 2>&1 </dev/null)
 
 # The microseconds that a command takes.
 micros() {
@@ -24,8 +25,8 @@ micros() {
 for kind in nest texts comments; do
     best=
     for _ in 1 2 3 4 5 6 7; do
-        once=$(micros "$program" time "$kind" 1048576 1)
-        many=$(micros "$program" time "$kind" 1048576 21)
+        once=$(micros "$program" read "$kind" 1048576 1)
+        many=$(micros "$program" read "$kind" 1048576 21)
         each=$(((many - once) / 20))
         if [ -z "$best" ] || [ "$each" -lt "$best" ]; then best=$each; fi
     done

@@ -10,6 +10,7 @@
 //! Stands on `ca_value`. Start with the trait in `buffer`; `ring` is what three of the four are made of.
 #![tactic(auto)]
 
+pub mod any;
 pub mod buffer;
 pub mod dropping;
 pub mod fixed;

@@ -124,7 +124,7 @@ parts_bound e p h (x ∷ xs) i sc s = rw (parts_bound e p h xs (suc i) (sc ++ x 
   more : length (sc ++ x ∷ []) ≡ suc (length sc)
   more = length-append sc (x ∷ []) ∙ omega arith
 
-items_names : (p : Place) (h : ℕ) (xs : List (List ℕ)) (i : ℕ) → bound_names (spread_items p h xs i) ≡ xs
+pub items_names : (p : Place) (h : ℕ) (xs : List (List ℕ)) (i : ℕ) → bound_names (spread_items p h xs i) ≡ xs
 items_names p h [] i = refl
 items_names p h (x ∷ xs) i = ap (λ ys. x ∷ ys) (items_names p h xs (suc i))
 
@@ -230,7 +230,7 @@ pub hidden_over : (e : Env) (fs : List Form) (i n : ℕ) (b : Bindings) (s : Gat
     → after (binds (map unnamed (meanings (parts_of (drop i (take n fs))))) e s) (λ bs s. done (joined b bs) s) ≡ done b s
 hidden_over e fs i n b s h = ap (λ gs. after (binds (map unnamed (meanings (parts_of gs))) e s) (λ bs s. done (joined b bs) s)) (drop_all (take n fs) i (omega (arith, length-take n fs))) ∙ ap (λ z. done z s) (joined_end b)
 
-parts_count : (p : Place) (h i n : ℕ) → length (part_terms p h i n) ≡ n
+pub parts_count : (p : Place) (h i n : ℕ) → length (part_terms p h i n) ≡ n
 parts_count p h i zero = refl
 parts_count p h i (suc n) = ap suc (parts_count p h (suc i) n)
 

@@ -117,3 +117,8 @@ pub after_second : {A B C : Type 0} (x : CheckError) (o : Outcome A) (k : A → 
     → Fails x (after o (λ a s. after (k a s) (l a)))
 after_second OutOfMemory o k l a s2 h w = tt
 after_second (Fault q p) o k l a s2 h w = rw (h, w) refl
+
+-- a choice's second part fails
+pub second_of_three : (x : CheckError) (a b d : Meaning) (k : Kernel → Kernel → Kernel → Kernel) (e : Env) (s s2 : Gathered) (t : Kernel) → a (inner e) s ≡ done t s2 → Fails x (b e s2)
+    → Fails x (after (a (inner e) s) (λ t s. after (b e s) (λ u s. after (d e s) (λ v s. limited (k t u v) s))))
+second_of_three x a b d k e s s2 t h w = after_second x (a (inner e) s) (λ t s. b e s) (λ t u s. after (d e s) (λ v s. limited (k t u v) s)) t s2 h w

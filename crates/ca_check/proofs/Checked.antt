@@ -161,7 +161,7 @@ function_ran k w t s r s1 e s2 x y = record {
   sig = signature w r.hidden flag
 
   made : ProcedureView
-  made = record { parameters = r.hidden ++ numbers (length t.scope) (names_of w.parameters); body = r.body }
+  made = record { parameters = numbers (length t.scope) (names_of w.parameters) ++ r.hidden; body = r.body }
 
   extends_now : e.tops.procedures ≡ t.procedures ++ made ∷ y.procedures
   extends_now = y.extends ∙ append_assoc t.procedures (made ∷ []) y.procedures
@@ -169,8 +169,8 @@ function_ran k w t s r s1 e s2 x y = record {
   signed_now : e.tops.functions ≡ t.functions ++ sig ∷ y.signatures
   signed_now = y.signed ∙ append_assoc t.functions (sig ∷ []) y.signatures
 
-  arities : length (r.hidden ++ numbers (length t.scope) (names_of w.parameters)) ≡ length w.parameters + length r.hidden
-  arities = length-append r.hidden (numbers (length t.scope) (names_of w.parameters)) ∙ omega (arith, numbers_length (length t.scope) (names_of w.parameters), names_length w.parameters)
+  arities : length (numbers (length t.scope) (names_of w.parameters) ++ r.hidden) ≡ length w.parameters + length r.hidden
+  arities = length-append (numbers (length t.scope) (names_of w.parameters)) r.hidden ∙ omega (arith, numbers_length (length t.scope) (names_of w.parameters), names_length w.parameters)
 
   known_plain : Final k e s2 → k.plain (length t.functions) ≡ flag
   known_plain fin = fin.plain (length t.functions) ∙ ap (λ (l : List Signature). plain_in l (length t.functions)) signed_now ∙ plain_at t.functions sig y.signatures

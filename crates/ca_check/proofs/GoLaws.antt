@@ -1,15 +1,16 @@
 -- A go block's text, once its body was walked.
-use Rattle.std.proofs.Common.{◌≡◌, ℕ, suc, ◌≤◌, List, [], ◌∷◌, ◌++◌, map, refl, sym, ap, ap₂, ◌∙◌, subst, arith}
+use Rattle.std.proofs.Common.{◌≡◌, ℕ, suc, ◌≤◌, List, [], ◌∷◌, ◌++◌, map, refl, sym, ap, ap₂, ◌∙◌, subst, arith, length, length-append, ◌+◌, slice_set}
 use Rattle.ca_term.specs.declared.place.Place.{Place}
 use Rattle.ca_term.specs.declared.term.Term.{Term}
 use Rattle.ca_term.specs.Kernel.{Kernel, var, bind, empty, binding}
 use Rattle.ca_term.specs.View.{kernel, kernels, kernels_of}
 use Rattle.ca_check.specs.declared.error.CheckError.{CheckError}
 use Rattle.ca_check.specs.Depth.{depth_of_items}
-use Rattle.ca_check.specs.Go.{task}
-use Rattle.ca_check.specs.GoView.{ending}
+use Rattle.ca_check.specs.Go.{task, in_task, go, spawned}
+use Rattle.ca_check.specs.GoView.{ending, opened, finished}
 use Rattle.ca_check.specs.Meaning.{Meaning, Env, size, inner}
-use Rattle.ca_check.specs.Outcome.{Gathered, done, limited}
+use Rattle.ca_check.specs.Outcome.{Gathered, Outcome, done, after, limited}
+use Rattle.ca_check.specs.Uses.{uses}
 use Rattle.ca_check.specs.WalkView.{Fails, terms_of}
 use Rattle.ca_check.proofs.PartLaws.{after_fails}
 
@@ -19,6 +20,18 @@ task_is m r p env s s2 t e h = rw (h, e) refl
 
 pub task_fails : (x : CheckError) (m : Meaning) (r : ℕ) (p : Place) (env : Env) (s : Gathered) → Fails x (m (inner env) s) → Fails x (task m r p env s)
 task_fails x m r p env s h = after_fails x _ _ (after_fails x _ _ h)
+
+-- a go block whose body was walked
+pub go_walked : (m : Meaning) (p : Place) (e : Env) (s s2 : Gathered) (t : Kernel) → m (in_task e) (opened s) ≡ done t s2 → go m p e s ≡ finished t (length s.bodies) (size e) p s2
+go_walked m p e s s2 t h = ap (λ (o : Outcome Kernel). after o (λ t s2.
+    done (spawned (length s.bodies) (size e) (uses (size e) t []) p)
+    (record s2 { bodies = slice_set s2.bodies (length s.bodies) (record { parameters = uses (size e) t [] ++ size e ∷ []; body = t }) })))
+    (task_is m (size e) p (in_task e) (opened s) s2 t more h) where
+      more : length (e.scope ++ [] ∷ []) ≡ suc (length e.scope)
+      more = length-append e.scope ([] ∷ []) ∙ omega arith
+
+pub go_fails : (x : CheckError) (m : Meaning) (p : Place) (e : Env) (s : Gathered) → Fails x (m (in_task e) (opened s)) → Fails x (go m p e s)
+go_fails x m p e s h = after_fails x _ _ (task_fails x m (size e) p (in_task e) (opened s) h)
 
 pub vars_more : (ns : List ℕ) (r : ℕ) → map var (ns ++ r ∷ []) ≡ map var ns ++ var r ∷ []
 vars_more [] r = refl

@@ -1,9 +1,10 @@
 -- What binding and leaving a name do to the table of names.
-use Rattle.std.proofs.Common.{◌≡◌, ℕ, suc, ◌+◌, List, [], ◌∷◌, ◌++◌, length, Option, None, Some, Bool, true, false, cond, refl, sym, ap, ◌∙◌, append_assoc, arith, append-nil, true≢false, unwrap_or}
+use Rattle.std.proofs.Common.{◌≡◌, ℕ, suc, ◌+◌, List, [], ◌∷◌, ◌++◌, length, Option, None, Some, Bool, true, false, cond, ◌||◌, is_some, refl, sym, ap, ◌∙◌, append_assoc, arith, append-nil, true≢false, unwrap_or}
 use Rattle.std.proofs.lemmas.List.{length-map}
 use Rattle.std.proofs.lemmas.List.{map-append}
 use Rattle.std.proofs.lemmas.Slice.Eq.{bytes_eq-Decides}
 use Rattle.std.specs.Str.{bytes_eq}
+use Rattle.std.specs.List.{list_any}
 use Rattle.std.specs.Map.{lookup as lookup_in}
 use Rattle.indexmap.specs.IndexMap.{insert_entry}
 use Rattle.ca_check.specs.declared.scope.Bound.{Bound}
@@ -32,6 +33,21 @@ pub lookup_more : (x y : List ℕ) (ys : List (List ℕ)) → lookup x (ys ++ y 
 lookup_more x y ys = last_of_more x y ys 0 None ∙ ap (λ n. cond (bytes_eq x y) (Some n) (lookup x ys)) none_more where
   none_more : 0 + length ys ≡ length ys
   none_more = omega arith
+
+last_of_any : (x : List ℕ) (ys : List (List ℕ)) (i : ℕ) (best : Option ℕ) → is_some (last_of x ys i best) ≡ (is_some best || list_any (λ y. bytes_eq x y) ys)
+last_of_any x [] i None = refl
+last_of_any x [] i (Some n) = refl
+last_of_any x (y ∷ ys) i best = by (bytes_eq x y) best (last_of_any x ys (suc i)) where
+  by : (b : Bool) (best : Option ℕ) → ((o : Option ℕ) → is_some (last_of x ys (suc i) o) ≡ (is_some o || list_any (λ y. bytes_eq x y) ys))
+      → is_some (last_of x ys (suc i) (cond b (Some i) best)) ≡ (is_some best || (b || list_any (λ y. bytes_eq x y) ys))
+  by true None ih = ih (Some i)
+  by true (Some n) ih = ih (Some i)
+  by false None ih = ih None
+  by false (Some n) ih = ih (Some n)
+
+-- whether a name is in scope
+pub lookup_any : (x : List ℕ) (ys : List (List ℕ)) → is_some (lookup x ys) ≡ list_any (λ y. bytes_eq x y) ys
+lookup_any x ys = last_of_any x ys 0 None
 
 module _ {V : Type 0} (key : V → List ℕ) where
   -- the table after an insertion

@@ -110,7 +110,7 @@ names_are (item f fs) xs h = by (name_in f) (names_in fs) (name_is f) (names_are
   by (Some x) None u v h = cc
   by (Some x) (Some ys) u v h = sym (given (x ∷ ys) xs h) ∙ ap (λ z. z ∷ ys) (u x refl) ∙ ap (λ z. total_name f ∷ z) (v ys refl)
 
-binder_is : (f : FormTree) (b : Binder) → binder f ≡ Some b → b ≡ total_binder f
+pub binder_is : (f : FormTree) (b : Binder) → binder f ≡ Some b → b ≡ total_binder f
 binder_is (form (atom (symbol s)) p) b h = by (is_reserved s) h where
   by : (r : Bool) → single (cond r None (Some s)) ≡ Some b → b ≡ one s
   by true h = cc

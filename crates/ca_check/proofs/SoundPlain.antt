@@ -177,7 +177,8 @@ sound_if_bound g test (Some x) a b p t f ga gb = sound_hide g 0 x.means (λ h. i
 pub sound_row_if_bound : (g : Ground) (test : Place → ℕ → Meaning) (p : Place) (qs : List Part) → TestSound g test → PartsSound g qs → Sound g 0 (row_if_bound test p qs)
 sound_row_if_bound g test p [] t f = sound_fail g 0 BadForm p
 sound_row_if_bound g test p (a ∷ []) t f = sound_fail g 0 BadForm p
-sound_row_if_bound g test p (a ∷ b ∷ []) t f = sound_fail g 0 BadForm p
+sound_row_if_bound g test p (x ∷ a ∷ []) t f = sound_if_bound g test (one_bound (bindings_in x)) (block (a.means ∷ [])) nothing p t
+    (sound_one_bound g (bindings_in x) (bindings_sound g x f.1)) (sound_body g 0 a.means f.2.0) (sound_constant g 0 nil)
 sound_row_if_bound g test p (x ∷ a ∷ b ∷ []) t f = sound_if_bound g test (one_bound (bindings_in x)) (block (a.means ∷ [])) b.means p t
     (sound_one_bound g (bindings_in x) (bindings_sound g x f.1)) (sound_body g 0 a.means f.2.0) f.2.2.0
 sound_row_if_bound g test p (a ∷ b ∷ c ∷ d ∷ qs) t f = sound_fail g 0 BadForm p

@@ -100,13 +100,13 @@ in_numbers n m (x ∷ xs) l u = ⊎_elim (λ b. inr (in_numbers (suc n) m xs (om
 
 -- the body of a function in a scope of n names of the main text and so many parameters
 pub function_procedure : (k : Known) (n : ℕ) (hidden : List ℕ) (xs : List (List ℕ)) (t : Kernel) → Below n hidden → length (uses n t hidden) ≡ length hidden
-    → Well k (n + length xs) None t → IsProcedure k (record { parameters = hidden ++ numbers n xs; body = t })
+    → Well k (n + length xs) None t → IsProcedure k (record { parameters = numbers n xs ++ hidden; body = t })
 function_procedure k n hidden xs t b e w = record {
-  bound = closed k n hidden (n + length xs) None t (hidden ++ numbers n xs) w
+  bound = closed k n hidden (n + length xs) None t (numbers n xs ++ hidden) w
       (subst (λ us. Only n us t) (extended_same hidden (uses n t hidden) (uses_extends n t hidden) e) (uses_only n t hidden))
-      ((λ m h. in_left m hidden (numbers n xs) h), (λ m l u. in_right m hidden (numbers n xs) (in_numbers n m xs l u)));
-  anew = anew k (n + length xs) None t (hidden ++ numbers n xs) w
-      (below_append (n + length xs) hidden (numbers n xs) (below_more n (n + length xs) hidden (omega arith) b) (numbers_below n (n + length xs) xs (omega arith)));
+      ((λ m h. in_right m (numbers n xs) hidden h), (λ m l u. in_left m (numbers n xs) hidden (in_numbers n m xs l u)));
+  anew = anew k (n + length xs) None t (numbers n xs ++ hidden) w
+      (below_append (n + length xs) (numbers n xs) hidden (numbers_below n (n + length xs) xs (omega arith)) (below_more n (n + length xs) hidden (omega arith) b));
   fits = fits k (n + length xs) None t w;
 }
 

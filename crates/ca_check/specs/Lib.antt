@@ -19,4 +19,11 @@ pub mod WalkView
 pub mod FunctionsView
 pub mod ScopeView
 pub mod Operands
+pub mod Order
 pub mod Judged
+pub mod TopsView
+pub mod ScriptView
+pub mod Choices
+pub mod Rounds
+pub mod Again
+pub mod Planned

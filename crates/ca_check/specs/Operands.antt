@@ -12,3 +12,8 @@ with_vars none (n ∷ ns) = item (var n) (with_vars none ns)
 abbrev pub with_second : Kernels → Kernel → Kernels
 with_second none k = none
 with_second (item t ts) k = item t (item k ts)
+
+-- the terms, and one more behind them
+abbrev pub with_last : Kernels → Kernel → Kernels
+with_last none k = item k none
+with_last (item t ts) k = item t (with_last ts k)

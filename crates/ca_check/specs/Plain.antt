@@ -94,8 +94,9 @@ abbrev pub if_bound : (Place → ℕ → Meaning) → Option Named → Meaning �
 if_bound test None a b p = fail BadForm p
 if_bound test (Some x) a b p = hide x.means (λ h. iff (test p h) (name_as x.name (local h) a) b)
 
--- (if-let [x e] a b), (if-some [x e] a b)
+-- (if-let [x e] a), (if-let [x e] a b), (if-some [x e] a), (if-some [x e] a b)
 abbrev pub row_if_bound : (Place → ℕ → Meaning) → Place → List Part → Meaning
+row_if_bound test p (x ∷ a ∷ []) = if_bound test (one_bound (bindings_in x)) (block (a.means ∷ [])) nothing p
 row_if_bound test p (x ∷ a ∷ b ∷ []) = if_bound test (one_bound (bindings_in x)) (block (a.means ∷ [])) b.means p
 row_if_bound test p ps = fail BadForm p
 

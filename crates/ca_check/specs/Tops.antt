@@ -187,10 +187,11 @@ abbrev pub is_empty : {A : Type 0} → List A → Bool
 is_empty [] = true
 is_empty (x ∷ xs) = false
 
+-- A call passes the hidden names behind the arguments, so the parameters stand in that order.
 abbrev pub with_function : Written → List ℕ → Kernel → Tops → Tops
 with_function f hidden body t = record t {
   functions = t.functions ++ signature f hidden (is_empty hidden && is_plain (plain_with (length t.functions) t.functions) body) ∷ [];
-  procedures = t.procedures ++ record { parameters = hidden ++ numbers (length t.scope) (names_of f.parameters); body = body } ∷ [];
+  procedures = t.procedures ++ record { parameters = numbers (length t.scope) (names_of f.parameters) ++ hidden; body = body } ∷ [];
   defined = suc t.defined;
 }
 

@@ -188,7 +188,7 @@ go_body n t used r = text (used ++ r ∷ []) (with_names ((r + 1, seq (kernels_o
 -- f takes n and, behind it, d; its call of itself passes d on
 abbrev pub hidden_parameter_program : ProgramView
 hidden_parameter_program = program
-    (text (0 ∷ 1 ∷ []) (seq (kernels_of (branch (var 1) (var 0) (on 31 (Call 0) (var 1 ∷ var 0 ∷ [])) ∷ []))) ∷ []) [] ((0, whole 7) ∷ [])
+    (text (1 ∷ 0 ∷ []) (seq (kernels_of (branch (var 1) (var 0) (on 31 (Call 0) (var 1 ∷ var 0 ∷ [])) ∷ []))) ∷ []) [] ((0, whole 7) ∷ [])
 
 -- the body stands in a loop over the parameter
 abbrev pub recur_to_function_program : ProgramView

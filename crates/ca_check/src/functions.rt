@@ -1,4 +1,5 @@
-ghost use Rattle.std.specs.Prelude.{◌≡◌, ◌<◌, [], ◌∷◌, ◌++◌, length, OnOk, OnErr, IfSome, IfNone, None, Some, take, ◌-◌};
+ghost use Rattle.std.specs.Prelude.{◌≡◌, ◌<◌, [], ◌∷◌, ◌++◌, length, OnOk, OnErr, IfSome, IfNone, None, Some, take, ◌-◌, false, slice_get};
+ghost use Rattle.std.specs.Option.{option_map_or};
 ghost use Rattle.ca_check.specs.FunctionsView.{find};
 ghost use Rattle.ca_check.specs.FunctionsView.{named_function};
 
@@ -60,6 +61,16 @@ impl Functions {
         match self.table.get_full(name) {
             Some((number, _, function)) => Some((number as u64, function)),
             None => None,
+        }
+    }
+
+    /// The function of that number is there, and plain.
+    pub fn is_plain(&self, number: u64) -> bool
+        ensures { result ≡ option_map_or (λ f. f.plain) (slice_get self.now number) false }
+    {
+        match self.table.get_index(number as usize) {
+            Some((_, function)) => function.plain,
+            None => false,
         }
     }
 

@@ -1,4 +1,4 @@
-ghost use Rattle.std.specs.Prelude.{◌≡◌, ◌≤◌, ◌+◌, ◌<◌, ◌^◌, IfOk, IfErr, [], length};
+ghost use Rattle.std.specs.Prelude.{◌≡◌, ◌≤◌, ◌+◌, ◌<◌, ◌^◌, IfOk, IfErr, [], length, take};
 ghost use Rattle.ca_value.specs.Seq.{list};
 ghost use Rattle.ca_value.specs.View.{view};
 ghost use Rattle.ca_term.specs.Kernel.{const, var, branch as branch_of, bind as bind_of, loop as loop_of, seq as seq_of, apply as apply_of};
@@ -81,6 +81,13 @@ impl Made {
         self.depth
     }
 
+    /// The term.
+    pub fn term(&self) -> &Term
+        ensures { result.now ≡ self.now }
+    {
+        &self.term
+    }
+
     /// The term alone.
     pub fn into_term(self) -> Term
         ensures { result ≡ self }
@@ -148,6 +155,14 @@ pub fn part_of(alloc: Global, whole: u64, index: u64, place: Place) -> Result<Ma
 }
 
 impl Bodies {
+    /// Leaves all go bodies but the first `bodies`, and sets the mark.
+    pub fn cut(&mut self, bodies: u64, deep: bool)
+        ensures { gathered self.new ≡ record { bodies = take bodies (gathered self.old).bodies; deep = deep } }
+    {
+        self.bodies.truncate(bodies);
+        self.deep = deep;
+    }
+
     // The term of that depth; nil, and the mark, where it is deeper than 400.
     fn limit(&mut self, term: Term, depth: u64) -> Made
         requires { depth ≡ depth_of (kernel term) }

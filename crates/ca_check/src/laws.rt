@@ -1,8 +1,9 @@
-ghost use Rattle.std.specs.Prelude.{◌≡◌, Ok, Err, All};
+ghost use Rattle.std.specs.Prelude.{◌≡◌, Ok, Err, All, Some, map};
 ghost use Rattle.ca_term.specs.Program.{ProgramView, IsProgram};
 ghost use Rattle.ca_reader.specs.Form.{FormTrees};
 ghost use Rattle.ca_check.specs.declared.error.CheckErrorKind.TheVariants.{UnknownName, Redefined, BadArity, BadForm, RecurNotTail, ParkOutsideGo, BlockOutsideMain, NotPlain, TooMany};
 ghost use Rattle.ca_check.specs.Expansion.{expansion_of};
+ghost use Rattle.ca_check.specs.Order.{block_place, script_go_blocks};
 ghost use Rattle.ca_check.specs.Uses.{IsGoBody};
 ghost use Rattle.ca_check.specs.Worked as worked;
 
@@ -16,6 +17,11 @@ pub fn programs_are_checked()
 /// A go body takes exactly the names that it uses from outside, in order of first use, and its result port.
 pub fn captures_are_the_names_used()
     ensures { (forms : FormTrees) (program : ProgramView) → expansion_of forms ≡ Ok program → All IsGoBody program.bodies }
+{}
+
+/// Go bodies are numbered in order of the text: one for each go block, an outer one before those within it.
+pub fn go_bodies_are_in_order_of_text()
+    ensures { (forms : FormTrees) (program : ProgramView) → expansion_of forms ≡ Ok program → map block_place program.bodies ≡ map Some (script_go_blocks forms) }
 {}
 
 /// Scripts whose expansion can be read beside the table of forms. The first ones are refused.

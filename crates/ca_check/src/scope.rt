@@ -1,4 +1,4 @@
-ghost use Rattle.std.specs.Prelude.{◌≡◌, ◌≤◌, ◌<◌, [], ◌∷◌, ◌++◌, length, take, ◌-◌, OnOk, OnErr, List, ℕ};
+ghost use Rattle.std.specs.Prelude.{◌≡◌, ◌≤◌, ◌<◌, ◌^◌, [], ◌∷◌, ◌++◌, length, take, ◌-◌, OnOk, OnErr, List, ℕ};
 ghost use Rattle.ca_value.specs.Seq.{list};
 ghost use Rattle.ca_check.specs.Meaning.{lookup};
 
@@ -50,6 +50,14 @@ impl Scope {
     /// How many names are in scope, hidden ones among them: the number of the next.
     pub fn len(&self) -> u64
         ensures { result ≡ length self.now }
+    {
+        self.names.len()
+    }
+
+    /// The number of the next name. A scope that fits memory has fewer than 2^63 names.
+    pub fn next_number(&self) -> u64
+        ensures is { result ≡ length self.now }
+        ensures most { result < 2 ^ 63 }
     {
         self.names.len()
     }

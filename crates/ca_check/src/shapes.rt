@@ -1,8 +1,11 @@
 ghost use Rattle.std.specs.Prelude.{◌≡◌, ◌==◌, is_some};
 ghost use Rattle.std.specs.List.{list_any};
 ghost use Rattle.ca_reader.specs.View.{form_tree, form_trees};
-ghost use Rattle.ca_check.specs.Binders.{is_odd, is_reserved, name_in, names_in, binder, bounds, bindings_in};
-ghost use Rattle.ca_check.specs.Judged.{bounds_error, over_long, total_binder};
+ghost use Rattle.ca_check.specs.Binders.{is_odd, is_reserved, name_in, names_in, binder, bounds, bindings_in, is_pattern};
+ghost use Rattle.ca_check.specs.Judged.{bounds_error, over_long, total_binder, total_bounds};
+ghost use Rattle.ca_check.specs.Plain.{binders};
+ghost use Rattle.ca_check.specs.Walk.{within};
+ghost use Rattle.ca_check.specs.TopsView.{pattern_of};
 ghost use Rattle.ca_check.specs.WalkView.{part, pairs_of};
 
 use crate::error::CheckErrorKind;
@@ -119,5 +122,52 @@ pub fn is_over_long(form: &Form) -> bool
         Shape::Vector(names) => 4096 < names.len(),
         Shape::Nil | Shape::Bool(_) | Shape::Int(_) | Shape::Text(_) | Shape::Key(_) => false,
         Shape::List(_) | Shape::Map(_) | Shape::Symbol(_) => false,
+    }
+}
+
+/// Whether the form is a pattern.
+pub fn is_pattern(form: &Form) -> bool
+    ensures { result ≡ is_pattern (total_binder (form_tree form.now)) }
+{
+    match &form.shape {
+        Shape::Vector(_) => true,
+        Shape::Nil | Shape::Bool(_) | Shape::Int(_) | Shape::Text(_) | Shape::Key(_) => false,
+        Shape::Symbol(_) | Shape::List(_) | Shape::Map(_) => false,
+    }
+}
+
+/// The names of a pattern; none of another form.
+pub fn pattern_items(form: &Form) -> &[Form]
+    ensures { form_trees result.now ≡ pattern_of (form_tree form.now) }
+{
+    match &form.shape {
+        Shape::Vector(names) => names.as_slice(),
+        Shape::Nil | Shape::Bool(_) | Shape::Int(_) => &[],
+        Shape::Text(_) | Shape::Key(_) | Shape::Symbol(_) => &[],
+        Shape::List(_) | Shape::Map(_) => &[],
+    }
+}
+
+fn binds_pattern(items: &[Form]) -> bool
+    ensures { result ≡ list_any is_pattern (binders (total_bounds (pairs_of items.now))) }
+{
+    for i in 0..items.len() / 2 {
+        if is_pattern(&items[2 * i]) {
+            return true;
+        }
+    }
+    false
+}
+
+/// Whether one of the bindings in the form binds a pattern.
+pub fn have_pattern(bindings: &Form) -> bool
+    ensures { result ≡ list_any is_pattern (binders (total_bounds (within (form_tree bindings.now)))) }
+{
+    match &bindings.shape {
+        Shape::Vector(items) => binds_pattern(items.as_slice()),
+        Shape::List(items) => binds_pattern(items.as_slice()),
+        Shape::Map(items) => binds_pattern(items.as_slice()),
+        Shape::Nil | Shape::Bool(_) | Shape::Int(_) => false,
+        Shape::Text(_) | Shape::Key(_) | Shape::Symbol(_) => false,
     }
 }

@@ -3,6 +3,7 @@
 //! done. `bench/parts.sh` runs it.
 #![tactic(auto)]
 
+mod banks;
 mod buffers;
 mod journals;
 mod timing;
@@ -22,6 +23,11 @@ fn main(rt: HostRuntime) -> io::Result<()> {
             b"fixed" | b"dropping" | b"sliding" => {
                 buffers::repeat(rt.alloc(), name, entries, times)
             }
+            b"waits" => banks::waits(rt.alloc(), entries, times),
+            b"make" | b"values" | b"handlers" => {
+                banks::channels(rt.alloc(), name, entries, times)
+            }
+            b"taps" | b"untap" => banks::taps(rt.alloc(), name, entries, times),
             b"ordered" | b"scattered" | b"due" => timing::repeat(rt.alloc(), name, entries, times),
             _ => journals::repeat(rt.alloc(), name, entries, times),
         };

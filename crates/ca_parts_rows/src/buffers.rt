@@ -66,8 +66,8 @@ fn truth(holds: bool) -> &'static str {
     if holds { "true" } else { "false" }
 }
 
-// The value's text, or a dash where there is none.
-fn append(alloc: Global, value: Option<&Value>, into: &mut String) -> Result<(), RowError> {
+/// The value's text, or a dash where there is none.
+pub fn append(alloc: Global, value: Option<&Value>, into: &mut String) -> Result<(), RowError> {
     let Some(value) = value else {
         return Ok(into.push_str("-")?);
     };

@@ -1,7 +1,9 @@
+use crate::banks::bank_row;
 use crate::buffers::{new_buffer_row, promise_row};
 use crate::compare::compare_row;
 use crate::events::event;
 use crate::merging::merge_row;
+use crate::shards::shard_row;
 use crate::timing::timers_row;
 use crate::words::{RowError, Words};
 use ca_journal::entry::Journal;
@@ -32,6 +34,8 @@ impl Desk {
             b"promise" => promise_row(alloc, words),
             b"compare" => compare_row(alloc, words),
             b"timers" => timers_row(alloc, words),
+            b"shard" => shard_row(alloc, words),
+            b"bank" => bank_row(alloc, words),
             b"merge" => merge_row(alloc, words),
             b"output" => text_of(alloc, &output(alloc, &self.journal)?),
             b"print" => {

@@ -1,4 +1,3 @@
-pub mod Early
 pub mod Printing
 pub mod Memory
 pub mod Failing

@@ -1,16 +1,21 @@
 ghost use Rattle.std.specs.Prelude.{◌≡◌, ◌++◌, IfOk};
 ghost use Rattle.ca_value.specs.Seq.{list};
+ghost use Rattle.ca_term.specs.Program.{program_view};
 ghost use Rattle.ca_meaning.specs.Texts.{output};
 ghost use Rattle.ca_journal.specs.Events.{events};
 ghost use Rattle.ca_run.specs.Top.{error_line};
-ghost use Rattle.ca_run.specs.Answers.{answer_text, line_of_end, refusal_line, Judged};
+ghost use Rattle.ca_run.specs.Answers.{answer_text, line_of_end, refusal_line, Judged, JudgedProgram};
 
-use crate::early::{EarlyError, early};
 use crate::run::{BUDGET, MainEnd, MainRun, run_main};
+use crate::served::served;
+use crate::words::Command;
+use ca_check::check::check;
+use ca_check::error::{CheckError, CheckErrorKind};
 use ca_journal::output::{append_fault, output};
 use ca_reader::error::{ReadError, ReadErrorKind};
 use ca_reader::read::read;
 use ca_term::place::Place;
+use ca_term::program::Program;
 use ca_value::memory::OutOfMemory;
 use ca_value::seq::Text;
 use std::alloc::Global;
@@ -22,8 +27,10 @@ pub enum Refusal {
     TooLong,
     /// The first fault of the text.
     Unreadable(ReadErrorKind, Place),
-    /// A form that isn't served yet.
-    NotYet,
+    /// The first error of its forms.
+    Unchecked(CheckErrorKind, Place),
+    /// The first operation that isn't served yet.
+    NotYet(Place),
 }
 
 /// What the words and the input come to.
@@ -31,12 +38,15 @@ pub enum Refusal {
 pub enum Answer {
     Usage,
     Refused(Refusal),
+    /// The script has a program, and only that was asked.
+    Accepted,
     Ran(MainRun),
 }
 
-/// The run of a text, or why it is refused.
-pub fn judge_text(alloc: Global, input: &[u8]) -> Result<Answer, OutOfMemory>
-    ensures { IfOk result (λ a. Judged input.now a) }
+/// The run of a text or that it is accepted, or why it is refused.
+#[tactic(auto, using(crate::proofs::Judgements::judged_by_program))]
+pub fn judge_text(alloc: Global, command: Command, input: &[u8]) -> Result<Answer, OutOfMemory>
+    ensures { IfOk result (λ a. Judged command input.now a) }
 {
     let forms = match read(alloc, input) {
         Ok(forms) => forms,
@@ -45,12 +55,27 @@ pub fn judge_text(alloc: Global, input: &[u8]) -> Result<Answer, OutOfMemory>
         }
         Err(ReadError::OutOfMemory) => return Err(OutOfMemory),
     };
-    let program = match early(alloc, &forms) {
+    let program = match check(alloc, &forms) {
         Ok(program) => program,
-        Err(EarlyError::NotYet) => return Ok(Answer::Refused(Refusal::NotYet)),
-        Err(EarlyError::OutOfMemory) => return Err(OutOfMemory),
+        Err(CheckError::Fault(kind, place)) => {
+            return Ok(Answer::Refused(Refusal::Unchecked(kind, place)));
+        }
+        Err(CheckError::OutOfMemory) => return Err(OutOfMemory),
     };
-    Ok(Answer::Ran(run_main(alloc, &program, BUDGET)?))
+    answer_of(alloc, command, &program)
+}
+
+// What a program comes to.
+fn answer_of(alloc: Global, command: Command, program: &Program) -> Result<Answer, OutOfMemory>
+    ensures { IfOk result (λ a. JudgedProgram command (program_view program.now) a) }
+{
+    match command {
+        Command::Check => Ok(Answer::Accepted),
+        Command::Run => match served(program) {
+            Some(place) => Ok(Answer::Refused(Refusal::NotYet(place))),
+            None => Ok(Answer::Ran(run_main(alloc, program, BUDGET)?)),
+        },
+    }
 }
 
 /// The text that is written for the answer.
@@ -63,6 +88,7 @@ pub fn text_of(alloc: Global, answer: &Answer) -> Result<Text, OutOfMemory>
             b"usage: run [--workers N] [--budget N] [--journal] / check / load N [--workers N]\n",
         ),
         Answer::Refused(refusal) => line_of(alloc, *refusal),
+        Answer::Accepted => Text::from_bytes(alloc, b"ok\n"),
         Answer::Ran(run) => text_of_run(alloc, run),
     }
 }
@@ -83,11 +109,11 @@ fn text_of_run(alloc: Global, run: &MainRun) -> Result<Text, OutOfMemory>
 fn line_of(alloc: Global, refusal: Refusal) -> Result<Text, OutOfMemory>
     ensures { IfOk result (λ t. list t ≡ refusal_line refusal) }
 {
-    let first = Place { line: 1, column: 1 };
     match refusal {
-        Refusal::TooLong => error_line(alloc, "TooLong", first),
+        Refusal::TooLong => error_line(alloc, "TooLong", Place { line: 1, column: 1 }),
         Refusal::Unreadable(kind, place) => error_line(alloc, kind.name(), place),
-        Refusal::NotYet => error_line(alloc, "NotYet", first),
+        Refusal::Unchecked(kind, place) => error_line(alloc, kind.name(), place),
+        Refusal::NotYet(place) => error_line(alloc, "NotYet", place),
     }
 }
 

@@ -4,21 +4,20 @@
 //! and each counts its faults. `main_call` reads the words and the source, runs the script, and writes
 //! what it prints; its clauses are the headline and the cause of each status.
 //!
-//! Here also stands what serves until crates of its own do: which scripts are served (`early`), the run
+//! Here also stands what serves until crates of its own do: which programs are run so far (`served`), the run
 //! of a main text alone, within its budget (`run`), and gates.
 //!
-//! Stands on `ca_value`, `ca_term`, `ca_meaning`, `ca_timers`, `ca_journal`, `ca_reader` and `itoa`. Start with `top` and
-//! `specs/Top.antt`, then `answer` and `run`.
+//! Stands on `ca_value`, `ca_term`, `ca_meaning`, `ca_timers`, `ca_journal`, `ca_reader`, `ca_check` and `itoa`.
+//! Start with `top` and `specs/Top.antt`, then `answer`, `served` and `run`.
 #![tactic(auto)]
 
 pub mod answer;
 pub mod device;
-pub mod early;
 pub mod failing;
 pub mod gate;
 pub mod memory;
 pub mod run;
-pub mod small;
+pub mod served;
 pub mod standard;
 #[cfg(test)]
 mod tests;

@@ -6,9 +6,11 @@ ghost use Rattle.ca_run.specs.Words.{command_in, command_named};
 pub enum Command {
     /// To run the script.
     Run,
+    /// To check it alone.
+    Check,
 }
 
-/// The command, or None where the words are not admitted: they are exactly `run`.
+/// The command, or None where the words are not admitted: they are exactly `run` or exactly `check`.
 pub fn read_words(words: &[String]) -> Option<Command>
     ensures { result ≡ command_in words.now }
 {
@@ -29,6 +31,8 @@ fn command_named(word: &[u8]) -> Option<Command>
 {
     if word == b"run".as_slice() {
         Some(Command::Run)
+    } else if word == b"check".as_slice() {
+        Some(Command::Check)
     } else {
         None
     }

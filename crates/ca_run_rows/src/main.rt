@@ -2,7 +2,8 @@
 //! and a script; its line of the output has the exit status, the number of events of the journal that is
 //! handed back, or `-`, and the text that was written.
 //!
-//! `run: (println 1)` asks for a run; `|` in a script stands for a line feed. `piece=N` lets the devices give
+//! `run: (println 1)` asks for a run; `|` in a script stands for a line feed. `budget=N` runs the script within that
+//! budget, without the top call and its devices. `piece=N` lets the devices give
 //! and take N bytes at most at once; `read=N` and `write=N` make that call fail, counted from 0. Empty lines
 //! and comments are written as they stand, so the lines of both files go together. A row is added by writing
 //! a line into each: what the language's rules or core.async answer, never what this program did.

@@ -6,3 +6,4 @@ pub mod ValidCode
 pub mod Views
 pub mod Told
 pub mod Runs
+pub mod Standing

@@ -1,9 +1,20 @@
 -- What the code of a runner comes to.
-use Rattle.std.specs.Prelude.{◌≡◌}
+use Rattle.std.specs.Prelude.{◌≡◌, List, [], ◌∷◌}
+use Rattle.ca_value.specs.Tree.{Tree}
 use Rattle.ca_states.specs.declared.stop.Stop.{Stop}
-use Rattle.ca_states.specs.Machine.{Effect, failed}
+use Rattle.ca_states.specs.Code.{Instruction}
+use Rattle.ca_states.specs.Machine.{Effect, done, failed, effect}
 
 -- it stops at the effect's fault; want of memory says nothing
 abbrev pub StopsAt : Stop → Effect → Type 0
 StopsAt (Stop.Fault f p) e = e ≡ failed f p
 StopsAt Stop.OutOfMemory e = Unit {0}
+
+-- several instructions in order, up to the first fault
+abbrev pub follows : Effect → (List Tree → Effect) → Effect
+follows (done s) f = f s
+follows (failed f p) g = failed f p
+
+abbrev pub effects : List Instruction → List Tree → Effect
+effects [] s = done s
+effects (i ∷ is) s = follows (effect i s) (effects is)

@@ -90,6 +90,36 @@ pub(crate) fn run_two(
     settle(slots, to, place, outcome)
 }
 
+// The integer as a value.
+fn integer(n: i64) -> Value
+    ensures { view result ≡ int n }
+{
+    Value::Int(n)
+}
+
+/// A builtin of a slot and an integer of the text.
+#[tactic(auto, using(crate::proofs::SlotLaws::gives_by))]
+pub(crate) fn run_two_int(
+    alloc: Global,
+    slots: &mut Items,
+    builtin: Builtin,
+    to: u64,
+    left: u64,
+    right: i64,
+    place: Place,
+) -> Result<(), Stop>
+    requires counted { IsTrue (admits builtin 2) }
+    requires to { to < length (list slots.old) }
+    requires left { left < length (list slots.old) }
+    ensures ok { OnOk result (answered (views (list slots.old)) to place (applied builtin (read (views (list slots.old)) left ∷ int right ∷ [])) ≡ done (views (list slots.new))) }
+    ensures stop { IfErr result (λ e. StopsAt e (answered (views (list slots.old)) to place (applied builtin (read (views (list slots.old)) left ∷ int right ∷ [])))) }
+    ensures same { length (list slots.new) ≡ length (list slots.old) }
+{
+    let right = integer(right);
+    let outcome = apply_two(alloc, builtin, value_at(slots, left), &right);
+    settle(slots, to, place, outcome)
+}
+
 /// `conj` of a slot to the collection that is taken out of its slot.
 #[tactic(auto, using(crate::proofs::SlotLaws::gives_by))]
 pub(crate) fn run_push(

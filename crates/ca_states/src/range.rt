@@ -87,7 +87,7 @@ impl Exit {
 }
 
 // Whether the one of that number is there and takes so many values.
-fn takes(entries: &[EntryPoint], number: u64, count: u64) -> bool
+pub(crate) fn takes(entries: &[EntryPoint], number: u64, count: u64) -> bool
     ensures { result ≡ takes entries.now number count }
 {
     match entries.get(number as usize) {

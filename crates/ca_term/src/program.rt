@@ -1,4 +1,4 @@
-ghost use Rattle.std.specs.Prelude.{◌≡◌, slice_get, option_map};
+ghost use Rattle.std.specs.Prelude.{◌≡◌, slice_get, option_map, map};
 ghost use Rattle.ca_value.specs.Seq.{list};
 ghost use Rattle.ca_term.specs.View.{kernel};
 ghost use Rattle.ca_term.specs.Program.{IsProgram, ProgramParts, program_view, procedure_view};
@@ -59,6 +59,20 @@ impl Program {
         ensures checked { IsProgram (program_view self.now) }
     {
         &self.main
+    }
+
+    /// The functions, by number.
+    pub fn functions(&self) -> &[Procedure]
+        ensures { map procedure_view result.now ≡ (program_view self.now).functions }
+    {
+        self.functions.as_slice()
+    }
+
+    /// The go bodies, by number.
+    pub fn bodies(&self) -> &[Procedure]
+        ensures { map procedure_view result.now ≡ (program_view self.now).bodies }
+    {
+        self.bodies.as_slice()
     }
 
     /// The function of that number; None exactly past the last.

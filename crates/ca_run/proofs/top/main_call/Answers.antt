@@ -5,11 +5,11 @@ use Rattle.ca_run.specs.Words.{command_in}
 use Rattle.ca_run.specs.Answers.{answer_text, AnswersTo}
 use Rattle.ca_run.specs.Top.{Completed, Partly}
 use Rattle.ca_meaning.specs.Ends.{ended, faulted, limit}
-use Rattle.ca_run.proofs.Finishes.{whole_text, part_text, ended_of, faulted_of, limit_of, refused_of, usage_of, partly_of, close_journal, close_asked}
+use Rattle.ca_run.proofs.Finishes.{whole_text, part_text, ended_of, accepted_of, faulted_of, limit_of, refused_of, usage_of, partly_of, close_journal, close_asked}
 use Rattle.ca_run.proofs.top.main_call.Goals as goal
 
 pub returns-clause-ended : goal.returns-clause-ended
-returns-clause-ended g c = λ e.
+returns-clause-ended g c = λ asked e.
     let a = c.in-Ok.answer in
     let left = g.S.Source.left c.args.source.now in
     let after = g.S.Source.left c.judge.new.source in
@@ -18,7 +18,19 @@ returns-clause-ended g c = λ e.
     let answers : AnswersTo (command_in c.args.words.now) left after a = subst (λ q. AnswersTo q left after a) c.read_words.ensures (c.in-Ok.ensures.answers a refl) in
     let words : c.as_slice.result.now ≡ answer_text a = search rules in
     let text = whole_text c.write_all.result c.is_ok-written.result c.close.result.status 0 a held (g.K.Sink.held c.reserve.new.self) taken c.as_slice.result.now c.is_ok-written.ensures.value c.close.ensures.lost c.close.ensures.done c.write_all.ensures.ok words c.reserve.ensures.held e (omega arith) in
-    subst (λ j. Completed left after held taken j ended) (sym c.close.ensures.journal) (ended_of (command_in c.args.words.now) left after held taken a text.0 answers text.1)
+    subst (λ j. Completed left after held taken j ended) (sym c.close.ensures.journal) (ended_of (command_in c.args.words.now) left after held taken a asked text.0 answers text.1)
+
+pub returns-clause-accepted : goal.returns-clause-accepted
+returns-clause-accepted g c = λ asked e.
+    let a = c.in-Ok.answer in
+    let left = g.S.Source.left c.args.source.now in
+    let after = g.S.Source.left c.judge.new.source in
+    let held = g.K.Sink.held c.args.sink.now in
+    let taken = g.K.Sink.held c.write_all.new.sink in
+    let answers : AnswersTo (command_in c.args.words.now) left after a = subst (λ q. AnswersTo q left after a) c.read_words.ensures (c.in-Ok.ensures.answers a refl) in
+    let words : c.as_slice.result.now ≡ answer_text a = search rules in
+    let text = whole_text c.write_all.result c.is_ok-written.result c.close.result.status 0 a held (g.K.Sink.held c.reserve.new.self) taken c.as_slice.result.now c.is_ok-written.ensures.value c.close.ensures.lost c.close.ensures.done c.write_all.ensures.ok words c.reserve.ensures.held e (omega arith) in
+    accepted_of (command_in c.args.words.now) left after held taken a asked text.0 answers text.1
 
 pub returns-clause-faulted : goal.returns-clause-faulted
 returns-clause-faulted g c = λ e.
@@ -81,7 +93,7 @@ returns-clause-partial g c = λ e.
     subst (Partly (command_in c.args.words.now) left after held taken) (sym c.close.ensures.journal) (partly_of (command_in c.args.words.now) left after held taken a part.0 answers part.1)
 
 pub returns-clause-runs : goal.returns-clause-runs
-returns-clause-runs g c = λ e.
+returns-clause-runs g c =
     let a = c.in-Ok.answer in
     let left = g.S.Source.left c.args.source.now in
     let after = g.S.Source.left c.judge.new.source in
@@ -89,7 +101,18 @@ returns-clause-runs g c = λ e.
     let taken = g.K.Sink.held c.write_all.new.sink in
     let answers : AnswersTo (command_in c.args.words.now) left after a = subst (λ q. AnswersTo q left after a) c.read_words.ensures (c.in-Ok.ensures.answers a refl) in
     let words : c.as_slice.result.now ≡ answer_text a = search rules in
-    close_asked (command_in c.args.words.now) left after a c.is_ok-written.result c.close.result.status c.close.ensures.lost c.close.ensures.done answers e
+    (close_asked (command_in c.args.words.now) left after a c.is_ok-written.result c.close.result.status c.close.ensures.lost c.close.ensures.done answers).0
+
+pub returns-clause-done : goal.returns-clause-done
+returns-clause-done g c =
+    let a = c.in-Ok.answer in
+    let left = g.S.Source.left c.args.source.now in
+    let after = g.S.Source.left c.judge.new.source in
+    let held = g.K.Sink.held c.args.sink.now in
+    let taken = g.K.Sink.held c.write_all.new.sink in
+    let answers : AnswersTo (command_in c.args.words.now) left after a = subst (λ q. AnswersTo q left after a) c.read_words.ensures (c.in-Ok.ensures.answers a refl) in
+    let words : c.as_slice.result.now ≡ answer_text a = search rules in
+    (close_asked (command_in c.args.words.now) left after a c.is_ok-written.result c.close.result.status c.close.ensures.lost c.close.ensures.done answers).1
 
 pub returns-clause-journal : goal.returns-clause-journal
 returns-clause-journal g c = λ j.

@@ -1,0 +1,9 @@
+pub mod Shard
+pub mod Kept
+pub mod Room
+pub mod Bank
+pub mod Registries
+pub mod Mixes
+pub mod Registry
+pub mod Publications
+pub mod Holds

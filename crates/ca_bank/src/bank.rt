@@ -1,0 +1,383 @@
+ghost use Rattle.std.specs.Prelude.{◌≡◌, ℕ, ◌+◌, ◌%◌, ◌<◌, ◌≤◌, None, Some, true, false, OnOk, IfOk, IfErr, eqb, is_some, option_map, slice_get, nat_eq};
+ghost use Rattle.std.specs.Map.{update};
+ghost use Rattle.indexmap.specs.IndexMap.{get};
+ghost use Rattle.ca_value.specs.Seq.{list};
+ghost use Rattle.ca_value.specs.View.{view, trees};
+ghost use Rattle.ca_bank.specs.Kept.{at, unattended, enqueued, pruned, closed, added, removed, queue_at, is_closed_at, buffer_at, takes_one_more, dropped_at, given_at, queue_spare, buffer_spare, spare_put_on, one_less, spare_in_buffer};
+ghost use Rattle.ca_bank.specs.Registries.{answered, IsCause, members_added};
+ghost use Rattle.ca_bank.specs.Mixes.{TogglesApart};
+ghost use Rattle.ca_bank.specs.Publications.{PlacesItself};
+ghost use Rattle.ca_bank.specs.Registry.{registry_view, comes_to, registered};
+ghost use Rattle.ca_bank.specs.Room.{handler_view, kept_view, buffered};
+
+use crate::handler::Handler;
+use crate::registry::{Registry, members_added};
+use crate::registry_error::RegisterError;
+use crate::room::Room;
+use ca_buffers::any::AnyBuffer;
+use ca_term::event::Side;
+use ca_term::head::RegisterName;
+use ca_value::memory::OutOfMemory;
+use ca_value::value::{Items, PortId, Value};
+use indexmap::IndexMap;
+use std::alloc::Global;
+
+/// What a port is.
+#[derive(Clone, Copy, PartialEq, Eq, Debug)]
+pub enum PortKind {
+    Channel,
+    Mult,
+    Mix,
+    Pub,
+}
+
+/// What is made at a new port.
+#[derive(Drop)]
+pub enum Made {
+    /// A channel with that buffer, or without one.
+    Channel(Option<AnyBuffer>),
+    /// The source.
+    Mult(PortId),
+    /// The output, then the change channel.
+    Mix(PortId, PortId),
+    /// The source.
+    Pub(PortId),
+}
+
+/// The channels and registries of one bank, by number.
+#[derive(Drop)]
+pub struct Bank {
+    rooms: IndexMap<u64, Room>,
+    registries: IndexMap<u64, Registry>,
+    number: u64,
+    count: u64,
+    ghost within: { number < count },
+    ghost placed: { (p : ℕ) → is_some (get nat_eq rooms p) ≡ true → eqb (p % count) number ≡ true },
+    ghost registered: { (p : ℕ) → is_some (get nat_eq registries p) ≡ true → eqb (p % count) number ≡ true },
+}
+
+impl Bank {
+    ghost use Rattle.ca_bank.specs.Shard.{belongs};
+    ghost use Rattle.ca_bank.specs.Bank.{kept_at, spares_at, registry_at, members_spare_at, bank_number, bank_count, channels_spare, registries_spare, SameBank, SameChannels, SameRegistries, ArePlaced, kind_at, kind_of, with_made, kept_made, registry_made};
+
+    /// The bank of that number, of so many: it has no port, and takes no memory.
+    pub fn new(alloc: Global, number: u64, count: u64) -> Bank
+        requires { number < count }
+        ensures channels { (p : ℕ) → kept_at result p ≡ None }
+        ensures registries { (p : ℕ) → registry_at result p ≡ None }
+        ensures number { bank_number result ≡ number }
+        ensures count { bank_count result ≡ count }
+    {
+        Bank {
+            rooms: IndexMap::new(alloc),
+            registries: IndexMap::new(alloc),
+            number,
+            count,
+        }
+    }
+
+    /// Whether the port can stand in this bank.
+    pub fn owns(&self, port: PortId) -> bool
+        ensures owns { result ≡ belongs (bank_number self.now) (bank_count self.now) port.n }
+        ensures placed { ArePlaced self.now }
+    {
+        port.n % self.count == self.number
+    }
+
+    /// What the port is; None exactly where it isn't in this bank.
+    pub fn kind(&self, port: PortId) -> Option<PortKind>
+        ensures { result ≡ kind_at (kept_at self.now port.n) (registry_at self.now port.n) }
+    {
+        match self.rooms.get(&port.n) {
+            Some(_) => Some(PortKind::Channel),
+            None => self.registry_kind(port),
+        }
+    }
+
+    fn registry_kind(&self, port: PortId) -> Option<PortKind>
+        ensures { result ≡ kind_of (registry_at self.now port.n) }
+    {
+        match self.registries.get(&port.n) {
+            Some(registry) => Some(registry.kind()),
+            None => None,
+        }
+    }
+
+    /// The handler at that place of the queue, from 0; None exactly where the place is past the last one.
+    pub fn handler(&self, port: PortId, side: Side, place: u64) -> Option<&Handler>
+        ensures { option_map (λ h. handler_view h.now) result ≡ slice_get (queue_at side (kept_at self.now port.n)) place }
+    {
+        match self.rooms.get(&port.n) {
+            Some(room) => room.handler(side, place),
+            None => None,
+        }
+    }
+
+    /// Whether the channel is closed.
+    pub fn is_closed(&self, port: PortId) -> bool
+        ensures { result ≡ is_closed_at (kept_at self.now port.n) }
+    {
+        match self.rooms.get(&port.n) {
+            Some(room) => room.is_closed(),
+            None => false,
+        }
+    }
+
+    /// The channel's buffer; None exactly where it has none.
+    pub fn buffer(&self, port: PortId) -> Option<&AnyBuffer>
+        ensures { option_map (λ b. buffered b.now) result ≡ buffer_at (kept_at self.now port.n) }
+    {
+        match self.rooms.get(&port.n) {
+            Some(room) => room.buffer(),
+            None => None,
+        }
+    }
+
+    /// Whether the port is a channel here.
+    pub fn is_channel(&self, port: PortId) -> bool
+        ensures { result ≡ is_some (kept_at self.now port.n) }
+    {
+        self.rooms.get(&port.n).is_some()
+    }
+
+    /// Whether the port is a registry here.
+    pub fn is_registry(&self, port: PortId) -> bool
+        ensures { result ≡ is_some (registry_at self.now port.n) }
+    {
+        self.registries.get(&port.n).is_some()
+    }
+
+    /// Whether the channel has a buffer that takes one more value.
+    pub fn has_room(&self, port: PortId) -> bool
+        ensures { result ≡ takes_one_more (kept_at self.now port.n) }
+    {
+        match self.rooms.get(&port.n) {
+            Some(room) => room.has_room(),
+            None => false,
+        }
+    }
+
+    /// Makes room for one more port, and changes nothing else.
+    pub fn reserve_port(&mut self) -> Result<(), OutOfMemory>
+        ensures channels { OnOk result (0 < channels_spare self.new) }
+        ensures registries { OnOk result (0 < registries_spare self.new) }
+        ensures kept { (p : ℕ) → kept_at self.new p ≡ kept_at self.old p }
+        ensures spares { (p : ℕ) → spares_at self.new p ≡ spares_at self.old p }
+        ensures same { SameBank self.old self.new }
+        ensures others { SameRegistries self.old self.new }
+    {
+        self.rooms.reserve(1)?;
+        self.registries.reserve(1)?;
+        Ok(())
+    }
+
+    /// Adds the port. It takes no memory.
+    pub fn make(&mut self, alloc: Global, port: PortId, made: Made)
+        requires belongs { belongs (bank_number self.old) (bank_count self.old) port.n ≡ true }
+        requires channels { 0 < channels_spare self.old }
+        requires registries { 0 < registries_spare self.old }
+        ensures kept { (p : ℕ) → kept_at self.new p ≡ with_made port.n (kept_made made) (kept_at self.old) p }
+        ensures registered { (p : ℕ) → registry_at self.new p ≡ with_made port.n (registry_made made) (registry_at self.old) p }
+        ensures spare { channels_spare self.old ≤ channels_spare self.new + 1 }
+        ensures more { registries_spare self.old ≤ registries_spare self.new + 1 }
+        ensures number { bank_number self.new ≡ bank_number self.old }
+        ensures count { bank_count self.new ≡ bank_count self.old }
+    {
+        match made {
+            Made::Channel(buffer) => self.add_room(port, Room::new(alloc, buffer)),
+            Made::Mult(source) => self.add_registry(port, Registry::mult(alloc, source)),
+            Made::Mix(out, changes) => self.add_registry(port, Registry::mix(alloc, out, changes)),
+            Made::Pub(source) => self.add_registry(port, Registry::publication(alloc, source)),
+        }
+    }
+
+    fn add_room(&mut self, port: PortId, room: Room)
+        requires belongs { belongs (bank_number self.old) (bank_count self.old) port.n ≡ true }
+        requires spare { 0 < channels_spare self.old }
+        ensures kept { (p : ℕ) → kept_at self.new p ≡ update eqb (kept_at self.old) port.n (Some (kept_view room)) p }
+        ensures registered { (p : ℕ) → registry_at self.new p ≡ registry_at self.old p }
+        ensures spare { channels_spare self.old ≤ channels_spare self.new + 1 }
+        ensures more { registries_spare self.old ≤ registries_spare self.new }
+        ensures number { bank_number self.new ≡ bank_number self.old }
+        ensures count { bank_count self.new ≡ bank_count self.old }
+    {
+        match self.rooms.insert(port.n, room) {
+            Ok(_) => {}
+            Err(_) => unreachable!(),
+        }
+    }
+
+    fn add_registry(&mut self, port: PortId, registry: Registry)
+        requires belongs { belongs (bank_number self.old) (bank_count self.old) port.n ≡ true }
+        requires spare { 0 < registries_spare self.old }
+        ensures kept { (p : ℕ) → kept_at self.new p ≡ kept_at self.old p }
+        ensures registered { (p : ℕ) → registry_at self.new p ≡ update eqb (registry_at self.old) port.n (Some (registry_view registry)) p }
+        ensures spare { channels_spare self.old ≤ channels_spare self.new }
+        ensures more { registries_spare self.old ≤ registries_spare self.new + 1 }
+        ensures number { bank_number self.new ≡ bank_number self.old }
+        ensures count { bank_count self.new ≡ bank_count self.old }
+    {
+        match self.registries.insert(port.n, registry) {
+            Ok(_) => {}
+            Err(_) => unreachable!(),
+        }
+    }
+
+    /// Makes room for `n` more handlers on that side of the channel, and changes nothing else.
+    pub fn reserve(&mut self, port: PortId, side: Side, n: u64) -> Result<(), OutOfMemory>
+        ensures spare { OnOk result (is_some (kept_at self.old port.n) ≡ true → n ≤ queue_spare side (spares_at self.new port.n)) }
+        ensures kept { (p : ℕ) → kept_at self.new p ≡ kept_at self.old p }
+        ensures spares { (p : ℕ) → spares_at self.new p ≡ at (spares_at self.old) port.n (spare_put_on side (queue_spare side (spares_at self.new port.n))) p }
+        ensures more { queue_spare side (spares_at self.old port.n) ≤ queue_spare side (spares_at self.new port.n) }
+        ensures same { SameBank self.old self.new }
+        ensures others { SameRegistries self.old self.new }
+    {
+        match self.rooms.get_mut(&port.n) {
+            Some(room) => room.reserve(side, n),
+            None => Ok(()),
+        }
+    }
+
+    /// Adds the handler last on that side of the channel. It takes no memory.
+    pub fn enqueue(&mut self, port: PortId, side: Side, handler: Handler)
+        requires { 0 < queue_spare side (spares_at self.old port.n) }
+        ensures kept { (p : ℕ) → kept_at self.new p ≡ at (kept_at self.old) port.n (enqueued side (handler_view handler)) p }
+        ensures spares { (p : ℕ) → spares_at self.new p ≡ at (spares_at self.old) port.n (one_less side) p }
+        ensures same { SameBank self.old self.new }
+        ensures others { SameRegistries self.old self.new }
+    {
+        if let Some(room) = self.rooms.get_mut(&port.n) {
+            room.enqueue(side, handler);
+        }
+    }
+
+    /// Takes the handler at that place out; None exactly where the place is past the last one. In front it
+    /// costs the same however many there are.
+    pub fn prune(&mut self, port: PortId, side: Side, place: u64) -> Option<Handler>
+        ensures handler { option_map handler_view result ≡ slice_get (queue_at side (kept_at self.old port.n)) place }
+        ensures kept { (p : ℕ) → kept_at self.new p ≡ at (kept_at self.old) port.n (pruned side place) p }
+        ensures spares { (p : ℕ) → spares_at self.new p ≡ at (spares_at self.old) port.n (spare_put_on side (queue_spare side (spares_at self.new port.n))) p }
+        ensures more { queue_spare side (spares_at self.old port.n) ≤ queue_spare side (spares_at self.new port.n) }
+        ensures same { SameBank self.old self.new }
+        ensures others { SameRegistries self.old self.new }
+    {
+        match self.rooms.get_mut(&port.n) {
+            Some(room) => room.prune(side, place),
+            None => None,
+        }
+    }
+
+    /// Closes the channel. What it holds and who waits stay.
+    pub fn close(&mut self, port: PortId)
+        ensures kept { (p : ℕ) → kept_at self.new p ≡ at (kept_at self.old) port.n closed p }
+        ensures spares { (p : ℕ) → spares_at self.new p ≡ spares_at self.old p }
+        ensures same { SameBank self.old self.new }
+        ensures others { SameRegistries self.old self.new }
+    {
+        if let Some(room) = self.rooms.get_mut(&port.n) {
+            room.close();
+        }
+    }
+
+    /// Makes room for one more value in the channel's buffer, if it has one, and changes nothing else.
+    pub fn reserve_buffer(&mut self, port: PortId) -> Result<(), OutOfMemory>
+        ensures spare { OnOk result (is_some (buffer_at (kept_at self.old port.n)) ≡ true → 0 < buffer_spare (spares_at self.new port.n)) }
+        ensures kept { (p : ℕ) → kept_at self.new p ≡ kept_at self.old p }
+        ensures spares { (p : ℕ) → spares_at self.new p ≡ at (spares_at self.old) port.n (spare_in_buffer (buffer_spare (spares_at self.new port.n))) p }
+        ensures more { buffer_spare (spares_at self.old port.n) ≤ buffer_spare (spares_at self.new port.n) }
+        ensures same { SameBank self.old self.new }
+        ensures others { SameRegistries self.old self.new }
+    {
+        match self.rooms.get_mut(&port.n) {
+            Some(room) => room.reserve_buffer(),
+            None => Ok(()),
+        }
+    }
+
+    /// Adds the value to the channel's buffer, and gives the value that is dropped, if any. It takes no
+    /// memory.
+    pub fn add(&mut self, port: PortId, value: Value) -> Option<Value>
+        requires room { takes_one_more (kept_at self.old port.n) ≡ true }
+        requires spare { 0 < buffer_spare (spares_at self.old port.n) }
+        ensures kept { (p : ℕ) → kept_at self.new p ≡ at (kept_at self.old) port.n (added (view value)) p }
+        ensures dropped { option_map view result ≡ dropped_at (kept_at self.old port.n) (view value) }
+        ensures spares { (p : ℕ) → spares_at self.new p ≡ at (spares_at self.old) port.n (spare_in_buffer (buffer_spare (spares_at self.new port.n))) p }
+        ensures less { buffer_spare (spares_at self.old port.n) ≤ buffer_spare (spares_at self.new port.n) + 1 }
+        ensures same { SameBank self.old self.new }
+        ensures others { SameRegistries self.old self.new }
+    {
+        match self.rooms.get_mut(&port.n) {
+            Some(room) => room.add(value),
+            None => None,
+        }
+    }
+
+    /// Takes the oldest value out of the channel's buffer; None where there is none. Nothing leaves a promise.
+    pub fn remove(&mut self, port: PortId) -> Option<Value>
+        ensures kept { (p : ℕ) → kept_at self.new p ≡ at (kept_at self.old) port.n removed p }
+        ensures given { option_map view result ≡ given_at (kept_at self.old port.n) }
+        ensures spares { (p : ℕ) → spares_at self.new p ≡ at (spares_at self.old) port.n (spare_in_buffer (buffer_spare (spares_at self.new port.n))) p }
+        ensures more { buffer_spare (spares_at self.old port.n) ≤ buffer_spare (spares_at self.new port.n) }
+        ensures same { SameBank self.old self.new }
+        ensures others { SameRegistries self.old self.new }
+    {
+        match self.rooms.get_mut(&port.n) {
+            Some(room) => room.remove(),
+            None => None,
+        }
+    }
+
+    /// What the operation on a registry answers, by the table of registry operations. No two keys of a
+    /// toggle may name one channel, and a topic that is placed is equal to itself; both hold of
+    /// every value whose keys are channels (`apart` has the tests).
+    pub fn answer(
+        &self,
+        alloc: Global,
+        port: PortId,
+        name: RegisterName,
+        args: &[Value],
+    ) -> Result<Value, RegisterError>
+        requires apart { TogglesApart name (trees args.now) }
+        requires itself { PlacesItself name (trees args.now) }
+        ensures ok { IfOk result (λ v. answered (comes_to (registry_at self.now port.n) name (trees args.now)) ≡ Some (view v)) }
+        ensures err { IfErr result (λ e. IsCause e (comes_to (registry_at self.now port.n) name (trees args.now))) }
+    {
+        match self.registries.get(&port.n) {
+            Some(registry) => registry.answer(alloc, name, args),
+            None => Err(RegisterError::NotAPort),
+        }
+    }
+
+    /// Makes room for the change of the operation, and changes nothing else.
+    pub fn reserve_register(
+        &mut self,
+        port: PortId,
+        name: RegisterName,
+        args: &[Value],
+    ) -> Result<(), OutOfMemory>
+        ensures spare { OnOk result (is_some (registry_at self.old port.n) ≡ true → members_added name (trees args.now) ≤ members_spare_at self.new port.n) }
+        ensures registered { (p : ℕ) → registry_at self.new p ≡ registry_at self.old p }
+        ensures more { members_spare_at self.old port.n ≤ members_spare_at self.new port.n }
+        ensures same { SameBank self.old self.new }
+        ensures others { SameChannels self.old self.new }
+    {
+        let n = members_added(name, args);
+        match self.registries.get_mut(&port.n) {
+            Some(registry) => registry.reserve(n),
+            None => Ok(()),
+        }
+    }
+
+    /// The change of the operation; where it faults there is none. It takes no memory.
+    pub fn register(&mut self, port: PortId, name: RegisterName, args: Items)
+        requires room { members_added name (trees (list args)) ≤ members_spare_at self.old port.n }
+        requires apart { TogglesApart name (trees (list args)) }
+        ensures registered { (p : ℕ) → registry_at self.new p ≡ at (registry_at self.old) port.n (registered name (trees (list args))) p }
+        ensures same { SameBank self.old self.new }
+        ensures others { SameChannels self.old self.new }
+    {
+        if let Some(registry) = self.registries.get_mut(&port.n) {
+            registry.register(name, args);
+        }
+    }
+}

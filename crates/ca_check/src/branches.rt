@@ -1,0 +1,153 @@
+ghost use Rattle.std.specs.Prelude.{◌≡◌, ◌<◌, IfOk, IfErr, OnOk, length, drop};
+ghost use Rattle.ca_term.specs.View.{kernel};
+ghost use Rattle.ca_check.specs.Outcome.{done};
+ghost use Rattle.ca_check.specs.Judged.{more_of};
+ghost use Rattle.ca_check.specs.Plain.{meanings, row_if, row_if_not, row_when, row_when_not};
+ghost use Rattle.ca_check.specs.WalkView.{gathered, env, parts_of, Fails};
+
+use crate::context::At;
+use crate::error::{CheckError, CheckErrorKind};
+use crate::fixed::nothing;
+use crate::functions::Functions;
+use crate::gathered::Made;
+use crate::walk::Walker;
+use ca_reader::form::Form;
+use ca_term::place::Place;
+use ca_value::value::Value;
+use std::alloc::Global;
+
+impl Walker {
+    #[cycle(walk)]
+    #[tactic(auto, using(crate::proofs::PartLaws::two_parts, crate::proofs::PartLaws::three_parts))]
+    pub fn if_form(
+        &mut self,
+        alloc: Global,
+        functions: &Functions,
+        at: At,
+        place: Place,
+        parts: &[Form],
+    ) -> Result<Made, CheckError>
+        requires { 0 < length parts.now }
+        ensures ok { IfOk result (λ t. row_if place (parts_of (drop 1 parts.now)) (env self.old.scope functions.now at) (gathered self.old.gathered) ≡ done (kernel t) (gathered self.new.gathered)) }
+        ensures err { IfErr result (λ e. Fails e (row_if place (parts_of (drop 1 parts.now)) (env self.old.scope functions.now at) (gathered self.old.gathered))) }
+        ensures scope { OnOk result (self.new.scope ≡ self.old.scope) }
+    {
+        match parts {
+            [_, test, then] => {
+                let test = self.form(alloc, functions, at.inner(), test)?;
+                let then = self.form(alloc, functions, at, then)?;
+                self.gathered.branch(alloc, test, then, nothing())
+            }
+            [_, test, then, otherwise] => {
+                let test = self.form(alloc, functions, at.inner(), test)?;
+                let then = self.form(alloc, functions, at, then)?;
+                let otherwise = self.form(alloc, functions, at, otherwise)?;
+                self.gathered.branch(alloc, test, then, otherwise)
+            }
+            _ => Err(CheckError::Fault(CheckErrorKind::BadForm, place)),
+        }
+    }
+
+    #[cycle(walk)]
+    #[tactic(auto, using(crate::proofs::PartLaws::three_parts))]
+    pub fn if_not_form(
+        &mut self,
+        alloc: Global,
+        functions: &Functions,
+        at: At,
+        place: Place,
+        parts: &[Form],
+    ) -> Result<Made, CheckError>
+        requires { 0 < length parts.now }
+        ensures ok { IfOk result (λ t. row_if_not place (parts_of (drop 1 parts.now)) (env self.old.scope functions.now at) (gathered self.old.gathered) ≡ done (kernel t) (gathered self.new.gathered)) }
+        ensures err { IfErr result (λ e. Fails e (row_if_not place (parts_of (drop 1 parts.now)) (env self.old.scope functions.now at) (gathered self.old.gathered))) }
+        ensures scope { OnOk result (self.new.scope ≡ self.old.scope) }
+    {
+        match parts {
+            [_, test, then, otherwise] => {
+                let test = self.form(alloc, functions, at.inner(), test)?;
+                let then = self.form(alloc, functions, at, then)?;
+                let otherwise = self.form(alloc, functions, at, otherwise)?;
+                self.gathered.branch(alloc, test, otherwise, then)
+            }
+            _ => Err(CheckError::Fault(CheckErrorKind::BadForm, place)),
+        }
+    }
+
+    #[cycle(walk)]
+    pub fn when_form(
+        &mut self,
+        alloc: Global,
+        functions: &Functions,
+        at: At,
+        place: Place,
+        parts: &[Form],
+    ) -> Result<Made, CheckError>
+        requires { 0 < length parts.now }
+        ensures ok { IfOk result (λ t. row_when place (parts_of (drop 1 parts.now)) (env self.old.scope functions.now at) (gathered self.old.gathered) ≡ done (kernel t) (gathered self.new.gathered)) }
+        ensures err { IfErr result (λ e. Fails e (row_when place (parts_of (drop 1 parts.now)) (env self.old.scope functions.now at) (gathered self.old.gathered))) }
+        ensures scope { OnOk result (self.new.scope ≡ self.old.scope) }
+    {
+        match parts {
+            [_, test, ..] => {
+                let test = self.form(alloc, functions, at.inner(), test)?;
+                let body = self.block(alloc, functions, at, parts, 2)?;
+                self.gathered.branch(alloc, test, body, nothing())
+            }
+            _ => Err(CheckError::Fault(CheckErrorKind::BadForm, place)),
+        }
+    }
+
+    #[cycle(walk)]
+    pub fn when_not_form(
+        &mut self,
+        alloc: Global,
+        functions: &Functions,
+        at: At,
+        place: Place,
+        parts: &[Form],
+    ) -> Result<Made, CheckError>
+        requires { 0 < length parts.now }
+        ensures ok { IfOk result (λ t. row_when_not place (parts_of (drop 1 parts.now)) (env self.old.scope functions.now at) (gathered self.old.gathered) ≡ done (kernel t) (gathered self.new.gathered)) }
+        ensures err { IfErr result (λ e. Fails e (row_when_not place (parts_of (drop 1 parts.now)) (env self.old.scope functions.now at) (gathered self.old.gathered))) }
+        ensures scope { OnOk result (self.new.scope ≡ self.old.scope) }
+    {
+        match parts {
+            [_, test, ..] => {
+                let test = self.form(alloc, functions, at.inner(), test)?;
+                let body = self.block(alloc, functions, at, parts, 2)?;
+                self.gathered.branch(alloc, test, nothing(), body)
+            }
+            _ => Err(CheckError::Fault(CheckErrorKind::BadForm, place)),
+        }
+    }
+
+    // An `and` or an `or`.
+    #[cycle(walk)]
+    pub fn chain_form(
+        &mut self,
+        alloc: Global,
+        functions: &Functions,
+        at: At,
+        both: bool,
+        parts: &[Form],
+    ) -> Result<Made, CheckError>
+        requires { 0 < length parts.now }
+        ensures ok { IfOk result (λ t. more_of both (meanings (parts_of (drop 1 parts.now))) (env self.old.scope functions.now at) (gathered self.old.gathered) ≡ done (kernel t) (gathered self.new.gathered)) }
+        ensures err { IfErr result (λ e. Fails e (more_of both (meanings (parts_of (drop 1 parts.now))) (env self.old.scope functions.now at) (gathered self.old.gathered))) }
+        ensures scope { OnOk result (self.new.scope ≡ self.old.scope) }
+    {
+        let count = parts.len();
+        if count == 1 {
+            return Ok(Made::constant(if both { Value::Bool(true) } else { Value::Nil }));
+        }
+        let end = count - 1;
+        let tail = &parts[end];
+        let first = self.scope.len();
+        let values = self.hidden(alloc, functions, at, parts, 1, end)?;
+        let last = self.form(alloc, functions, at, tail)?;
+        let _most = self.scope.len();
+        self.scope.leave(first);
+        self.gathered.chain(alloc, both, first, values, last)
+    }
+}

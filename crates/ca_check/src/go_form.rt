@@ -1,0 +1,68 @@
+ghost use Rattle.std.specs.Prelude.{◌≡◌, ◌<◌, IfOk, IfErr, OnOk, length, drop};
+ghost use Rattle.ca_term.specs.View.{kernel};
+ghost use Rattle.ca_check.specs.Go.{go};
+ghost use Rattle.ca_check.specs.GoView.{go_text};
+ghost use Rattle.ca_check.specs.Outcome.{done};
+ghost use Rattle.ca_check.specs.WalkView.{gathered, env, parts_of, Fails};
+
+use crate::context::At;
+use crate::error::CheckError;
+use crate::functions::Functions;
+use crate::gathered::Made;
+use crate::operands::single;
+use crate::walk::Walker;
+use ca_reader::form::Form;
+use ca_term::place::Place;
+use std::alloc::Global;
+
+impl Walker {
+    /// `(go e ..)`, or `(go-loop [b e ..] e ..)` where it repeats.
+    #[cycle(walk)]
+    pub fn go_form(
+        &mut self,
+        alloc: Global,
+        functions: &Functions,
+        at: At,
+        repeats: bool,
+        place: Place,
+        parts: &[Form],
+    ) -> Result<Made, CheckError>
+        requires { 0 < length parts.now }
+        ensures ok { IfOk result (λ t. go (go_text repeats place (parts_of (drop 1 parts.now))) place (env self.old.scope functions.now at) (gathered self.old.gathered) ≡ done (kernel t) (gathered self.new.gathered)) }
+        ensures err { IfErr result (λ e. Fails e (go (go_text repeats place (parts_of (drop 1 parts.now))) place (env self.old.scope functions.now at) (gathered self.old.gathered))) }
+        ensures scope { OnOk result (self.new.scope ≡ self.old.scope) }
+    {
+        let port = self.scope.len();
+        let number = self.gathered.open(alloc)?;
+        self.scope.hide(alloc)?;
+        let body = self.go_body(alloc, functions, at.in_task(), repeats, place, parts)?;
+        // The body's value has the name behind the port.
+        self.scope.hide(alloc)?;
+        let _most = self.scope.len();
+        self.scope.leave(port);
+        self.gathered.finish(alloc, number, port, body, place)
+    }
+
+    #[cycle(walk)]
+    fn go_body(
+        &mut self,
+        alloc: Global,
+        functions: &Functions,
+        at: At,
+        repeats: bool,
+        place: Place,
+        parts: &[Form],
+    ) -> Result<Made, CheckError>
+        requires { 0 < length parts.now }
+        ensures ok { IfOk result (λ t. go_text repeats place (parts_of (drop 1 parts.now)) (env self.old.scope functions.now at) (gathered self.old.gathered) ≡ done (kernel t) (gathered self.new.gathered)) }
+        ensures err { IfErr result (λ e. Fails e (go_text repeats place (parts_of (drop 1 parts.now)) (env self.old.scope functions.now at) (gathered self.old.gathered))) }
+        ensures scope { OnOk result (self.new.scope ≡ self.old.scope) }
+    {
+        if repeats {
+            let looped = self.loop_form(alloc, functions, at, place, parts)?;
+            self.gathered.seq(alloc, single(alloc, looped)?)
+        } else {
+            self.block(alloc, functions, at, parts, 1)
+        }
+    }
+}

@@ -1,0 +1,113 @@
+-- What the parts of a run have in them. An agent is of any type.
+use Rattle.std.specs.Prelude.{◌%◌, ℕ, List, Option, Some, None, Bool, is_some}
+use Rattle.ca_term.specs.declared.event.Side.{Side}
+use Rattle.ca_term.specs.declared.event.Side.TheVariants.{Take, Put}
+use Rattle.ca_term.specs.Program.{ProgramView}
+use Rattle.ca_meaning.specs.Channel.{Channel}
+use Rattle.ca_meaning.specs.Registry.{Registry}
+use Rattle.ca_meaning.specs.Wait.{Handler}
+use Rattle.ca_meaning.specs.State.{Deadline}
+
+-- a channel with the queues of its two sides; a handler in them may be stale, that is, its wait gone
+pub record Kept : Type 0 where
+  pub channel : Channel
+  pub takes : List Handler
+  pub puts : List Handler
+
+abbrev pub on : Side → Kept → List Handler
+on Take k = k.takes
+on Put k = k.puts
+
+abbrev pub put_on : Side → List Handler → Kept → Kept
+put_on Take q k = record { channel = k.channel; takes = q; puts = k.puts }
+put_on Put q k = record { channel = k.channel; takes = k.takes; puts = q }
+
+abbrev pub with_channel : Channel → Kept → Kept
+with_channel c k = record { channel = c; takes = k.takes; puts = k.puts }
+
+abbrev pub channel_of : Option Kept → Option Channel
+channel_of None = None
+channel_of (Some k) = Some k.channel
+
+-- how many numbers a worker gave to tasks, ports and waits
+pub record Counts : Type 0 where
+  pub tasks : ℕ
+  pub ports : ℕ
+  pub waits : ℕ
+
+-- a worker's lane: the task that it runs, by its number, and that task's events since it was picked
+pub record LaneView (A : Type 0) : Type 0 where
+  pub program : ProgramView
+  pub task : Option (ℕ × A)
+  pub since : ℕ
+  pub counts : Counts
+
+-- channels and registries share their numbers
+pub record BankView : Type 0 where
+  pub channels : ℕ → Option Kept
+  pub registries : ℕ → Option Registry
+
+-- who waits: a task by its number, or nobody
+pub data Parked (A : Type 0) : Type 0 where
+  owner : (u : ℕ) (a : A) → Parked A
+  nobody : Parked A
+
+-- why the workers stop before all is done
+pub data Mark : Type 0 where
+  unmarked : Mark
+  -- the main text has ended or faulted
+  main_over : Mark
+  clock_failed : Mark
+  stopped : Mark
+
+-- the open deadlines and the moment, the clock, and the mark
+pub record TimersPart : Type 0 where
+  pub deadlines : List Deadline
+  pub now : ℕ
+  -- a moment that no later answer of the clock is below
+  pub least : ℕ
+  pub faults : ℕ
+  -- the clock's answers so far, where it tells them
+  pub readings : Option (List ℕ)
+  pub mark : Mark
+
+-- what is in a part; away stands where a worker has moved the part out
+pub data Held (A : Type 0) : Type 0 where
+  a_lane : LaneView A → Held A
+  a_bank : BankView → Held A
+  a_shard : (ℕ → Option (Parked A)) → Held A
+  the_timers : TimersPart → Held A
+  a_ready : List (ℕ × A) → Held A
+  away : Held A
+
+-- a part, which tells how many workers there are
+pub record Content (A : Type 0) : Type 0 where
+  pub workers : ℕ
+  pub held : Held A
+
+-- The parts of a run, sorted. One that isn't there is None: what an event touches is the same with fewer parts.
+pub record Parts (A : Type 0) : Type 0 where
+  pub lane : ℕ → Option (LaneView A)
+  pub bank : ℕ → Option (ℕ → Option Kept)
+  pub registry : ℕ → Option (ℕ → Option Registry)
+  pub shard : ℕ → Option (ℕ → Option (Parked A))
+  pub ready : ℕ → Option (List (ℕ × A))
+  pub timers : Option TimersPart
+
+-- the bank of a port and the shard of a wait
+abbrev pub home : ℕ → ℕ
+home n = n % 16
+
+abbrev pub at_key : {X : Type 0} → Option (ℕ → Option X) → ℕ → Option X
+at_key None k = None
+at_key (Some f) k = f k
+
+-- several banks or shards as one map
+abbrev pub whole : {X : Type 0} → (ℕ → Option (ℕ → Option X)) → ℕ → Option X
+whole parts n = at_key (parts (home n)) n
+
+abbrev pub alive : {A : Type 0} → (ℕ → Option (Parked A)) → ℕ → Bool
+alive parked w = is_some (parked w)
+
+abbrev pub alive_in : {A : Type 0} → Parts A → ℕ → Bool
+alive_in h = alive (whole h.shard)

@@ -1,0 +1,17 @@
+pub mod Contents
+pub mod Asks
+pub mod Holds
+pub mod Seated
+pub mod Stands
+pub mod Agents
+pub mod Moves
+pub mod ChannelMoves
+pub mod TaskMoves
+pub mod SilentMoves
+pub mod Touched
+pub mod Gathered
+pub mod Moving
+pub mod Running
+pub mod Opening
+pub mod Histories
+pub mod Drawing

@@ -1,0 +1,184 @@
+-- Heads whose operands are values, sequences and loops go as the term does; and so does every term.
+use Rattle.std.proofs.Common.{◌≡◌, ℕ, suc, ◌-◌, ◌<◌, ◌≤◌, List, [], ◌∷◌, length, None, Some, Bool, true, false, refl, sym, ap, ap₂, ◌∙◌, subst, arith, cond}
+use Rattle.std.specs.Prelude.{nat_le, Result, Ok, Err}
+use Rattle.ca_value.specs.declared.builtin.Builtin.{Builtin as BuiltinName}
+use Rattle.ca_value.specs.Tree.{Tree, trees_of}
+use Rattle.ca_value.specs.Outcome.{Outcome}
+use Rattle.ca_value.specs.Builtins.{builtin_result}
+use Rattle.ca_term.specs.declared.place.Place.{Place}
+use Rattle.ca_term.specs.declared.fault.Fault.{Fault}
+use Rattle.ca_term.specs.declared.fault.Fault.TheVariants.{Spun, TooDeep}
+use Rattle.ca_term.specs.declared.head.Head.{Head}
+use Rattle.ca_term.specs.declared.head.Head.TheVariants.{Recur, Builtin, Take, Put, Alts, Make, Spawn, Close, Register, Print, Post}
+use Rattle.ca_term.specs.declared.head.Head.TheVariants as head
+use Rattle.ca_term.specs.Kernel.{Kernel, Kernels, Founds, const, frame, apply, puts}
+use Rattle.ca_term.specs.Operation.{OpView}
+use Rattle.ca_term.specs.Asking.{asked, task_fault}
+use Rattle.ca_term.specs.Fits.{count_terms}
+use Rattle.ca_term.specs.Program.{ProgramView}
+use Rattle.ca_meaning.specs.Redex.{redex, values_of}
+use Rattle.ca_meaning.specs.Body.{local, faulted, at_or, standing, turns_after, fault_of, failed as failed_at, value_in, step, fill}
+use Rattle.ca_meaning.specs.Rest.{LocalSteps, here, after}
+use Rattle.ca_meaning.specs.Started.{procedure_at, started as started_text}
+use Rattle.ca_states.specs.declared.code.Exit.TheVariants.{Jump, Branch, Return, Cut}
+use Rattle.ca_states.specs.declared.code.Exit.TheVariants as exit
+use Rattle.ca_states.specs.Code.{CodeView, function_at}
+use Rattle.ca_states.specs.Machine.{Frame, goes, faults, read, write, reads, taken_all, slots_from, applied, begun_at, waiting}
+use Rattle.ca_lower.specs.Implements.{Position, position, start_of, Scope, moves, LeadsByCut, ImplementsAll}
+use Rattle.ca_lower.specs.Lowered.{After, AreAlike}
+use Rattle.ca_lower.proofs.Puts.{puts_items, puts-apply, consts, values-consts, operands-consts}
+use Rattle.ca_lower.proofs.Contexts.{Context, inside, in_frame, in_apply}
+use Rattle.ca_lower.proofs.Slots.{Same, same_trans, same_less, same_then_write, same_taken_all, Holds, length-reads, read-write_same, move_slots, same_moves, reads_moved}
+use Rattle.ca_lower.proofs.Alike.{body, state, AlikeAt, alike_back, alike_next, fire, stands, filled}
+use Rattle.ca_lower.proofs.Goes.{run_many, run_moves, many_move, Calls, Then, Gen, GenAll, calls_less, at_back}
+use Rattle.ca_lower.proofs.Leaves.{IsOperation, not_ready, at_asked, asks_at, apply_redex, apply_replace}
+
+module _ (P : ProgramView) (C : CodeView) where
+  -- BUILTINS
+  -- a builtin's value, or its fault
+  applied_at : (n h : ℕ) (q : Position) (b : BuiltinName) (pl : Place) (ws s s' : List Tree) (K : List Frame) (E : Kernel → Kernel) (turns : ℕ) (o : Outcome) → applied b ws ≡ o → Context E → Same h s s' → Then P C n q h s K E
+      → After P (AreAlike P C n) (many_move C q h s' K turns pl o) (body (E (apply (Builtin b) (consts ws) pl)) turns (length K))
+  applied_at n h q b pl ws s s' K E turns (Ok v) e ctx same cont =
+      let r = apply (Builtin b) (consts ws) pl in
+      let o : builtin_result b (values_of (consts ws)) ≡ Ok v = ap (builtin_result b) (values-consts ws) ∙ e in
+      let g = cont n (omega arith) (write s' h v) turns (same_then_write h h v s s' (omega arith) same) in
+      let g2 : AlikeAt P C n q (write s' h v) K turns (E (const v)) = subst (λ w. AlikeAt P C n q (write s' h v) K turns (E (const w))) (read-write_same s' h v) g in
+      at_back P C n q (write s' h v) K turns (E r) (E (const v))
+      (fire P E r (const v) turns (length K) ctx refl refl (apply_redex (Builtin b) ws pl) (ap (λ x. const (value_in x)) o) (apply_replace (const v) (Builtin b) ws pl) (ap (failed_at pl) o) refl) g2
+  applied_at n h q b pl ws s s' K E turns (Err f) e ctx same cont =
+      let r = apply (Builtin b) (consts ws) pl in
+      let o : builtin_result b (values_of (consts ws)) ≡ Err f = ap (builtin_result b) (values-consts ws) ∙ e in
+      let c = step P (body (E r) turns (length K)) in
+      let place : redex (E r) ≡ r = ctx.redex_in r refl refl ∙ apply_redex (Builtin b) ws pl in
+      let fails : c.fault ≡ Some (record { fault = task_fault f; place = pl }) = ap fault_of place ∙ ap (failed_at pl) o in (
+        c,
+        after (stands P E r turns (length K) ctx refl refl (apply_redex (Builtin b) ws pl)) here,
+        ap (λ g. at_or g (standing c.turns c.depth (redex c.term))) fails,
+        ap (λ z. turns_after z turns) place,
+      )
+
+  gen_builtin : (b : BuiltinName) (ts : Kernels) (pl : Place) → GenAll P C ts → Gen P C (apply (Builtin b) ts pl)
+  gen_builtin b ts pl gts n lp names fs h p q s K E turns calls (r, its, leads) holds under ctx again cont =
+      let k = count_terms ts in
+      let g : AlikeAt P C n p s K turns (E (apply (Builtin b) (puts_items fs ts) pl)) =
+      gts n names fs h p r s K E (λ us. apply (Builtin b) us pl) turns calls its holds ctx (in_apply (Builtin b) pl)
+      (λ m le s1 turns1 same1.
+      let ws = reads s1 (slots_from h k) in
+      let s2 = taken_all s1 (slots_from h k) in
+      subst (λ z. AlikeAt P C m z s1 K turns1 (E (apply (Builtin b) (consts ws) pl))) (sym leads)
+      (subst (λ mv. After P (AreAlike P C m) mv (body (E (apply (Builtin b) (consts ws) pl)) turns1 (length K))) (sym (run_many C q b h k pl s1 K turns1))
+      (applied_at m h q b pl ws s s2 K E turns1 (applied b ws) refl ctx (same_trans h h s s1 s2 (omega arith) same1 (same_taken_all h h k s1 (omega arith))) (λ j le2. cont j (omega (arith, le, le2)))))) in
+      subst (λ t. AlikeAt P C n p s K turns (E t)) (sym (puts-apply fs (Builtin b) ts pl)) g
+
+  -- OPERATIONS
+  -- an operation, or the fault of one of its operands
+  cut_at : (n h to : ℕ) (q : Position) (f : Head) (pl : Place) (ws s s' : List Tree) (K : List Frame) (E : Kernel → Kernel) (turns : ℕ) (o : Result OpView Fault) → IsOperation f → asked f (trees_of ws) pl ≡ o → Context E → Same h s s' → q ≡ start_of C to → Then P C n q h s K E
+      → After P (AreAlike P C n) (waiting pl h (state to s' K turns) o) (body (E (apply f (consts ws) pl)) turns (length K))
+  cut_at n h to q f pl ws s s' K E turns (Err x) op e ctx same eq cont =
+      let r = apply f (consts ws) pl in
+      (body (E r) turns (length K), here, stands P E r turns (length K) ctx refl (not_ready f (consts ws) pl op) (apply_redex f ws pl) ∙ asks_at f ws pl turns (length K) op ∙ ap (at_asked pl) e, refl)
+  cut_at n h to q f pl ws s s' K E turns (Ok x) op e ctx same eq cont =
+      let r = apply f (consts ws) pl in
+      let no = not_ready f (consts ws) pl op in
+      let go_on : (v : Tree) → AreAlike P C n (state to (write s' h v) K 0) (fill v (body (E r) turns (length K))) =
+      λ v.
+      let g : AreAlike P C n (state to (write s' h v) K 0) (body (E (const v)) 0 (length K)) =
+      alike_next P C n to (write s' h v) K 0 (body (E (const v)) 0 (length K))
+      (λ j le2. subst (λ x. AlikeAt P C j (start_of C to) (write s' h v) K 0 (E (const x))) (read-write_same s' h v)
+      (subst (λ z. AlikeAt P C j z (write s' h v) K 0 (E (const (read (write s' h v) h)))) eq (cont j (omega (arith, le2)) (write s' h v) 0 (same_then_write h h v s s' (omega arith) same)))) in
+      subst (λ t. AreAlike P C n (state to (write s' h v) K 0) (body t 0 (length K))) (sym (filled P E r (const v) ctx refl no (apply_replace (const v) f ws pl))) g
+      in
+      (body (E r) turns (length K), here, stands P E r turns (length K) ctx refl no (apply_redex f ws pl) ∙ asks_at f ws pl turns (length K) op ∙ ap (at_asked pl) e, refl, go_on)
+
+  gen_operation : (f : Head) (ts : Kernels) (pl : Place) → IsOperation f → GenAll P C ts
+      → (n : ℕ) (names : Scope) (fs : Founds) (h : ℕ) (p q : Position) (s : List Tree) (K : List Frame) (E : Kernel → Kernel) (turns : ℕ)
+      → Calls P C n → (r : Position) → ImplementsAll C names h ts p r → LeadsByCut f C h (count_terms ts) pl r q → Holds names fs s h → Context E → Then P C n q h s K E
+      → AlikeAt P C n p s K turns (E (puts fs (apply f ts pl)))
+  gen_operation f ts pl op gts n names fs h p q s K E turns calls r its (b, to, er, eq) holds ctx cont =
+      let k = count_terms ts in
+      let its2 : ImplementsAll C names h ts p (position b [] (Cut f h k h to pl)) = subst (ImplementsAll C names h ts p) er its in
+      let g : AlikeAt P C n p s K turns (E (apply f (puts_items fs ts) pl)) =
+      gts n names fs h p (position b [] (Cut f h k h to pl)) s K E (λ us. apply f us pl) turns calls its2 holds ctx (in_apply f pl)
+      (λ m le s1 turns1 same1.
+      let ws = reads s1 (slots_from h k) in
+      let s2 = taken_all s1 (slots_from h k) in
+      cut_at m h to q f pl ws s s2 K E turns1 (asked f (trees_of ws) pl) op refl ctx (same_trans h h s s1 s2 (omega arith) same1 (same_taken_all h h k s1 (omega arith))) eq (λ j le2. cont j (omega (arith, le, le2)))) in
+      subst (λ t. AlikeAt P C n p s K turns (E t)) (sym (puts-apply fs f ts pl)) g
+
+  -- CALLS
+  -- a call, or its fault
+  called_at : (n f h to : ℕ) (q : Position) (pl : Place) (ws s s' : List Tree) (K : List Frame) (E : Kernel → Kernel) (turns : ℕ) (a b : Bool) → nat_le 999_999 turns ≡ a → nat_le 256 (length K) ≡ b → Context E → Same h s s' → Calls P C n → f < length C.functions → length ws ≡ (function_at C f).values → q ≡ start_of C to → Then P C n q h s K E
+      → After P (AreAlike P C n) (cond a (faults Spun pl turns) (cond b (faults TooDeep pl turns) (goes (state (function_at C f).block (begun_at C (function_at C f) ws) (record { next = to; answer = h; slots = s' } ∷ K) (suc turns))))) (body (E (apply (head.Call f) (consts ws) pl)) turns (length K))
+  called_at n f h to q pl ws s s' K E turns true b ea eb ctx same calls ltf len eq cont =
+      let r = apply (head.Call f) (consts ws) pl in
+      (body (E r) turns (length K), here, stands P E r turns (length K) ctx refl refl (apply_redex (head.Call f) ws pl) ∙ ap (λ o. cond o (faulted Spun pl) (cond (nat_le 256 (length K)) (faulted TooDeep pl) local)) ea, refl)
+  called_at n f h to q pl ws s s' K E turns false true ea eb ctx same calls ltf len eq cont =
+      let r = apply (head.Call f) (consts ws) pl in
+      (body (E r) turns (length K), here, stands P E r turns (length K) ctx refl refl (apply_redex (head.Call f) ws pl) ∙ ap₂ (λ o u. cond o (faulted Spun pl) (cond u (faulted TooDeep pl) local)) ea eb, refl)
+  called_at n f h to q pl ws s s' K E turns false false ea eb ctx same calls ltf len eq cont =
+      let r = apply (head.Call f) (consts ws) pl in
+      let waits_there : Frame = record { next = to; answer = h; slots = s' } in
+      let K' = waits_there ∷ K in
+      let t = started_text (procedure_at P.functions f) ws in
+      let there = calls n (omega arith) f ws K' (λ u. E (frame u)) (suc turns) ltf len (inside E (λ u. frame u) ctx in_frame)
+      (λ m le v turns'.
+      let back : LocalSteps P (body (E (frame (const v))) turns' (suc (length K))) (body (E (const v)) turns' (suc (length K) - 1)) =
+      fire P E (frame (const v)) (const v) turns' (suc (length K)) ctx refl refl refl refl refl refl refl in
+      let e : suc (length K) - 1 ≡ length K = omega arith in
+      alike_back P C m (state to (write s' h v) K turns') (body (E (frame (const v))) turns' (suc (length K))) (body (E (const v)) turns' (length K))
+      (subst (λ k. LocalSteps P (body (E (frame (const v))) turns' (suc (length K))) (body (E (const v)) turns' k)) e back)
+      (alike_next P C m to (write s' h v) K turns' (body (E (const v)) turns' (length K))
+      (λ k le2. subst (λ x. AlikeAt P C k (start_of C to) (write s' h v) K turns' (E (const x))) (read-write_same s' h v)
+      (subst (λ z. AlikeAt P C k z (write s' h v) K turns' (E (const (read (write s' h v) h)))) eq (cont k (omega (arith, le, le2)) (write s' h v) turns' (same_then_write h h v s s' (omega arith) same)))))) in
+      alike_back P C n (state (function_at C f).block (begun_at C (function_at C f) ws) K' (suc turns)) (body (E r) turns (length K)) (body (E (frame t)) (suc turns) (suc (length K)))
+      (fire P E r (frame t) turns (length K) ctx refl refl (apply_redex (head.Call f) ws pl) (ap (λ l. frame (started_text (procedure_at P.functions f) l)) (operands-consts ws)) (apply_replace (frame t) (head.Call f) ws pl) refl
+      (ap₂ (λ o u. cond o (faulted Spun pl) (cond u (faulted TooDeep pl) local)) ea eb))
+      there
+
+  gen_call : (f : ℕ) (ts : Kernels) (pl : Place) → GenAll P C ts → Gen P C (apply (head.Call f) ts pl)
+  gen_call f ts pl gts n lp names fs h p q s K E turns calls (r, its, (b, to, ltf, cnt, er, eq)) holds under ctx again cont =
+      let k = count_terms ts in
+      let its2 : ImplementsAll C names h ts p (position b [] (exit.Call f h k h to pl)) = subst (ImplementsAll C names h ts p) er its in
+      let g : AlikeAt P C n p s K turns (E (apply (head.Call f) (puts_items fs ts) pl)) =
+      gts n names fs h p (position b [] (exit.Call f h k h to pl)) s K E (λ us. apply (head.Call f) us pl) turns calls its2 holds ctx (in_apply (head.Call f) pl)
+      (λ m le s1 turns1 same1.
+      let ws = reads s1 (slots_from h k) in
+      let s2 = taken_all s1 (slots_from h k) in
+      called_at m f h to q pl ws s s2 K E turns1 (nat_le 999_999 turns1) (nat_le 256 (length K)) refl refl ctx (same_trans h h s s1 s2 (omega arith) same1 (same_taken_all h h k s1 (omega arith))) (calls_less P C m n le calls) ltf (length-reads s1 h k ∙ cnt) eq (λ j le2. cont j (omega (arith, le, le2)))) in
+      subst (λ t. AlikeAt P C n p s K turns (E t)) (sym (puts-apply fs (head.Call f) ts pl)) g
+
+  -- RECURS
+  gen_recur : (ts : Kernels) (pl : Place) → GenAll P C ts → Gen P C (apply Recur ts pl)
+  gen_recur ts pl gts n None names fs h p q s K E turns calls (r, its, leads) holds under ctx again cont = absurd leads
+  gen_recur ts pl gts n (Some t) names fs h p q s K E turns calls (r, its, (b, ec, back, er)) holds under ctx again cont =
+      let first = t.first in
+      let count = t.count in
+      let there = position b (moves first h count) (Jump t.head pl) in
+      let its2 : ImplementsAll C names h ts p there = subst (ImplementsAll C names h ts p) er its in
+      let g : AlikeAt P C n p s K turns (E (apply Recur (puts_items fs ts) pl)) =
+      gts n names fs h p there s K E (λ us. apply Recur us pl) turns calls its2 holds ctx (in_apply Recur pl)
+      (λ m le s1 turns1 same1.
+      let s2 = move_slots s1 first h count in
+      let le1 : first ≤ h = omega (arith, under) in
+      let a : AlikeAt P C m (position b [] (Jump t.head pl)) s2 K turns1 (E (apply Recur (consts (reads s2 (slots_from first count))) pl)) =
+      again m le s2 turns1 b pl (same_trans first first s s1 s2 (omega arith) (same_less first h s s1 le1 same1) (same_moves first s1 first h count (omega arith) le1)) back in
+      let a2 : AlikeAt P C m (position b [] (Jump t.head pl)) s2 K turns1 (E (apply Recur (consts (reads s1 (slots_from h count))) pl)) =
+      subst (λ ws. AlikeAt P C m (position b [] (Jump t.head pl)) s2 K turns1 (E (apply Recur (consts ws) pl))) (reads_moved s1 first h count under) a in
+      let a3 : AlikeAt P C m there s1 K turns1 (E (apply Recur (consts (reads s1 (slots_from h count))) pl)) =
+      subst (λ mv. After P (AreAlike P C m) mv (body (E (apply Recur (consts (reads s1 (slots_from h count))) pl)) turns1 (length K))) (sym (run_moves C b first h count (Jump t.head pl) s1 K turns1)) a2 in
+      subst (λ k. AlikeAt P C m there s1 K turns1 (E (apply Recur (consts (reads s1 (slots_from h k))) pl))) (sym ec) a3) in
+      subst (λ z. AlikeAt P C n p s K turns (E z)) (sym (puts-apply fs Recur ts pl)) g
+
+  pub gen_apply : (f : Head) (ts : Kernels) (pl : Place) → GenAll P C ts → Gen P C (apply f ts pl)
+  gen_apply Recur ts pl g = gen_recur ts pl g
+  gen_apply (Builtin b) ts pl g = gen_builtin b ts pl g
+  gen_apply (head.Call f) ts pl g = gen_call f ts pl g
+  gen_apply Take ts pl g = λ n lp names fs h p q s K E turns calls im holds under ctx again cont. gen_operation Take ts pl tt g n names fs h p q s K E turns calls im.0 im.1 im.2 holds ctx cont
+  gen_apply Put ts pl g = λ n lp names fs h p q s K E turns calls im holds under ctx again cont. gen_operation Put ts pl tt g n names fs h p q s K E turns calls im.0 im.1 im.2 holds ctx cont
+  gen_apply (Alts options) ts pl g = λ n lp names fs h p q s K E turns calls im holds under ctx again cont. gen_operation (Alts options) ts pl tt g n names fs h p q s K E turns calls im.0 im.1 im.2 holds ctx cont
+  gen_apply (Make kind) ts pl g = λ n lp names fs h p q s K E turns calls im holds under ctx again cont. gen_operation (Make kind) ts pl tt g n names fs h p q s K E turns calls im.0 im.1 im.2 holds ctx cont
+  gen_apply (Spawn kind) ts pl g = λ n lp names fs h p q s K E turns calls im holds under ctx again cont. gen_operation (Spawn kind) ts pl tt g n names fs h p q s K E turns calls im.0 im.1 im.2 holds ctx cont
+  gen_apply Close ts pl g = λ n lp names fs h p q s K E turns calls im holds under ctx again cont. gen_operation Close ts pl tt g n names fs h p q s K E turns calls im.0 im.1 im.2 holds ctx cont
+  gen_apply (Register name) ts pl g = λ n lp names fs h p q s K E turns calls im holds under ctx again cont. gen_operation (Register name) ts pl tt g n names fs h p q s K E turns calls im.0 im.1 im.2 holds ctx cont
+  gen_apply Print ts pl g = λ n lp names fs h p q s K E turns calls im holds under ctx again cont. gen_operation Print ts pl tt g n names fs h p q s K E turns calls im.0 im.1 im.2 holds ctx cont
+  gen_apply Post ts pl g = λ n lp names fs h p q s K E turns calls im holds under ctx again cont. gen_operation Post ts pl tt g n names fs h p q s K E turns calls im.0 im.1 im.2 holds ctx cont

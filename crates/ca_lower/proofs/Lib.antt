@@ -1,0 +1,17 @@
+pub mod Alike
+pub mod BuilderLaws
+pub mod Contexts
+pub mod Goes
+pub mod GreaterLaws
+pub mod Heads
+pub mod Knows
+pub mod LaidLaws
+pub mod Lays
+pub mod Leaves
+pub mod Loops
+pub mod Lowers
+pub mod Puts
+pub mod Slots
+pub mod Sound
+pub mod Texts
+pub mod Whole

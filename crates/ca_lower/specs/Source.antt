@@ -1,0 +1,33 @@
+-- A term as it stands in a script: nothing in it runs yet.
+use Rattle.std.specs.Prelude.{◌≡◌, List, [], ◌∷◌}
+use Rattle.ca_term.specs.Kernel.{Kernel, Kernels, Bindings, const, var, branch, bind, loop, seq, frame, turn, apply, none, item, empty, binding}
+use Rattle.ca_term.specs.Program.{ProgramView, ProcedureView}
+
+abbrev mutual
+  pub IsSource : Kernel → Type 0
+  IsSource (const v) = Unit {0}
+  IsSource (var x) = Unit {0}
+  IsSource (branch c a b) = IsSource c × IsSource a × IsSource b
+  IsSource (bind bs body) = AreSourceBindings bs × IsSource body
+  IsSource (loop fs bs body) = (fs ≡ []) × AreSourceBindings bs × IsSource body
+  IsSource (seq ts) = AreSource ts
+  IsSource (frame body) = ⊥
+  IsSource (turn ns text now) = ⊥
+  IsSource (apply f ts p) = AreSource ts
+
+  pub AreSource : Kernels → Type 0
+  AreSource none = Unit {0}
+  AreSource (item t ts) = IsSource t × AreSource ts
+
+  pub AreSourceBindings : Bindings → Type 0
+  AreSourceBindings empty = Unit {0}
+  AreSourceBindings (binding n t bs) = IsSource t × AreSourceBindings bs
+
+abbrev pub AreSourceTexts : List ProcedureView → Type 0
+AreSourceTexts [] = Unit {0}
+AreSourceTexts (t ∷ ts) = IsSource t.body × AreSourceTexts ts
+
+pub record IsSourceProgram (P : ProgramView) : Type 0 where
+  pub functions : AreSourceTexts P.functions
+  pub bodies : AreSourceTexts P.bodies
+  pub main : IsSource P.main

@@ -1,0 +1,48 @@
+use Rattle.std.proofs.Common.{◌≡◌, ℕ, List, length, sym, ap, ◌∙◌, subst, arith}
+use Rattle.std.proofs.lemmas.List.{length-map}
+use Rattle.ca_value.specs.Seq.{list}
+use Rattle.ca_value.specs.Tree.{Tree}
+use Rattle.ca_value.specs.View.{view, views}
+use Rattle.ca_states.specs.declared.code.EntryPoint.{EntryPoint}
+use Rattle.ca_states.specs.declared.runner.Runner.{Runner}
+use Rattle.ca_states.specs.Code.{BlockView, CodeView, block_at, block_view, code_view}
+use Rattle.ca_states.specs.Machine.{Frame, State, begun, begun_at, started}
+use Rattle.ca_states.specs.ValidCode.{valid_code}
+use Rattle.ca_states.specs.Standing.{state_view, frames_view, entry_at, HasRoom, Stands}
+use Rattle.ca_states.proofs.StandingLaws.{valid_parts, start_room, start_standing}
+use Rattle.ca_states.proofs.runner.Runner.start.Goals as goal
+
+abbrev state_of : ℕ → List Tree → List Frame → State
+state_of n s fs = record { block = n; slots = s; frames = fs; turns = 0 }
+
+pub begun-requires : goal.begun-requires
+begun-requires c =
+    let D = code_view c.code-code.result.now in
+    let C = valid_code c.args.code.now in
+    let room = start_room C (valid_parts C c.code-code.ensures.valid) c.args.start (length (list c.args.values)) c.requires in
+    let e : c.entry_point-entry.result ≡ entry_at C c.args.start = c.entry_point-entry.ensures ∙ ap (λ (E : CodeView). entry_at E c.args.start) c.code-code.ensures.same in
+    let w : c.block_at.result.now.width ≡ (block_at C (entry_at C c.args.start).block).width =
+    ap (λ (b : BlockView). b.width) c.block_at.ensures
+    ∙ ap (λ (E : CodeView). (block_at E c.entry_point-entry.result.block).width) c.code-code.ensures.same
+    ∙ ap (λ (p : EntryPoint). (block_at C p.block).width) e in
+    let r = room.1 in
+    omega (arith, w, r)
+
+pub returns-clause-stands : goal.returns-clause-stands
+returns-clause-stands c =
+    let C = valid_code c.args.code.now in
+    let xs = list c.args.values in
+    let p = entry_at C c.args.start in
+    let room = start_room C (valid_parts C c.code-code.ensures.valid) c.args.start (length xs) c.requires in
+    let r : Runner = record { block = c.entry_point-entry.result.block; slots = c.in_ok-slots.slots; frames = c.new.result; turns = 0; answer = 0 } in
+    let e : c.entry_point-entry.result ≡ p = c.entry_point-entry.ensures ∙ ap (λ (E : CodeView). entry_at E c.args.start) c.code-code.ensures.same in
+    let b : block_view c.block_at.result.now ≡ block_at C p.block =
+    c.block_at.ensures
+    ∙ ap (λ (E : CodeView). block_at E c.entry_point-entry.result.block) c.code-code.ensures.same
+    ∙ ap (λ (q : EntryPoint). block_at C q.block) e in
+    let s : views (list c.in_ok-slots.slots) ≡ begun_at C p (views xs) = c.in_ok-slots.ensures ∙ ap (λ (d : BlockView). begun d.width (views xs)) b in
+    let same : started C p (views xs) ≡ state_view r =
+    sym (ap (λ (q : EntryPoint). state_of q.block (views (list c.in_ok-slots.slots)) (frames_view (list c.new.result))) e
+    ∙ ap (λ t. state_of p.block t (frames_view (list c.new.result))) s
+    ∙ ap (λ fs. state_of p.block (begun_at C p (views xs)) (frames_view fs)) c.new.ensures) in
+    subst (Stands C) same (start_standing C p (views xs) (subst (HasRoom C p) (sym (length-map xs view)) room))

@@ -1,0 +1,110 @@
+-- A runner of valid code, and where a runner may stand in code.
+use Rattle.std.specs.Prelude.{◌≡◌, ℕ, ◌<◌, ◌≤◌, List, [], ◌∷◌, length, map, reverse, Bool, ◌==◌, Option, Some, None, IsTrue}
+use Rattle.ca_value.specs.Seq.{list}
+use Rattle.ca_value.specs.Tree.{Tree}
+use Rattle.ca_value.specs.View.{view, views}
+use Rattle.ca_value.specs.Builtins.{admits}
+use Rattle.ca_term.specs.Operation.{want_view}
+use Rattle.ca_states.specs.declared.code.EntryPoint.{EntryPoint}
+use Rattle.ca_states.specs.declared.code.Exit.{Exit}
+use Rattle.ca_states.specs.declared.code.Exit.TheVariants.{Jump, Branch, Test, Call, Return, Cut}
+use Rattle.ca_states.specs.declared.runner.Frame.{Frame as FrameCode}
+use Rattle.ca_states.specs.declared.runner.Runner.{Runner}
+use Rattle.ca_states.specs.declared.runner.Start.{Start}
+use Rattle.ca_states.specs.declared.runner.Start.TheVariants as begin
+use Rattle.ca_states.specs.declared.runner.Halt.{Halt}
+use Rattle.ca_states.specs.declared.runner.Halt.TheVariants as halt
+use Rattle.ca_states.specs.Code.{CodeView, size, block_at, function_at, body_at}
+use Rattle.ca_states.specs.Machine.{Frame, State, Move, goes, ends, faults, waits, ComesTo, slots_from}
+use Rattle.ca_states.specs.Valid.{are_below, takes, main_entry}
+
+-- What a runner stands for: the frames' last one in the list is the innermost.
+abbrev pub frame_view : FrameCode → Frame
+frame_view f = record { next = f.next; answer = f.answer; slots = views (list f.slots) }
+
+abbrev pub frames_view : List FrameCode → List Frame
+frames_view fs = reverse (map frame_view fs)
+
+abbrev pub state_view : Runner → State
+state_view r = record { block = r.block; slots = views (list r.slots); frames = frames_view (list r.frames); turns = r.turns }
+
+-- the slot that the answer to the operation comes into
+abbrev pub waiting_slot : Runner → ℕ
+waiting_slot r = r.answer
+
+-- where a start begins, and whether the code has it and it takes so many values
+abbrev pub entry_at : CodeView → Start → EntryPoint
+entry_at C begin.Main = main_entry C
+entry_at C (begin.Go n) = body_at C n
+entry_at C (begin.Function n) = function_at C n
+
+abbrev pub is_start : CodeView → Start → ℕ → Bool
+is_start C begin.Main count = count == 0
+is_start C (begin.Go n) count = takes C.bodies n count
+is_start C (begin.Function n) count = takes C.functions n count
+
+abbrev pub IsStart : CodeView → Start → ℕ → Type 0
+IsStart C start count = IsTrue (is_start C start count)
+
+-- slots for that block: it is there, and they are as many as its text has
+abbrev pub HasSlots : CodeView → ℕ → List Tree → Type 0
+HasSlots C n s = (n < size C) × (length s ≡ (block_at C n).width)
+
+abbrev pub AreFrames : CodeView → List Frame → Type 0
+AreFrames C [] = Unit {0}
+AreFrames C (f ∷ fs) = HasSlots C f.next f.slots × (f.answer < length f.slots) × AreFrames C fs
+
+-- a runner that goes on in this code
+pub record Stands (C : CodeView) (c : State) : Type 0 where
+  pub slots : HasSlots C c.block c.slots
+  pub frames : AreFrames C c.frames
+  pub turns : c.turns ≤ 999_999
+  pub depth : length c.frames ≤ 256
+
+-- a runner that halted at an operation of this code
+pub record Waits (C : CodeView) (r : Runner) : Type 0 where
+  pub stands : Stands C (state_view r)
+  pub answer : waiting_slot r < length (state_view r).slots
+
+-- what a runner halted as
+abbrev pub HaltedAs : Move → Halt → Runner → Type 0
+HaltedAs m (halt.Cut w) r = m ≡ waits (want_view w) (waiting_slot r) (state_view r)
+HaltedAs m (halt.Ended v) r = m ≡ ends (view v) (state_view r).turns
+HaltedAs m (halt.Faulted f p) r = m ≡ faults f p (state_view r).turns
+
+-- what a block came to: a halt, or the runner goes on
+abbrev pub Did : Move → Option Halt → Runner → Type 0
+Did m None r = m ≡ goes (state_view r)
+Did m (Some h) r = HaltedAs m h r
+
+-- from a state a runner came to this halt
+abbrev pub HaltsAs : CodeView → State → Halt → Runner → Type 0
+HaltsAs C c h r = (m : Move) × ComesTo C c m × HaltedAs m h r
+
+-- a runner at an operation waits there
+abbrev pub WaitsAt : CodeView → Halt → Runner → Type 0
+WaitsAt C (halt.Cut w) r = Waits C r
+WaitsAt C (halt.Ended v) r = Unit {0}
+WaitsAt C (halt.Faulted f p) r = Unit {0}
+
+-- the frames have the slot that the value of a call comes into
+abbrev pub TakesValue : List Frame → Type 0
+TakesValue [] = Unit {0}
+TakesValue (f ∷ fs) = f.answer < length f.slots
+
+-- an entry point whose text has slots for so many values
+abbrev pub HasRoom : CodeView → EntryPoint → ℕ → Type 0
+HasRoom C e count = (e.block < size C) × (count ≤ (block_at C e.block).width)
+
+-- the exit's slots are there, and what it applies takes so many values
+abbrev pub FitsExit : CodeView → Exit → State → Type 0
+FitsExit C (Jump next p) c = Unit {0}
+FitsExit C (Branch a yes_to no_to) c = a < length c.slots
+FitsExit C (Test b left right yes_to no_to p) c = IsTrue (admits b 2) × (left < length c.slots) × (right < length c.slots)
+FitsExit C (Call f a n answer next p) c = IsTrue (are_below (length c.slots) (slots_from a n)) × HasRoom C (function_at C f) n
+FitsExit C (Return a) c = (a < length c.slots) × TakesValue c.frames
+FitsExit C (Cut h a n answer next p) c = IsTrue (are_below (length c.slots) (slots_from a n))
+
+-- the exit fits whatever the slots hold, as long as they are so many
+abbrev pub FitsAnyway : CodeView → Exit → State → Type 0
+FitsAnyway C x c = (s : List Tree) → length s ≡ length c.slots → FitsExit C x (record c { slots = s })

@@ -1,0 +1,117 @@
+//! A runner of valid code: it goes on from operation to operation.
+ghost use Rattle.std.specs.Prelude.{◌≡◌, ◌<◌, ◌≤◌, length, map, IfOk};
+ghost use Rattle.ca_value.specs.Seq.{list};
+ghost use Rattle.ca_value.specs.View.{view, views};
+ghost use Rattle.ca_states.specs.Code.{CodeView};
+ghost use Rattle.ca_states.specs.Machine.{started, resumed};
+ghost use Rattle.ca_states.specs.ValidCode.{valid_code};
+ghost use Rattle.ca_states.specs.Standing.{state_view, waiting_slot, entry_at, is_start, IsStart, Stands, HaltsAs, WaitsAt};
+
+use crate::entry::{begun, block_at, entry_point};
+use crate::range::takes;
+use crate::slots::put_at;
+use crate::valid_code::ValidCode;
+use ca_term::fault::Fault;
+use ca_term::operation::Want;
+use ca_term::place::Place;
+use ca_value::memory::OutOfMemory;
+use ca_value::seq::Seq;
+use ca_value::value::{Items, Value};
+use std::alloc::Global;
+
+/// Where a runner starts: at the main text, at a go body or at a function, by its number.
+#[derive(Clone, Copy, PartialEq, Eq, Debug)]
+pub enum Start {
+    Main,
+    Go(u64),
+    Function(u64),
+}
+
+/// What a runner halts as: at an operation, at the end with a value, or by a fault at a place.
+#[derive(Drop)]
+pub enum Halt {
+    Cut(Want),
+    Ended(Value),
+    Faulted(Fault, Place),
+}
+
+/// A call that waits for its value: the block that goes on, the slot that the value comes into, and the slots.
+#[derive(Drop)]
+pub struct Frame {
+    pub(crate) next: u64,
+    pub(crate) answer: u64,
+    pub(crate) slots: Items,
+}
+
+/// A runner: its block, the values in its slots, the calls that wait, the innermost last, and the turns since
+/// the last event. At an operation `answer` is the slot that its answer comes into.
+#[derive(Drop)]
+pub struct Runner {
+    pub(crate) block: u64,
+    pub(crate) slots: Items,
+    pub(crate) frames: Seq<Frame>,
+    pub(crate) turns: u64,
+    pub(crate) answer: u64,
+}
+
+impl ValidCode {
+    /// Whether the start is one of the code's, and takes so many values.
+    pub fn has_start(&self, start: Start, count: u64) -> bool
+        ensures { result ≡ is_start (valid_code self.now) start count }
+    {
+        match start {
+            Start::Main => count == 0,
+            Start::Go(number) => takes(self.code.bodies.as_slice(), number, count),
+            Start::Function(number) => takes(self.code.functions.as_slice(), number, count),
+        }
+    }
+}
+
+impl Runner {
+    /// A new runner at the start, with these values.
+    pub fn start(
+        alloc: Global,
+        code: &ValidCode,
+        start: Start,
+        values: Items,
+    ) -> Result<Runner, OutOfMemory>
+        requires { IsStart (valid_code code.now) start (length (list values)) }
+        ensures started { IfOk result (λ r. state_view r ≡ started (valid_code code.now) (entry_at (valid_code code.now) start) (views (list values))) }
+        ensures stands { IfOk result (λ r. Stands (valid_code code.now) (state_view r)) }
+    {
+        let code = code.code();
+        let entry = entry_point(code, start);
+        let slots = begun(values, block_at(code, entry.block).width)?;
+        Ok(Runner {
+            block: entry.block,
+            slots,
+            frames: Seq::new(alloc),
+            turns: 0,
+            answer: 0,
+        })
+    }
+
+    /// Goes on to the next operation, the end or a fault. After `OutOfMemory` the runner is only dropped.
+    pub fn run(&mut self, alloc: Global, code: &ValidCode) -> Result<Halt, OutOfMemory>
+        requires { Stands (valid_code code.now) (state_view self.old) }
+        ensures halts { IfOk result (λ h. HaltsAs (valid_code code.now) (state_view self.old) h self.new) }
+        ensures waits { IfOk result (λ h. WaitsAt (valid_code code.now) h self.new) }
+    {
+        let code = code.code();
+        loop {
+            if let Some(halt) = self.step(alloc, code)? {
+                return Ok(halt);
+            }
+        }
+    }
+
+    /// The answer to the operation that it halted at.
+    pub fn answer(&mut self, answer: Value)
+        requires { waiting_slot self.old < length (state_view self.old).slots }
+        ensures resumed { state_view self.new ≡ resumed (view answer) (waiting_slot self.old) (state_view self.old) }
+        ensures stands { (C : CodeView) → Stands C (state_view self.old) → Stands C (state_view self.new) }
+    {
+        put_at(&mut self.slots, self.answer, answer);
+        self.turns = 0;
+    }
+}
