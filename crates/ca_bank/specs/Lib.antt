@@ -7,4 +7,5 @@ pub mod Mixes
 pub mod Registry
 pub mod Publications
 pub mod Holds
+pub mod Marks
 pub mod Standing

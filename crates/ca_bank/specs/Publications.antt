@@ -1,26 +1,31 @@
 -- What a publication shows, and what an operation on it comes to.
-use Rattle.std.specs.Prelude.{◌≡◌, ℕ, ◌-◌, List, [], ◌∷◌, Bool, true, false, cond, map, vec_len, vec_capacity}
+use Rattle.std.specs.Prelude.{◌≡◌, ℕ, ◌+◌, ◌-◌, min, List, [], ◌∷◌, Bool, true, false, cond, map, vec_len, vec_capacity}
 use Rattle.ca_value.specs.Tree.{Tree, Trees, port}
-use Rattle.ca_value.specs.View.{view}
+use Rattle.indexmap.specs.IndexMap.{spare, index_map_len}
 use Rattle.ca_value.specs.Equality.{equals}
 use Rattle.ca_term.specs.declared.head.RegisterName.{RegisterName}
 use Rattle.ca_term.specs.declared.head.RegisterName.TheVariants.{Place}
 use Rattle.ca_meaning.specs.Operands.{port_number, first_of, second_of, third_of}
 use Rattle.ca_meaning.specs.Registry.{TopicView, Registry, a_publication, Registered, publication_row}
-use Rattle.ca_bank.specs.declared.publication.Topic.{Topic}
+use Rattle.ca_bank.specs.Marks.{topic_view}
+use Rattle.ca_bank.specs.declared.topic.TopicList.{TopicList}
 use Rattle.ca_bank.specs.declared.publication.Publication.{Publication}
 
-abbrev pub topic_view : Topic → TopicView
-topic_view t = record { topic = view t.topic; mult = t.mult; channel = t.channel }
+abbrev pub topics_in : TopicList → List TopicView
+topics_in t = map topic_view t.topics.items
+
+-- how many more topics there is room for, with their marks
+abbrev pub topics_room : TopicList → ℕ
+topics_room t = min (vec_capacity t.topics - vec_len t.topics) ((index_map_len t.firsts + spare t.firsts) - vec_len t.topics)
 
 abbrev pub topics_of : Publication → List TopicView
-topics_of p = map topic_view p.topics.items
+topics_of p = topics_in p.topics
 
 abbrev pub publication_view : Publication → Registry
 publication_view p = a_publication p.source (topics_of p)
 
 abbrev pub topics_spare : Publication → ℕ
-topics_spare p = vec_capacity p.topics - vec_len p.topics
+topics_spare p = topics_room p.topics
 
 -- what an operation on the publication comes to
 abbrev pub publication_gives : Publication → RegisterName → Trees → Registered

@@ -10,7 +10,7 @@
 //! its queue until somebody prunes it.
 //!
 //! Only calls named `reserve` take memory. Finding a port or a wait costs the same however many there are,
-//! and so does what is done at the front of a queue.
+//! and so does what is done at the front of a queue. A topic is found by its mark (`topic`).
 //!
 //! Stands on `ca_value`, `ca_term`, `ca_meaning` and `ca_buffers`. Start with `shard`, then `bank`; `room`
 //! is one channel in its bank, `mult`, `mix` and `publication` are the registries.
@@ -30,3 +30,4 @@ pub mod registry_error;
 mod room;
 pub mod shard;
 pub mod standing;
+mod topic;

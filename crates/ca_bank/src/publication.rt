@@ -1,4 +1,4 @@
-ghost use Rattle.std.specs.Prelude.{◌≡◌, ◌≤◌, ◌+◌, ◌<◌, Some, [], not, nat_lt, filter, map, length, IfOk, IfErr, OnOk, true, vec_len, vec_capacity};
+ghost use Rattle.std.specs.Prelude.{◌≡◌, ◌≤◌, ◌+◌, ◌<◌, Some, [], not, nat_lt, filter, map, length, IfOk, IfErr, OnOk, true};
 ghost use Rattle.ca_value.specs.Seq.{list};
 ghost use Rattle.ca_value.specs.View.{view, trees};
 ghost use Rattle.ca_value.specs.Tree.{vector, port, trees_of};
@@ -7,11 +7,12 @@ ghost use Rattle.ca_meaning.specs.Operands.{first_of, port_number};
 ghost use Rattle.ca_meaning.specs.Registry.{a_publication, found, placed, topic_value};
 ghost use Rattle.ca_term.specs.declared.head.RegisterName.TheVariants.{Place};
 ghost use Rattle.ca_bank.specs.Registries.{answered, IsCause, left_by, members_added};
-ghost use Rattle.ca_bank.specs.Publications.{topic_view, topics_of, publication_view, topics_spare, publication_gives, has_topic, topic_made, channel_of, PlacesItself};
+ghost use Rattle.ca_bank.specs.Publications.{topics_of, publication_view, topics_spare, publication_gives, has_topic, topic_made, channel_of, PlacesItself};
 
 use crate::argument::{argument, first_argument, port_at};
 use crate::listing::{channel, pair};
 use crate::registry_error::RegisterError;
+use crate::topic::{Topic, TopicList};
 use ca_term::head::RegisterName;
 use ca_value::memory::OutOfMemory;
 use ca_value::seq::Seq;
@@ -21,19 +22,11 @@ use std::alloc::Global;
 // How many topics a publication has at most.
 const MOST_TOPICS: usize = 1024;
 
-// A topic, its hidden mult and that mult's channel.
-#[derive(Drop)]
-pub(crate) struct Topic {
-    topic: Value,
-    mult: u64,
-    channel: u64,
-}
-
 // A publication: its source and its topics.
 #[derive(Drop)]
 pub(crate) struct Publication {
     source: u64,
-    topics: Vec<Topic>,
+    topics: TopicList,
 }
 
 impl Publication {
@@ -43,7 +36,7 @@ impl Publication {
     {
         Publication {
             source: source.n,
-            topics: Vec::new(alloc),
+            topics: TopicList::new(alloc),
         }
     }
 
@@ -52,31 +45,25 @@ impl Publication {
         ensures kept { publication_view self.new ≡ publication_view self.old }
         ensures more { topics_spare self.old ≤ topics_spare self.new }
     {
-        self.topics.reserve(n as usize)?;
-        Ok(())
+        self.topics.reserve(n)
     }
 
+    #[tactic(auto, using(crate::proofs::Topics::has_first))]
     fn has(&self, topic: &Value) -> bool
         ensures { result ≡ has_topic (view topic.now) (topics_of self.now) }
     {
-        for entry in self.topics.as_slice() {
-            if topic.equal(&entry.topic) {
-                return true;
-            }
-        }
-        false
+        self.topics.find(topic).is_some()
     }
 
     // The pair that stands there for the topic, or nil.
+    #[tactic(auto, using(crate::proofs::Topics::found_first))]
     fn find(&self, alloc: Global, topic: &Value) -> Result<Value, OutOfMemory>
         ensures { IfOk result (λ v. view v ≡ found (view topic.now) (topics_of self.now)) }
     {
-        for entry in self.topics.as_slice() {
-            if topic.equal(&entry.topic) {
-                return pair(alloc, channel(entry.mult), channel(entry.channel));
-            }
+        match self.topics.find(topic) {
+            Some(entry) => pair(alloc, channel(entry.mult), channel(entry.channel)),
+            None => Ok(Value::Nil),
         }
-        Ok(Value::Nil)
     }
 
     // Whether it may have this topic too.
@@ -90,7 +77,7 @@ impl Publication {
         } else {
             1
         };
-        self.topics.len() + more <= MOST_TOPICS
+        self.topics.as_slice().len() + more <= MOST_TOPICS
     }
 
     // Adds the topic last, where it isn't there.
@@ -107,16 +94,13 @@ impl Publication {
             mult,
             channel,
         };
-        match self.topics.push(entry) {
-            Ok(()) => {}
-            Err(_) => unreachable!(),
-        }
+        self.topics.push(entry);
     }
 
     fn forget(&mut self, topic: &Value)
         ensures { publication_view self.new ≡ a_publication self.old.source (filter (λ t. not (equals (view topic.now) t.topic)) (topics_of self.old)) }
     {
-        self.topics.retain(|entry| !topic.equal(&entry.topic));
+        self.topics.forget(topic);
     }
 
     fn clear(&mut self)
@@ -130,8 +114,9 @@ impl Publication {
         ensures { IfOk result (λ v. view v ≡ vector (trees_of (map channel_of (topics_of self.now)))) }
     {
         let mut items = Seq::new(alloc);
-        items.reserve(self.topics.len() as u64)?;
-        for entry in self.topics.as_slice() {
+        let topics = self.topics.as_slice();
+        items.reserve(topics.len() as u64)?;
+        for entry in topics {
             items.push(channel(entry.channel));
         }
         Value::vector(alloc, items)

@@ -4,4 +4,4 @@ use Rattle.ca_bank.proofs.Topics.{placed_push}
 use Rattle.ca_bank.proofs.publication.Publication.place.Goals as goal
 
 pub returns : goal.returns
-returns c = ap (a_publication c.args.self.now.source) (placed_push _ _ _ c.in-Ok.ensures.items (search rules))
+returns c = ap (a_publication c.args.self.now.source) (placed_push _ _ _ c.push.ensures (search rules))
