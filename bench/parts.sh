@@ -3,8 +3,8 @@
 # each buffer, pop_due and add of the timers with deadlines that come in order and with scattered ones, due
 # by place; put_in and take_out of a shard; make of a channel, add and remove of a channel's buffer, enqueue
 # and prune of its queue, in a bank of so many channels; tap and untap of a mult with 10, 100 and 1,000 taps,
-# of the last one and of any; and the merge of 16 lists and the print of a journal with 1,000,000 entries. What makes the
-# entries is timed alone and taken off.
+# of the last one and of any; find among 10, 100 and 1,000 topics; and the merge of 16 lists and the print of a
+# journal with 1,000,000 entries. What makes the entries is timed alone and taken off.
 #
 #   bench/parts.sh [TIMES]     TIMES calls of each (5,000,000 if not said)
 set -eu
@@ -50,7 +50,7 @@ for kind in fixed dropping sliding ordered scattered due waits make values handl
     echo "$line"
 done
 
-for kind in taps untap; do
+for kind in taps untap topics; do
     line="$kind:"
     for entries in 10 100 1000; do
         line="$line $(shown "$(each "$kind" "$entries" "$((times / 10))")")"

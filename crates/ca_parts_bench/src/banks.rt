@@ -7,7 +7,7 @@ use ca_term::event::{Side, WaitId};
 use ca_term::head::RegisterName;
 use ca_value::memory::OutOfMemory;
 use ca_value::seq::Seq;
-use ca_value::value::{PortId, Value};
+use ca_value::value::{Items, PortId, Value};
 use std::alloc::Global;
 
 /// Puts so many waits into a shard; then, so often, takes one out and puts another in.
@@ -150,4 +150,53 @@ fn tap(
     bank.reserve_register(mult, name, args.as_slice())?;
     bank.register(mult, name, args);
     Ok(())
+}
+
+/// A publication with so many topics, at most 1,000, each a keyword: finds one of them, at random, so often.
+pub fn topics(alloc: Global, entries: u64, times: u64) -> Result<u64, OutOfMemory> {
+    let mut bank = Bank::new(alloc, 0, 1);
+    let publication = PortId { n: 0 };
+    bank.reserve_port()?;
+    if bank.owns(publication) {
+        bank.make(alloc, publication, Made::Pub(publication));
+    }
+    let mut asked = Vec::new(alloc);
+    for n in 0..entries {
+        let args = topic(alloc, n)?;
+        bank.reserve_register(publication, RegisterName::Place, args.as_slice())?;
+        if bank.is_registry(publication) {
+            bank.register(publication, RegisterName::Place, args);
+        }
+        asked.push(topic(alloc, n)?)?;
+    }
+    let mut seen = 0u64;
+    let mut state = 1u64;
+    for _ in 0..times {
+        state = state
+            .wrapping_mul(6_364_136_223_846_793_005)
+            .wrapping_add(1_442_695_040_888_963_407);
+        let place = (state >> 20) % entries.max(1);
+        if let Some(args) = asked.as_slice().get(place as usize) {
+            let found = bank.answer(alloc, publication, RegisterName::Find, args.as_slice());
+            if found.is_ok() {
+                seen = seen.wrapping_add(1);
+            }
+        }
+    }
+    Ok(seen)
+}
+
+// The operands of a topic's placing: a keyword of three letters, its mult and that mult's channel.
+fn topic(alloc: Global, n: u64) -> Result<Items, OutOfMemory> {
+    let letters = [
+        b'a' + (n / 100 % 10) as u8,
+        b'a' + (n / 10 % 10) as u8,
+        b'a' + (n % 10) as u8,
+    ];
+    let mut args = Seq::new(alloc);
+    args.reserve(3)?;
+    args.push(Value::key(alloc, Seq::from_bytes(alloc, &letters)?)?);
+    args.push(Value::Port(PortId { n: 1 }));
+    args.push(Value::Port(PortId { n: 2 }));
+    Ok(args)
 }

@@ -27,6 +27,7 @@ fn main(rt: HostRuntime) -> io::Result<()> {
             b"make" | b"values" | b"handlers" => {
                 banks::channels(rt.alloc(), name, entries, times)
             }
+            b"topics" => banks::topics(rt.alloc(), entries, times),
             b"taps" | b"untap" => banks::taps(rt.alloc(), name, entries, times),
             b"ordered" | b"scattered" | b"due" => timing::repeat(rt.alloc(), name, entries, times),
             _ => journals::repeat(rt.alloc(), name, entries, times),
