@@ -5,9 +5,8 @@
 //! The one model: contents of parts by their numbers. What an event touches is gathered into maps that have these parts
 //! alone, so nothing that it says can hang on another part.
 //!
-//! Stands on `ca_value`, `ca_term` and `ca_meaning`. Start with `specs/Contents.antt`, `specs/Touched.antt` and
+//! Stands on `ca_meaning` and `ca_agent`. Start with `specs/Contents.antt`, `specs/Touched.antt` and
 //! `specs/Moving.antt`, then `laws`.
 #![tactic(auto)]
 
-pub mod agent;
 pub mod laws;
