@@ -6,8 +6,7 @@
 # of the last one and of any; and the merge of 16 lists and the print of a journal with 1,000,000 entries. What makes the
 # entries is timed alone and taken off.
 #
-#   bench/parts.sh [TIMES]     TIMES calls of each (5,000,000 if not said; a thousandth of it for 100,000
-#                              scattered deadlines)
+#   bench/parts.sh [TIMES]     TIMES calls of each (5,000,000 if not said)
 set -eu
 
 program=crates/ca_parts_bench/out/ca_parts_bench
@@ -45,7 +44,6 @@ for kind in fixed dropping sliding ordered scattered due waits make values handl
     line="$kind:"
     for entries in 10 1000 100000; do
         count=$times
-        if [ "$kind$entries" = scattered100000 ]; then count=$((times / 1000)); fi
         if [ "$kind" = make ]; then count=$((times / 5)); fi
         line="$line $(shown "$(each "$kind" "$entries" "$count")")"
     done

@@ -5,3 +5,4 @@ pub mod Sources
 pub mod Topics
 pub mod Holding
 pub mod Counts
+pub mod AfterCalls

@@ -7,3 +7,4 @@ pub mod Mixes
 pub mod Registry
 pub mod Publications
 pub mod Holds
+pub mod Standing

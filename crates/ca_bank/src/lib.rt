@@ -29,3 +29,4 @@ mod registry;
 pub mod registry_error;
 mod room;
 pub mod shard;
+pub mod standing;

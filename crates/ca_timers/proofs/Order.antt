@@ -1,9 +1,10 @@
 -- The order of deadlines, and what it means for those that are due.
-use Rattle.std.proofs.Common.{◌≡◌, ℕ, zero, suc, ◌≤◌, ◌<◌, List, [], ◌∷◌, length, get_or, drop, map, Bool, true, false, cond, Option, Some, None, refl, sym, ◌∙◌, ap, arith}
-use Rattle.std.specs.Prelude.{insert, slice_get, filter, nat_le, not}
+use Rattle.std.proofs.Common.{◌≡◌, ℕ, zero, suc, List, [], ◌∷◌, ◌++◌, ◌+◌, length, drop, map, Bool, true, false, cond, Option, Some, None, refl, sym, ◌∙◌, ap, arith}
+use Rattle.std.specs.Prelude.{slice_get, filter, nat_le, not}
 use Rattle.std.proofs.lemmas.Bool.Decides.{nat_tests}
 use Rattle.ca_value.specs.Deadlines.{Deadline, is_before, opened, due, open_after}
 use Rattle.ca_timers.specs.Timers.{NoneBefore, AreOrdered}
+use Rattle.ca_timers.specs.Stored.{first_of}
 
 -- what stands no earlier than a later one is later too
 pub before_later : (d a b : Deadline) → is_before d a ≡ true → is_before b a ≡ false → is_before d b ≡ true
@@ -11,40 +12,6 @@ before_later d a b h k = grind (arith, nat_tests)
 
 pub before_not_after : (d a : Deadline) → is_before d a ≡ true → is_before a d ≡ false
 before_not_after d a h = grind (arith, nat_tests)
-
--- a deadline stands at the place before which none is later than it, and from which on all are
-pub opened_at : {X : Type 0} (f : X → Deadline) (x : X) (xs : List X) (i : ℕ) → i ≤ length xs → ((k : ℕ) (d : X) → k < i → is_before (f x) (f (get_or xs k d)) ≡ false) → ((k : ℕ) (d : X) → i ≤ k → k < length xs → is_before (f x) (f (get_or xs k d)) ≡ true) → map f (insert xs i x) ≡ opened (f x) (map f xs)
-opened_at f x [] zero le below above = refl
-opened_at f x [] (suc i) le below above = absurd (omega arith)
-opened_at f x (y ∷ ys) zero le below above = by (is_before (f x) (f y)) (above 0 y (omega arith) (omega arith)) where
-  by : (b : Bool) → b ≡ true → f x ∷ (f y ∷ map f ys) ≡ cond b (f x ∷ (f y ∷ map f ys)) (f y ∷ opened (f x) (map f ys))
-  by true e = refl
-  by false e = absurd (let q : false ≡ true = e in cc)
-opened_at f x (y ∷ ys) (suc i) le below above = by (is_before (f x) (f y)) (below 0 y (omega arith)) (opened_at f x ys i (omega arith) (λ k d h. below (suc k) d (omega arith)) (λ k d h j. above (suc k) d (omega arith) (omega arith))) where
-  by : (b : Bool) → b ≡ false → map f (insert ys i x) ≡ opened (f x) (map f ys) → f y ∷ map f (insert ys i x) ≡ cond b (f x ∷ (f y ∷ map f ys)) (f y ∷ opened (f x) (map f ys))
-  by true e h = absurd (let q : true ≡ false = e in cc)
-  by false e h = ap (λ (r : List Deadline). f y ∷ r) h
-
--- each of the deadlines stands no earlier
-none_at : {X : Type 0} (f : X → Deadline) (x : X) (xs : List X) → NoneBefore (f x) (map f xs) → (j : ℕ) (d : X) → j < length xs → is_before (f (get_or xs j d)) (f x) ≡ false
-none_at f x [] all j d lt = absurd (omega arith)
-none_at f x (y ∷ ys) all zero d lt = all.0
-none_at f x (y ∷ ys) all (suc j) d lt = none_at f x ys all.1 j d (omega arith)
-
-never_before_itself : (d : Deadline) → is_before d d ≡ false
-never_before_itself d = grind (arith, nat_tests)
-
--- among ordered deadlines none stands before an earlier one
-pub ordered_at : {X : Type 0} (f : X → Deadline) (xs : List X) → AreOrdered (map f xs) → (i j : ℕ) (d : X) → i ≤ j → j < length xs → is_before (f (get_or xs j d)) (f (get_or xs i d)) ≡ false
-ordered_at f [] o i j d le lt = absurd (omega arith)
-ordered_at f (x ∷ xs) o zero zero d le lt = never_before_itself (f x)
-ordered_at f (x ∷ xs) o zero (suc j) d le lt = none_at f x xs o.0 j d (omega arith)
-ordered_at f (x ∷ xs) o (suc i) zero d le lt = absurd (omega arith)
-ordered_at f (x ∷ xs) o (suc i) (suc j) d le lt = ordered_at f xs o.1 i j d (omega arith) (omega arith)
-
--- so those that a deadline does not stand before are the first ones
-pub stays_before : (x a b : Deadline) → is_before b a ≡ false → not (is_before x b) ≡ true → not (is_before x a) ≡ true
-stays_before x a b h k = grind (arith, nat_tests)
 
 pub opened_none_before : (e d : Deadline) (ds : List Deadline) → is_before d e ≡ false → NoneBefore e ds → NoneBefore e (opened d ds)
 opened_none_before e d [] h all = (h, tt)
@@ -124,3 +91,51 @@ none_leaves m (d ∷ ds) o h = by (nat_le d.moment m) refl h where
   by : (b : Bool) → nat_le d.moment m ≡ b → slice_get (map (λ (d : Deadline). d.port) (cond b (d ∷ filter (λ (d : Deadline). nat_le d.moment m) ds) (filter (λ (d : Deadline). nat_le d.moment m) ds))) 0 ≡ None → cond (not b) (d ∷ open_after m ds) (open_after m ds) ≡ d ∷ ds
   by true k r = absurd (let q : Some d.port ≡ None = r in cc)
   by false k r = ap (λ (s : List Deadline). d ∷ s) (stay_behind m d ds k o.0)
+
+-- parts of an ordered list are ordered
+none_in_front : (d : Deadline) (xs ys : List Deadline) → NoneBefore d (xs ++ ys) → NoneBefore d xs
+none_in_front d [] ys all = tt
+none_in_front d (x ∷ xs) ys all = (all.0, none_in_front d xs ys all.1)
+
+none_there : (d e : Deadline) (xs ys : List Deadline) → NoneBefore d (xs ++ e ∷ ys) → is_before e d ≡ false
+none_there d e [] ys all = all.0
+none_there d e (x ∷ xs) ys all = none_there d e xs ys all.1
+
+pub ordered_front : (xs : List Deadline) (e : Deadline) (ys : List Deadline) → AreOrdered (xs ++ e ∷ ys) → AreOrdered xs
+ordered_front [] e ys o = tt
+ordered_front (x ∷ xs) e ys o = (none_in_front x xs (e ∷ ys) o.0, ordered_front xs e ys o.1)
+
+pub ordered_back : (xs : List Deadline) (e : Deadline) (ys : List Deadline) → AreOrdered (xs ++ e ∷ ys) → AreOrdered ys
+ordered_back [] e ys o = o.1
+ordered_back (x ∷ xs) e ys o = ordered_back xs e ys o.1
+
+-- a deadline is opened on the side of another on which it stands
+pub opened_before : (d : Deadline) (xs : List Deadline) (e : Deadline) (ys : List Deadline) → is_before d e ≡ true → opened d (xs ++ e ∷ ys) ≡ opened d xs ++ e ∷ ys
+opened_before d [] e ys h = ap (λ (b : Bool). cond b (d ∷ e ∷ ys) (e ∷ opened d ys)) h
+opened_before d (x ∷ xs) e ys h = by (is_before d x) (opened_before d xs e ys h) where
+  by : (b : Bool) → opened d (xs ++ e ∷ ys) ≡ opened d xs ++ e ∷ ys → cond b (d ∷ x ∷ (xs ++ e ∷ ys)) (x ∷ opened d (xs ++ e ∷ ys)) ≡ cond b (d ∷ x ∷ xs) (x ∷ opened d xs) ++ e ∷ ys
+  by true k = refl
+  by false k = ap (λ (r : List Deadline). x ∷ r) k
+
+not_earlier : (d e x : Deadline) → is_before d e ≡ false → is_before e x ≡ false → is_before d x ≡ false
+not_earlier d e x h k = grind (arith, nat_tests)
+
+pub opened_behind : (d : Deadline) (xs : List Deadline) (e : Deadline) (ys : List Deadline) → is_before d e ≡ false → AreOrdered (xs ++ e ∷ ys) → opened d (xs ++ e ∷ ys) ≡ xs ++ e ∷ opened d ys
+opened_behind d [] e ys h o = ap (λ (b : Bool). cond b (d ∷ e ∷ ys) (e ∷ opened d ys)) h
+opened_behind d (x ∷ xs) e ys h o =
+    ap (λ (b : Bool). cond b (d ∷ x ∷ (xs ++ e ∷ ys)) (x ∷ opened d (xs ++ e ∷ ys))) (not_earlier d e x h (none_there x e xs ys o.0)) ∙ ap (λ (r : List Deadline). x ∷ r) (opened_behind d xs e ys h o.1)
+
+pub length-opened : (d : Deadline) (xs : List Deadline) → length (opened d xs) ≡ length xs + 1
+length-opened d [] = refl
+length-opened d (x ∷ xs) = by (is_before d x) (length-opened d xs) where
+  by : (b : Bool) → length (opened d xs) ≡ length xs + 1 → length (cond b (d ∷ x ∷ xs) (x ∷ opened d xs)) ≡ length (x ∷ xs) + 1
+  by true h = grind arith
+  by false h = grind arith
+
+-- which deadline is the first one, when one more is opened
+pub first_opened : (d : Deadline) (ds : List Deadline) → Some (first_of (slice_get ds 0) d) ≡ slice_get (opened d ds) 0
+first_opened d [] = refl
+first_opened d (e ∷ ds) = by (is_before d e) where
+  by : (b : Bool) → Some (cond b d e) ≡ slice_get (cond b (d ∷ e ∷ ds) (e ∷ opened d ds)) 0
+  by true = refl
+  by false = refl

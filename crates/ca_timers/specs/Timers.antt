@@ -2,7 +2,7 @@
 use Rattle.std.specs.Prelude.{◌≡◌, ℕ, List, [], ◌∷◌, false}
 use Rattle.ca_value.specs.declared.value.PortId.{PortId}
 use Rattle.ca_value.specs.Deadlines.{Deadline, is_before}
-use Rattle.ca_timers.specs.declared.timers.OpenDeadline.{OpenDeadline}
+use Rattle.ca_timers.specs.declared.deadline.OpenDeadline.{OpenDeadline}
 
 -- the open deadlines in order, the last moment, and how many more deadlines fit with no growth
 pub record TimersView : Type 0 where

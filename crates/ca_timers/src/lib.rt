@@ -5,12 +5,15 @@
 //! there is room with no growth. The order and what is due are the definitions of `ca_value`'s
 //! `specs/Deadlines.antt`. A clock answers moments that never fall, and counts its faults.
 //!
-//! Deadlines stand in a ring in that order, so that the first is at hand, popping it costs the same however
-//! many there are, and the due ones can be seen by their place. Only `reserve` takes memory.
+//! Deadlines stand in a balanced tree whose sides know how many they have, so that opening one, popping the
+//! first and seeing one by its place take as many steps as the tree has levels; the first is kept beside it.
+//! Only `reserve` takes memory: a node for one more deadline, and a place to put it when it is popped.
 //!
-//! Stands on `ca_value`. Start with `timers`, then `clock`.
+//! Stands on `ca_value`. Start with `timers`, then `tree`, then `clock`.
 #![tactic(auto)]
 
 pub mod clock;
+mod deadline;
 pub mod law;
 pub mod timers;
+mod tree;

@@ -1,54 +1,40 @@
 ghost use Rattle.std.specs.Prelude.{◌≡◌, ◌+◌, ◌<◌, ◌≤◌, [], drop, slice_get, option_map, OnOk, OnSome, IfNone};
 ghost use Rattle.ca_value.specs.Deadlines.{opened, due};
-ghost use Rattle.ca_timers.specs.Timers.{port_number};
+ghost use Rattle.ca_timers.specs.Timers.{port_number, deadline_view};
+ghost use Rattle.ca_timers.specs.Stored.{first_of};
 
+use crate::deadline::OpenDeadline;
+use crate::tree::{Node, Tree};
 use ca_value::memory::OutOfMemory;
 use ca_value::value::PortId;
 use std::alloc::Global;
-use std::collections::VecDeque;
 use std::marker::Model;
-
-// A timeout that is open: the moment at which it closes its port.
-#[derive(Clone, Copy, PartialEq, Eq, Debug)]
-struct OpenDeadline {
-    moment: u64,
-    port: PortId,
-}
-
-impl OpenDeadline {
-    ghost use Rattle.ca_value.specs.Deadlines.{is_before};
-    ghost use Rattle.ca_timers.specs.Timers.{deadline_view};
-
-    // Whether it closes its port before the other one does.
-    fn is_before(&self, other: &OpenDeadline) -> bool
-        ensures { result ≡ is_before (deadline_view self.now) (deadline_view other.now) }
-    {
-        self.moment < other.moment || self.moment == other.moment && self.port.n < other.port.n
-    }
-}
 
 /// The open deadlines, and the last moment that was reached, in milliseconds.
 #[derive(Drop)]
 pub struct Timers {
-    // The first stands in front.
-    deadlines: VecDeque<OpenDeadline>,
+    tree: Tree,
+    first: Option<OpenDeadline>,
+    // Nodes for deadlines to come. Those of the tree have a place here too, for when they are popped.
+    unused: Vec<Box<Node>>,
     moment: u64,
+    alloc: Global,
 }
 
 impl Model for Timers {
-    ghost use Rattle.std.specs.Prelude.{◌-◌, map};
-    ghost use Rattle.std.specs.VecDeque.{deque_len, deque_capacity};
-    ghost use Rattle.ca_timers.specs.Timers.{TimersView, deadline_view, AreOrdered};
+    ghost use Rattle.ca_timers.specs.Timers.{TimersView};
 
     ghost Value = { TimersView };
 
-    ghost view = { λ t. record { deadlines = map deadline_view t.deadlines.items; moment = t.moment; spare = deque_capacity t.deadlines - deque_len t.deadlines } };
+    ghost use Rattle.ca_timers.specs.Stored.{timers_view, IsStored};
 
-    ghost invariant = { λ t. AreOrdered (map deadline_view t.deadlines.items) };
+    ghost view = { λ t. timers_view t };
+
+    ghost invariant = { λ t. IsStored t };
 }
 
 impl Timers {
-    ghost use Rattle.ca_timers.specs.Timers.{AreOrdered, deadline_view};
+    ghost use Rattle.ca_timers.specs.Timers.{AreOrdered};
 
     /// No deadline, at moment 0, and no memory.
     pub fn new(alloc: Global) -> Timers
@@ -56,8 +42,11 @@ impl Timers {
         ensures moment { result.moment ≡ 0 }
     {
         Timers {
-            deadlines: VecDeque::new(alloc),
+            tree: Tree::new(),
+            first: None,
+            unused: Vec::new(alloc),
             moment: 0,
+            alloc,
         }
     }
 
@@ -68,7 +57,15 @@ impl Timers {
         ensures deadlines { self.new.deadlines ≡ self.old.deadlines }
         ensures moment { self.new.moment ≡ self.old.moment }
     {
-        self.deadlines.reserve(1)?;
+        if self.unused.is_empty() {
+            self.unused.reserve(self.tree.count() as usize + 1)?;
+            let nothing = OpenDeadline {
+                moment: 0,
+                port: PortId { n: 0 },
+            };
+            let node = Box::new(self.alloc, Node::new(nothing))?;
+            self.unused.push(node)?;
+        }
         Ok(())
     }
 
@@ -83,13 +80,12 @@ impl Timers {
             moment: deadline,
             port,
         };
-        let place = self
-            .deadlines
-            .partition_point(|other| !deadline.is_before(other));
-        match self.deadlines.insert(place, deadline) {
-            Ok(()) => {}
-            Err(_) => unreachable!(),
-        }
+        let Some(mut node) = self.unused.pop() else {
+            unreachable!()
+        };
+        *node = Node::new(deadline);
+        self.tree.insert(node);
+        self.first = Some(first_of(self.first, deadline));
     }
 
     /// The last moment that was reached, 0 at first.
@@ -109,20 +105,12 @@ impl Timers {
         self.moment = now;
     }
 
-    // The deadline at the place, from 0, or None past the last one.
-    fn deadline_at(&self, place: u64) -> Option<OpenDeadline>
-        ensures value { option_map deadline_view result ≡ slice_get self.now.deadlines place }
-        ensures ordered { AreOrdered self.now.deadlines }
-    {
-        self.deadlines.get(place as usize).copied()
-    }
-
     /// The least deadline, or None where none is open.
     pub fn first(&self) -> Option<u64>
         ensures first { result ≡ option_map (λ d. d.moment) (slice_get self.now.deadlines 0) }
         ensures ordered { AreOrdered self.now.deadlines }
     {
-        match self.deadline_at(0) {
+        match self.first {
             Some(deadline) => Some(deadline.moment),
             None => None,
         }
@@ -136,9 +124,18 @@ impl Timers {
         ensures moment { self.new.moment ≡ self.old.moment }
         ensures spare { self.old.spare ≤ self.new.spare }
     {
-        let port = self.due(now, 0)?;
-        let _ = self.deadlines.pop_front();
-        Some(port)
+        let first = self.first?;
+        if now < first.moment {
+            return None;
+        }
+        if let Some(node) = self.tree.take_first() {
+            self.first = self.tree.get(0);
+            match self.unused.push(node) {
+                Ok(()) => {}
+                Err(_) => unreachable!(),
+            }
+        }
+        Some(first.port)
     }
 
     /// The port at that place, from 0, of those whose deadline is at most `now`, in their order; None past
@@ -147,9 +144,19 @@ impl Timers {
     pub fn due(&self, now: u64, place: u64) -> Option<PortId>
         ensures { option_map port_number result ≡ slice_get (due now self.now.deadlines) place }
     {
-        match self.deadline_at(place) {
+        match self.tree.get(place) {
             Some(deadline) if deadline.moment <= now => Some(deadline.port),
             _ => None,
         }
+    }
+}
+
+// The earlier one, the other where none stood there.
+fn first_of(first: Option<OpenDeadline>, other: OpenDeadline) -> OpenDeadline
+    ensures { deadline_view result ≡ first_of (option_map deadline_view first) (deadline_view other) }
+{
+    match first {
+        Some(first) if !other.is_before(&first) => first,
+        _ => other,
     }
 }

@@ -1,34 +1,17 @@
-use Rattle.std.proofs.Common.{◌≡◌, ℕ, ◌<◌, ◌≤◌, List, length, map, not, true, false, Bool, sym, ◌∙◌, ap, subst, rules, arith}
-use Rattle.std.specs.Prelude.{insert}
-use Rattle.std.proofs.lemmas.List.Sorted.{IsPartitionPoint-from_clause}
-use Rattle.ca_value.specs.Deadlines.{is_before, opened}
-use Rattle.ca_timers.specs.declared.timers.OpenDeadline.{OpenDeadline}
+use Rattle.std.proofs.Common.{◌≡◌, List, Option, Some, slice_get, sym, ◌∙◌, ap, subst, arith}
+use Rattle.ca_value.specs.Deadlines.{Deadline, opened}
 use Rattle.ca_timers.specs.Timers.{deadline_view, AreOrdered}
-use Rattle.ca_timers.proofs.Order.{opened_at, ordered_at, stays_before, opened_ordered}
+use Rattle.ca_timers.specs.Stored.{first_of}
+use Rattle.ca_timers.proofs.Order.{opened_ordered, first_opened, length-opened}
 use Rattle.ca_timers.proofs.timers.Timers.add.Goals as goal
 
-abbrev added : goal.In-Ok → OpenDeadline
-added c = record { moment = c.args.deadline; port = c.args.port }
-
-untrue : (b : Bool) → not b ≡ true → b ≡ false
-untrue b h = grind arith
-
-truth : (b : Bool) → not b ≡ false → b ≡ true
-truth b h = grind arith
-
--- the ring after the insertion stands for the list with the deadline opened
-stands : (c : goal.In-Ok) → map deadline_view c.insert.new.self.items ≡ opened (deadline_view (added c)) (map deadline_view c.self.inside.deadlines.items)
-stands c =
-    let x : OpenDeadline = added c in
-    let parted = λ (i j : ℕ) (d : OpenDeadline) (le : i ≤ j) (lt : j < length c.self.inside.deadlines.items). stays_before (deadline_view x) _ _ (ordered_at deadline_view c.self.inside.deadlines.items c.self.invariant i j d le lt) in
-    let point = IsPartitionPoint-from_clause (λ p. not (is_before (deadline_view x) (deadline_view p))) _ _ c.partition_point-place.ensures.partitioned parted (λ a r q k. search rules) in
-    let put : c.insert.new.self.items ≡ insert c.self.inside.deadlines.items c.partition_point-place.result x = c.in-Ok.ensures.items in
-    ap (λ (ys : List OpenDeadline). map deadline_view ys) put
-    ∙ opened_at deadline_view x c.self.inside.deadlines.items c.partition_point-place.result (omega (arith, c.self.inside.deadlines.ok.0, c.partition_point-place.ensures.bound))
-    (λ k d lt. untrue _ (point.0 k d (omega arith) lt)) (λ k d le lt. truth _ (point.1 k d le lt))
-
 pub invariant_of-self : goal.invariant_of-self
-invariant_of-self c = subst AreOrdered (sym (stands c)) (opened_ordered _ _ c.self.invariant)
-
-pub returns-clause-opened : goal.returns-clause-opened
-returns-clause-opened c = rw (← c.self.view_is) (stands c)
+invariant_of-self c =
+    let d : Deadline = record { moment = c.args.deadline; port = c.args.port.n } in
+    let ds : List Deadline = c.self.inside.tree.deadlines in
+    let tree : c.insert.new.self.deadlines ≡ opened d ds = grind arith in
+    let first : deadline_view c.first_of.result ≡ first_of (slice_get ds 0) d = c.first_of.ensures ∙ ap (λ (o : Option Deadline). first_of o d) c.self.invariant.1 in (
+      subst AreOrdered (sym tree) (opened_ordered d ds c.self.invariant.0),
+      ap (λ (x : Deadline). Some x) first ∙ first_opened d ds ∙ ap (λ (xs : List Deadline). slice_get xs 0) (sym tree),
+      let more = length-opened d ds in grind arith,
+    )
