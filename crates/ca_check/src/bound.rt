@@ -73,10 +73,17 @@ pub fn is_bound_shape(branches: bool, parts: &[Form]) -> bool
     if parts.len() < 2 {
         return false;
     }
-    if branches && (parts.len() < 3 || 4 < parts.len()) {
-        return false;
+    if branches {
+        if parts.len() < 3 {
+            false
+        } else if parts.len() < 5 {
+            is_only_name(&parts[1])
+        } else {
+            false
+        }
+    } else {
+        is_only_name(&parts[1])
     }
-    is_only_name(&parts[1])
 }
 
 // Whether the form is a vector of one name or pattern and its value.
