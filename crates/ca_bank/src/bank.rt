@@ -1,4 +1,4 @@
-ghost use Rattle.std.specs.Prelude.{◌≡◌, ℕ, ◌+◌, ◌%◌, ◌<◌, ◌≤◌, None, Some, true, false, OnOk, IfOk, IfErr, eqb, is_some, option_map, slice_get, nat_eq};
+ghost use Rattle.std.specs.Prelude.{◌≡◌, ℕ, ◌+◌, ◌%◌, ◌<◌, ◌≤◌, None, Some, true, false, OnOk, IfOk, IfErr, eqb, is_some, length, option_map, slice_get, nat_eq};
 ghost use Rattle.std.specs.Map.{update};
 ghost use Rattle.indexmap.specs.IndexMap.{get};
 ghost use Rattle.ca_value.specs.Seq.{list};
@@ -94,7 +94,8 @@ impl Bank {
         }
     }
 
-    fn registry_kind(&self, port: PortId) -> Option<PortKind>
+    /// What the registry is that the port names; None exactly where it names none in this bank.
+    pub fn registry_kind(&self, port: PortId) -> Option<PortKind>
         ensures { result ≡ kind_of (registry_at self.now port.n) }
     {
         match self.registries.get(&port.n) {
@@ -110,6 +111,16 @@ impl Bank {
         match self.rooms.get(&port.n) {
             Some(room) => room.handler(side, place),
             None => None,
+        }
+    }
+
+    /// How many handlers the queue has, stale ones too.
+    pub fn waiting(&self, port: PortId, side: Side) -> u64
+        ensures { result ≡ length (queue_at side (kept_at self.now port.n)) }
+    {
+        match self.rooms.get(&port.n) {
+            Some(room) => room.waiting(side),
+            None => 0,
         }
     }
 

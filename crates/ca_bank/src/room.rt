@@ -1,4 +1,4 @@
-ghost use Rattle.std.specs.Prelude.{◌≡◌, ℕ, ◌+◌, ◌-◌, ◌<◌, ◌≤◌, Some, true, false, option_map, OnOk, slice_get, is_some, map, remove};
+ghost use Rattle.std.specs.Prelude.{◌≡◌, ℕ, ◌+◌, ◌-◌, ◌<◌, ◌≤◌, Some, true, false, option_map, OnOk, slice_get, is_some, length, map, remove};
 ghost use Rattle.std.specs.VecDeque.{deque_len, deque_capacity};
 ghost use Rattle.ca_value.specs.View.{view};
 ghost use Rattle.ca_meaning.specs.Channel.{has_room};
@@ -49,6 +49,12 @@ impl Room {
         ensures { option_map (λ h. handler_view h.now) result ≡ slice_get (on side (kept_view self.now)) place }
     {
         self.queue(side).get(place as usize)
+    }
+
+    pub(crate) fn waiting(&self, side: Side) -> u64
+        ensures { result ≡ length (on side (kept_view self.now)) }
+    {
+        self.queue(side).len() as u64
     }
 
     pub(crate) fn enqueue(&mut self, side: Side, handler: Handler)

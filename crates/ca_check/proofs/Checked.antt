@@ -19,7 +19,7 @@ use Rattle.ca_check.specs.Outcome.{Gathered, Outcome, done, refused, after}
 use Rattle.ca_check.specs.Meaning.{Signature, Meaning}
 use Rattle.ca_check.specs.Tops.{Tops, Written, Top, definition, function, expression, wrong, top, is_taken, main_env, numbers, names_of, judged_body, straight, signature, function_env, plain_with, is_empty, with_function, Settled, settled, add_function, shallow, Ended, bound_before, bound_top, one_top, is_past, list_parts}
 use Rattle.ca_check.specs.Expansion.{tops, is_namespace, script, program_of, expansion_of}
-use Rattle.ca_check.proofs.Well.{Well, WellBindings, fits, anew, closed, Below, uses_only, uses_below, Implies, plain_term}
+use Rattle.ca_check.proofs.Well.{Well, WellBindings, fits, source, anew, closed, Below, uses_only, uses_below, Implies, plain_term}
 use Rattle.ca_check.proofs.Grew.{Each, each_append, Agrees, agrees_prefix, IsMade, Grew, IfDone, if_cond}
 use Rattle.ca_check.proofs.Sound.{Ground, IsSigned, AreSigned, Makes, Sound}
 use Rattle.ca_check.proofs.SoundTops.{TopSound, sound_top, signed_more, signed_behind, numbers_length, names_length, function_procedure, Settles, settled_settles}
@@ -269,6 +269,7 @@ main_text k t w = record {
       ((λ m i. below_none m (uses 0 t []) (uses_below 0 t [] tt) i), (λ m l u. absurd (omega (arith, u))));
   anew = anew k 0 None t [] w tt;
   fits = fits k 0 None t w;
+  source = source k 0 None t w;
 } where
   below_none : (m : ℕ) (us : List ℕ) → Below 0 us → IsIn m us → ⊥
   below_none m [] b i = i

@@ -15,7 +15,7 @@ use Rattle.ca_check.specs.Uses.{uses}
 use Rattle.ca_check.specs.Outcome.{Gathered, Outcome, after, limited}
 use Rattle.ca_check.specs.Meaning.{Env, Signature, Meaning, Named, size, inner, named, fail, constant, nothing, local, iff, unless, before_others, in_order, operation, block, unnamed, binds, behind, lets, loops, name_as, hide, numbered, joined, hiding}
 use Rattle.ca_check.specs.Go.{task, in_task, unmade, go}
-use Rattle.ca_check.proofs.Well.{Well, WellTerms, WellInOrder, WellBindings, fits, anew, closed, Below, below_more, below_append, uses_only, uses_below, in_left, in_right}
+use Rattle.ca_check.proofs.Well.{Well, WellTerms, WellInOrder, WellBindings, fits, source, anew, closed, Below, below_more, below_append, uses_only, uses_below, in_left, in_right}
 use Rattle.ca_check.proofs.Grew.{Each, Agrees, agrees_unmade, agrees_at, set_between, IsMade, Grew, stays, gives, behind_it, IfDone, if_after, if_limited}
 
 -- what the program knows, and how many names of the main text the functions may use
@@ -309,6 +309,7 @@ body_procedure k n t w = record {
       ((λ m h. in_left m (uses n t []) (n ∷ []) h), (λ m l u. in_right m (uses n t []) (n ∷ []) (inl (omega (arith, l, u)))));
   anew = anew k (suc n) None t (uses n t [] ++ n ∷ []) w (below_append (suc n) (uses n t []) (n ∷ []) (below_more n (suc n) (uses n t []) (omega arith) (uses_below n t [] tt)) (omega arith, tt));
   fits = fits k (suc n) None t w;
+  source = source k (suc n) None t w;
 }
 
 pub sound_go : (g : Ground) (n : ℕ) (body : Meaning) (p : Place) → Sound g n body → Sound g n (go body p)

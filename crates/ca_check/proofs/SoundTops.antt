@@ -19,7 +19,7 @@ use Rattle.ca_check.specs.Binders.{Part, Binder, is_pattern, whole_name}
 use Rattle.ca_check.specs.Plain.{meanings}
 use Rattle.ca_check.specs.Walk.{walk}
 use Rattle.ca_check.specs.Tops.{Tops, Written, Top, definition, function, expression, wrong, top_name, definition_of, def_top, parameters_in, function_of, note_in, defn_behind, defn_top, word_at_head, behind_head, list_top, list_parts, top, numbers, same_names, names_of, over_parameters, straight, looped, body_of, signature, function_env, Settled, settled}
-use Rattle.ca_check.proofs.Well.{Well, fits, anew, closed, Below, below_more, below_append, Only, uses_only, uses_below, uses_extends, extended_same, in_left, in_right}
+use Rattle.ca_check.proofs.Well.{Well, fits, source, anew, closed, Below, below_more, below_append, Only, uses_only, uses_below, uses_extends, extended_same, in_left, in_right}
 use Rattle.ca_check.proofs.Grew.{Grew, IfDone, if_cond}
 use Rattle.ca_check.proofs.Sound.{Ground, IsSigned, AreSigned, Stands, Makes, Sound, aimed, weaken, sound_local, sound_cond, NamedSound, sound_block, sound_loops}
 use Rattle.ca_check.proofs.SoundPlain.{PartsSound, means_sound, sound_over_patterns}
@@ -108,6 +108,7 @@ function_procedure k n hidden xs t b e w = record {
   anew = anew k (n + length xs) None t (numbers n xs ++ hidden) w
       (below_append (n + length xs) (numbers n xs) hidden (numbers_below n (n + length xs) xs (omega arith)) (below_more n (n + length xs) hidden (omega arith) b));
   fits = fits k (n + length xs) None t w;
+  source = source k (n + length xs) None t w;
 }
 
 -- a function's body is sound in the function's scope

@@ -1,5 +1,5 @@
 -- A term that stands in a scope of so many names, each binder taking the next number: what a walk makes. It
--- fits, binds its names anew, and each name in it is bound.
+-- fits, none of it runs yet, it binds its names anew, and each name in it is bound.
 use Rattle.std.proofs.Common.{◌≡◌, inl, inr, ⊎_elim, ℕ, suc, ◌+◌, ◌<◌, ◌≤◌, List, [], ◌∷◌, ◌++◌, length, refl, sym, ap, ◌∙◌, subst, arith, Option, Some, None, Bool, true, false, cond, ◌&&◌, ◌||◌, not, ◌==◌, nat_lt}
 use Rattle.std.proofs.lemmas.List.{append-nil, append_assoc, length-append}
 use Rattle.std.proofs.lemmas.Bool.{ltb-true, ltb-false, eqb-true, cases_lt, and_parts}
@@ -8,6 +8,7 @@ use Rattle.ca_term.specs.declared.head.Head.TheVariants.{Recur, Builtin, Call, T
 use Rattle.ca_term.specs.Kernel.{Kernel, Kernels, Bindings, const, var, branch, bind, loop, seq, frame, turn, apply, none, item, empty, binding}
 use Rattle.ca_term.specs.Closed.{IsIn, IsClosed, AreClosed, AreClosedBindings, behind}
 use Rattle.ca_term.specs.Fits.{Known, Suits, Fits, FitTerms, FitInOrder, FitBindings, count_terms, count_bindings, BindsAnew, TermsAnew, BindingsAnew, IsPlainHead, IsPlain, ArePlain, ArePlainBindings}
+use Rattle.ca_term.specs.Source.{IsSource, AreSource, AreSourceBindings}
 use Rattle.ca_check.specs.Uses.{is_among, noted, uses, uses_items, uses_bindings, is_plain_head, is_plain, are_plain, are_plain_bindings}
 
 abbrev mutual
@@ -65,6 +66,33 @@ mutual
   pub bindings_fit : (k : Known) (n : ℕ) (bs : Bindings) → WellBindings k n bs → FitBindings (Suits k) bs
   bindings_fit k n empty w = tt
   bindings_fit k n (binding m t bs) w = (fits k n None t w.1, bindings_fit k (suc n) bs w.2)
+
+-- nothing in it runs yet
+mutual
+  pub source : (k : Known) (n : ℕ) (target : Option ℕ) (t : Kernel) → Well k n target t → IsSource t
+  source k n target (const v) w = tt
+  source k n target (var m) w = tt
+  source k n target (branch c a b) w = (source k n None c w.0, source k n target a w.1, source k n target b w.2)
+  source k n target (bind bs body) w = (bindings_source k n bs w.0, source k (n + count_bindings bs) target body w.1)
+  source k n target (loop [] bs body) w = (refl, bindings_source k n bs w.0, source k (n + count_bindings bs) (Some (count_bindings bs)) body w.1)
+  source k n target (loop (f ∷ fs) bs body) w = absurd w
+  source k n target (seq ts) w = in_order_source k n target ts w
+  source k n target (frame body) w = absurd w
+  source k n target (turn names text now) w = absurd w
+  source k n target (apply h ts p) w = terms_source k n ts w.1
+
+  pub terms_source : (k : Known) (n : ℕ) (ts : Kernels) → WellTerms k n ts → AreSource ts
+  terms_source k n none w = tt
+  terms_source k n (item t ts) w = (source k n None t w.0, terms_source k n ts w.1)
+
+  pub in_order_source : (k : Known) (n : ℕ) (target : Option ℕ) (ts : Kernels) → WellInOrder k n target ts → AreSource ts
+  in_order_source k n target none w = tt
+  in_order_source k n target (item t none) w = (source k n target t w, tt)
+  in_order_source k n target (item t (item u us)) w = (source k n None t w.0, in_order_source k n target (item u us) w.1)
+
+  pub bindings_source : (k : Known) (n : ℕ) (bs : Bindings) → WellBindings k n bs → AreSourceBindings bs
+  bindings_source k n empty w = tt
+  bindings_source k n (binding m t bs) w = (source k n None t w.1, bindings_source k (suc n) bs w.2)
 
 -- it binds its names anew
 abbrev pub Below : ℕ → List ℕ → Type 0

@@ -23,6 +23,7 @@ use ca_value::seq::{Seq, Text};
 use std::alloc::Global;
 
 impl Walker {
+    /// `(let [x e ..] a ..)`: each value in scope of the names before it.
     #[cycle(walk)]
     pub fn let_form(
         &mut self,
@@ -63,6 +64,7 @@ impl Walker {
         let first = self.scope.len();
         let values = self.bound_parts(alloc, functions, at, place, &parts[1])?;
         let body = self.block(alloc, functions, at, parts, 2)?;
+        // The length of the scope bounds the numbers of its names.
         let _most = self.scope.len();
         self.scope.leave(first);
         self.gathered.bind(alloc, first, values, body)

@@ -151,8 +151,8 @@ impl Bodies {
 }
 
 impl Walker {
-    /// `(if-let [x e] a b)` and `(if-some [x e] a b)`, which have branches, the second maybe left out; `(when-let [x e] a ..)` and
-    /// `(when-some [x e] a ..)`.
+    /// `(if-let [x e] a b)` and `(if-some [x e] a b)`, which have branches, the second maybe left out;
+    /// `(when-let [x e] a ..)` and `(when-some [x e] a ..)`.
     #[cycle(walk)]
     pub fn bound_form(
         &mut self,
@@ -203,6 +203,7 @@ impl Walker {
         self.scope.hide(alloc)?;
         let body = self.bound_then(alloc, functions, at, branches, first, parts, bindings)?;
         let other = self.bound_other(alloc, functions, at, branches, parts)?;
+        // The length of the scope bounds the numbers of its names.
         let _most = self.scope.len();
         self.scope.leave(first);
         self.gathered
@@ -272,6 +273,7 @@ impl Walker {
         let values = single(alloc, Made::local(hidden))?;
         self.bind_name(alloc, binder_in(bindings))?;
         let body = self.bound_body(alloc, functions, at, branches, parts)?;
+        // The length of the scope bounds the numbers of its names.
         let _most = self.scope.len();
         self.scope.leave(first);
         self.gathered.bind(alloc, first, values, body)

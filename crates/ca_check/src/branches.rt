@@ -17,6 +17,7 @@ use ca_value::value::Value;
 use std::alloc::Global;
 
 impl Walker {
+    /// `(if test a)` and `(if test a b)`.
     #[cycle(walk)]
     #[tactic(auto, using(crate::proofs::PartLaws::two_parts, crate::proofs::PartLaws::three_parts))]
     pub fn if_form(
@@ -48,6 +49,7 @@ impl Walker {
         }
     }
 
+    /// `(if-not test a b)`: both branches are written.
     #[cycle(walk)]
     #[tactic(auto, using(crate::proofs::PartLaws::three_parts))]
     pub fn if_not_form(
@@ -74,6 +76,7 @@ impl Walker {
         }
     }
 
+    /// `(when test a ..)`.
     #[cycle(walk)]
     pub fn when_form(
         &mut self,
@@ -98,6 +101,7 @@ impl Walker {
         }
     }
 
+    /// `(when-not test a ..)`.
     #[cycle(walk)]
     pub fn when_not_form(
         &mut self,
@@ -122,7 +126,7 @@ impl Walker {
         }
     }
 
-    // An `and` or an `or`.
+    /// An `and` or an `or`.
     #[cycle(walk)]
     pub fn chain_form(
         &mut self,
@@ -146,6 +150,7 @@ impl Walker {
         let first = self.scope.len();
         let values = self.hidden(alloc, functions, at, parts, 1, end)?;
         let last = self.form(alloc, functions, at, tail)?;
+        // The length of the scope bounds the numbers of its names.
         let _most = self.scope.len();
         self.scope.leave(first);
         self.gathered.chain(alloc, both, first, values, last)

@@ -22,6 +22,7 @@ use ca_value::seq::Text;
 use std::alloc::Global;
 
 impl Walker {
+    /// A list whose head is the symbol `name`, which is no form: a call of a function or of a builtin.
     #[cycle(walk)]
     pub fn call(
         &mut self,
@@ -80,6 +81,7 @@ impl Walker {
         }
     }
 
+    /// A builtin over the parts from a place on: BadArity where it admits another number of them.
     #[cycle(walk)]
     pub fn builtin_form(
         &mut self,
@@ -111,6 +113,7 @@ impl Walker {
         }
     }
 
+    /// A keyword at the head of a list: it looks itself up in a map.
     #[cycle(walk)]
     pub fn keyword_form(
         &mut self,
@@ -140,6 +143,7 @@ impl Walker {
             .apply(alloc, Head::Builtin(Builtin::Get), terms, place)
     }
 
+    /// A symbol that stands alone: the innermost name in scope that is written so.
     pub fn symbol(
         &self,
         functions: &Functions,

@@ -104,6 +104,7 @@ impl Walker {
         let size = self.scope.len();
         let values = self.unpack_patterns(alloc, place, first, parameters)?;
         let made = self.block(alloc, functions, at, body, 0)?;
+        // The length of the scope bounds the numbers of its names.
         let _most = self.scope.len();
         self.scope.leave(size);
         self.gathered.bind(alloc, size, values, made)

@@ -38,6 +38,7 @@ impl Walker {
         let body = self.go_body(alloc, functions, at.in_task(), repeats, place, parts)?;
         // The body's value has the name behind the port.
         self.scope.hide(alloc)?;
+        // The length of the scope bounds the numbers of its names.
         let _most = self.scope.len();
         self.scope.leave(port);
         self.gathered.finish(alloc, number, port, body, place)

@@ -25,7 +25,7 @@ use ca_value::seq::Seq;
 use std::alloc::Global;
 
 impl Walker {
-    // All parts under hidden names, and `true` for an option that isn't written.
+    /// All parts under hidden names, and `true` for an option that isn't written.
     #[cycle(walk)]
     pub fn hidden_form(
         &mut self,
@@ -44,13 +44,14 @@ impl Walker {
     {
         let first = self.scope.next_number();
         let operands = self.hidden(alloc, functions, at, parts, 1, parts.len())?;
+        // The length of the scope bounds the numbers of its names.
         let _most = self.scope.next_number();
         self.scope.leave(first);
         let operands = and_true(unwritten, operands)?;
         hiding(alloc, &mut self.gathered, form, first, operands, place)
     }
 
-    // A change of a mix, which the mix then hears of.
+    /// A change of a mix, which the mix then hears of.
     #[cycle(walk)]
     pub fn changing_form(
         &mut self,
@@ -72,7 +73,7 @@ impl Walker {
         changing(alloc, &mut self.gathered, first, entry, place)
     }
 
-    // A merge into a new channel.
+    /// A merge into a new channel.
     #[cycle(walk)]
     pub fn merge_form(
         &mut self,
@@ -93,13 +94,14 @@ impl Walker {
         let first = self.scope.next_number();
         let operands = self.hidden(alloc, functions, at, parts, 1, 2)?;
         let port = self.chan_form(alloc, functions, at.inner(), place, parts, 2)?;
+        // The length of the scope bounds the numbers of its names.
         let _most = self.scope.next_number();
         self.scope.leave(first);
         let operands = with_last(operands, port)?;
         merging(alloc, &mut self.gathered, first, operands, place)
     }
 
-    // A publication by the function that is given.
+    /// A publication by the function that is given.
     #[cycle(walk)]
     pub fn pub_form(
         &mut self,
@@ -145,6 +147,7 @@ impl Walker {
     {
         let first = self.scope.next_number();
         let operands = self.hidden(alloc, functions, at, parts, 1, 2)?;
+        // The length of the scope bounds the numbers of its names.
         let _most = self.scope.next_number();
         self.scope.leave(first);
         publishing(alloc, &mut self.gathered, first, given, operands, place)
@@ -170,7 +173,7 @@ impl Walker {
         Err(CheckError::Fault(kind, wrong))
     }
 
-    // A pipeline by the function that is given.
+    /// A pipeline by the function that is given.
     #[cycle(walk)]
     pub fn pipeline_form(
         &mut self,
@@ -230,6 +233,7 @@ impl Walker {
         self.scope.hide(alloc)?;
         let target = self.hidden(alloc, functions, at, parts, 2, 3)?;
         let source = self.hidden(alloc, functions, at, parts, 4, parts.len())?;
+        // The length of the scope bounds the numbers of its names.
         let _most = self.scope.next_number();
         self.scope.leave(first);
         let ports = joined_terms(target, source)?;

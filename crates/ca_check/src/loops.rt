@@ -92,6 +92,7 @@ impl Walker {
         let values = self.bound_parts(alloc, functions, at, place, &parts[1])?;
         let inside = at.in_loop(values.len());
         let body = self.block(alloc, functions, inside, parts, 2)?;
+        // The length of the scope bounds the numbers of its names.
         let _most = self.scope.len();
         self.scope.leave(first);
         self.gathered.repeat(alloc, first, values, body)
@@ -170,6 +171,7 @@ impl Walker {
         self.scope.hide(alloc)?;
         self.bind_name(alloc, binder_in(bindings))?;
         let terms = self.in_order(alloc, functions, at.inner(), parts, 2)?;
+        // The length of the scope bounds the numbers of its names.
         let _most = self.scope.len();
         self.scope.leave(first);
         let counted = self.gathered.count(alloc, first + 1, first, terms, place)?;
@@ -226,6 +228,7 @@ impl Walker {
         let count = over(alloc, Head::Builtin(Builtin::Count), &[first], place)?;
         let values = pair(alloc, items, count)?;
         self.hide_three(alloc)?;
+        // The length of the scope bounds the numbers of its names.
         let _most = self.scope.len();
         let body = self.doseq_item(alloc, functions, at.inner(), place, first, parts, bindings)?;
         self.scope.leave(first);
@@ -279,6 +282,7 @@ impl Walker {
         )?;
         let values = self.bind_value(alloc, place, binder, Seq::new(alloc), term)?;
         let body = self.block(alloc, functions, at, parts, 2)?;
+        // The length of the scope bounds the numbers of its names.
         let _most = self.scope.len();
         self.scope.leave(size);
         self.gathered.bind(alloc, size, values, body)

@@ -27,7 +27,7 @@ use ca_value::seq::Seq;
 use std::alloc::Global;
 
 impl Walker {
-    // The form of a word whose row is planned.
+    /// The form of a word whose row is planned.
     #[cycle(walk)]
     pub fn planned_form(
         &mut self,
@@ -108,7 +108,7 @@ impl Walker {
         self.gathered.apply(alloc, head, terms, place)
     }
 
-    // The terms, and that of one more form outside tail position.
+    /// The terms, and that of one more form outside tail position.
     #[cycle(walk)]
     pub fn one_more(
         &mut self,
@@ -158,7 +158,7 @@ impl Walker {
         }
     }
 
-    // A new channel, what it is made of standing from a place on.
+    /// A new channel, what it is made of standing from a place on.
     #[cycle(walk)]
     pub fn chan_form(
         &mut self,

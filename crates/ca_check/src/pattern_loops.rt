@@ -126,6 +126,7 @@ impl Walker {
         let first = self.scope.len();
         let bindings = &parts[1];
         let values = self.bound_parts(alloc, functions, at, place, bindings)?;
+        // The length of the scope bounds the numbers of its names.
         let _most = self.scope.len();
         let items = items_in(bindings);
         let body = self.loop_again(alloc, functions, at, place, first, parts, items)?;
@@ -154,6 +155,7 @@ impl Walker {
     {
         let first = self.scope.len();
         let values = self.bind_again(alloc, bound, items)?;
+        // The length of the scope bounds the numbers of its names.
         let _most = self.scope.len();
         let inside = at.in_loop(values.len());
         let body = self.loop_patterns(alloc, functions, inside, place, first, parts, items)?;
@@ -184,6 +186,7 @@ impl Walker {
         let size = self.scope.len();
         let values = self.unpack_bindings(alloc, place, whole, items)?;
         let body = self.block(alloc, functions, at, parts, 2)?;
+        // The length of the scope bounds the numbers of its names.
         let _most = self.scope.len();
         self.scope.leave(size);
         self.gathered.bind(alloc, size, values, body)

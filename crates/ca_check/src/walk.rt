@@ -292,6 +292,7 @@ impl Walker {
         self.gathered.seq(alloc, terms)
     }
 
+    /// The head over the parts from a place on, which are evaluated from left to right.
     #[cycle(walk)]
     pub fn operation(
         &mut self,
@@ -337,7 +338,7 @@ impl Walker {
         Ok(terms)
     }
 
-    // The values of the forms from one place up to another, each under a hidden name behind it.
+    /// The values of the forms from one place up to another, each under a hidden name behind it.
     #[cycle(walk)]
     pub fn hidden(
         &mut self,

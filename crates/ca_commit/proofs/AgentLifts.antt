@@ -5,7 +5,8 @@ use Rattle.ca_term.specs.Program.{ProgramView}
 use Rattle.ca_term.specs.Operation.{SeedView}
 use Rattle.ca_meaning.specs.Body.{At}
 use Rattle.ca_meaning.specs.Task.{TaskBody}
-use Rattle.ca_commit.specs.Agents.{Advanced, Answered, Started, advances_of, gives_of, parks_of, place_of, result_port, stands_of, starts_of, wakes_of}
+use Rattle.ca_agent.specs.Agents.{Advanced, Answered, Started}
+use Rattle.ca_commit.specs.Agents.{advances_of, gives_of, parks_of, place_of, result_port, stands_of, starts_of, wakes_of}
 use Rattle.ca_commit.proofs.AgentLaws.{Begins, GoesOn, StaysPaused, TakesAnswers, TellsResult}
 
 module _ {A : Type 0} (stands : ProgramView → A → TaskBody → Type 0) (place : A → At) where

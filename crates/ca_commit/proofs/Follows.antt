@@ -9,7 +9,8 @@ use Rattle.ca_meaning.specs.Legal.{Reaches}
 use Rattle.ca_meaning.specs.Task.{TaskBody, script, BodyRest}
 use Rattle.ca_meaning.specs.State.{State, opening_state}
 use Rattle.ca_meaning.specs.Steps.{Steps}
-use Rattle.ca_commit.specs.Agents.{Advanced, Answered, Started, TaskAgent}
+use Rattle.ca_agent.specs.Agents.{Advanced, Answered, Started}
+use Rattle.ca_commit.specs.Agents.{TaskAgent}
 use Rattle.ca_commit.specs.Contents.{Content}
 use Rattle.ca_commit.specs.Histories.{Entry, Follow, journal}
 use Rattle.ca_commit.specs.Moving.{visible}

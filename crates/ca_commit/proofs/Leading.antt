@@ -9,7 +9,8 @@ use Rattle.ca_meaning.specs.Body.{At}
 use Rattle.ca_meaning.specs.Task.{TaskBody}
 use Rattle.ca_meaning.specs.State.{State}
 use Rattle.ca_meaning.specs.Steps.{Steps}
-use Rattle.ca_commit.specs.Agents.{Advanced, Answered, Started, TaskAgent, advances_of, gives_of, parks_of, place_of, result_port, stands_of, starts_of, wakes_of}
+use Rattle.ca_agent.specs.Agents.{Advanced, Answered, Started}
+use Rattle.ca_commit.specs.Agents.{TaskAgent, advances_of, gives_of, parks_of, place_of, result_port, stands_of, starts_of, wakes_of}
 use Rattle.ca_commit.specs.Contents.{Parts}
 use Rattle.ca_commit.specs.Moving.{MovesShown, MovesTurn, visible}
 use Rattle.ca_commit.specs.SilentMoves.{Asked, Failed, Marked, Stopped}

@@ -31,3 +31,9 @@ pub mod Opens
 pub mod Holdings
 pub mod Follows
 pub mod Draws
+pub mod Listed
+pub mod Fronts
+pub mod BranchLaws
+pub mod QueueLaws
+pub mod FitLaws
+pub mod RegisterLaws

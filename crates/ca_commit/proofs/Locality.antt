@@ -11,7 +11,8 @@ use Rattle.ca_meaning.specs.Task.{TaskBody}
 use Rattle.ca_meaning.specs.State.{State}
 use Rattle.ca_meaning.specs.EndsLaw.{IsQuiet}
 use Rattle.ca_meaning.specs.Steps.{Steps}
-use Rattle.ca_commit.specs.Agents.{Advanced, Answered, Started, TaskAgent, advances_of, place_of, stands_of}
+use Rattle.ca_agent.specs.Agents.{Advanced, Answered, Started}
+use Rattle.ca_commit.specs.Agents.{TaskAgent, advances_of, place_of, stands_of}
 use Rattle.ca_commit.specs.Contents.{Content, Parts, at_key, home}
 use Rattle.ca_commit.specs.Gathered.{AllAlike, kind_at, kind_of_part, parts_of, pick}
 use Rattle.ca_commit.specs.Moves.{Stood}

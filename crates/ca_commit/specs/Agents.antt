@@ -1,26 +1,12 @@
--- What an agent owes: it stands for a body, also after it went on and after it got an answer.
+-- An agent with its task's result port, and how many alts the task did or waits at.
 use Rattle.std.specs.Prelude.{◌≡◌, ℕ, suc, Option}
 use Rattle.ca_value.specs.Tree.{Tree}
 use Rattle.ca_term.specs.Program.{ProgramView}
-use Rattle.ca_term.specs.Operation.{OpView, WantView, SeedView, taking, putting, choosing, making, spawning, closing, registering, printing, posting}
+use Rattle.ca_term.specs.Operation.{OpView, SeedView, taking, putting, choosing, making, spawning, closing, registering, printing, posting}
 use Rattle.ca_meaning.specs.Body.{At, local, at_op, ended, faulted, nowhere}
-use Rattle.ca_meaning.specs.Task.{TaskBody, body_at, body_fill, BodyRest, new_task}
+use Rattle.ca_meaning.specs.Task.{TaskBody}
 use Rattle.ca_meaning.specs.TaskSteps.{result_of}
 
-module _ {A : Type 0} (stands : ProgramView → A → TaskBody → Type 0) (place : A → At) where
-  -- one `advance` brings the agent to where its body stands
-  abbrev pub Advanced : (ProgramView → A → A → Type 0) → Type 0
-  Advanced advances = (program : ProgramView) (a c : A) (b : TaskBody) → stands program a b → advances program a c → stands program c b × (place c ≡ body_at b)
-
-  -- an agent that got its answer stands for the body that goes on with it
-  abbrev pub Answered : (A → Tree → A → Type 0) → Type 0
-  Answered gives = (program : ProgramView) (a c : A) (b : TaskBody) (w : WantView) (v : Tree) → stands program a b → place a ≡ body_at b → place a ≡ at_op w → gives a v c → (d : TaskBody) × BodyRest program (body_fill v b) d × stands program c d
-
-  -- a new agent stands for the new task's body
-  abbrev pub Started : (ProgramView → SeedView → A → Type 0) → Type 0
-  Started starts = (program : ProgramView) (seed : SeedView) (a : A) → starts program seed a → (b : TaskBody) × BodyRest program (new_task program seed) b × stands program a b
-
--- An agent with its task's result port, and how many alts the task did or waits at.
 pub record TaskAgent (A : Type 0) : Type 0 where
   pub result : Option ℕ
   pub alts : ℕ

@@ -1,33 +1,11 @@
 -- What the parts of a run have in them. An agent is of any type.
 use Rattle.std.specs.Prelude.{◌%◌, ℕ, List, Option, Some, None, Bool, is_some}
-use Rattle.ca_term.specs.declared.event.Side.{Side}
-use Rattle.ca_term.specs.declared.event.Side.TheVariants.{Take, Put}
 use Rattle.ca_term.specs.Program.{ProgramView}
-use Rattle.ca_meaning.specs.Channel.{Channel}
 use Rattle.ca_meaning.specs.Registry.{Registry}
-use Rattle.ca_meaning.specs.Wait.{Handler}
 use Rattle.ca_meaning.specs.State.{Deadline}
-
--- a channel with the queues of its two sides; a handler in them may be stale, that is, its wait gone
-pub record Kept : Type 0 where
-  pub channel : Channel
-  pub takes : List Handler
-  pub puts : List Handler
-
-abbrev pub on : Side → Kept → List Handler
-on Take k = k.takes
-on Put k = k.puts
-
-abbrev pub put_on : Side → List Handler → Kept → Kept
-put_on Take q k = record { channel = k.channel; takes = q; puts = k.puts }
-put_on Put q k = record { channel = k.channel; takes = k.takes; puts = q }
-
-abbrev pub with_channel : Channel → Kept → Kept
-with_channel c k = record { channel = c; takes = k.takes; puts = k.puts }
-
-abbrev pub channel_of : Option Kept → Option Channel
-channel_of None = None
-channel_of (Some k) = Some k.channel
+-- a channel with the queues of its two sides
+pub use Rattle.ca_bank.specs.Kept.{Kept, on, put_on}
+pub use Rattle.ca_bank.specs.Holds.{with_channel, channel_of}
 
 -- how many numbers a worker gave to tasks, ports and waits
 pub record Counts : Type 0 where

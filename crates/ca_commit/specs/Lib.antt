@@ -15,3 +15,15 @@ pub mod Running
 pub mod Opening
 pub mod Histories
 pub mod Drawing
+pub mod Listing
+pub mod Tasks
+pub mod Listings
+pub mod Numbers
+pub mod Finding
+pub mod Planning
+pub mod Showing
+pub mod Found
+pub mod Needs
+pub mod Plans
+pub mod Branching
+pub mod Registering

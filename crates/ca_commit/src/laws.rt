@@ -23,7 +23,7 @@ ghost use Rattle.ca_commit.specs.Running.{AreAt, RunStands, written};
 ghost use Rattle.ca_commit.specs.Histories.{Entry, Follow, journal};
 ghost use Rattle.ca_commit.specs.Opening.{opening_parts, unasked};
 
-use crate::agent::Agent;
+use ca_agent::agent::Agent;
 
 /// No drawn event touches a part twice, and their numbers ascend.
 pub fn touches_are_distinct()

@@ -1,13 +1,27 @@
-//! One operation becomes one event over the parts that a worker holds. So far the definitions and the theorem stand
-//! here: what the parts of a run have in them, which of them an event touches and how it moves them, and when they
-//! stand for a state of the meaning. The calls that decide and apply an event come over these definitions.
+//! One operation becomes one event over the parts that a worker holds.
+//!
+//! What the parts of a run have in them, which of them an event touches and how it moves them, and when they stand for
+//! a state of the meaning: these are definitions, with their laws in `laws`. `planning::plan` decides what an operation
+//! becomes. It looks at nothing but held parts: the channels and registries of the held banks, and what the held shards
+//! tell of a wait. Its answer is one function of these (`planned`), branch by branch and row by row.
 //!
 //! The one model: contents of parts by their numbers. What an event touches is gathered into maps that have these parts
 //! alone, so nothing that it says can hang on another part.
 //!
-//! Stands on `ca_value`, `ca_term` and `ca_meaning`. Start with `specs/Contents.antt`, `specs/Touched.antt` and
-//! `specs/Moving.antt`, then `laws`.
+//! Stands on `ca_value`, `ca_term`, `ca_meaning`, `ca_agent`, `ca_timers` and `ca_bank`. Start with
+//! `specs/Contents.antt`, `specs/Touched.antt` and `specs/Moving.antt`, then `laws`; for decision with
+//! `specs/Finding.antt` and `specs/Planning.antt`, then `finding` and `planning`.
 #![tactic(auto)]
 
-pub mod agent;
+mod branching;
+mod counting;
+pub mod finding;
+mod fit;
+pub mod held;
 pub mod laws;
+pub mod listing;
+mod making;
+pub mod planned;
+pub mod planning;
+mod registering;
+pub mod task;

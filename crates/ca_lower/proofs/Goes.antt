@@ -15,13 +15,13 @@ use Rattle.ca_meaning.specs.Rest.{LocalSteps}
 use Rattle.ca_meaning.specs.Started.{procedure_at, started as started_text}
 use Rattle.ca_states.specs.declared.code.Exit.{Exit}
 use Rattle.ca_states.specs.declared.code.Exit.TheVariants.{Jump, Branch}
-use Rattle.ca_states.specs.Code.{constant, copying, moving, many, CodeView, function_at}
-use Rattle.ca_states.specs.Machine.{Frame, Move, goes, faults, read, write, reads, taken, taken_all, slots_from, applied, answered, begun_at, turned, returned, went, runs}
-use Rattle.ca_lower.specs.Implements.{Position, position, start_of, before, Scope, slot_of, in_slots, names_bound, Target, moves, Implements, ImplementsBindings, ImplementsAll}
+use Rattle.ca_states.specs.Code.{Instruction, constant, copying, moving, CodeView, function_at}
+use Rattle.ca_states.specs.Machine.{Frame, Move, goes, faults, read, write, reads, taken, slots_from, effect, answered, begun_at, turned, returned, went, runs}
+use Rattle.ca_lower.specs.Implements.{Position, position, start_of, before, Scope, slot_of, in_slots, names_bound, Target, moves, operand_slot, next_slot, Operand, Implements, ImplementsBindings, ImplementsAll}
 use Rattle.ca_lower.specs.Lowered.{After, AreAlike}
 use Rattle.ca_lower.proofs.Puts.{puts_items, puts_bindings, puts-const, puts-branch, puts-bind, puts_items-none, puts_items-item, puts_bindings-empty, puts_bindings-binding, puts-append, puts_bindings-append, consts}
 use Rattle.ca_lower.proofs.Contexts.{Context, InnerAll, inside, in_branch, in_bind, in_first, in_rest}
-use Rattle.ca_lower.proofs.Slots.{Same, same_trans, same_write, same_then_write, same_taken, Holds, holds_same, holds_append, holds_one, holds_range, puts_var, founds_at, length-bound, read-write_same, moved, move_slots}
+use Rattle.ca_lower.proofs.Slots.{Same, same_trans, same_write, same_then_write, same_taken, Holds, holds_same, holds_append, holds_one, holds_range, holds_below, puts_var, founds_at, length-bound, read-write_same, moved, move_slots}
 use Rattle.ca_lower.proofs.Alike.{body, state, run_from, AlikeAt, alike_back, alike_next, after_back, fire}
 
 pub run_constant : (C : CodeView) (q : Position) (h : ℕ) (v : Tree) (s : List Tree) (K : List Frame) (turns : ℕ) → run_from C (before (constant h v) q) s K turns ≡ run_from C q (write s h v) K turns
@@ -42,11 +42,11 @@ abbrev pub many_move : CodeView → Position → ℕ → List Tree → List Fram
 many_move C q h s K turns p (Ok v) = run_from C q (write s h v) K turns
 many_move C q h s K turns p (Err f) = faults (task_fault f) p turns
 
-pub run_many : (C : CodeView) (q : Position) (b : BuiltinName) (h k : ℕ) (p : Place) (s : List Tree) (K : List Frame) (turns : ℕ)
-    → run_from C (before (many b h h k p) q) s K turns ≡ many_move C q h (taken_all s (slots_from h k)) K turns p (applied b (reads s (slots_from h k)))
-run_many C (position n is x) b h k p s K turns = by (applied b (reads s (slots_from h k)))
+pub went_by : (C : CodeView) (q : Position) (h : ℕ) (p : Place) (s s' : List Tree) (K : List Frame) (turns : ℕ) (i : Instruction) (o : Outcome)
+    → effect i s ≡ answered s' h p o → run_from C (before i q) s K turns ≡ many_move C q h s' K turns p o
+went_by C (position n is x) h p s s' K turns i o e = ap (λ f. went f (state n s K turns) (runs C is x)) e ∙ by o
   where
-    by : (o : Outcome) → went (answered (taken_all s (slots_from h k)) h p o) (state n s K turns) (runs C is x) ≡ many_move C (position n is x) h (taken_all s (slots_from h k)) K turns p o
+    by : (o : Outcome) → went (answered s' h p o) (state n s K turns) (runs C is x) ≡ many_move C (position n is x) h s' K turns p o
     by (Ok v) = refl
     by (Err f) = refl
 
@@ -244,3 +244,26 @@ module _ (P : ProgramView) (C : CodeView) where
       subst (λ x. AlikeAt P C k q s2 K turns2 (E (F (item (const x) (consts (reads s2 (slots_from (suc h) (count_terms ts)))))))) (same2 h (omega arith))
       (cont k (omega (arith, le, le2)) s2 turns2 (same_trans h (suc h) s s1 s2 (omega arith) same1 same2)))) in
       subst (λ us. AlikeAt P C n p s K turns (E (F us))) (sym (puts_items-item fs t ts)) g
+
+  -- one operand, which is read in its slot
+  abbrev pub GenOperand : Kernel → Type 0
+  GenOperand t =
+      (n : ℕ) (names : Scope) (fs : Founds) (h : ℕ) (p q : Position) (s : List Tree) (K : List Frame) (E : Kernel → Kernel) (turns : ℕ)
+      → Calls n → Operand names t (Implements C None names h t p q) p q → Holds names fs s h → Context E
+      → ((m : ℕ) → m ≤ n → (s' : List Tree) (turns' : ℕ) → Same h s s' → AlikeAt P C m q s' K turns' (E (const (read s' (operand_slot names h t)))))
+      → AlikeAt P C n p s K turns (E (puts fs t))
+
+  pub gen_operand : (t : Kernel) → Gen t → GenOperand t
+  gen_operand (var x) gt n names fs h p q s K E turns calls im holds ctx cont =
+      let v = read s (slot_of names x) in
+      let g : AlikeAt P C n p s K turns (E (const v)) = subst (λ z. AlikeAt P C n z s K turns (E (const v))) (sym im.1) (cont n (omega arith) s turns (λ k lt. refl)) in
+      subst (λ t. AlikeAt P C n p s K turns (E t)) (sym (puts_var names fs s h x holds im.0)) g
+  gen_operand t gt n names fs h p q s K E turns calls im holds ctx cont = gt n None names fs h p q s K E turns calls im holds tt ctx tt cont
+
+  pub slot_before : (names : Scope) (fs : Founds) (s : List Tree) (h : ℕ) (t : Kernel) (own : Type 0) (p q : Position) → Holds names fs s h → Operand names t own p q → operand_slot names h t < next_slot h t
+  slot_before names fs s h (var x) own p q holds im = holds_below names fs s h x holds im.0
+  slot_before names fs s h t own p q holds im = omega arith
+
+pub from_next : (h : ℕ) (t : Kernel) → h ≤ next_slot h t
+from_next h (var x) = omega arith
+from_next h t = omega arith

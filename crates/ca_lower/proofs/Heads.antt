@@ -2,6 +2,7 @@
 use Rattle.std.proofs.Common.{◌≡◌, ℕ, suc, ◌-◌, ◌<◌, ◌≤◌, List, [], ◌∷◌, length, None, Some, Bool, true, false, refl, sym, ap, ap₂, ◌∙◌, subst, arith, cond}
 use Rattle.std.specs.Prelude.{nat_le, Result, Ok, Err}
 use Rattle.ca_value.specs.declared.builtin.Builtin.{Builtin as BuiltinName}
+use Rattle.ca_value.specs.declared.builtin.Builtin.TheVariants.{Conj, Assoc}
 use Rattle.ca_value.specs.Tree.{Tree, trees_of}
 use Rattle.ca_value.specs.Outcome.{Outcome}
 use Rattle.ca_value.specs.Builtins.{builtin_result}
@@ -11,7 +12,7 @@ use Rattle.ca_term.specs.declared.fault.Fault.TheVariants.{Spun, TooDeep}
 use Rattle.ca_term.specs.declared.head.Head.{Head}
 use Rattle.ca_term.specs.declared.head.Head.TheVariants.{Recur, Builtin, Take, Put, Alts, Make, Spawn, Close, Register, Print, Post}
 use Rattle.ca_term.specs.declared.head.Head.TheVariants as head
-use Rattle.ca_term.specs.Kernel.{Kernel, Kernels, Founds, const, frame, apply, puts}
+use Rattle.ca_term.specs.Kernel.{Kernel, Kernels, Founds, const, frame, apply, none, item, puts}
 use Rattle.ca_term.specs.Operation.{OpView}
 use Rattle.ca_term.specs.Asking.{asked, task_fault}
 use Rattle.ca_term.specs.Fits.{count_terms}
@@ -22,15 +23,15 @@ use Rattle.ca_meaning.specs.Rest.{LocalSteps, here, after}
 use Rattle.ca_meaning.specs.Started.{procedure_at, started as started_text}
 use Rattle.ca_states.specs.declared.code.Exit.TheVariants.{Jump, Branch, Return, Cut}
 use Rattle.ca_states.specs.declared.code.Exit.TheVariants as exit
-use Rattle.ca_states.specs.Code.{CodeView, function_at}
-use Rattle.ca_states.specs.Machine.{Frame, goes, faults, read, write, reads, taken_all, slots_from, applied, begun_at, waiting}
-use Rattle.ca_lower.specs.Implements.{Position, position, start_of, Scope, moves, LeadsByCut, ImplementsAll}
+use Rattle.ca_states.specs.Code.{Instruction, one, two, pushing, putting, many, CodeView, function_at}
+use Rattle.ca_states.specs.Machine.{Frame, goes, faults, read, write, reads, taken, taken_all, slots_from, effect, answered, applied, begun_at, waiting}
+use Rattle.ca_lower.specs.Implements.{Position, position, start_of, before, Scope, moves, operand_slot, next_slot, Operand, LeadsByCut, Implements, ImplementsAll}
 use Rattle.ca_lower.specs.Lowered.{After, AreAlike}
-use Rattle.ca_lower.proofs.Puts.{puts_items, puts-apply, consts, values-consts, operands-consts}
-use Rattle.ca_lower.proofs.Contexts.{Context, inside, in_frame, in_apply}
-use Rattle.ca_lower.proofs.Slots.{Same, same_trans, same_less, same_then_write, same_taken_all, Holds, length-reads, read-write_same, move_slots, same_moves, reads_moved}
+use Rattle.ca_lower.proofs.Puts.{puts_items, puts_one, puts_two, puts_three, puts-apply, consts, values-consts, operands-consts}
+use Rattle.ca_lower.proofs.Contexts.{Context, inside, in_frame, in_apply, in_first, in_rest}
+use Rattle.ca_lower.proofs.Slots.{Same, same_trans, same_less, same_then_write, same_taken, same_taken_all, Holds, holds_same, length-reads, read-write_same, move_slots, same_moves, reads_moved}
 use Rattle.ca_lower.proofs.Alike.{body, state, AlikeAt, alike_back, alike_next, fire, stands, filled}
-use Rattle.ca_lower.proofs.Goes.{run_many, run_moves, many_move, Calls, Then, Gen, GenAll, calls_less, at_back}
+use Rattle.ca_lower.proofs.Goes.{went_by, run_moves, many_move, Calls, Then, Gen, GenAll, calls_less, at_back, gen_none, gen_item, gen_operand, slot_before, from_next}
 use Rattle.ca_lower.proofs.Leaves.{IsOperation, not_ready, at_asked, asks_at, apply_redex, apply_replace}
 
 module _ (P : ProgramView) (C : CodeView) where
@@ -57,18 +58,147 @@ module _ (P : ProgramView) (C : CodeView) where
         ap (λ z. turns_after z turns) place,
       )
 
-  gen_builtin : (b : BuiltinName) (ts : Kernels) (pl : Place) → GenAll P C ts → Gen P C (apply (Builtin b) ts pl)
-  gen_builtin b ts pl gts n lp names fs h p q s K E turns calls (r, its, leads) holds under ctx again cont =
+  -- by an instruction behind the operands
+  built : (n h : ℕ) (r q : Position) (b : BuiltinName) (pl : Place) (i : Instruction) (ws s s1 left : List Tree) (K : List Frame) (E : Kernel → Kernel) (turns : ℕ)
+      → r ≡ before i q → effect i s1 ≡ answered left h pl (applied b ws) → Context E → Same h s left → Then P C n q h s K E → AlikeAt P C n r s1 K turns (E (apply (Builtin b) (consts ws) pl))
+  built n h r q b pl i ws s s1 left K E turns er ed ctx same cont =
+      subst (λ z. AlikeAt P C n z s1 K turns (E (apply (Builtin b) (consts ws) pl))) (sym er)
+      (subst (λ mv. After P (AreAlike P C n) mv (body (E (apply (Builtin b) (consts ws) pl)) turns (length K))) (sym (went_by C q h pl s1 left K turns i (applied b ws) ed))
+      (applied_at n h q b pl ws s left K E turns (applied b ws) refl ctx same cont))
+
+  then_less : (m n : ℕ) (q : Position) (h : ℕ) (s : List Tree) (K : List Frame) (E : Kernel → Kernel) → m ≤ n → Then P C n q h s K E → Then P C m q h s K E
+  then_less m n q h s K E le cont j le2 = cont j (omega (arith, le, le2))
+
+  -- over a row of slots
+  gen_row : (b : BuiltinName) (ts : Kernels) (pl : Place) → GenAll P C ts
+      → (n : ℕ) (names : Scope) (fs : Founds) (h : ℕ) (p q : Position) (s : List Tree) (K : List Frame) (E : Kernel → Kernel) (turns : ℕ)
+      → Calls P C n → (r : Position) × ImplementsAll C names h ts p r × (r ≡ before (many b h h (count_terms ts) pl) q) → Holds names fs s h → Context E → Then P C n q h s K E
+      → AlikeAt P C n p s K turns (E (puts fs (apply (Builtin b) ts pl)))
+  gen_row b ts pl gts n names fs h p q s K E turns calls (r, its, er) holds ctx cont =
       let k = count_terms ts in
       let g : AlikeAt P C n p s K turns (E (apply (Builtin b) (puts_items fs ts) pl)) =
       gts n names fs h p r s K E (λ us. apply (Builtin b) us pl) turns calls its holds ctx (in_apply (Builtin b) pl)
       (λ m le s1 turns1 same1.
-      let ws = reads s1 (slots_from h k) in
-      let s2 = taken_all s1 (slots_from h k) in
-      subst (λ z. AlikeAt P C m z s1 K turns1 (E (apply (Builtin b) (consts ws) pl))) (sym leads)
-      (subst (λ mv. After P (AreAlike P C m) mv (body (E (apply (Builtin b) (consts ws) pl)) turns1 (length K))) (sym (run_many C q b h k pl s1 K turns1))
-      (applied_at m h q b pl ws s s2 K E turns1 (applied b ws) refl ctx (same_trans h h s s1 s2 (omega arith) same1 (same_taken_all h h k s1 (omega arith))) (λ j le2. cont j (omega (arith, le, le2)))))) in
+      let left = taken_all s1 (slots_from h k) in
+      built m h r q b pl (many b h h k pl) (reads s1 (slots_from h k)) s s1 left K E turns1 er refl ctx (same_trans h h s s1 left (omega arith) same1 (same_taken_all h h k s1 (omega arith)))
+      (then_less m n q h s K E le cont)) in
       subst (λ t. AlikeAt P C n p s K turns (E t)) (sym (puts-apply fs (Builtin b) ts pl)) g
+
+  -- over one operand
+  gen_one : (b : BuiltinName) (t : Kernel) (pl : Place) → Gen P C t → Gen P C (apply (Builtin b) (item t none) pl)
+  gen_one b t pl gt n lp names fs h p q s K E turns calls (r, it, er) holds under ctx again cont =
+      let F : Kernels → Kernel = λ us. apply (Builtin b) us pl in
+      let a = operand_slot names h t in
+      let g : AlikeAt P C n p s K turns (E (F (item (puts fs t) none))) =
+      gen_operand P C t gt n names fs h p r s K (λ u. E (F (item u none))) turns calls it holds (inside E (λ u. F (item u none)) ctx (in_first F none (in_apply (Builtin b) pl)))
+      (λ m le s1 turns1 same1. built m h r q b pl (one b h a pl) (read s1 a ∷ []) s s1 s1 K E turns1 er refl ctx same1 (then_less m n q h s K E le cont)) in
+      subst (λ u. AlikeAt P C n p s K turns (E u)) (sym (puts-apply fs (Builtin b) (item t none) pl ∙ ap F (puts_one fs t))) g
+
+  -- over two, the first of which is read in its slot too
+  gen_both : (b : BuiltinName) (t u : Kernel) (pl : Place) → Gen P C t → Gen P C u
+      → (n : ℕ) (names : Scope) (fs : Founds) (h : ℕ) (p q : Position) (s : List Tree) (K : List Frame) (E : Kernel → Kernel) (turns : ℕ) → Calls P C n
+      → (r r2 : Position) × Operand names t (Implements C None names h t p r) p r × Operand names u (Implements C None names (next_slot h t) u r r2) r r2 × (r2 ≡ before (two b h (operand_slot names h t) (operand_slot names (next_slot h t) u) pl) q)
+      → Holds names fs s h → Context E → Then P C n q h s K E → AlikeAt P C n p s K turns (E (puts fs (apply (Builtin b) (item t (item u none)) pl)))
+  gen_both b t u pl gt gu n names fs h p q s K E turns calls (r, r2, it, iu, er) holds ctx cont =
+      let F : Kernels → Kernel = λ us. apply (Builtin b) us pl in
+      let inn = in_apply (Builtin b) pl in
+      let a = operand_slot names h t in
+      let h2 = next_slot h t in
+      let c = operand_slot names h2 u in
+      let le1 = from_next h t in
+      let u' = puts fs u in
+      let before2 = slot_before P C names fs s h t (Implements C None names h t p r) p r holds it in
+      let g : AlikeAt P C n p s K turns (E (F (item (puts fs t) (item u' none)))) =
+      gen_operand P C t gt n names fs h p r s K (λ z. E (F (item z (item u' none)))) turns calls it holds (inside E (λ z. F (item z (item u' none))) ctx (in_first F (item u' none) inn))
+      (λ m le s1 turns1 same1.
+      let v = read s1 a in
+      let F2 : Kernels → Kernel = λ us. F (item (const v) us) in
+      gen_operand P C u gu m names fs h2 r r2 s1 K (λ z. E (F2 (item z none))) turns1 (calls_less P C m n le calls) iu (holds_same names fs s s1 h h2 le1 same1 holds)
+      (inside E (λ z. F2 (item z none)) ctx (in_first F2 none (in_rest F v inn)))
+      (λ k le2 s2 turns2 same2.
+      subst (λ x. AlikeAt P C k r2 s2 K turns2 (E (F (item (const x) (item (const (read s2 c)) none))))) (same2 a before2)
+      (built k h r2 q b pl (two b h a c pl) (read s2 a ∷ read s2 c ∷ []) s s2 s2 K E turns2 er refl ctx (same_trans h h2 s s1 s2 le1 same1 same2)
+      (then_less k n q h s K E (omega (arith, le, le2)) cont)))) in
+      subst (λ z. AlikeAt P C n p s K turns (E z)) (sym (puts-apply fs (Builtin b) (item t (item u none)) pl ∙ ap F (puts_two fs t u))) g
+
+  -- `conj` of an item: the collection is taken out of slot h
+  gen_conj : (t u : Kernel) (pl : Place) → Gen P C t → Gen P C u
+      → (n : ℕ) (names : Scope) (fs : Founds) (h : ℕ) (p q : Position) (s : List Tree) (K : List Frame) (E : Kernel → Kernel) (turns : ℕ) → Calls P C n
+      → (r r2 : Position) × Implements C None names h t p r × Operand names u (Implements C None names (suc h) u r r2) r r2 × (r2 ≡ before (pushing h h (operand_slot names (suc h) u) pl) q) → Holds names fs s h → Context E → Then P C n q h s K E → AlikeAt P C n p s K turns (E (puts fs (apply (Builtin Conj) (item t (item u none)) pl)))
+  gen_conj t u pl gt gu n names fs h p q s K E turns calls (r, r2, it, iu, er) holds ctx cont =
+      let F : Kernels → Kernel = λ us. apply (Builtin Conj) us pl in
+      let inn = in_apply (Builtin Conj) pl in
+      let c = operand_slot names (suc h) u in
+      let u' = puts fs u in
+      let g : AlikeAt P C n p s K turns (E (F (item (puts fs t) (item u' none)))) =
+      gt n None names fs h p r s K (λ z. E (F (item z (item u' none)))) turns calls it holds tt (inside E (λ z. F (item z (item u' none))) ctx (in_first F (item u' none) inn)) tt
+      (λ m le s1 turns1 same1.
+      let v = read s1 h in
+      let F2 : Kernels → Kernel = λ us. F (item (const v) us) in
+      gen_operand P C u gu m names fs (suc h) r r2 s1 K (λ z. E (F2 (item z none))) turns1 (calls_less P C m n le calls) iu (holds_same names fs s s1 h (suc h) (omega arith) same1 holds)
+      (inside E (λ z. F2 (item z none)) ctx (in_first F2 none (in_rest F v inn)))
+      (λ k le2 s2 turns2 same2.
+      let same3 = same_trans h (suc h) s s1 s2 (omega arith) same1 same2 in
+      subst (λ x. AlikeAt P C k r2 s2 K turns2 (E (F (item (const x) (item (const (read s2 c)) none))))) (same2 h (omega arith))
+      (built k h r2 q Conj pl (pushing h h c pl) (read s2 h ∷ read s2 c ∷ []) s s2 (taken s2 h) K E turns2 er refl ctx (same_trans h h s s2 (taken s2 h) (omega arith) same3 (same_taken h h s2 (omega arith)))
+      (then_less k n q h s K E (omega (arith, le, le2)) cont)))) in
+      subst (λ z. AlikeAt P C n p s K turns (E z)) (sym (puts-apply fs (Builtin Conj) (item t (item u none)) pl ∙ ap F (puts_two fs t u))) g
+
+  -- `assoc` of a pair
+  gen_assoc : (t u w : Kernel) (pl : Place) → Gen P C t → Gen P C u → Gen P C w
+      → (n : ℕ) (names : Scope) (fs : Founds) (h : ℕ) (p q : Position) (s : List Tree) (K : List Frame) (E : Kernel → Kernel) (turns : ℕ) → Calls P C n
+      → (r r2 r3 : Position) × Implements C None names h t p r × Operand names u (Implements C None names (suc h) u r r2) r r2 × Operand names w (Implements C None names (next_slot (suc h) u) w r2 r3) r2 r3
+      × (r3 ≡ before (putting h h (operand_slot names (suc h) u) (operand_slot names (next_slot (suc h) u) w) pl) q) → Holds names fs s h → Context E → Then P C n q h s K E
+      → AlikeAt P C n p s K turns (E (puts fs (apply (Builtin Assoc) (item t (item u (item w none))) pl)))
+  gen_assoc t u w pl gt gu gw n names fs h p q s K E turns calls (r, r2, r3, it, iu, iw, er) holds ctx cont =
+      let F : Kernels → Kernel = λ us. apply (Builtin Assoc) us pl in
+      let inn = in_apply (Builtin Assoc) pl in
+      let h2 = suc h in
+      let c = operand_slot names h2 u in
+      let h3 = next_slot h2 u in
+      let d = operand_slot names h3 w in
+      let le3 = from_next h2 u in
+      let u' = puts fs u in
+      let w' = puts fs w in
+      let g : AlikeAt P C n p s K turns (E (F (item (puts fs t) (item u' (item w' none))))) =
+      gt n None names fs h p r s K (λ z. E (F (item z (item u' (item w' none))))) turns calls it holds tt (inside E (λ z. F (item z (item u' (item w' none)))) ctx (in_first F (item u' (item w' none)) inn)) tt
+      (λ m le s1 turns1 same1.
+      let v = read s1 h in
+      let F2 : Kernels → Kernel = λ us. F (item (const v) us) in
+      let inn2 = in_rest F v inn in
+      let holds1 = holds_same names fs s s1 h h2 (omega arith) same1 holds in
+      gen_operand P C u gu m names fs h2 r r2 s1 K (λ z. E (F2 (item z (item w' none)))) turns1 (calls_less P C m n le calls) iu holds1
+      (inside E (λ z. F2 (item z (item w' none))) ctx (in_first F2 (item w' none) inn2))
+      (λ j le2 s2 turns2 same2.
+      let key = read s2 c in
+      let F3 : Kernels → Kernel = λ us. F2 (item (const key) us) in
+      gen_operand P C w gw j names fs h3 r2 r3 s2 K (λ z. E (F3 (item z none))) turns2 (calls_less P C j n (omega (arith, le, le2)) calls) iw (holds_same names fs s1 s2 h2 h3 le3 same2 holds1)
+      (inside E (λ z. F3 (item z none)) ctx (in_first F3 none (in_rest F2 key inn2)))
+      (λ k le4 s3 turns3 same3.
+      let same12 = same_trans h h2 s s1 s2 (omega arith) same1 same2 in
+      let same13 = same_trans h h3 s s2 s3 (omega (arith, le3)) same12 same3 in
+      let eh : read s3 h ≡ v = same3 h (omega (arith, le3)) ∙ same2 h (omega arith) in
+      let ek : read s3 c ≡ key = same3 c (slot_before P C names fs s1 h2 u (Implements C None names h2 u r r2) r r2 holds1 iu) in
+      subst (λ x. AlikeAt P C k r3 s3 K turns3 (E (F (item (const x) (item (const key) (item (const (read s3 d)) none)))))) eh
+      (subst (λ x. AlikeAt P C k r3 s3 K turns3 (E (F (item (const (read s3 h)) (item (const x) (item (const (read s3 d)) none)))))) ek
+      (built k h r3 q Assoc pl (putting h h c d pl) (read s3 h ∷ read s3 c ∷ read s3 d ∷ []) s s3 (taken s3 h) K E turns3 er refl ctx (same_trans h h s s3 (taken s3 h) (omega arith) same13 (same_taken h h s3 (omega arith)))
+      (then_less k n q h s K E (omega (arith, le, le2, le4)) cont)))))) in
+      subst (λ z. AlikeAt P C n p s K turns (E z)) (sym (puts-apply fs (Builtin Assoc) (item t (item u (item w none))) pl ∙ ap F (puts_three fs t u w))) g
+
+  abbrev pub GenEach : Kernels → Type 0
+  GenEach none = Unit {0}
+  GenEach (item t ts) = Gen P C t × GenEach ts
+
+  gen_all : (ts : Kernels) → GenEach ts → GenAll P C ts
+  gen_all none g = gen_none P C
+  gen_all (item t ts) g = gen_item P C t ts g.0 (gen_all ts g.1)
+
+  gen_builtin : (b : BuiltinName) (ts : Kernels) (pl : Place) → GenEach ts → Gen P C (apply (Builtin b) ts pl)
+  gen_builtin b (item t none) pl g n lp names fs h p q s K E turns calls im holds under ctx again cont = gen_one b t pl g.0 n lp names fs h p q s K E turns calls im holds under ctx again cont
+  gen_builtin Conj (item t (item u none)) pl g n lp names fs h p q s K E turns calls im holds under ctx again cont = gen_conj t u pl g.0 g.1.0 n names fs h p q s K E turns calls im holds ctx cont
+  gen_builtin b (item t (item u none)) pl g n lp names fs h p q s K E turns calls im holds under ctx again cont = gen_both b t u pl g.0 g.1.0 n names fs h p q s K E turns calls im holds ctx cont
+  gen_builtin Assoc (item t (item u (item w none))) pl g n lp names fs h p q s K E turns calls im holds under ctx again cont = gen_assoc t u w pl g.0 g.1.0 g.1.1.0 n names fs h p q s K E turns calls im holds ctx cont
+  gen_builtin b ts pl g n lp names fs h p q s K E turns calls im holds under ctx again cont = gen_row b ts pl (gen_all ts g) n names fs h p q s K E turns calls im holds ctx cont
 
   -- OPERATIONS
   -- an operation, or the fault of one of its operands
@@ -169,16 +299,16 @@ module _ (P : ProgramView) (C : CodeView) where
       subst (λ k. AlikeAt P C m there s1 K turns1 (E (apply Recur (consts (reads s1 (slots_from h k))) pl))) (sym ec) a3) in
       subst (λ z. AlikeAt P C n p s K turns (E z)) (sym (puts-apply fs Recur ts pl)) g
 
-  pub gen_apply : (f : Head) (ts : Kernels) (pl : Place) → GenAll P C ts → Gen P C (apply f ts pl)
-  gen_apply Recur ts pl g = gen_recur ts pl g
+  pub gen_apply : (f : Head) (ts : Kernels) (pl : Place) → GenEach ts → Gen P C (apply f ts pl)
+  gen_apply Recur ts pl g = gen_recur ts pl (gen_all ts g)
   gen_apply (Builtin b) ts pl g = gen_builtin b ts pl g
-  gen_apply (head.Call f) ts pl g = gen_call f ts pl g
-  gen_apply Take ts pl g = λ n lp names fs h p q s K E turns calls im holds under ctx again cont. gen_operation Take ts pl tt g n names fs h p q s K E turns calls im.0 im.1 im.2 holds ctx cont
-  gen_apply Put ts pl g = λ n lp names fs h p q s K E turns calls im holds under ctx again cont. gen_operation Put ts pl tt g n names fs h p q s K E turns calls im.0 im.1 im.2 holds ctx cont
-  gen_apply (Alts options) ts pl g = λ n lp names fs h p q s K E turns calls im holds under ctx again cont. gen_operation (Alts options) ts pl tt g n names fs h p q s K E turns calls im.0 im.1 im.2 holds ctx cont
-  gen_apply (Make kind) ts pl g = λ n lp names fs h p q s K E turns calls im holds under ctx again cont. gen_operation (Make kind) ts pl tt g n names fs h p q s K E turns calls im.0 im.1 im.2 holds ctx cont
-  gen_apply (Spawn kind) ts pl g = λ n lp names fs h p q s K E turns calls im holds under ctx again cont. gen_operation (Spawn kind) ts pl tt g n names fs h p q s K E turns calls im.0 im.1 im.2 holds ctx cont
-  gen_apply Close ts pl g = λ n lp names fs h p q s K E turns calls im holds under ctx again cont. gen_operation Close ts pl tt g n names fs h p q s K E turns calls im.0 im.1 im.2 holds ctx cont
-  gen_apply (Register name) ts pl g = λ n lp names fs h p q s K E turns calls im holds under ctx again cont. gen_operation (Register name) ts pl tt g n names fs h p q s K E turns calls im.0 im.1 im.2 holds ctx cont
-  gen_apply Print ts pl g = λ n lp names fs h p q s K E turns calls im holds under ctx again cont. gen_operation Print ts pl tt g n names fs h p q s K E turns calls im.0 im.1 im.2 holds ctx cont
-  gen_apply Post ts pl g = λ n lp names fs h p q s K E turns calls im holds under ctx again cont. gen_operation Post ts pl tt g n names fs h p q s K E turns calls im.0 im.1 im.2 holds ctx cont
+  gen_apply (head.Call f) ts pl g = gen_call f ts pl (gen_all ts g)
+  gen_apply Take ts pl g = λ n lp names fs h p q s K E turns calls im holds under ctx again cont. gen_operation Take ts pl tt (gen_all ts g) n names fs h p q s K E turns calls im.0 im.1 im.2 holds ctx cont
+  gen_apply Put ts pl g = λ n lp names fs h p q s K E turns calls im holds under ctx again cont. gen_operation Put ts pl tt (gen_all ts g) n names fs h p q s K E turns calls im.0 im.1 im.2 holds ctx cont
+  gen_apply (Alts options) ts pl g = λ n lp names fs h p q s K E turns calls im holds under ctx again cont. gen_operation (Alts options) ts pl tt (gen_all ts g) n names fs h p q s K E turns calls im.0 im.1 im.2 holds ctx cont
+  gen_apply (Make kind) ts pl g = λ n lp names fs h p q s K E turns calls im holds under ctx again cont. gen_operation (Make kind) ts pl tt (gen_all ts g) n names fs h p q s K E turns calls im.0 im.1 im.2 holds ctx cont
+  gen_apply (Spawn kind) ts pl g = λ n lp names fs h p q s K E turns calls im holds under ctx again cont. gen_operation (Spawn kind) ts pl tt (gen_all ts g) n names fs h p q s K E turns calls im.0 im.1 im.2 holds ctx cont
+  gen_apply Close ts pl g = λ n lp names fs h p q s K E turns calls im holds under ctx again cont. gen_operation Close ts pl tt (gen_all ts g) n names fs h p q s K E turns calls im.0 im.1 im.2 holds ctx cont
+  gen_apply (Register name) ts pl g = λ n lp names fs h p q s K E turns calls im holds under ctx again cont. gen_operation (Register name) ts pl tt (gen_all ts g) n names fs h p q s K E turns calls im.0 im.1 im.2 holds ctx cont
+  gen_apply Print ts pl g = λ n lp names fs h p q s K E turns calls im holds under ctx again cont. gen_operation Print ts pl tt (gen_all ts g) n names fs h p q s K E turns calls im.0 im.1 im.2 holds ctx cont
+  gen_apply Post ts pl g = λ n lp names fs h p q s K E turns calls im holds under ctx again cont. gen_operation Post ts pl tt (gen_all ts g) n names fs h p q s K E turns calls im.0 im.1 im.2 holds ctx cont

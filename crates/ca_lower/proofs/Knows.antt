@@ -1,5 +1,5 @@
 -- What is known of slots in the rest of a block, and which rests are valid.
-use Rattle.std.proofs.Common.{◌≡◌, ℕ, zero, suc, ◌+◌, ◌<◌, ◌≤◌, List, [], ◌∷◌, Bool, true, false, refl, ap, ◌∙◌, arith, cond, ◌&&◌, not}
+use Rattle.std.proofs.Common.{◌≡◌, ℕ, zero, suc, ◌+◌, ◌<◌, ◌≤◌, List, [], ◌∷◌, Bool, true, false, refl, sym, ap, ap₂, ◌∙◌, subst, arith, cond, ◌&&◌, not}
 use Rattle.std.proofs.lemmas.Bool.{lt-ltb, le-leb, eq-eqb, eqb-true, eqb-false}
 use Rattle.std.specs.Prelude.{◌==◌, nat_lt, nat_le}
 use Rattle.ca_value.specs.Tree.{Tree}
@@ -12,8 +12,8 @@ use Rattle.ca_states.specs.declared.code.Exit.TheVariants.{Jump, Branch, Return,
 use Rattle.ca_states.specs.declared.code.Exit.TheVariants as exit
 use Rattle.ca_states.specs.Code.{Slots, has_slot, Instruction, constant, copying, moving, many, CodeView, size, block_at}
 use Rattle.ca_states.specs.Machine.{slots_from}
-use Rattle.ca_states.specs.Touched.{read_by, read_at}
-use Rattle.ca_states.specs.Valid.{Known as Tells, each, are_below, takes, is_operation, is_target, is_instruction_in_range, is_exit_in_range, is_in_range, leads_forward, noted, noted_all, after, known_after, reads_known, implies, are_entry_slots_known, targets_known, knows_slots, is_valid_block, are_just}
+use Rattle.ca_states.specs.Touched.{read_by, emptied_by, written_by, read_at}
+use Rattle.ca_states.specs.Valid.{Known as Tells, each, are_below, takes, is_operation, is_target, is_counted, is_instruction_in_range, is_exit_in_range, is_in_range, leads_forward, noted, noted_all, after, known_after, reads_known, implies, are_entry_slots_known, targets_known, knows_slots, is_valid_block, are_just}
 use Rattle.ca_states.proofs.RowLaws.{row_below}
 use Rattle.ca_lower.specs.Implements.{moves}
 use Rattle.ca_lower.specs.Emit.{block_of}
@@ -156,6 +156,47 @@ valid_many C w n h k b p K is x lt le ad up go =
     (both_true (are_below w (slots_from h k) && are_below w (slots_from h k)) (are_below w (h ∷ [])) (both_true (are_below w (slots_from h k)) (are_below w (slots_from h k)) row row) (one_below w h lt)) ad)
     (row_known h k K up)
     (go (noted true h (noted_all false (slots_from h k) K)) (up_written h (noted_all false (slots_from h k) K) (up_emptied h h k K (omega arith) (up_less h (h + k) K (omega arith) up))))
+
+abbrev pub AllBelow : ℕ → List ℕ → Type 0
+AllBelow g [] = Unit {0}
+AllBelow g (a ∷ ks) = (a < g) × AllBelow g ks
+
+all_in_range : (w g : ℕ) (ks : List ℕ) → g ≤ w → AllBelow g ks → are_below w ks ≡ true
+all_in_range w g [] le b = refl
+all_in_range w g (a ∷ ks) le b = let lt = b.0 in both_true (nat_lt a w) (are_below w ks) (lt-ltb a w (omega (arith, lt, le))) (all_in_range w g ks le b.1)
+
+all_known : (g : ℕ) (K : Tells) (ks : List ℕ) → AllBelow g ks → Up g K → each K ks ≡ true
+all_known g K [] b up = refl
+all_known g K (a ∷ ks) b up = both_true (K a) (each K ks) (up a b.0) (all_known g K ks b.1 up)
+
+-- a builtin that reads slots below g: they stay, and its value is known
+pub valid_reading : (C : CodeView) (w n h g : ℕ) (ks : List ℕ) (i : Instruction) (K : Tells) (is : List Instruction) (x : Exit) → read_by i ≡ ks → emptied_by i ≡ [] → written_by i ≡ h ∷ [] → is_counted i ≡ true
+    → h < w → h ≤ g → g ≤ w → AllBelow g ks → Up g K → ((L : Tells) → Up (suc h) L → Valid C w n L is x) → Valid C w n K (i ∷ is) x
+valid_reading C w n h g ks i K is x er ee ew ec lt le lg ab up go =
+    let reads_below : are_below w (read_by i) ≡ true = ap (are_below w) er ∙ all_in_range w g ks lg ab in
+    let empties_below : are_below w (emptied_by i) ≡ true = ap (are_below w) ee in
+    let writes_below : are_below w (written_by i) ≡ true = ap (are_below w) ew ∙ one_below w h lt in
+    let next : after i K ≡ noted true h K = ap₂ (λ a b. noted_all true a (noted_all false b K)) ew ee in
+    valid_first C w n K i is x
+    (both_true (are_below w (read_by i) && are_below w (emptied_by i) && are_below w (written_by i)) (is_counted i)
+    (both_true (are_below w (read_by i) && are_below w (emptied_by i)) (are_below w (written_by i)) (both_true (are_below w (read_by i)) (are_below w (emptied_by i)) reads_below empties_below) writes_below) ec)
+    (ap (each K) er ∙ all_known g K ks ab up)
+    (subst (λ L. Valid C w n L is x) (sym next) (go (noted true h K) (up_written h K (up_less h g K le up))))
+
+-- one that takes a collection out of slot h
+pub valid_taking : (C : CodeView) (w n h g : ℕ) (ks : List ℕ) (i : Instruction) (K : Tells) (is : List Instruction) (x : Exit) → read_by i ≡ ks → emptied_by i ≡ h ∷ [] → written_by i ≡ h ∷ [] → is_counted i ≡ true
+    → h < w → h ≤ g → g ≤ w → AllBelow g ks → Up g K → ((L : Tells) → Up (suc h) L → Valid C w n L is x) → Valid C w n K (i ∷ is) x
+valid_taking C w n h g ks i K is x er ee ew ec lt le lg ab up go =
+    let reads_below : are_below w (read_by i) ≡ true = ap (are_below w) er ∙ all_in_range w g ks lg ab in
+    let empties_below : are_below w (emptied_by i) ≡ true = ap (are_below w) ee ∙ one_below w h lt in
+    let writes_below : are_below w (written_by i) ≡ true = ap (are_below w) ew ∙ one_below w h lt in
+    let next : after i K ≡ noted true h (noted false h K) = ap₂ (λ a b. noted_all true a (noted_all false b K)) ew ee in
+    valid_first C w n K i is x
+    (both_true (are_below w (read_by i) && are_below w (emptied_by i) && are_below w (written_by i)) (is_counted i)
+    (both_true (are_below w (read_by i) && are_below w (emptied_by i)) (are_below w (written_by i)) (both_true (are_below w (read_by i)) (are_below w (emptied_by i)) reads_below empties_below) writes_below) ec)
+    (ap (each K) er ∙ all_known g K ks ab up)
+    (subst (λ L. Valid C w n L is x) (sym next)
+    (go (noted true h (noted false h K)) (up_written h (noted false h K) (λ j l. emptied_known h K j (λ e. omega (arith, l, e)) (up j (omega (arith, l, le)))))))
 
 -- values moved to a loop's slots
 pub valid_moves : (C : CodeView) (w m g d a n : ℕ) (K : Tells) (x : Exit) → d + n ≤ g → g ≤ a → a + n ≤ w → Up g K → ((k : ℕ) → a ≤ k → k < a + n → K k ≡ true) → ((L : Tells) → Up g L → Valid C w m L [] x) → Valid C w m K (moves d a n) x

@@ -2,6 +2,7 @@
 use Rattle.std.proofs.Common.{◌≡◌, ℕ, suc, ◌+◌, ◌<◌, ◌≤◌, List, [], ◌∷◌, ◌++◌, length, get_or, Option, Some, None, refl, sym, ap, ◌∙◌, subst, arith, append_assoc, append-nil, length-append, inl, inr, ⊎_elim}
 use Rattle.std.proofs.lemmas.List.{get_or_at}
 use Rattle.ca_value.specs.Tree.{nil}
+use Rattle.ca_value.specs.declared.builtin.Builtin.TheVariants.{Conj, Assoc}
 use Rattle.ca_term.specs.declared.place.Place.{Place}
 use Rattle.ca_term.specs.declared.head.Head.{Head}
 use Rattle.ca_term.specs.declared.head.Head.TheVariants.{Recur, Builtin, Take, Put, Alts, Make, Spawn, Close, Register, Print, Post}
@@ -12,10 +13,10 @@ use Rattle.ca_term.specs.Fits.{Known, Takes, Suits, Fits, FitTerms, FitInOrder, 
 use Rattle.ca_states.specs.declared.code.Exit.{Exit}
 use Rattle.ca_states.specs.declared.code.Exit.TheVariants.{Jump, Branch, Return, Cut}
 use Rattle.ca_states.specs.declared.code.Exit.TheVariants as exit
-use Rattle.ca_states.specs.Code.{Instruction, constant, copying, moving, many, BlockView, CodeView, no_block, block_at, function_at}
-use Rattle.ca_lower.specs.Source.{IsSource, AreSource, AreSourceBindings}
-use Rattle.ca_lower.specs.Implements.{Position, position, start_of, before, Scope, slot_of, IsInScope, in_slots, names_bound, Target, moves, LeadsByCut, LeadsBy, Implements, ImplementsInOrder, ImplementsBindings, ImplementsAll}
-use Rattle.ca_lower.specs.Emit.{Builder, building, at_work, block_of, add, close, nowhere, blocks_by, blocks, blocks_all, blocks_bound, recur_code, recur_exit, finish_by_cut, finish, no_side, both_ends, emit, emit_in_order, emit_bindings, emit_all}
+use Rattle.ca_states.specs.Code.{Instruction, constant, copying, moving, one, two, pushing, putting, many, BlockView, CodeView, no_block, block_at, function_at}
+use Rattle.ca_term.specs.Source.{IsSource, AreSource, AreSourceBindings}
+use Rattle.ca_lower.specs.Implements.{Position, position, start_of, before, Scope, slot_of, IsInScope, in_slots, names_bound, Target, moves, LeadsByCut, operand_slot, next_slot, Operand, LeadsBy, Implements, ImplementsInOrder, ImplementsBindings, ImplementsAll}
+use Rattle.ca_lower.specs.Emit.{Builder, building, at_work, block_of, add, close, nowhere, blocks_by, blocks, blocks_all, blocks_bound, recur_code, recur_exit, finish_by_cut, finish, no_side, both_ends, operand, emit, emit_in_order, emit_bindings, emit_all}
 
 -- the code goes on from the builder, where the block at work goes on with these instructions and this exit
 abbrev pub Ends : CodeView → ℕ → Builder → List Instruction → Exit → Type 0
@@ -58,6 +59,10 @@ finished_at w lp (Register name) h k p B = closed_at w (Cut (Register name) h k 
 finished_at w lp Print h k p B = closed_at w (Cut Print h k h (at_work B + 1) p) (suc h) B
 finished_at w lp Post h k p B = closed_at w (Cut Post h k h (at_work B + 1) p) (suc h) B
 
+pub operand_at : (t : Kernel) (own B : Builder) → at_work own ≡ at_work B + blocks t → at_work (operand t own B) ≡ at_work B + blocks t
+operand_at (var x) own B e = omega arith
+operand_at t own B e = e
+
 module _ (w : ℕ) where
   mutual
     pub emit_at : (lp : Option Target) (names : Scope) (h : ℕ) (t : Kernel) (B : Builder) → at_work (emit w lp names h t B) ≡ at_work B + blocks t
@@ -94,6 +99,26 @@ module _ (w : ℕ) where
     emit_at lp names h (seq ts) B = emit_order_at lp names h ts B
     emit_at lp names h (frame body) B = omega arith
     emit_at lp names h (turn ns text now) B = omega arith
+    emit_at lp names h (apply (Builtin b) (item t none) p) B =
+        added_at (one b h (operand_slot names h t) p ∷ []) (operand t (emit w None names h t B) B) ∙ omega (arith, operand_at t (emit w None names h t B) B (emit_at None names h t B))
+    emit_at lp names h (apply (Builtin Conj) (item t (item u none)) p) B =
+        let B1 = emit w None names h t B in
+        let B2 = operand u (emit w None names (suc h) u B1) B1 in
+        added_at (pushing h h (operand_slot names (suc h) u) p ∷ []) B2
+        ∙ omega (arith, operand_at u (emit w None names (suc h) u B1) B1 (emit_at None names (suc h) u B1), emit_at None names h t B)
+    emit_at lp names h (apply (Builtin b) (item t (item u none)) p) B =
+        let B1 = operand t (emit w None names h t B) B in
+        let m = next_slot h t in
+        let B2 = operand u (emit w None names m u B1) B1 in
+        added_at (two b h (operand_slot names h t) (operand_slot names m u) p ∷ []) B2
+        ∙ omega (arith, operand_at u (emit w None names m u B1) B1 (emit_at None names m u B1), operand_at t (emit w None names h t B) B (emit_at None names h t B))
+    emit_at lp names h (apply (Builtin Assoc) (item t (item u (item v none))) p) B =
+        let m = next_slot (suc h) u in
+        let B1 = emit w None names h t B in
+        let B2 = operand u (emit w None names (suc h) u B1) B1 in
+        let B3 = operand v (emit w None names m v B2) B2 in
+        added_at (putting h h (operand_slot names (suc h) u) (operand_slot names m v) p ∷ []) B3
+        ∙ omega (arith, operand_at v (emit w None names m v B2) B2 (emit_at None names m v B2), operand_at u (emit w None names (suc h) u B1) B1 (emit_at None names (suc h) u B1), emit_at None names h t B)
     emit_at lp names h (apply f ts p) B =
         finished_at w lp f h (count_terms ts) p (emit_all w names h ts B) ∙ omega (arith, emit_all_at names h ts B)
 
@@ -194,15 +219,32 @@ module _ (C : CodeView) (w : ℕ) where
     leads Print lp target h k p B more x fit ins ends = cuts Print h k p B more x ends
     leads Post lp target h k p B more x fit ins ends = cuts Post h k p B more x ends
 
-    -- where the code begins that comes to the rest of a block
-    abbrev Lays : Option Target → Scope → ℕ → Kernel → Builder → Position → Type 0
-    Lays lp names h t B q = (is : List Instruction) × (x : Exit) × Ends C w B is x × Implements C lp names h t (position (at_work B) is x) q
-
     abbrev LaysInOrder : Option Target → Scope → ℕ → Kernels → Builder → Position → Type 0
     LaysInOrder lp names h ts B q = (is : List Instruction) × (x : Exit) × Ends C w B is x × ImplementsInOrder C lp names h ts (position (at_work B) is x) q
 
     abbrev LaysBindings : Scope → ℕ → Bindings → Builder → Position → Type 0
     LaysBindings names h bs B q = (is : List Instruction) × (x : Exit) × Ends C w B is x × ImplementsBindings C names h bs (position (at_work B) is x) q
+
+    -- where the code begins that comes to the rest of a block
+    abbrev Lays : Option Target → Scope → ℕ → Kernel → Builder → Position → Type 0
+    Lays lp names h t B q = (is : List Instruction) × (x : Exit) × Ends C w B is x × Implements C lp names h t (position (at_work B) is x) q
+
+    -- an operand, by what is laid out for it where it is no name
+    abbrev LaysOperand : Scope → ℕ → Kernel → Builder → List Instruction → Exit → Type 0
+    LaysOperand names h t B more x =
+        let own = emit w None names h t B in
+        let q = position (at_work (operand t own B)) more x in
+        (is : List Instruction) × (x0 : Exit) × Ends C w B is x0 × Operand names t (Implements C None names h t (position (at_work B) is x0) q) (position (at_work B) is x0) q
+
+    lays_operand : (ns : List ℕ) (names : Scope) (h : ℕ) (t : Kernel) (B : Builder) (more : List Instruction) (x : Exit) → IsClosed ns t → Covers ns names
+        → (Ends C w (emit w None names h t B) more x → Lays None names h t B (position (at_work (emit w None names h t B)) more x))
+        → Ends C w (operand t (emit w None names h t B) B) more x → LaysOperand names h t B more x
+    lays_operand ns names h (var y) B more x bound cov own ends = (more, x, ends, (cov y bound, refl))
+    lays_operand ns names h t B more x bound cov own ends = own ends
+
+    -- one instruction behind
+    behind_add : (B : Builder) (i : Instruction) (more : List Instruction) (x : Exit) → position (at_work B) (i ∷ more) x ≡ before i (position (at_work (add (i ∷ []) B)) more x)
+    behind_add B i more x = ap (λ k. position k (i ∷ more) x) (sym (added_at (i ∷ []) B))
 
     abbrev LaysAll : Scope → ℕ → Kernels → Builder → Position → Type 0
     LaysAll names h ts B q = (is : List Instruction) × (x : Exit) × Ends C w B is x × ImplementsAll C names h ts (position (at_work B) is x) q
@@ -277,6 +319,36 @@ module _ (C : CodeView) (w : ℕ) where
       lays lp target ns names h (seq ts) B more x src bound fit cov ins ends = lays_order lp target ns names h ts B more x src bound fit cov ins ends
       lays lp target ns names h (frame body) B more x src bound fit cov ins ends = absurd src
       lays lp target ns names h (turn ms text now) B more x src bound fit cov ins ends = absurd src
+      lays lp target ns names h (apply (Builtin b) (item t none) p) B more x src bound fit cov ins ends =
+          let B1 = operand t (emit w None names h t B) B in
+          let i = one b h (operand_slot names h t) p in
+          let it = lays_operand ns names h t B (i ∷ more) x bound.0 cov (λ e. lays None None ns names h t B (i ∷ more) x src.0 bound.0 fit.1.0 cov tt e) (ends_add C w B1 (i ∷ []) more x ends) in
+          (it.0, it.1, it.2, (position (at_work B1) (i ∷ more) x, it.3, behind_add B1 i more x))
+      lays lp target ns names h (apply (Builtin Conj) (item t (item u none)) p) B more x src bound fit cov ins ends =
+          let B1 = emit w None names h t B in
+          let B2 = operand u (emit w None names (suc h) u B1) B1 in
+          let i = pushing h h (operand_slot names (suc h) u) p in
+          let iu = lays_operand ns names (suc h) u B1 (i ∷ more) x bound.1.0 cov (λ e. lays None None ns names (suc h) u B1 (i ∷ more) x src.1.0 bound.1.0 fit.1.1.0 cov tt e) (ends_add C w B2 (i ∷ []) more x ends) in
+          let it = lays None None ns names h t B iu.0 iu.1 src.0 bound.0 fit.1.0 cov tt iu.2 in
+          (it.0, it.1, it.2, (position (at_work B1) iu.0 iu.1, position (at_work B2) (i ∷ more) x, it.3, iu.3, behind_add B2 i more x))
+      lays lp target ns names h (apply (Builtin b) (item t (item u none)) p) B more x src bound fit cov ins ends =
+          let m = next_slot h t in
+          let B1 = operand t (emit w None names h t B) B in
+          let B2 = operand u (emit w None names m u B1) B1 in
+          let i = two b h (operand_slot names h t) (operand_slot names m u) p in
+          let iu = lays_operand ns names m u B1 (i ∷ more) x bound.1.0 cov (λ e. lays None None ns names m u B1 (i ∷ more) x src.1.0 bound.1.0 fit.1.1.0 cov tt e) (ends_add C w B2 (i ∷ []) more x ends) in
+          let it = lays_operand ns names h t B iu.0 iu.1 bound.0 cov (λ e. lays None None ns names h t B iu.0 iu.1 src.0 bound.0 fit.1.0 cov tt e) iu.2 in
+          (it.0, it.1, it.2, (position (at_work B1) iu.0 iu.1, position (at_work B2) (i ∷ more) x, it.3, iu.3, behind_add B2 i more x))
+      lays lp target ns names h (apply (Builtin Assoc) (item t (item u (item v none))) p) B more x src bound fit cov ins ends =
+          let m = next_slot (suc h) u in
+          let B1 = emit w None names h t B in
+          let B2 = operand u (emit w None names (suc h) u B1) B1 in
+          let B3 = operand v (emit w None names m v B2) B2 in
+          let i = putting h h (operand_slot names (suc h) u) (operand_slot names m v) p in
+          let iv = lays_operand ns names m v B2 (i ∷ more) x bound.1.1.0 cov (λ e. lays None None ns names m v B2 (i ∷ more) x src.1.1.0 bound.1.1.0 fit.1.1.1.0 cov tt e) (ends_add C w B3 (i ∷ []) more x ends) in
+          let iu = lays_operand ns names (suc h) u B1 iv.0 iv.1 bound.1.0 cov (λ e. lays None None ns names (suc h) u B1 iv.0 iv.1 src.1.0 bound.1.0 fit.1.1.0 cov tt e) iv.2 in
+          let it = lays None None ns names h t B iu.0 iu.1 src.0 bound.0 fit.1.0 cov tt iu.2 in
+          (it.0, it.1, it.2, (position (at_work B1) iu.0 iu.1, position (at_work B2) iv.0 iv.1, position (at_work B3) (i ∷ more) x, it.3, iu.3, iv.3, behind_add B3 i more x))
       lays lp target ns names h (apply f ts p) B more x src bound fit cov ins ends =
           let B1 = emit_all w names h ts B in
           let l = leads f lp target h (count_terms ts) p B1 more x fit.0 (inside_more lp target (at_work B) (at_work B1) (omega (arith, emit_all_at w names h ts B)) ins) ends in

@@ -7,11 +7,13 @@ pub mod Heads
 pub mod Knows
 pub mod LaidLaws
 pub mod Lays
+pub mod LayoutLaws
 pub mod Leaves
 pub mod Loops
 pub mod Lowers
 pub mod Puts
 pub mod Slots
 pub mod Sound
+pub mod Stands
 pub mod Texts
 pub mod Whole

@@ -20,9 +20,9 @@ use Rattle.ca_lower.proofs.Puts.{puts_items, puts_bindings, puts-const, puts-loo
 use Rattle.ca_lower.proofs.Contexts.{Context, inside, in_loop, in_seq, in_turn}
 use Rattle.ca_lower.proofs.Slots.{Same, same_trans, Holds, holds_same, holds_append, holds_one, holds_range, founds_at, founds_named, length-bound}
 use Rattle.ca_lower.proofs.Alike.{body, state, AlikeAt, alike_back, fire, stands}
-use Rattle.ca_lower.proofs.Goes.{Under, Calls, Then, Again, Gen, GenAll, GenBindings, calls_less, again_from, at_back, moved_down, gen_const, gen_var, bindings_empty, bindings_more, gen_bind, gen_branch, gen_none, gen_item}
+use Rattle.ca_lower.proofs.Goes.{Under, Calls, Then, Again, Gen, GenBindings, calls_less, again_from, at_back, moved_down, gen_const, gen_var, bindings_empty, bindings_more, gen_bind, gen_branch}
 use Rattle.ca_lower.proofs.Leaves.{turn_redex, turn_replace}
-use Rattle.ca_lower.proofs.Heads.{gen_apply}
+use Rattle.ca_lower.proofs.Heads.{GenEach, gen_apply}
 
 names_at : (s : List Tree) (xs : List ℕ) (a : ℕ) → names_of (founds_at s xs a) ≡ xs
 names_at s [] a = refl
@@ -186,11 +186,11 @@ module _ (P : ProgramView) (C : CodeView) where
     gen (seq ts) = gen_seq ts (gen_order ts)
     gen (frame inner) = λ n lp names fs h p q s K E turns calls im holds under ctx again cont. absurd im
     gen (turn ns text now) = λ n lp names fs h p q s K E turns calls im holds under ctx again cont. absurd im
-    gen (apply f ts pl) = gen_apply P C f ts pl (gen_all ts)
+    gen (apply f ts pl) = gen_apply P C f ts pl (gen_each ts)
 
-    pub gen_all : (ts : Kernels) → GenAll P C ts
-    gen_all none = gen_none P C
-    gen_all (item t ts) = gen_item P C t ts (gen t) (gen_all ts)
+    pub gen_each : (ts : Kernels) → GenEach P C ts
+    gen_each none = tt
+    gen_each (item t ts) = (gen t, gen_each ts)
 
     pub gen_bindings : (bs : Bindings) → GenBindings P C bs
     gen_bindings empty = bindings_empty P C

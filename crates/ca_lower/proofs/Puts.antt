@@ -47,6 +47,15 @@ pub puts_items-item : (fs : Founds) (t : Kernel) (ts : Kernels) → puts_items f
 puts_items-item [] t ts = refl
 puts_items-item (f ∷ fs) t ts = puts_items-item fs (put f.0 f.1 t) (put_items f.0 f.1 ts)
 
+pub puts_one : (fs : Founds) (t : Kernel) → puts_items fs (item t none) ≡ item (puts fs t) none
+puts_one fs t = puts_items-item fs t none ∙ ap (item (puts fs t)) (puts_items-none fs)
+
+pub puts_two : (fs : Founds) (t u : Kernel) → puts_items fs (item t (item u none)) ≡ item (puts fs t) (item (puts fs u) none)
+puts_two fs t u = puts_items-item fs t (item u none) ∙ ap (item (puts fs t)) (puts_one fs u)
+
+pub puts_three : (fs : Founds) (t u w : Kernel) → puts_items fs (item t (item u (item w none))) ≡ item (puts fs t) (item (puts fs u) (item (puts fs w) none))
+puts_three fs t u w = puts_items-item fs t (item u (item w none)) ∙ ap (item (puts fs t)) (puts_two fs u w)
+
 pub puts_bindings-empty : (fs : Founds) → puts_bindings fs empty ≡ empty
 puts_bindings-empty [] = refl
 puts_bindings-empty (f ∷ fs) = puts_bindings-empty fs

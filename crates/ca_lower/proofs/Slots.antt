@@ -1,5 +1,5 @@
 -- Slots, and the names that stand in them.
-use Rattle.std.proofs.Common.{◌≡◌, ℕ, zero, suc, ◌+◌, ◌-◌, ◌<◌, ◌≤◌, List, [], ◌∷◌, ◌++◌, length, refl, sym, ap, ap₂, ◌∙◌, subst, arith, Bool, true, false, cond, ⊎_elim, eq-eqb, append_assoc}
+use Rattle.std.proofs.Common.{◌≡◌, ℕ, zero, suc, ◌+◌, ◌-◌, ◌<◌, ◌≤◌, List, [], ◌∷◌, ◌++◌, length, refl, sym, ap, ap₂, ◌∙◌, subst, arith, Bool, true, false, cond, ◌⊎◌, ⊎_elim, eq-eqb, append_assoc}
 use Rattle.std.specs.Prelude.{◌==◌, replicate}
 use Rattle.ca_value.specs.Tree.{Tree, nil}
 use Rattle.ca_term.specs.Kernel.{Bindings, Founds, const, var, empty, binding, puts}
@@ -74,6 +74,16 @@ puts_var (b ∷ names) (f ∷ fs) s h x p is =
     by : (o : Bool) → (x == b.0) ≡ o → (IsInScope x names → puts fs (var x) ≡ const (read s (slot_of names x))) → puts fs (cond o (const f.1) (var x)) ≡ const (read s (cond o b.1 (slot_of names x)))
     by true e more = puts-const fs f.1 ∙ ap const (sym p.2)
     by false e more = ⊎_elim (λ same. absurd (let g : (x == b.0) ≡ true = eq-eqb x b.0 same in cc)) more is
+
+-- and below h
+pub holds_below : (names : Scope) (fs : Founds) (s : List Tree) (h x : ℕ) → Holds names fs s h → IsInScope x names → slot_of names x < h
+holds_below [] fs s h x p is = absurd is
+holds_below (b ∷ names) [] s h x p is = absurd p
+holds_below (b ∷ names) (f ∷ fs) s h x p is = by (x == b.0) refl (λ is2. holds_below names fs s h x p.3 is2) is
+  where
+    by : (o : Bool) → (x == b.0) ≡ o → (IsInScope x names → slot_of names x < h) → (x ≡ b.0) ⊎ IsInScope x names → cond o b.1 (slot_of names x) < h
+    by true e more i = p.1
+    by false e more i = ⊎_elim (λ same. absurd (let g : (x == b.0) ≡ true = eq-eqb x b.0 same in cc)) more i
 
 pub holds_append : (names : Scope) (fs : Founds) (names2 : Scope) (fs2 : Founds) (s : List Tree) (h : ℕ) → Holds names fs s h → Holds names2 fs2 s h → Holds (names ++ names2) (fs ++ fs2) s h
 holds_append [] [] names2 fs2 s h p q = q

@@ -3,6 +3,7 @@ use Rattle.std.proofs.Common.{◌≡◌, ℕ, suc, ◌+◌, ◌<◌, ◌≤◌, 
 use Rattle.std.proofs.lemmas.Bool.{cases_lt, ltb-true, ltb-false, eq-eqb}
 use Rattle.std.specs.Prelude.{◌==◌, nat_lt}
 use Rattle.ca_value.specs.Tree.{nil}
+use Rattle.ca_value.specs.declared.builtin.Builtin.TheVariants.{Conj, Assoc}
 use Rattle.ca_term.specs.declared.place.Place.{Place}
 use Rattle.ca_term.specs.declared.head.Head.{Head}
 use Rattle.ca_term.specs.declared.head.Head.TheVariants.{Recur, Builtin, Take, Put, Alts, Make, Spawn, Close, Register, Print, Post}
@@ -13,15 +14,15 @@ use Rattle.ca_term.specs.Fits.{Known, Takes, Suits, Fits, FitTerms, FitInOrder, 
 use Rattle.ca_states.specs.declared.code.Exit.{Exit}
 use Rattle.ca_states.specs.declared.code.Exit.TheVariants.{Jump, Branch, Return, Cut}
 use Rattle.ca_states.specs.declared.code.Exit.TheVariants as exit
-use Rattle.ca_states.specs.Code.{has_slot, Instruction, constant, copying, moving, many, BlockView, CodeView, size, block_at, function_at}
+use Rattle.ca_states.specs.Code.{has_slot, Instruction, constant, copying, moving, one, two, pushing, putting, many, BlockView, CodeView, size, block_at, function_at}
 use Rattle.ca_states.specs.Valid.{Known as Tells, takes, is_operation, is_valid_block, noted}
-use Rattle.ca_lower.specs.Source.{IsSource, AreSource, AreSourceBindings}
-use Rattle.ca_lower.specs.Implements.{Scope, slot_of, IsInScope, in_slots, names_bound, Target, moves}
-use Rattle.ca_lower.specs.Emit.{Builder, building, at_work, block_of, add, close, nowhere, finish_by_cut, finish, no_side, both_ends, emit, emit_in_order, emit_bindings, emit_all, greater, slots_for, slots_in_order, slots_for_bound, slots_for_all}
-use Rattle.ca_lower.proofs.Goes.{Under}
+use Rattle.ca_term.specs.Source.{IsSource, AreSource, AreSourceBindings}
+use Rattle.ca_lower.specs.Implements.{Scope, slot_of, operand_slot, next_slot, IsInScope, in_slots, names_bound, Target, moves}
+use Rattle.ca_lower.specs.Emit.{Builder, building, at_work, block_of, add, close, nowhere, finish_by_cut, finish, no_side, both_ends, operand, emit, emit_in_order, emit_bindings, emit_all, greater, slots_for, slots_in_order, slots_for_bound, slots_for_all}
+use Rattle.ca_lower.proofs.Goes.{Under, from_next}
 use Rattle.ca_lower.proofs.Slots.{length-bound}
 use Rattle.ca_lower.proofs.Lays.{Ends, ends_add, ends_close, closed_at, added_at, opened_at, Covers, covers_one, covers_bound, Inside, inside_more, emit_at, emit_bindings_at, emit_all_at, lays}
-use Rattle.ca_lower.proofs.Knows.{Up, up_less, up_written, first_slots, up_first, Begins, Valid, valid_block, valid_constant, valid_copying, valid_down, valid_many, valid_moves, valid_jump, valid_branch, valid_cut, valid_call}
+use Rattle.ca_lower.proofs.Knows.{Up, up_less, up_written, first_slots, up_first, Begins, Valid, valid_block, valid_constant, valid_copying, valid_down, valid_many, valid_reading, valid_taking, valid_moves, valid_jump, valid_branch, valid_cut, valid_call}
 
 -- the greater of two is enough for both
 pub enough : (m n w : ℕ) → greater m n ≤ w → (m ≤ w) × (n ≤ w)
@@ -58,6 +59,54 @@ operands_slots : (h : ℕ) (ts : Kernels) → h + count_terms ts ≤ slots_for_a
 operands_slots h none = omega arith
 operands_slots h (item t ts) = right_in (slots_for h t) (slots_for_all (suc h) ts) (h + suc (count_terms ts)) (let e = operands_slots (suc h) ts in omega (arith, e))
 
+greater_more : (a b c d : ℕ) → a ≤ c → b ≤ d → greater a b ≤ greater c d
+greater_more a b c d l m = by (nat_lt a b) refl
+  where
+    by : (o : Bool) → nat_lt a b ≡ o → cond o b a ≤ greater c d
+    by true e = right_in c d b m
+    by false e = left_in c d a l
+
+-- a term with a later slot needs as many, or more
+mutual
+  slots_more : (g h : ℕ) (t : Kernel) → g ≤ h → slots_for g t ≤ slots_for h t
+  slots_more g h (const v) le = omega (arith, le)
+  slots_more g h (var x) le = omega (arith, le)
+  slots_more g h (branch c a b) le =
+      greater_more (slots_for g c) (greater (slots_for g a) (slots_for g b)) (slots_for h c) (greater (slots_for h a) (slots_for h b)) (slots_more g h c le)
+      (greater_more (slots_for g a) (slots_for g b) (slots_for h a) (slots_for h b) (slots_more g h a le) (slots_more g h b le))
+  slots_more g h (bind bs body) le =
+      greater_more (slots_for_bound g bs) (slots_for (g + count_bindings bs) body) (slots_for_bound h bs) (slots_for (h + count_bindings bs) body) (bindings_more g h bs le)
+      (slots_more (g + count_bindings bs) (h + count_bindings bs) body (omega (arith, le)))
+  slots_more g h (loop fs bs body) le =
+      greater_more (slots_for_bound g bs) (slots_for (g + count_bindings bs) body) (slots_for_bound h bs) (slots_for (h + count_bindings bs) body) (bindings_more g h bs le)
+      (slots_more (g + count_bindings bs) (h + count_bindings bs) body (omega (arith, le)))
+  slots_more g h (seq ts) le = order_more g h ts le
+  slots_more g h (frame body) le = omega (arith, le)
+  slots_more g h (turn ns text now) le = omega (arith, le)
+  slots_more g h (apply f ts p) le = greater_more (suc g) (slots_for_all g ts) (suc h) (slots_for_all h ts) (omega (arith, le)) (all_more g h ts le)
+
+  bindings_more : (g h : ℕ) (bs : Bindings) → g ≤ h → slots_for_bound g bs ≤ slots_for_bound h bs
+  bindings_more g h empty le = le
+  bindings_more g h (binding n t bs) le =
+      greater_more (slots_for g t) (slots_for_bound (suc g) bs) (slots_for h t) (slots_for_bound (suc h) bs) (slots_more g h t le) (bindings_more (suc g) (suc h) bs (omega (arith, le)))
+
+  order_more : (g h : ℕ) (ts : Kernels) → g ≤ h → slots_in_order g ts ≤ slots_in_order h ts
+  order_more g h none le = omega (arith, le)
+  order_more g h (item t ts) le = greater_more (slots_for g t) (slots_in_order g ts) (slots_for h t) (slots_in_order h ts) (slots_more g h t le) (order_more g h ts le)
+
+  all_more : (g h : ℕ) (ts : Kernels) → g ≤ h → slots_for_all g ts ≤ slots_for_all h ts
+  all_more g h none le = le
+  all_more g h (item t ts) le =
+      greater_more (slots_for g t) (slots_for_all (suc g) ts) (slots_for h t) (slots_for_all (suc h) ts) (slots_more g h t le) (all_more (suc g) (suc h) ts (omega (arith, le)))
+
+up_to_next : (h : ℕ) (t : Kernel) → next_slot h t ≤ suc h
+up_to_next h (var x) = omega arith
+up_to_next h t = omega arith
+
+-- an operand that isn't the first may stand one slot earlier
+earlier : (h w : ℕ) (t u : Kernel) → slots_for (suc h) u ≤ w → slots_for (next_slot h t) u ≤ w
+earlier h w t u le = let m = slots_more (next_slot h t) (suc h) u (up_to_next h t) in omega (arith, le, m)
+
 -- each name's slot is below h
 abbrev pub Below : Scope → ℕ → Type 0
 Below [] h = Unit {0}
@@ -74,6 +123,10 @@ below_slot (p ∷ names) h x b i = by (x == p.0) refl (λ more. below_slot names
     by : (o : Bool) → (x == p.0) ≡ o → (IsInScope x names → slot_of names x < h) → (x ≡ p.0) ⊎ IsInScope x names → cond o p.1 (slot_of names x) < h
     by true e f i = b.0
     by false e f i = ⊎_elim (λ same. absurd (let g : (x == p.0) ≡ true = eq-eqb x p.0 same in cc)) f i
+
+below_operand : (ns : List ℕ) (names : Scope) (h : ℕ) (t : Kernel) → Below names h → Covers ns names → IsClosed ns t → operand_slot names h t < next_slot h t
+below_operand ns names h (var y) b c bound = below_slot names h y b (c y bound)
+below_operand ns names h t b c bound = omega arith
 
 below_append : (names more : Scope) (h : ℕ) → Below names h → Below more h → Below (names ++ more) h
 below_append [] more h b c = c
@@ -195,6 +248,12 @@ module _ (C : CodeView) where
       sound_by Print lp target h k p B more x fit ins und head lh lk ends = sound_cut Print h k p B more x lh lk (asks Print k target fit (λ e. cc) (λ b e. cc) (λ m e. cc)) ends
       sound_by Post lp target h k p B more x fit ins und head lh lk ends = sound_cut Post h k p B more x lh lk (asks Post k target fit (λ e. cc) (λ b e. cc) (λ m e. cc)) ends
 
+      -- an operand, by what is laid out for it where it is no name
+      sound_operand : (names : Scope) (h : ℕ) (t : Kernel) (B : Builder) (more : List Instruction) (x : Exit) → (Ends C w (emit w None names h t B) more x → Sound h (suc h) B (emit w None names h t B) more x)
+          → Ends C w (operand t (emit w None names h t B) B) more x → Sound h (next_slot h t) B (operand t (emit w None names h t B) B) more x
+      sound_operand names h (var y) B more x own ends = λ go. (more, x, ends, go, none_between (at_work B) (at_work B) (omega arith))
+      sound_operand names h t B more x own ends = own ends
+
       mutual
         pub sound : (lp : Option Target) (target : Option ℕ) (ns : List ℕ) (names : Scope) (h : ℕ) (t : Kernel) (B : Builder) (more : List Instruction) (x : Exit)
             → IsSource t → IsClosed ns t → Fits (Suits known) target t → Covers ns names → Inside lp target (at_work B) → Below names h → Under lp h → IsHead lp → slots_for h t ≤ w → Ends C w (emit w lp names h t B) more x
@@ -288,6 +347,91 @@ module _ (C : CodeView) where
         sound lp target ns names h (seq ts) B more x src bound fit cov ins bel und head fits ends = sound_order lp target ns names h ts B more x src bound fit cov ins bel und head fits ends
         sound lp target ns names h (frame body) B more x src bound fit cov ins bel und head fits ends = absurd src
         sound lp target ns names h (turn ms text now) B more x src bound fit cov ins bel und head fits ends = absurd src
+        sound lp target ns names h (apply (Builtin b) (item t none) p) B more x src bound fit cov ins bel und head fits ends = λ go.
+            let B1 = operand t (emit w None names h t B) B in
+            let a = operand_slot names h t in
+            let g = next_slot h t in
+            let i = one b h a p in
+            let f0 = enough (suc h) (slots_for_all h (item t none)) w fits in
+            let f = enough (slots_for h t) (suc h) w f0.1 in
+            let lh = f0.0 in
+            let up_to = up_to_next h t in
+            let si = sound_add g (suc h) i B1 more x ends
+            (λ n go2 K up. valid_reading C w n h g (a ∷ []) i K more x refl refl refl fit.0 lh (from_next h t) (omega (arith, up_to, lh)) (below_operand ns names h t bel cov bound.0, tt) up go2) go in
+            let st = sound_operand names h t B si.0 si.1 (sound None None ns names h t B si.0 si.1 src.0 bound.0 fit.1.0 cov tt bel tt tt f.0) si.2 si.3 in
+            (st.0, st.1, st.2, st.3, between (at_work B) (at_work B1) (at_work (add (i ∷ []) B1)) st.4 si.4)
+        sound lp target ns names h (apply (Builtin Conj) (item t (item u none)) p) B more x src bound fit cov ins bel und head fits ends = λ go.
+            let B1 = emit w None names h t B in
+            let h2 = suc h in
+            let B2 = operand u (emit w None names h2 u B1) B1 in
+            let c = operand_slot names h2 u in
+            let g = next_slot h2 u in
+            let i = pushing h h c p in
+            let f0 = enough (suc h) (slots_for_all h (item t (item u none))) w fits in
+            let f = enough (slots_for h t) (slots_for_all h2 (item u none)) w f0.1 in
+            let f2 = enough (slots_for h2 u) (suc h2) w f.1 in
+            let wide2 = f2.1 in
+            let up_to = up_to_next h2 u in
+            let from = from_next h2 u in
+            let bel2 = below_more names h h2 (omega arith) bel in
+            let si = sound_add g (suc h) i B2 more x ends
+            (λ n go2 K up. valid_taking C w n h g (h ∷ c ∷ []) i K more x refl refl refl refl f0.0 (omega (arith, from)) (omega (arith, up_to, wide2)) (omega (arith, from), (below_operand ns names h2 u bel2 cov bound.1.0, tt)) up go2) go in
+            let su = sound_operand names h2 u B1 si.0 si.1 (sound None None ns names h2 u B1 si.0 si.1 src.1.0 bound.1.0 fit.1.1.0 cov tt bel2 tt tt f2.0) si.2 si.3 in
+            let st = sound None None ns names h t B su.0 su.1 src.0 bound.0 fit.1.0 cov tt bel tt tt f.0 su.2 su.3 in
+            (st.0, st.1, st.2, st.3, between (at_work B) (at_work B1) (at_work (add (i ∷ []) B2)) st.4 (between (at_work B1) (at_work B2) (at_work (add (i ∷ []) B2)) su.4 si.4))
+        sound lp target ns names h (apply (Builtin b) (item t (item u none)) p) B more x src bound fit cov ins bel und head fits ends = λ go.
+            let B1 = operand t (emit w None names h t B) B in
+            let a = operand_slot names h t in
+            let h2 = next_slot h t in
+            let B2 = operand u (emit w None names h2 u B1) B1 in
+            let c = operand_slot names h2 u in
+            let g = next_slot h2 u in
+            let i = two b h a c p in
+            let f0 = enough (suc h) (slots_for_all h (item t (item u none))) w fits in
+            let f = enough (slots_for h t) (slots_for_all (suc h) (item u none)) w f0.1 in
+            let f2 = enough (slots_for (suc h) u) (suc (suc h)) w f.1 in
+            let wide2 = f2.1 in
+            let up1 = up_to_next h t in
+            let up2 = up_to_next h2 u in
+            let from1 = from_next h t in
+            let from2 = from_next h2 u in
+            let bel2 = below_more names h h2 from1 bel in
+            let first = below_operand ns names h t bel cov bound.0 in
+            let si = sound_add g (suc h) i B2 more x ends
+            (λ n go2 K up. valid_reading C w n h g (a ∷ c ∷ []) i K more x refl refl refl fit.0 f0.0 (omega (arith, from1, from2)) (omega (arith, up1, up2, wide2)) (omega (arith, first, from2), (below_operand ns names h2 u bel2 cov bound.1.0, tt)) up go2) go in
+            let su = sound_operand names h2 u B1 si.0 si.1 (sound None None ns names h2 u B1 si.0 si.1 src.1.0 bound.1.0 fit.1.1.0 cov tt bel2 tt tt (earlier h w t u f2.0)) si.2 si.3 in
+            let st = sound_operand names h t B su.0 su.1 (sound None None ns names h t B su.0 su.1 src.0 bound.0 fit.1.0 cov tt bel tt tt f.0) su.2 su.3 in
+            (st.0, st.1, st.2, st.3, between (at_work B) (at_work B1) (at_work (add (i ∷ []) B2)) st.4 (between (at_work B1) (at_work B2) (at_work (add (i ∷ []) B2)) su.4 si.4))
+        sound lp target ns names h (apply (Builtin Assoc) (item t (item u (item v none))) p) B more x src bound fit cov ins bel und head fits ends = λ go.
+            let h2 = suc h in
+            let B1 = emit w None names h t B in
+            let B2 = operand u (emit w None names h2 u B1) B1 in
+            let c = operand_slot names h2 u in
+            let h3 = next_slot h2 u in
+            let B3 = operand v (emit w None names h3 v B2) B2 in
+            let d = operand_slot names h3 v in
+            let g = next_slot h3 v in
+            let i = putting h h c d p in
+            let f0 = enough (suc h) (slots_for_all h (item t (item u (item v none)))) w fits in
+            let f = enough (slots_for h t) (slots_for_all h2 (item u (item v none))) w f0.1 in
+            let f2 = enough (slots_for h2 u) (slots_for_all (suc h2) (item v none)) w f.1 in
+            let f3 = enough (slots_for (suc h2) v) (suc (suc h2)) w f2.1 in
+            let wide3 = f3.1 in
+            let up2 = up_to_next h2 u in
+            let up3 = up_to_next h3 v in
+            let from2 = from_next h2 u in
+            let from3 = from_next h3 v in
+            let bel2 = below_more names h h2 (omega arith) bel in
+            let bel3 = below_more names h2 h3 from2 bel2 in
+            let key = below_operand ns names h2 u bel2 cov bound.1.0 in
+            let si = sound_add g (suc h) i B3 more x ends
+            (λ n go2 K up. valid_taking C w n h g (h ∷ c ∷ d ∷ []) i K more x refl refl refl refl f0.0 (omega (arith, from2, from3)) (omega (arith, up2, up3, wide3))
+            (omega (arith, from2, from3), (omega (arith, key, from3), (below_operand ns names h3 v bel3 cov bound.1.1.0, tt))) up go2) go in
+            let sv = sound_operand names h3 v B2 si.0 si.1 (sound None None ns names h3 v B2 si.0 si.1 src.1.1.0 bound.1.1.0 fit.1.1.1.0 cov tt bel3 tt tt (earlier h2 w u v f3.0)) si.2 si.3 in
+            let su = sound_operand names h2 u B1 sv.0 sv.1 (sound None None ns names h2 u B1 sv.0 sv.1 src.1.0 bound.1.0 fit.1.1.0 cov tt bel2 tt tt f2.0) sv.2 sv.3 in
+            let st = sound None None ns names h t B su.0 su.1 src.0 bound.0 fit.1.0 cov tt bel tt tt f.0 su.2 su.3 in
+            let last = at_work (add (i ∷ []) B3) in
+            (st.0, st.1, st.2, st.3, between (at_work B) (at_work B1) last st.4 (between (at_work B1) (at_work B2) last su.4 (between (at_work B2) (at_work B3) last sv.4 si.4)))
         sound lp target ns names h (apply f ts p) B more x src bound fit cov ins bel und head fits ends = λ go.
             let B1 = emit_all w names h ts B in
             let k = count_terms ts in

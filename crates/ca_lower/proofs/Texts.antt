@@ -7,7 +7,6 @@ use Rattle.ca_meaning.specs.Started.{procedure_at}
 use Rattle.ca_states.specs.declared.code.Exit.{Exit}
 use Rattle.ca_states.specs.declared.code.Exit.TheVariants.{Return}
 use Rattle.ca_states.specs.Code.{Instruction, BlockView, CodeView, no_block, block_at, no_entry, function_at}
-use Rattle.ca_lower.specs.Source.{IsSource, AreSourceTexts, IsSourceProgram}
 use Rattle.ca_lower.specs.Implements.{position, start_of, in_slots, Implements, ImplementsText, ImplementsProgram}
 use Rattle.ca_lower.specs.Emit.{Builder, building, at_work, finished, block_of, close, emit, opened, width_of, emit_text, emit_texts, entries, main_text, nothing_built, code_of}
 use Rattle.ca_lower.proofs.Lays.{Ends, Covers, lays}
@@ -39,25 +38,25 @@ covers_parameters [] a x i = absurd i
 covers_parameters (y ∷ xs) a x i = ⊎_elim (λ e. inl e) (λ j. inr (covers_parameters xs (suc a) x j)) i
 
 module _ (C : CodeView) (known : Known) (there : (f k : ℕ) → Takes known.functions f k → (f < length C.functions) × (k ≡ (function_at C f).values)) where
-  text_implemented : (t : ProcedureView) (B : Builder) → IsSource t.body → IsProcedure known t → Has C (emit_text t B) → ImplementsText C t (record { block = at_work B; values = arity t }) × Has C B
-  text_implemented t B src text has =
+  text_implemented : (t : ProcedureView) (B : Builder) → IsProcedure known t → Has C (emit_text t B) → ImplementsText C t (record { block = at_work B; values = arity t }) × Has C B
+  text_implemented t B text has =
       let w = width_of t in
       let k = arity t in
       let O = opened k B in
       let S = in_slots t.parameters 0 in
       let E = emit w None S k t.body O in
       let e = has_close C w E (Return k) 0 has in
-      let l = lays C w known there None None t.parameters S k t.body O [] (Return k) src text.bound text.fits (covers_parameters t.parameters 0) tt e in
+      let l = lays C w known there None None t.parameters S k t.body O [] (Return k) text.source text.bound text.fits (covers_parameters t.parameters 0) tt e in
       let s : position (at_work O) l.0 l.1 ≡ start_of C (at_work B) =
       ap (λ n. position n l.0 l.1) (opened_work k B) ∙ sym (ap (λ (b : BlockView). position (at_work B) b.instrs b.exit) (first_block C w k B l.0 l.1 l.2)) in
       ((at_work E, refl, subst (λ z. Implements C None S k t.body z (position (at_work E) [] (Return k))) s l.3), has_opened C k B (has_ends C w O l.0 l.1 l.2))
 
-  texts_implemented : (ts : List ProcedureView) (B : Builder) → AreSourceTexts ts → All (IsProcedure known) ts → Has C (emit_texts ts B)
+  texts_implemented : (ts : List ProcedureView) (B : Builder) → All (IsProcedure known) ts → Has C (emit_texts ts B)
       → ((n : ℕ) → n < length ts → ImplementsText C (procedure_at ts n) (get_or (entries ts B) n no_entry)) × Has C B
-  texts_implemented [] B src fit has = (λ n lt. absurd (omega (arith, lt)), has)
-  texts_implemented (t ∷ ts) B src fit has =
-      let rest = texts_implemented ts (emit_text t B) src.1 (λ n d lt. fit (suc n) d (omega (arith, lt))) has in
-      let here = text_implemented t B src.0 (fit 0 t (omega arith)) rest.1 in
+  texts_implemented [] B fit has = (λ n lt. absurd (omega (arith, lt)), has)
+  texts_implemented (t ∷ ts) B fit has =
+      let rest = texts_implemented ts (emit_text t B) (λ n d lt. fit (suc n) d (omega (arith, lt))) has in
+      let here = text_implemented t B (fit 0 t (omega arith)) rest.1 in
       (choose rest.0 here.0, here.1)
     where
       choose : ((n : ℕ) → n < length ts → ImplementsText C (procedure_at ts n) (get_or (entries ts (emit_text t B)) n no_entry)) → ImplementsText C t (record { block = at_work B; values = arity t })
@@ -74,16 +73,16 @@ takes_entry [] B n k h = absurd h
 takes_entry (t ∷ ts) B zero k h = (omega arith, sym h)
 takes_entry (t ∷ ts) B (suc n) k h = let r = takes_entry ts (emit_text t B) n k h in (let lt = r.0 in omega (arith, lt), r.1)
 
-pub code_implements : (P : ProgramView) → IsProgram P → IsSourceProgram P → ImplementsProgram (code_of P) P
-code_implements P fit src =
+pub code_implements : (P : ProgramView) → IsProgram P → ImplementsProgram (code_of P) P
+code_implements P fit =
     let C = code_of P in
     let known = known_in fit.plain P in
     let F = emit_texts P.functions nothing_built in
     let G = emit_texts P.bodies F in
     let there : (f k : ℕ) → Takes known.functions f k → (f < length C.functions) × (k ≡ (function_at C f).values) = takes_entry P.functions nothing_built in
-    let main = text_implemented C known there (main_text P) G src.main fit.main_fits ([], sym (append-nil C.blocks)) in
-    let bodies = texts_implemented C known there P.bodies F src.bodies fit.bodies_fit main.1 in
-    let functions = texts_implemented C known there P.functions nothing_built src.functions fit.functions_fit bodies.1 in
+    let main = text_implemented C known there (main_text P) G fit.main_fits ([], sym (append-nil C.blocks)) in
+    let bodies = texts_implemented C known there P.bodies F fit.bodies_fit main.1 in
+    let functions = texts_implemented C known there P.functions nothing_built fit.functions_fit bodies.1 in
     record {
       main = main.0;
       bodies = bodies.0;

@@ -15,7 +15,6 @@ use Rattle.ca_states.specs.declared.code.Exit.{Exit}
 use Rattle.ca_states.specs.declared.code.Exit.TheVariants.{Return}
 use Rattle.ca_states.specs.Code.{has_slot, Instruction, BlockView, CodeView, size, no_block, block_at, no_entry, function_at}
 use Rattle.ca_states.specs.Valid.{each, takes, is_applied, is_task, is_operation, is_valid_block, are_valid_blocks, are_just, begins_well, main_entry, is_valid}
-use Rattle.ca_lower.specs.Source.{AreSourceTexts, IsSource, IsSourceProgram}
 use Rattle.ca_lower.specs.Implements.{in_slots}
 use Rattle.ca_lower.specs.Emit.{Builder, building, at_work, finished, block_of, emit, opened, width_of, emit_text, emit_texts, entries, widest, greater, main_text, nothing_built, code_of}
 use Rattle.ca_lower.proofs.Lays.{Ends, closed_at}
@@ -70,9 +69,9 @@ module _ (C : CodeView) (known : Known) (there : (f k : ℕ) → Takes known.fun
   abbrev pub Valids : ℕ → ℕ → Type 0
   Valids m n = (j : ℕ) → m ≤ j → j < n → is_valid_block C j (block_at C j) ≡ true
 
-  text_valid : (t : ProcedureView) (B : Builder) → IsSource t.body → IsProcedure known t → width_of t ≤ C.width → Has C (emit_text t B)
+  text_valid : (t : ProcedureView) (B : Builder) → IsProcedure known t → width_of t ≤ C.width → Has C (emit_text t B)
       → Valids (at_work B) (at_work (emit_text t B)) × (begins_well C (record { block = at_work B; values = arity t }) ≡ true) × Has C B
-  text_valid t B src text wide has =
+  text_valid t B text wide has =
       let w = width_of t in
       let k = arity t in
       let O = opened k B in
@@ -80,7 +79,7 @@ module _ (C : CodeView) (known : Known) (there : (f k : ℕ) → Takes known.fun
       let E = emit w None S k t.body O in
       let e = has_close C w E (Return k) 0 has in
       let own = own_slot k t.body in
-      let s = sound C w wide known there called asks None None t.parameters S k t.body O [] (Return k) src text.bound text.fits (covers_parameters t.parameters 0) tt (below_range t.parameters 0 k (omega arith)) tt tt (omega arith) e
+      let s = sound C w wide known there called asks None None t.parameters S k t.body O [] (Return k) text.source text.bound text.fits (covers_parameters t.parameters 0) tt (below_range t.parameters 0 k (omega arith)) tt tt (omega arith) e
       (λ K up. valid_return C w (at_work E) k K (omega (arith, own)) (up k (omega arith))) in
       let at_b = opened_work k B in
       let first : block_at C (at_work B) ≡ block_of w k s.0 s.1 = first_block C w k B s.0 s.1 s.2 in
@@ -96,13 +95,13 @@ module _ (C : CodeView) (known : Known) (there : (f k : ℕ) → Takes known.fun
   joined : (l m n : ℕ) → Valids l m → Valids m n → Valids l n
   joined l m n a b j le lt = ⊎_elim (λ g. a j le g) (λ g. b j g lt) (cases_lt j m)
 
-  texts_valid : (ts : List ProcedureView) (B : Builder) → AreSourceTexts ts → All (IsProcedure known) ts → widest ts ≤ C.width → Has C (emit_texts ts B)
+  texts_valid : (ts : List ProcedureView) (B : Builder) → All (IsProcedure known) ts → widest ts ≤ C.width → Has C (emit_texts ts B)
       → Valids (at_work B) (at_work (emit_texts ts B)) × (each (begins_well C) (entries ts B) ≡ true) × Has C B
-  texts_valid [] B src fit wide has = ((λ j le lt. absurd (omega (arith, le, lt))), refl, has)
-  texts_valid (t ∷ ts) B src fit wide has =
+  texts_valid [] B fit wide has = ((λ j le lt. absurd (omega (arith, le, lt))), refl, has)
+  texts_valid (t ∷ ts) B fit wide has =
       let f = enough (width_of t) (widest ts) C.width wide in
-      let rest = texts_valid ts (emit_text t B) src.1 (λ n d lt. fit (suc n) d (omega (arith, lt))) f.1 has in
-      let one = text_valid t B src.0 (fit 0 t (omega arith)) f.0 rest.2 in (
+      let rest = texts_valid ts (emit_text t B) (λ n d lt. fit (suc n) d (omega (arith, lt))) f.1 has in
+      let one = text_valid t B (fit 0 t (omega arith)) f.0 rest.2 in (
         joined (at_work B) (at_work (emit_text t B)) (at_work (emit_texts ts (emit_text t B))) one.0 rest.0,
         both_true (begins_well C (record { block = at_work B; values = arity t })) (each (begins_well C) (entries ts (emit_text t B))) one.1 rest.1,
         one.2,
@@ -123,8 +122,8 @@ takes_entries ts B n k h =
     let r = takes_entry ts B n k h in
     both_true (nat_lt n (length (entries ts B))) ((slice_index_or (entries ts B) n no_entry).values == k) (lt-ltb n (length (entries ts B)) r.0) (eq-eqb (slice_index_or (entries ts B) n no_entry).values k (sym r.1))
 
-pub code_valid : (P : ProgramView) → IsProgram P → IsSourceProgram P → is_valid (code_of P) ≡ true
-code_valid P fit src =
+pub code_valid : (P : ProgramView) → IsProgram P → is_valid (code_of P) ≡ true
+code_valid P fit =
     let C = code_of P in
     let known = known_in fit.plain P in
     let F = emit_texts P.functions nothing_built in
@@ -134,9 +133,9 @@ code_valid P fit src =
     let bodies_there : (f k : ℕ) → Takes known.bodies f k → takes C.bodies f k ≡ true = takes_entries P.bodies F in
     let w1 = enough (width_of (main_text P)) (greater (widest P.functions) (widest P.bodies)) C.width (omega arith) in
     let w2 = enough (widest P.functions) (widest P.bodies) C.width w1.1 in
-    let main = text_valid C known there bodies_there (main_text P) G src.main fit.main_fits w1.0 ([], sym (append-nil C.blocks)) in
-    let bodies = texts_valid C known there bodies_there P.bodies F src.bodies fit.bodies_fit w2.1 main.2 in
-    let functions = texts_valid C known there bodies_there P.functions nothing_built src.functions fit.functions_fit w2.0 bodies.2 in
+    let main = text_valid C known there bodies_there (main_text P) G fit.main_fits w1.0 ([], sym (append-nil C.blocks)) in
+    let bodies = texts_valid C known there bodies_there P.bodies F fit.bodies_fit w2.1 main.2 in
+    let functions = texts_valid C known there bodies_there P.functions nothing_built fit.functions_fit w2.0 bodies.2 in
     let all = joined C known there bodies_there 0 (at_work F) (at_work M) functions.0 (joined C known there bodies_there (at_work F) (at_work G) (at_work M) bodies.0 main.0) in
     let blocks : are_valid_blocks C 0 C.blocks ≡ true =
     all_valid C known there bodies_there 0 C.blocks (λ k lt. let e : 0 + k ≡ k = omega arith in let s = finished_count M in subst (λ m. is_valid_block C m (block_at C k) ≡ true) (sym e) (all k (omega arith) (omega (arith, lt, s)))) in

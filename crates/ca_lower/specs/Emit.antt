@@ -1,6 +1,8 @@
 -- How a term's code is laid out: blocks are appended one after another, and none is changed afterwards.
 use Rattle.std.specs.Prelude.{ℕ, suc, ◌+◌, List, [], ◌∷◌, ◌++◌, length, Option, Some, None, cond, nat_lt}
 use Rattle.ca_value.specs.Tree.{nil}
+use Rattle.ca_value.specs.declared.builtin.Builtin.{Builtin as BuiltinName}
+use Rattle.ca_value.specs.declared.builtin.Builtin.TheVariants.{Conj, Assoc}
 use Rattle.ca_term.specs.declared.place.Place.{Place}
 use Rattle.ca_term.specs.declared.head.Head.{Head}
 use Rattle.ca_term.specs.declared.head.Head.TheVariants.{Recur, Builtin, Take, Put, Alts, Make, Spawn, Close, Register, Print, Post}
@@ -12,8 +14,8 @@ use Rattle.ca_states.specs.declared.code.EntryPoint.{EntryPoint}
 use Rattle.ca_states.specs.declared.code.Exit.{Exit}
 use Rattle.ca_states.specs.declared.code.Exit.TheVariants.{Jump, Branch, Return, Cut}
 use Rattle.ca_states.specs.declared.code.Exit.TheVariants as exit
-use Rattle.ca_states.specs.Code.{Instruction, constant, copying, moving, many, BlockView, CodeView}
-use Rattle.ca_lower.specs.Implements.{Scope, slot_of, in_slots, names_bound, Target, moves}
+use Rattle.ca_states.specs.Code.{Instruction, constant, copying, moving, one, two, pushing, putting, many, BlockView, CodeView}
+use Rattle.ca_lower.specs.Implements.{Scope, slot_of, in_slots, names_bound, Target, moves, operand_slot, next_slot}
 
 -- the finished blocks, and the block at work: how many slots it begins with, and its instructions so far
 pub data Builder : Type 0 where
@@ -108,6 +110,11 @@ no_side a n = n + 1 + blocks a + 1
 abbrev pub both_ends : Kernel → Kernel → ℕ → ℕ
 both_ends a b n = no_side a n + blocks b + 1
 
+-- nothing is laid out for an operand that is a name: its value is in its slot already
+abbrev pub operand : Kernel → Builder → Builder → Builder
+operand (var x) own B = B
+operand t own B = own
+
 abbrev mutual
   -- the term's value comes into slot h
   pub emit : ℕ → Option Target → Scope → ℕ → Kernel → Builder → Builder
@@ -130,6 +137,19 @@ abbrev mutual
   emit w lp names h (seq ts) B = emit_in_order w lp names h ts B
   emit w lp names h (frame body) B = B
   emit w lp names h (turn ns text now) B = B
+  emit w lp names h (apply (Builtin b) (item t none) p) B =
+      add (one b h (operand_slot names h t) p ∷ []) (operand t (emit w None names h t B) B)
+  emit w lp names h (apply (Builtin Conj) (item t (item u none)) p) B =
+      let B1 = emit w None names h t B in
+      add (pushing h h (operand_slot names (suc h) u) p ∷ []) (operand u (emit w None names (suc h) u B1) B1)
+  emit w lp names h (apply (Builtin b) (item t (item u none)) p) B =
+      let B1 = operand t (emit w None names h t B) B in
+      add (two b h (operand_slot names h t) (operand_slot names (next_slot h t) u) p ∷ []) (operand u (emit w None names (next_slot h t) u B1) B1)
+  emit w lp names h (apply (Builtin Assoc) (item t (item u (item v none))) p) B =
+      let B1 = emit w None names h t B in
+      let B2 = operand u (emit w None names (suc h) u B1) B1 in
+      let m = next_slot (suc h) u in
+      add (putting h h (operand_slot names (suc h) u) (operand_slot names m v) p ∷ []) (operand v (emit w None names m v B2) B2)
   emit w lp names h (apply f ts p) B = finish w lp f h (count_terms ts) p (emit_all w names h ts B)
 
   pub emit_in_order : ℕ → Option Target → Scope → ℕ → Kernels → Builder → Builder

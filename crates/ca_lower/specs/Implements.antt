@@ -1,6 +1,8 @@
 -- The code that implements a term: from a place in the code it leads to another, with the term's value in a slot.
 use Rattle.std.specs.Prelude.{◌≡◌, ℕ, zero, suc, ◌+◌, ◌<◌, ◌≤◌, List, [], ◌∷◌, ◌++◌, length, Option, Some, None, cond, ◌==◌, ◌⊎◌}
 use Rattle.ca_value.specs.Tree.{nil}
+use Rattle.ca_value.specs.declared.builtin.Builtin.{Builtin as BuiltinName}
+use Rattle.ca_value.specs.declared.builtin.Builtin.TheVariants.{Conj, Assoc}
 use Rattle.ca_term.specs.declared.place.Place.{Place}
 use Rattle.ca_term.specs.declared.head.Head.{Head}
 use Rattle.ca_term.specs.declared.head.Head.TheVariants.{Recur, Builtin, Take, Put, Alts, Make, Spawn, Close, Register, Print, Post}
@@ -13,7 +15,7 @@ use Rattle.ca_states.specs.declared.code.EntryPoint.{EntryPoint}
 use Rattle.ca_states.specs.declared.code.Exit.{Exit}
 use Rattle.ca_states.specs.declared.code.Exit.TheVariants.{Jump, Branch, Return, Cut}
 use Rattle.ca_states.specs.declared.code.Exit.TheVariants as exit
-use Rattle.ca_states.specs.Code.{Instruction, constant, copying, moving, many, CodeView, block_at, function_at, body_at}
+use Rattle.ca_states.specs.Code.{Instruction, constant, copying, moving, one, two, pushing, putting, many, CodeView, block_at, function_at, body_at}
 use Rattle.ca_states.specs.Valid.{main_entry}
 
 -- a place in the code: the block's number, and what is left of it
@@ -58,6 +60,20 @@ abbrev pub moves : ℕ → ℕ → ℕ → List Instruction
 moves d a zero = []
 moves d a (suc n) = moving d a ∷ moves (suc d) (suc a) n
 
+-- Where an operand's value is read: a name's in its own slot, any other's in slot h; and the next free slot.
+abbrev pub operand_slot : Scope → ℕ → Kernel → ℕ
+operand_slot names h (var x) = slot_of names x
+operand_slot names h t = h
+
+abbrev pub next_slot : ℕ → Kernel → ℕ
+next_slot h (var x) = h
+next_slot h t = suc h
+
+-- for a name no code stands, since its value is in its slot already; for any other operand its own does
+abbrev pub Operand : Scope → Kernel → Type 0 → Position → Position → Type 0
+Operand names (var x) own p q = IsInScope x names × (p ≡ q)
+Operand names t own p q = own
+
 -- by a Cut over so many operands from slot h on
 abbrev pub LeadsByCut : Head → CodeView → ℕ → ℕ → Place → Position → Position → Type 0
 LeadsByCut f C h k pl r q = (n to : ℕ) × (r ≡ position n [] (Cut f h k h to pl)) × (q ≡ start_of C to)
@@ -98,6 +114,21 @@ abbrev mutual
   Implements C target names h (seq ts) p q = ImplementsInOrder C target names h ts p q
   Implements C target names h (frame body) p q = ⊥
   Implements C target names h (turn ns text now) p q = ⊥
+  -- one operand or two of a builtin are read where they are
+  Implements C target names h (apply (Builtin b) (item t none) pl) p q =
+      (r : Position) × Operand names t (Implements C None names h t p r) p r × (r ≡ before (one b h (operand_slot names h t) pl) q)
+  -- a collection that grows is taken out of slot h
+  Implements C target names h (apply (Builtin Conj) (item t (item u none)) pl) p q =
+      (r r2 : Position) × Implements C None names h t p r × Operand names u (Implements C None names (suc h) u r r2) r r2
+      × (r2 ≡ before (pushing h h (operand_slot names (suc h) u) pl) q)
+  Implements C target names h (apply (Builtin b) (item t (item u none)) pl) p q =
+      (r r2 : Position) × Operand names t (Implements C None names h t p r) p r × Operand names u (Implements C None names (next_slot h t) u r r2) r r2
+      × (r2 ≡ before (two b h (operand_slot names h t) (operand_slot names (next_slot h t) u) pl) q)
+  Implements C target names h (apply (Builtin Assoc) (item t (item u (item v none))) pl) p q =
+      (r r2 r3 : Position) × Implements C None names h t p r × Operand names u (Implements C None names (suc h) u r r2) r r2
+      × Operand names v (Implements C None names (next_slot (suc h) u) v r2 r3) r2 r3
+      × (r3 ≡ before (putting h h (operand_slot names (suc h) u) (operand_slot names (next_slot (suc h) u) v) pl) q)
+  -- all else takes its operands out of a row of slots
   Implements C target names h (apply f ts pl) p q = (r : Position) × ImplementsAll C names h ts p r × LeadsBy f C target h (count_terms ts) pl r q
 
   -- one after another, for the last one's value

@@ -1,6 +1,6 @@
 pub mod Emit
 pub mod Implements
 pub mod InOrder
+pub mod Layouts
 pub mod Lowered
-pub mod Source
 pub mod Views

@@ -39,7 +39,8 @@ pub(crate) struct Name {
     pub(crate) slot: u64,
 }
 
-/// The sum, of slots or of blocks.
+/// The sum, of slots or of blocks. Where it passes 64 bits there is no memory for them: the code has a mark for each
+/// slot, and each block stands in its list.
 pub(crate) fn sum(a: u64, b: u64) -> Result<u64, OutOfMemory>
     ensures { IfOk result (λ n. n ≡ a + b) }
 {

@@ -1,15 +1,21 @@
 //! From terms to blocks.
-ghost use Rattle.std.specs.Prelude.{◌≡◌, ◌++◌, ◌==◌, None, cond, length, take, OnOk};
+ghost use Rattle.std.specs.Prelude.{◌≡◌, ◌++◌, ◌==◌, None, Option, cond, length, take, IfOk, OnOk};
 ghost use Rattle.ca_value.specs.Seq.{list};
 ghost use Rattle.ca_term.specs.View.{bindings as bindings_view, kernel, kernels};
-ghost use Rattle.ca_lower.specs.Implements.{in_slots, names_bound};
-ghost use Rattle.ca_lower.specs.Emit.{emit, emit_all, emit_bindings, emit_in_order};
+ghost use Rattle.ca_term.specs.declared.head.Head.TheVariants as heads;
+ghost use Rattle.ca_term.specs.Kernel.{apply};
+ghost use Rattle.ca_lower.specs.Implements.{Target, in_slots, names_bound, next_slot, operand_slot};
+ghost use Rattle.ca_lower.specs.Emit.{emit, emit_all, emit_bindings, emit_in_order, operand};
+ghost use Rattle.ca_lower.specs.Layouts.{layout_of};
 ghost use Rattle.ca_lower.specs.Views.{builder_view, scope_view, target_view};
 
 use crate::builder::{Builder, Loop, Name, no_place, slot_of, sum};
 use crate::sizes::blocks_of;
 use ca_states::code::{Exit, Instr};
+use ca_term::head::Head;
+use ca_term::place::Place;
 use ca_term::term::{Binding, Term};
+use ca_value::builtin::Builtin;
 use ca_value::memory::OutOfMemory;
 use ca_value::seq::Seq;
 use ca_value::value::Value;
@@ -102,10 +108,153 @@ pub(crate) fn emit_term(
         }
         Term::Do(terms) => emit_in_order(alloc, b, width, target, names, h, terms),
         Term::Frame(_) | Term::Turn(_, _, _) => Ok(()),
-        Term::Apply(head, operands, place) => {
-            emit_all(alloc, b, width, names, h, operands)?;
-            b.finish(alloc, width, target, *head, h, operands.len(), *place)
+        Term::Apply(head, operands, place) => match head {
+            Head::Builtin(builtin) => {
+                emit_builtin(alloc, b, width, names, h, *builtin, operands, *place)
+            }
+            _ => {
+                emit_all(alloc, b, width, names, h, operands)?;
+                b.finish(alloc, width, target, *head, h, operands.len(), *place)
+            }
+        },
+    }
+}
+
+// Where an operand's value is read, and the next free slot.
+#[derive(Clone, Copy, PartialEq, Eq, Debug)]
+struct Operand {
+    slot: u64,
+    next: u64,
+}
+
+// An operand that is to be read where it is: a name's value is in its slot already.
+#[cycle(emit)]
+fn emit_operand(
+    alloc: Global,
+    b: &mut Builder,
+    width: u64,
+    names: &mut Seq<Name>,
+    h: u64,
+    term: &Term,
+) -> Result<Operand, OutOfMemory>
+    ensures code { OnOk result (builder_view b.new ≡ operand (kernel term.now) (emit width None (scope_view (list names.old)) h (kernel term.now) (builder_view b.old)) (builder_view b.old)) }
+    ensures names { OnOk result (list names.new ≡ list names.old) }
+    ensures slot { IfOk result (λ o. o.slot ≡ operand_slot (scope_view (list names.old)) h (kernel term.now)) }
+    ensures next { IfOk result (λ o. o.next ≡ next_slot h (kernel term.now)) }
+{
+    match term {
+        Term::Var(name) => Ok(Operand {
+            slot: slot_of(names.as_slice(), *name),
+            next: h,
+        }),
+        _ => {
+            emit_term(alloc, b, width, None, names, h, term)?;
+            Ok(Operand {
+                slot: h,
+                next: sum(h, 1)?,
+            })
         }
+    }
+}
+
+// A builtin over its operands, whose value comes into slot h.
+#[cycle(emit)]
+fn emit_builtin(
+    alloc: Global,
+    b: &mut Builder,
+    width: u64,
+    names: &mut Seq<Name>,
+    h: u64,
+    builtin: Builtin,
+    operands: &Seq<Term>,
+    place: Place,
+) -> Result<(), OutOfMemory>
+    ensures code { OnOk result ((lp : Option Target) → builder_view b.new ≡ emit width lp (scope_view (list names.old)) h (apply (heads.Builtin builtin) (kernels (list operands.now)) place) (builder_view b.old)) }
+    ensures names { OnOk result (list names.new ≡ list names.old) }
+{
+    match layout_of(builtin, operands.len()) {
+        Layout::One => {
+            let operand = emit_operand(alloc, b, width, names, h, &operands.as_slice()[0])?;
+            b.put(Instr::One {
+                builtin,
+                to: h,
+                operand: operand.slot,
+                place,
+            })
+        }
+        Layout::Two => {
+            let left = emit_operand(alloc, b, width, names, h, &operands.as_slice()[0])?;
+            let right = emit_operand(alloc, b, width, names, left.next, &operands.as_slice()[1])?;
+            b.put(Instr::Two {
+                builtin,
+                to: h,
+                left: left.slot,
+                right: right.slot,
+                place,
+            })
+        }
+        Layout::Push => {
+            emit_term(alloc, b, width, None, names, h, &operands.as_slice()[0])?;
+            let next = sum(h, 1)?;
+            let item = emit_operand(alloc, b, width, names, next, &operands.as_slice()[1])?;
+            b.put(Instr::Push {
+                to: h,
+                collection: h,
+                item: item.slot,
+                place,
+            })
+        }
+        Layout::Put => {
+            emit_term(alloc, b, width, None, names, h, &operands.as_slice()[0])?;
+            let next = sum(h, 1)?;
+            let key = emit_operand(alloc, b, width, names, next, &operands.as_slice()[1])?;
+            let value = emit_operand(alloc, b, width, names, key.next, &operands.as_slice()[2])?;
+            b.put(Instr::Put {
+                to: h,
+                collection: h,
+                key: key.slot,
+                value: value.slot,
+                place,
+            })
+        }
+        Layout::Row => {
+            emit_all(alloc, b, width, names, h, operands)?;
+            b.put(Instr::Many {
+                builtin,
+                to: h,
+                from: h,
+                count: operands.len(),
+                place,
+            })
+        }
+    }
+}
+
+// How a builtin's operands come to it: one or two where they are, a collection that grows taken out of its slot and
+// the rest where it is, or a row of slots.
+#[derive(Clone, Copy, PartialEq, Eq, Debug)]
+pub(crate) enum Layout {
+    One,
+    Two,
+    Push,
+    Put,
+    Row,
+}
+
+fn layout_of(builtin: Builtin, count: u64) -> Layout
+    ensures { result ≡ layout_of builtin count }
+{
+    match count {
+        1 => Layout::One,
+        2 => match builtin {
+            Builtin::Conj => Layout::Push,
+            _ => Layout::Two,
+        },
+        3 => match builtin {
+            Builtin::Assoc => Layout::Put,
+            _ => Layout::Row,
+        },
+        _ => Layout::Row,
     }
 }
 

@@ -8,7 +8,6 @@ ghost use Rattle.ca_states.specs.Valid.{is_valid};
 ghost use Rattle.ca_lower.specs.Emit.{code_of};
 ghost use Rattle.ca_lower.specs.Implements.{ImplementsProgram};
 ghost use Rattle.ca_lower.specs.Lowered.{After, Lowered, StandsFor};
-ghost use Rattle.ca_lower.specs.Source.{IsSourceProgram};
 
 /// Code that implements each text of a program stands for the program: at the main text, at each go body and
 /// at each function, with any values and after any answers.
@@ -16,14 +15,14 @@ pub fn implementing_code_is_lowered()
     ensures { (P : ProgramView) (C : CodeView) → ImplementsProgram C P → Lowered P C }
 {}
 
-/// The code that is laid out for a checked program, as its script has it, stands for the program.
+/// The code that is laid out for a checked program stands for the program.
 pub fn code_is_lowered()
-    ensures { (P : ProgramView) → IsProgram P → IsSourceProgram P → Lowered P (code_of P) }
+    ensures { (P : ProgramView) → IsProgram P → Lowered P (code_of P) }
 {}
 
 /// The code that is laid out for a checked program meets the five rules.
 pub fn code_is_valid()
-    ensures { (P : ProgramView) → IsProgram P → IsSourceProgram P → is_valid (code_of P) ≡ true }
+    ensures { (P : ProgramView) → IsProgram P → is_valid (code_of P) ≡ true }
 {}
 
 /// What a runner that stands for a body comes to, the body comes to; after any answer it stands for the body

@@ -1,4 +1,4 @@
-//! How many blocks a term finishes, and how many slots it needs.
+//! How many blocks a term finishes.
 ghost use Rattle.std.specs.Prelude.{◌≡◌, IfOk};
 ghost use Rattle.ca_value.specs.Seq.{list};
 ghost use Rattle.ca_term.specs.View.{bindings as bindings_view, kernel, kernels};

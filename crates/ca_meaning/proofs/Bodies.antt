@@ -199,7 +199,7 @@ fits_all : (plain : ℕ → Bool) (program : ProgramView) (t : Kernel) → Fits 
 fits_all plain program t h = fits-gentler (Suits (known_in plain program)) (Suits (known_in all_plain program)) (suits_all plain program) None t h
 
 procedure_all : (plain : ℕ → Bool) (program : ProgramView) (p : ProcedureView) → IsProcedure (known_in plain program) p → IsProcedure (known_in all_plain program) p
-procedure_all plain program p h = record { bound = h.bound; anew = h.anew; fits = fits_all plain program p.body h.fits }
+procedure_all plain program p h = record { bound = h.bound; anew = h.anew; fits = fits_all plain program p.body h.fits; source = h.source }
 
 -- a body of a program stays one by a local step, and with an answer
 pub known_stepped : (program : ProgramView) (t : Kernel) → IsBodyOf program t → IsBodyOf program (replace (contract program (redex t)) t)

@@ -2,6 +2,7 @@ pub mod Kernel
 pub mod View
 pub mod Closed
 pub mod Fits
+pub mod Source
 pub mod Program
 pub mod Operation
 pub mod Event

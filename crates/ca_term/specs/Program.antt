@@ -5,6 +5,7 @@ use Rattle.ca_value.specs.declared.seq.Seq.{Seq}
 use Rattle.ca_term.specs.Kernel.{Kernel}
 use Rattle.ca_term.specs.Closed.{IsClosed}
 use Rattle.ca_term.specs.Fits.{Known, Suits, Fits, BindsAnew, IsPlain}
+use Rattle.ca_term.specs.Source.{IsSource}
 use Rattle.ca_term.specs.View.{kernel}
 use Rattle.ca_term.specs.declared.term.Term.{Term}
 use Rattle.ca_term.specs.declared.program.Procedure.{Procedure}
@@ -26,11 +27,12 @@ arity t = length t.parameters
 abbrev pub known_in : (ℕ → Bool) → ProgramView → Known
 known_in plain p = record { functions = map arity p.functions; bodies = map arity p.bodies; plain = plain }
 
--- a text with these parameters: every name in it is bound, and once on each path; and it fits
+-- a text with these parameters: every name in it is bound, and once on each path; it fits, and none of it runs yet
 pub record IsText (known : Known) (names : List ℕ) (t : Kernel) : Type 0 where
   pub bound : IsClosed names t
   pub anew : BindsAnew names t
   pub fits : Fits (Suits known) None t
+  pub source : IsSource t
 
 abbrev pub IsProcedure : Known → ProcedureView → Type 0
 IsProcedure known t = IsText known t.parameters t.body

@@ -1,12 +1,19 @@
-use Rattle.std.proofs.Common.{◌≡◌, ◌+◌, ◌<◌, length, drop, sym, ap, ap₂, ◌∙◌, subst, arith, rules}
+use Rattle.std.proofs.Common.{◌≡◌, ℕ, ◌+◌, ◌<◌, List, [], ◌∷◌, length, drop, get_or, sym, ap, ap₂, ◌∙◌, subst, arith, rules, Option}
 use Rattle.std.specs.Prelude.{OnOk}
 use Rattle.ca_value.specs.Seq.{list}
-use Rattle.ca_term.specs.declared.term.Term.{the_lemmas}
+use Rattle.ca_term.specs.declared.term.Term.{Term, the_lemmas}
 use Rattle.ca_term.specs.Kernel.{apply, bind, loop}
+use Rattle.ca_term.specs.declared.head.Head.TheVariants.{Builtin}
+use Rattle.ca_value.specs.declared.builtin.Builtin.{Builtin as BuiltinName}
+use Rattle.ca_states.specs.Code.{one, two, pushing, putting, many}
 use Rattle.ca_term.specs.View.{bindings, founds, kernel, kernels}
-use Rattle.ca_lower.specs.Emit.{emit, finish}
+use Rattle.ca_lower.specs.declared.emit.Layout.{Layout}
+use Rattle.ca_lower.specs.Layouts.{layout_of}
+use Rattle.ca_lower.specs.Implements.{Target}
+use Rattle.ca_lower.specs.Emit.{add, emit, finish}
 use Rattle.ca_lower.specs.InOrder.{emit_rest}
 use Rattle.ca_lower.specs.Views.{builder_view, scope_view, target_view}
+use Rattle.ca_lower.proofs.LayoutLaws.{on_ok, one_done, two_done, push_done, put_done, row_done, other_laid}
 use Rattle.ca_lower.proofs.BuilderLaws.{bind_laid, loop_laid, count_bindings_length, count-terms, rest_next, drop_one, length_drop}
 use Rattle.ca_lower.proofs.emit.+emit.Goals as goal
 
@@ -70,17 +77,121 @@ emit_term-returns-in_ok-emit_term-in-Loop-clause-code t c =
     c.in_ok-close-in-Loop.ensures c.in_ok-emit_term-in-Loop.ensures.code in
     subst (λ z. OnOk c.put-in-Loop.result (builder_view c.put-in-Loop.new.self ≡ z)) (e ∙ ap (λ z. emit w lp S h z B0) (sym k)) c.put-in-Loop.ensures
 
-pub emit_term-returns-in_ok-emit_all-in-Apply-clause-code : goal.emit_term-returns-in_ok-emit_all-in-Apply-clause-code
-emit_term-returns-in_ok-emit_all-in-Apply-clause-code t c =
+-- an operand of the slice is one of the list
+seen : (us ts : List Term) (k : ℕ) (x : Term) → us ≡ ts → x ≡ get_or us k x → x ≡ get_or ts k x
+seen us ts k x e is = is ∙ ap (λ l. get_or l k x) e
+
+-- the layout, of as many operands as there are
+abbrev laid_by : BuiltinName → List Term → ℕ → Layout → Layout → Type 0
+laid_by b ts n l k = l ≡ layout_of b n → n ≡ length ts → l ≡ k → layout_of b (length ts) ≡ k
+
+lays_by : (b : BuiltinName) (ts : List Term) (n : ℕ) (l k : Layout) → laid_by b ts n l k
+lays_by b ts n l k e en is = ap (layout_of b) (sym en) ∙ sym e ∙ is
+
+pub emit_builtin-returns-in_ok-operand-in-One-clause-code : goal.emit_builtin-returns-in_ok-operand-in-One-clause-code
+emit_builtin-returns-in_ok-operand-in-One-clause-code t c =
+    let w = c.args.width in
+    let S = scope_view (list c.args.names.now) in
+    let h = c.args.h in
+    let p = c.args.place in
+    let b = c.args.builtin in
+    let ts = list c.args.operands.now in
+    let B = builder_view c.args.b.now in
+    let x = c.index-as_slice-0.result in
+    on_ok c.put.result (builder_view c.put.new.self ≡ add (one b h c.in_ok-operand-in-One.operand.slot p ∷ []) (builder_view c.emit_operand.new.b))
+    ((lp : Option Target) → builder_view c.put.new.self ≡ emit w lp S h (apply (Builtin b) (kernels ts) p) B)
+    (λ e. one_done w S h p b ts x c.in_ok-operand-in-One.operand.slot B (builder_view c.emit_operand.new.b) (builder_view c.put.new.self)
+    (lays_by b ts c.len.result c.layout_of.result Layout.One c.layout_of.ensures c.len.ensures c.in-One.is) (seen c.as_slice.result.now ts 0 c.index-as_slice-0.result c.as_slice.ensures c.index-as_slice-0.is)
+    c.in_ok-operand-in-One.ensures.slot c.in_ok-operand-in-One.ensures.code e) c.put.ensures
+
+pub emit_builtin-returns-in_ok-right-in-Two-clause-code : goal.emit_builtin-returns-in_ok-right-in-Two-clause-code
+emit_builtin-returns-in_ok-right-in-Two-clause-code t c =
+    let w = c.args.width in
+    let S = scope_view (list c.args.names.now) in
+    let h = c.args.h in
+    let p = c.args.place in
+    let b = c.args.builtin in
+    let ts = list c.args.operands.now in
+    let B = builder_view c.args.b.now in
+    let left = c.in_ok-left-in-Two.left in
+    let right = c.in_ok-right-in-Two.right in
+    on_ok c.put-in-Two.result (builder_view c.put-in-Two.new.self ≡ add (two b h left.slot right.slot p ∷ []) (builder_view c.emit_operand-in-Two-2.new.b))
+    ((lp : Option Target) → builder_view c.put-in-Two.new.self ≡ emit w lp S h (apply (Builtin b) (kernels ts) p) B)
+    (λ e. two_done w S h p b ts c.index-as_slice-0-in-Two.result c.index-as_slice-1.result left.next left.slot right.slot (scope_view (list c.emit_operand-in-Two.new.names)) B
+    (builder_view c.emit_operand-in-Two.new.b) (builder_view c.emit_operand-in-Two-2.new.b) (builder_view c.put-in-Two.new.self)
+    (lays_by b ts c.len.result c.layout_of.result Layout.Two c.layout_of.ensures c.len.ensures c.in-Two.is) (seen c.as_slice-in-Two.result.now ts 0 c.index-as_slice-0-in-Two.result c.as_slice-in-Two.ensures c.index-as_slice-0-in-Two.is) (seen c.as_slice-in-Two-2.result.now ts 1 c.index-as_slice-1.result c.as_slice-in-Two-2.ensures c.index-as_slice-1.is)
+    (ap scope_view c.in_ok-left-in-Two.ensures.names) c.in_ok-left-in-Two.ensures.next c.in_ok-left-in-Two.ensures.slot c.in_ok-right-in-Two.ensures.slot
+    c.in_ok-left-in-Two.ensures.code c.in_ok-right-in-Two.ensures.code e) c.put-in-Two.ensures
+
+pub emit_builtin-returns-in_ok-item-in-Push-clause-code : goal.emit_builtin-returns-in_ok-item-in-Push-clause-code
+emit_builtin-returns-in_ok-item-in-Push-clause-code t c =
+    let w = c.args.width in
+    let S = scope_view (list c.args.names.now) in
+    let h = c.args.h in
+    let p = c.args.place in
+    let b = c.args.builtin in
+    let ts = list c.args.operands.now in
+    let B = builder_view c.args.b.now in
+    let item = c.in_ok-item-in-Push.item in
+    let next = c.in_ok-next-in-Push.ensures in
+    on_ok c.put-in-Push.result (builder_view c.put-in-Push.new.self ≡ add (pushing h h item.slot p ∷ []) (builder_view c.emit_operand-in-Push.new.b))
+    ((lp : Option Target) → builder_view c.put-in-Push.new.self ≡ emit w lp S h (apply (Builtin b) (kernels ts) p) B)
+    (λ e. push_done w S h p b ts c.index-as_slice-0-in-Push.result c.index-as_slice-1-in-Push.result c.in_ok-next-in-Push.next item.slot (scope_view (list c.emit_term.new.names)) B
+    (builder_view c.emit_term.new.b) (builder_view c.emit_operand-in-Push.new.b) (builder_view c.put-in-Push.new.self)
+    (lays_by b ts c.len.result c.layout_of.result Layout.Push c.layout_of.ensures c.len.ensures c.in-Push.is) (seen c.as_slice-in-Push.result.now ts 0 c.index-as_slice-0-in-Push.result c.as_slice-in-Push.ensures c.index-as_slice-0-in-Push.is) (seen c.as_slice-in-Push-2.result.now ts 1 c.index-as_slice-1-in-Push.result c.as_slice-in-Push-2.ensures c.index-as_slice-1-in-Push.is)
+    (ap scope_view c.in_ok-emit_term-in-Push.ensures.names) (omega (arith, next)) c.in_ok-item-in-Push.ensures.slot c.in_ok-emit_term-in-Push.ensures.code c.in_ok-item-in-Push.ensures.code e) c.put-in-Push.ensures
+
+pub emit_builtin-returns-in_ok-value-in-Put-clause-code : goal.emit_builtin-returns-in_ok-value-in-Put-clause-code
+emit_builtin-returns-in_ok-value-in-Put-clause-code t c =
+    let w = c.args.width in
+    let S = scope_view (list c.args.names.now) in
+    let h = c.args.h in
+    let p = c.args.place in
+    let b = c.args.builtin in
+    let ts = list c.args.operands.now in
+    let B = builder_view c.args.b.now in
+    let key = c.in_ok-key-in-Put.key in
+    let value = c.in_ok-value-in-Put.value in
+    let next = c.in_ok-next-in-Put.ensures in
+    let names1 = c.in_ok-emit_term-in-Put.ensures.names in
+    on_ok c.put-in-Put.result (builder_view c.put-in-Put.new.self ≡ add (putting h h key.slot value.slot p ∷ []) (builder_view c.emit_operand-in-Put-2.new.b))
+    ((lp : Option Target) → builder_view c.put-in-Put.new.self ≡ emit w lp S h (apply (Builtin b) (kernels ts) p) B)
+    (λ e. put_done w S h p b ts c.index-as_slice-0-in-Put.result c.index-as_slice-1-in-Put.result c.index-as_slice-2.result c.in_ok-next-in-Put.next key.next key.slot value.slot
+    (scope_view (list c.emit_term-in-Put.new.names)) (scope_view (list c.emit_operand-in-Put.new.names)) B
+    (builder_view c.emit_term-in-Put.new.b) (builder_view c.emit_operand-in-Put.new.b) (builder_view c.emit_operand-in-Put-2.new.b) (builder_view c.put-in-Put.new.self)
+    (lays_by b ts c.len.result c.layout_of.result Layout.Put c.layout_of.ensures c.len.ensures c.in-Put.is) (seen c.as_slice-in-Put.result.now ts 0 c.index-as_slice-0-in-Put.result c.as_slice-in-Put.ensures c.index-as_slice-0-in-Put.is) (seen c.as_slice-in-Put-2.result.now ts 1 c.index-as_slice-1-in-Put.result c.as_slice-in-Put-2.ensures c.index-as_slice-1-in-Put.is) (seen c.as_slice-in-Put-3.result.now ts 2 c.index-as_slice-2.result c.as_slice-in-Put-3.ensures c.index-as_slice-2.is)
+    (ap scope_view names1) (ap scope_view (c.in_ok-key-in-Put.ensures.names ∙ names1)) (omega (arith, next)) c.in_ok-key-in-Put.ensures.next c.in_ok-key-in-Put.ensures.slot c.in_ok-value-in-Put.ensures.slot
+    c.in_ok-emit_term-in-Put.ensures.code c.in_ok-key-in-Put.ensures.code c.in_ok-value-in-Put.ensures.code e) c.put-in-Put.ensures
+
+pub emit_builtin-returns-in_ok-emit_all-in-Row-clause-code : goal.emit_builtin-returns-in_ok-emit_all-in-Row-clause-code
+emit_builtin-returns-in_ok-emit_all-in-Row-clause-code t c =
+    let w = c.args.width in
+    let S = scope_view (list c.args.names.now) in
+    let h = c.args.h in
+    let p = c.args.place in
+    let b = c.args.builtin in
+    let ts = list c.args.operands.now in
+    let B = builder_view c.args.b.now in
+    on_ok c.put-in-Row.result (builder_view c.put-in-Row.new.self ≡ add (many b h h c.len-in-Row.result p ∷ []) (builder_view c.emit_all.new.b))
+    ((lp : Option Target) → builder_view c.put-in-Row.new.self ≡ emit w lp S h (apply (Builtin b) (kernels ts) p) B)
+    (λ e. row_done w S h p b ts c.len-in-Row.result B (builder_view c.emit_all.new.b) (builder_view c.put-in-Row.new.self)
+    (lays_by b ts c.len.result c.layout_of.result Layout.Row c.layout_of.ensures c.len.ensures c.in-Row.is) (c.len-in-Row.ensures ∙ sym (count-terms ts)) c.in_ok-emit_all-in-Row.ensures.code e) c.put-in-Row.ensures
+
+pub emit_term-returns-in_ok-emit_all-in_default : goal.emit_term-returns-in_ok-emit_all-in_default
+emit_term-returns-in_ok-emit_all-in_default t c =
     let w = c.args.width in
     let lp = target_view c.args.target in
     let S = scope_view (list c.args.names.now) in
     let h = c.args.h in
-    let ts = kernels (list c.in-Apply.operands) in
+    let ts = list c.in-Apply.operands in
     let f = c.in-Apply.head in
     let p = c.in-Apply.place in
-    let B0 = builder_view c.args.b.now in
-    let k : kernel c.args.term.now ≡ apply f ts p = search (rules, the_lemmas) in
-    let n = c.len-in-Apply.ensures ∙ sym (count-terms (list c.in-Apply.operands)) in
-    let e = ap₂ (λ m b. finish w lp f h m p b) n c.in_ok-emit_all-in-Apply.ensures.code in
-    subst (λ z. OnOk c.finish.result (builder_view c.finish.new.self ≡ z)) (e ∙ ap (λ z. emit w lp S h z B0) (sym k)) c.finish.ensures
+    let B = builder_view c.args.b.now in
+    let k : kernel c.args.term.now ≡ apply f (kernels ts) p = search (rules, the_lemmas) in
+    let n = c.len-in_default.ensures ∙ sym (count-terms ts) in
+    let e = ap₂ (λ m b. finish w lp f h m p b) n c.in_ok-emit_all-in_default.ensures.code in
+    let other : (b : BuiltinName) → f ≡ Builtin b → ⊥ = c.in_default.not-Builtin in
+    record {
+      code = subst (λ z. OnOk c.finish.result (builder_view c.finish.new.self ≡ z)) (e ∙ sym (other_laid w lp S h p f (kernels ts) B other) ∙ ap (λ z. emit w lp S h z B) (sym k)) c.finish.ensures;
+      names = search (rules, c.in_ok-emit_all-in_default.ensures.names);
+    }

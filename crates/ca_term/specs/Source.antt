@@ -1,8 +1,8 @@
--- A term as it stands in a script: nothing in it runs yet.
+-- A term as a script's text gives it: nothing in it runs yet.
 use Rattle.std.specs.Prelude.{◌≡◌, List, [], ◌∷◌}
 use Rattle.ca_term.specs.Kernel.{Kernel, Kernels, Bindings, const, var, branch, bind, loop, seq, frame, turn, apply, none, item, empty, binding}
-use Rattle.ca_term.specs.Program.{ProgramView, ProcedureView}
 
+-- no call and no turn of a loop has begun in it
 abbrev mutual
   pub IsSource : Kernel → Type 0
   IsSource (const v) = Unit {0}
@@ -22,12 +22,3 @@ abbrev mutual
   pub AreSourceBindings : Bindings → Type 0
   AreSourceBindings empty = Unit {0}
   AreSourceBindings (binding n t bs) = IsSource t × AreSourceBindings bs
-
-abbrev pub AreSourceTexts : List ProcedureView → Type 0
-AreSourceTexts [] = Unit {0}
-AreSourceTexts (t ∷ ts) = IsSource t.body × AreSourceTexts ts
-
-pub record IsSourceProgram (P : ProgramView) : Type 0 where
-  pub functions : AreSourceTexts P.functions
-  pub bodies : AreSourceTexts P.bodies
-  pub main : IsSource P.main

@@ -1,0 +1,176 @@
+// What becomes of a branch, as far as the held parts tell.
+ghost use Rattle.std.specs.Prelude.{◌≡◌, ◌≤◌, ℕ, ◌+◌, ◌%◌, Some, None, option_map};
+ghost use Rattle.ca_term.specs.declared.event.Side.TheVariants.{Take, Put};
+ghost use Rattle.ca_bank.specs.Bank.{kept_at};
+ghost use Rattle.ca_bank.specs.Kept.{is_closed_at, takes_one_more};
+ghost use Rattle.ca_bank.specs.Room.{handler_view};
+ghost use Rattle.ca_commit.specs.Contents.{whole};
+ghost use Rattle.ca_commit.specs.Finding.{glance, is_promise_at, holds_one, front_at, asking, find_rival, find_taker, find_putter, put_at, take_at};
+ghost use Rattle.ca_commit.specs.Found.{glance_view, finding_view};
+ghost use Rattle.ca_commit.specs.Showing.{channels_held, waits_held};
+
+use crate::held::{Banks, Shards};
+use ca_bank::bank::Bank;
+use ca_bank::handler::Handler;
+use ca_buffers::buffer::Buffer;
+use ca_term::event::{Side, WaitId};
+use ca_value::value::PortId;
+
+/// What the held shards tell of a wait.
+#[derive(Clone, Copy, PartialEq, Eq, Debug)]
+pub enum Glance {
+    Here,
+    Gone,
+    Unseen,
+}
+
+/// What is found of a branch.
+#[derive(Clone, Copy, PartialEq, Eq, Debug)]
+pub enum Finding {
+    Unready,
+    /// It is done at once.
+    Alone,
+    /// It meets that branch of the wait, which stands in front of the other side.
+    Partner(WaitId, u64),
+    /// The handler in front of that side is stale.
+    Stale(Side),
+    /// The shard of this wait isn't held.
+    Unheld(WaitId),
+}
+
+/// Whether the wait lives, as far as the held shards tell.
+pub fn glance_of<A: Drop>(shards: &Shards<A>, wait: WaitId) -> Glance
+    ensures { glance_view result ≡ glance (waits_held shards.now) wait.n }
+{
+    match shards.get(wait.n % 16) {
+        Some(held) => match held.shard.parked(wait) {
+            Some(_) => Glance::Here,
+            None => Glance::Gone,
+        },
+        None => Glance::Unseen,
+    }
+}
+
+// What is found where the wait, in front of that side, is asked; live is what is found where it lives.
+fn asking<A: Drop>(shards: &Shards<A>, side: Side, wait: WaitId, live: Finding) -> Finding
+    ensures { finding_view result ≡ asking (glance (waits_held shards.now) wait.n) side wait.n (finding_view live) }
+{
+    match glance_of(shards, wait) {
+        Glance::Here => live,
+        Glance::Gone => Finding::Stale(side),
+        Glance::Unseen => Finding::Unheld(wait),
+    }
+}
+
+// The handler in front of that side of the channel.
+#[tactic(auto, using(crate::proofs::Fronts::head_is))]
+fn front(bank: &Bank, port: PortId, side: Side) -> Option<&Handler>
+    ensures { option_map (λ h. handler_view h.now) result ≡ front_at side (kept_at bank.now port.n) }
+{
+    bank.handler(port, side, 0)
+}
+
+// Whether the channel is a promise.
+fn is_promise(bank: &Bank, port: PortId) -> bool
+    ensures { result ≡ is_promise_at (kept_at bank.now port.n) }
+{
+    match bank.buffer(port) {
+        Some(buffer) => buffer.keeps(),
+        None => false,
+    }
+}
+
+// Whether the channel holds a value.
+fn holds_one(bank: &Bank, port: PortId) -> bool
+    ensures { result ≡ holds_one (kept_at bank.now port.n) }
+{
+    match bank.buffer(port) {
+        Some(buffer) => buffer.first().is_some(),
+        None => false,
+    }
+}
+
+fn find_rival<A: Drop>(shards: &Shards<A>, bank: &Bank, port: PortId) -> Finding
+    ensures { finding_view result ≡ find_rival (glance (waits_held shards.now)) (front_at Put (kept_at bank.now port.n)) }
+{
+    match front(bank, port, Side::Put) {
+        Some(handler) => asking(shards, Side::Put, handler.wait, Finding::Unready),
+        None => Finding::Alone,
+    }
+}
+
+fn find_taker<A: Drop>(shards: &Shards<A>, bank: &Bank, port: PortId) -> Finding
+    ensures { finding_view result ≡ find_taker (glance (waits_held shards.now)) (takes_one_more (kept_at bank.now port.n)) (front_at Take (kept_at bank.now port.n)) (front_at Put (kept_at bank.now port.n)) }
+{
+    match front(bank, port, Side::Take) {
+        Some(handler) => {
+            let live = Finding::Partner(handler.wait, handler.branch);
+            asking(shards, Side::Take, handler.wait, live)
+        }
+        None => {
+            if bank.has_room(port) {
+                find_rival(shards, bank, port)
+            } else {
+                Finding::Unready
+            }
+        }
+    }
+}
+
+fn find_putter<A: Drop>(shards: &Shards<A>, bank: &Bank, port: PortId) -> Finding
+    ensures { finding_view result ≡ find_putter (glance (waits_held shards.now)) (is_closed_at (kept_at bank.now port.n)) (front_at Put (kept_at bank.now port.n)) }
+{
+    match front(bank, port, Side::Put) {
+        Some(handler) => {
+            let live = Finding::Partner(handler.wait, handler.branch);
+            asking(shards, Side::Put, handler.wait, live)
+        }
+        None => {
+            if bank.is_closed(port) {
+                Finding::Alone
+            } else {
+                Finding::Unready
+            }
+        }
+    }
+}
+
+fn put_in<A: Drop>(shards: &Shards<A>, bank: &Bank, port: PortId) -> Finding
+    ensures { finding_view result ≡ put_at (glance (waits_held shards.now)) (kept_at bank.now port.n) }
+{
+    if bank.is_closed(port) || is_promise(bank, port) {
+        Finding::Alone
+    } else {
+        find_taker(shards, bank, port)
+    }
+}
+
+fn take_in<A: Drop>(shards: &Shards<A>, bank: &Bank, port: PortId) -> Finding
+    ensures { finding_view result ≡ take_at (glance (waits_held shards.now)) (kept_at bank.now port.n) }
+{
+    if holds_one(bank, port) {
+        Finding::Alone
+    } else {
+        find_putter(shards, bank, port)
+    }
+}
+
+/// What is found of a put into the channel, whatever the value.
+pub fn find_put<A: Drop>(banks: &Banks, shards: &Shards<A>, port: PortId) -> Finding
+    ensures { finding_view result ≡ put_at (glance (waits_held shards.now)) (whole (channels_held banks.now) port.n) }
+{
+    match banks.get(port.n % 16) {
+        Some(held) => put_in(shards, &held.bank, port),
+        None => Finding::Unready,
+    }
+}
+
+/// What is found of a take from the channel.
+pub fn find_take<A: Drop>(banks: &Banks, shards: &Shards<A>, port: PortId) -> Finding
+    ensures { finding_view result ≡ take_at (glance (waits_held shards.now)) (whole (channels_held banks.now) port.n) }
+{
+    match banks.get(port.n % 16) {
+        Some(held) => take_in(shards, &held.bank, port),
+        None => Finding::Unready,
+    }
+}

@@ -1,0 +1,149 @@
+ghost use Rattle.std.specs.Prelude.{◌≡◌, ◌≤◌, ◌<◌, ℕ, None, [], IfOk};
+ghost use Rattle.ca_bank.specs.Bank.{bank_number, bank_count};
+ghost use Rattle.ca_bank.specs.Shard.{shard_number, shard_count};
+
+use crate::listing::{Listing, Numbered};
+use crate::task::{Ready, Task};
+use ca_bank::bank::Bank;
+use ca_bank::shard::Shard;
+use ca_timers::timers::Timers;
+use ca_value::memory::OutOfMemory;
+use ca_value::value::Value;
+use std::alloc::Global;
+
+/// A bank of sixteen, with its number.
+#[derive(Drop)]
+pub struct HeldBank {
+    pub(crate) number: u64,
+    pub(crate) bank: Bank,
+    ghost home: { (bank_number bank ≡ number) × (bank_count bank ≡ 16) },
+}
+
+/// A shard of sixteen, with its number.
+#[derive(Drop)]
+pub struct HeldShard<A> {
+    pub(crate) number: u64,
+    pub(crate) shard: Shard<Task<A>>,
+    ghost home: { (shard_number shard ≡ number) × (shard_count shard ≡ 16) },
+}
+
+/// Banks with their numbers.
+pub type Banks = Listing<HeldBank>;
+
+/// Shards with their numbers.
+pub type Shards<A> = Listing<HeldShard<A>>;
+
+impl HeldBank {
+    /// The bank with its number.
+    pub fn new(number: u64, bank: Bank) -> HeldBank
+        requires number { bank_number bank ≡ number }
+        requires count { bank_count bank ≡ 16 }
+        ensures number { result.number ≡ number }
+        ensures bank { result.bank ≡ bank }
+    {
+        HeldBank { number, bank }
+    }
+
+    /// The bank.
+    pub fn into_bank(self) -> Bank
+        ensures bank { result ≡ self.bank }
+        ensures number { bank_number result ≡ self.number }
+    {
+        self.bank
+    }
+}
+
+impl<A> HeldShard<A> {
+    /// The shard with its number.
+    pub fn new(number: u64, shard: Shard<Task<A>>) -> HeldShard<A>
+        requires number { shard_number shard ≡ number }
+        requires count { shard_count shard ≡ 16 }
+        ensures number { result.number ≡ number }
+        ensures shard { result.shard ≡ shard }
+    {
+        HeldShard { number, shard }
+    }
+
+    /// The shard.
+    pub fn into_shard(self) -> Shard<Task<A>>
+        ensures shard { result ≡ self.shard }
+        ensures number { shard_number result ≡ self.number }
+    {
+        self.shard
+    }
+}
+
+impl Numbered for HeldBank {
+    ghost use Rattle.ca_commit.specs.Numbers.{number_of_bank};
+
+    ghost number = { number_of_bank };
+
+    fn number(&self) -> u64 {
+        self.number
+    }
+}
+
+impl<A: Drop> Numbered for HeldShard<A> {
+    ghost use Rattle.ca_commit.specs.Numbers.{number_of_shard};
+
+    ghost number = { number_of_shard };
+
+    fn number(&self) -> u64 {
+        self.number
+    }
+}
+
+// Copies of values that the reserving calls make and an event moves out: the event's value, the answer of the task,
+// and that of the one who waited.
+#[derive(Drop)]
+pub(crate) struct Spare {
+    pub(crate) value: Option<Value>,
+    pub(crate) answer: Option<Value>,
+    pub(crate) partner: Option<Value>,
+}
+
+/// The parts that a worker has moved out of its hand, and the numbers that an event may give.
+#[derive(Drop)]
+pub struct Held<A> {
+    pub banks: Banks,
+    pub shards: Shards<A>,
+    pub timers: Option<Timers>,
+    pub ready: Option<Ready<A>>,
+    /// The number of the next task, port and wait that this worker makes.
+    pub new_task: u64,
+    pub new_port: u64,
+    pub new_wait: u64,
+    /// The clock's answer, for a new timeout.
+    pub moment: u64,
+    spare: Spare,
+}
+
+const MOST_HELD: u64 = 16;
+
+impl<A: Drop> Held<A> {
+    ghost use Rattle.ca_commit.specs.Listings.{parts, spare};
+
+    /// Nothing is held, with room for 16 banks and 16 shards.
+    pub fn new(alloc: Global) -> Result<Held<A>, OutOfMemory>
+        ensures banks { IfOk result (λ h. (parts h.banks ≡ []) × (16 ≤ spare h.banks)) }
+        ensures shards { IfOk result (λ h. (parts h.shards ≡ []) × (16 ≤ spare h.shards)) }
+        ensures timers { IfOk result (λ h. h.timers ≡ None) }
+        ensures ready { IfOk result (λ h. h.ready ≡ None) }
+    {
+        Ok(Held {
+            banks: Listing::with_room(alloc, MOST_HELD)?,
+            shards: Listing::with_room(alloc, MOST_HELD)?,
+            timers: None,
+            ready: None,
+            new_task: 0,
+            new_port: 0,
+            new_wait: 0,
+            moment: 0,
+            spare: Spare {
+                value: None,
+                answer: None,
+                partner: None,
+            },
+        })
+    }
+}

@@ -1,0 +1,4 @@
+pub mod Agreeing
+pub mod Twins
+pub mod Moved
+pub mod Doing

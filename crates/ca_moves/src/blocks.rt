@@ -1,0 +1,171 @@
+//! Blocks with each copy a move where the slot isn't needed any more.
+ghost use Rattle.std.specs.Prelude.{◌≡◌, map, IfOk};
+ghost use Rattle.ca_value.specs.Seq.{list};
+ghost use Rattle.ca_states.specs.Code.{instruction, block_view};
+ghost use Rattle.ca_moves.specs.Plain.{plain, doing, plain_block};
+
+use crate::guess::Needs;
+use crate::live::Live;
+use ca_states::code::{Block, Exit, Instr};
+use ca_value::builtin::Builtin;
+use ca_value::memory::OutOfMemory;
+use ca_value::seq::Seq;
+use std::alloc::Global;
+
+// The instruction, which takes the value out of the slot that it reads first, where it can.
+fn moving(instr: Instr) -> Instr
+    ensures { plain (instruction result) ≡ plain (instruction instr) }
+{
+    match instr {
+        Instr::Copy { to, from } => Instr::Move { to, from },
+        Instr::Two {
+            builtin: Builtin::Conj,
+            to,
+            left,
+            right,
+            place,
+        } => Instr::Push {
+            to,
+            collection: left,
+            item: right,
+            place,
+        },
+        other => other,
+    }
+}
+
+fn moving_if(free: bool, instr: Instr) -> Instr
+    ensures { plain (instruction result) ≡ plain (instruction instr) }
+{
+    if free { moving(instr) } else { instr }
+}
+
+// Whether the slot that each instruction reads first is free after it, the last one first, where these are needed
+// after all of them.
+fn free_slots(alloc: Global, needed: &Live, instrs: &[Instr]) -> Result<Seq<bool>, OutOfMemory> {
+    let mut live = Live::new(alloc, needed.width())?;
+    live.add(needed);
+    let mut free = Seq::new(alloc);
+    for instr in instrs.iter().rev() {
+        free.reserve(1)?;
+        free.push(live.pass(instr));
+    }
+    Ok(free)
+}
+
+// The instructions, each moving where the slot is free; whether it is stands last for the first.
+fn moving_where(
+    alloc: Global,
+    instrs: Seq<Instr>,
+    free: Seq<bool>,
+) -> Result<Seq<Instr>, OutOfMemory>
+    ensures { IfOk result (λ s. map plain (map instruction (list s)) ≡ map plain (map instruction (list instrs))) }
+{
+    let mut free = free;
+    let mut moved = Seq::new(alloc);
+    for instr in instrs.into_vec() {
+        let is_free = free.pop() == Some(true);
+        moved.reserve(1)?;
+        moved.push(moving_if(is_free, instr));
+    }
+    Ok(moved)
+}
+
+// Whether the text waits behind the exit, for the value of a call or for an answer.
+fn waits(exit: &Exit) -> bool {
+    match exit {
+        Exit::Call { .. } => true,
+        Exit::Cut { .. } => true,
+        _ => false,
+    }
+}
+
+// The slots that hold a value after the instructions which nothing needs, where these hold one before.
+fn held_for_nothing(live: Live, instrs: &[Instr], needed: &Live) -> Live {
+    let mut held = live;
+    for instr in instrs {
+        held.hold(instr);
+    }
+    held.remove(needed);
+    held
+}
+
+// The instructions, and last these slots' values are let go.
+#[tactic(auto, using(crate::proofs::Doing::doing_more))]
+fn letting_go(alloc: Global, instrs: Seq<Instr>, held: &Live) -> Result<Seq<Instr>, OutOfMemory>
+    ensures { IfOk result (λ s. doing (map plain (map instruction (list s))) ≡ doing (map plain (map instruction (list instrs)))) }
+{
+    let mut instrs = instrs;
+    for slot in 0..held.width() {
+        if held.has(slot) {
+            instrs.reserve(1)?;
+            instrs.push(Instr::Clear { slot });
+        }
+    }
+    Ok(instrs)
+}
+
+// The instructions in front of the exit; where the text waits there, what nothing needs is let go before.
+fn before_exit(
+    alloc: Global,
+    instrs: Seq<Instr>,
+    live: Live,
+    needed: &Live,
+    exit: &Exit,
+) -> Result<Seq<Instr>, OutOfMemory>
+    ensures { IfOk result (λ s. doing (map plain (map instruction (list s))) ≡ doing (map plain (map instruction (list instrs)))) }
+{
+    if waits(exit) {
+        let held = held_for_nothing(live, instrs.as_slice(), needed);
+        letting_go(alloc, instrs, &held)
+    } else {
+        Ok(instrs)
+    }
+}
+
+// The block of that number, where that is what the blocks need.
+fn moved_block(
+    alloc: Global,
+    needs: &Needs,
+    number: u64,
+    block: Block,
+) -> Result<Block, OutOfMemory>
+    ensures { IfOk result (λ b. plain_block (block_view b) ≡ plain_block (block_view block)) }
+{
+    let needed = needs.at_exit(alloc, &block)?;
+    let live = needs.at_entry(alloc, number, block.width)?;
+    let free = free_slots(alloc, &needed, block.instrs.as_slice())?;
+    let Block {
+        width,
+        entry: _,
+        instrs,
+        exit,
+    } = block;
+    let entry = live.as_set(alloc)?;
+    let instrs = moving_where(alloc, instrs, free)?;
+    let instrs = before_exit(alloc, instrs, live, &needed, &exit)?;
+    Ok(Block {
+        width,
+        entry,
+        instrs,
+        exit,
+    })
+}
+
+/// The blocks, where that is what they need.
+pub(crate) fn moved_blocks(
+    alloc: Global,
+    needs: &Needs,
+    blocks: Seq<Block>,
+) -> Result<Seq<Block>, OutOfMemory>
+    ensures { IfOk result (λ s. map plain_block (map block_view (list s)) ≡ map plain_block (map block_view (list blocks))) }
+{
+    let mut moved = Seq::new(alloc);
+    let mut number = 0u64;
+    for block in blocks.into_vec() {
+        moved.reserve(1)?;
+        moved.push(moved_block(alloc, needs, number, block)?);
+        number = number.saturating_add(1);
+    }
+    Ok(moved)
+}

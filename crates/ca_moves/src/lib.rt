@@ -1,0 +1,14 @@
+//! Values moved at their last use, in place of being copied.
+//!
+//! The one model: code with each move a copy (`specs/Plain.antt`). Valid code goes as its plain code does, so code that
+//! differs only in what it moves stands for the same programs. Which slots are needed where is guessed (`live`,
+//! `guess`), and no promise hangs on it: the blocks that come of it (`blocks`) are taken only where they are valid.
+//!
+//! Stands on `ca_states` and `ca_lower`. Start with `specs/Plain.antt`, then `moves` and `laws`.
+#![tactic(auto)]
+
+mod blocks;
+mod guess;
+pub mod laws;
+mod live;
+pub mod moves;

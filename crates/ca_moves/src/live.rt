@@ -1,0 +1,222 @@
+//! The slots that are needed at a place of a block.
+use ca_states::code::{Exit, Instr, SlotSet};
+use ca_value::memory::OutOfMemory;
+use ca_value::seq::Seq;
+use std::alloc::Global;
+
+/// Which of a text's slots are needed.
+#[derive(Drop)]
+pub(crate) struct Live {
+    slots: Seq<bool>,
+}
+
+impl Live {
+    /// None of so many slots.
+    pub(crate) fn new(alloc: Global, width: u64) -> Result<Live, OutOfMemory> {
+        let mut slots = Seq::new(alloc);
+        for _slot in 0..width {
+            slots.reserve(1)?;
+            slots.push(false);
+        }
+        Ok(Live { slots })
+    }
+
+    pub(crate) fn has(&self, slot: u64) -> bool {
+        match self.slots.get(slot) {
+            Some(live) => *live,
+            None => false,
+        }
+    }
+
+    /// How many slots there are.
+    pub(crate) fn width(&self) -> u64 {
+        self.slots.len()
+    }
+
+    fn put(&mut self, slot: u64, live: bool) {
+        if slot < self.slots.len() {
+            self.slots.set(slot, live);
+        }
+    }
+
+    fn put_row(&mut self, from: u64, count: u64, live: bool) {
+        for i in 0..count {
+            self.put(from.saturating_add(i), live);
+        }
+    }
+
+    /// The others are needed too.
+    pub(crate) fn add(&mut self, other: &Live) {
+        for slot in 0..other.slots.len() {
+            if other.has(slot) {
+                self.put(slot, true);
+            }
+        }
+    }
+
+    /// The others are no part of it.
+    pub(crate) fn remove(&mut self, other: &Live) {
+        for slot in 0..other.slots.len() {
+            if other.has(slot) {
+                self.put(slot, false);
+            }
+        }
+    }
+
+    /// The slots of the set are needed too.
+    pub(crate) fn add_set(&mut self, set: &SlotSet) {
+        for slot in 0..set.below {
+            if set.has(slot) {
+                self.put(slot, true);
+            }
+        }
+    }
+
+    /// Whether it has a slot that the other hasn't.
+    pub(crate) fn has_more(&self, other: &Live) -> bool {
+        for slot in 0..self.slots.len() {
+            if self.has(slot) && !other.has(slot) {
+                return true;
+            }
+        }
+        false
+    }
+
+    /// As a set of slots.
+    pub(crate) fn as_set(&self, alloc: Global) -> Result<SlotSet, OutOfMemory> {
+        let mut below = 0;
+        let mut holes = Seq::new(alloc);
+        for slot in 0..self.slots.len() {
+            if self.has(slot) {
+                for hole in below..slot {
+                    holes.reserve(1)?;
+                    holes.push(hole);
+                }
+                below = slot + 1;
+            }
+        }
+        Ok(SlotSet { below, holes })
+    }
+
+    // One slot is read for the other; the answer is whether it is free afterwards.
+    fn read_one(&mut self, to: u64, from: u64) -> bool {
+        self.put(to, false);
+        let free = !self.has(from);
+        self.put(from, true);
+        free
+    }
+
+    /// What is needed before the instruction; the answer is whether the slot that it reads first is free after it.
+    pub(crate) fn pass(&mut self, instr: &Instr) -> bool {
+        match instr {
+            Instr::Const { to, .. } => {
+                self.put(*to, false);
+                false
+            }
+            Instr::Copy { to, from } => self.read_one(*to, *from),
+            Instr::Move { to, from } => self.read_one(*to, *from),
+            Instr::Clear { slot } => {
+                self.put(*slot, false);
+                false
+            }
+            Instr::One { to, operand, .. } => self.read_one(*to, *operand),
+            Instr::TwoInt { to, left, .. } => self.read_one(*to, *left),
+            Instr::Two {
+                to,
+                left,
+                right,
+                ..
+            } => {
+                let free = self.read_one(*to, *left);
+                self.put(*right, true);
+                free
+            }
+            Instr::Push {
+                to,
+                collection,
+                item,
+                ..
+            } => {
+                let free = self.read_one(*to, *collection);
+                self.put(*item, true);
+                free
+            }
+            Instr::Put {
+                to,
+                collection,
+                key,
+                value,
+                ..
+            } => {
+                let free = self.read_one(*to, *collection);
+                self.put(*key, true);
+                self.put(*value, true);
+                free
+            }
+            Instr::Many { to, from, count, .. } => {
+                self.put(*to, false);
+                self.put_row(*from, *count, true);
+                false
+            }
+        }
+    }
+
+    /// Which slots hold a value after the instruction, where these do before it.
+    pub(crate) fn hold(&mut self, instr: &Instr) {
+        match instr {
+            Instr::Const { to, .. } => self.put(*to, true),
+            Instr::Copy { to, .. } => self.put(*to, true),
+            Instr::Move { to, from } => {
+                self.put(*from, false);
+                self.put(*to, true);
+            }
+            Instr::Clear { slot } => self.put(*slot, false),
+            Instr::One { to, .. } => self.put(*to, true),
+            Instr::Two { to, .. } => self.put(*to, true),
+            Instr::TwoInt { to, .. } => self.put(*to, true),
+            Instr::Push { to, collection, .. } => {
+                self.put(*collection, false);
+                self.put(*to, true);
+            }
+            Instr::Put { to, collection, .. } => {
+                self.put(*collection, false);
+                self.put(*to, true);
+            }
+            Instr::Many { to, from, count, .. } => {
+                self.put_row(*from, *count, false);
+                self.put(*to, true);
+            }
+        }
+    }
+
+    // What is needed before a call or an operation over so many slots, besides what follows it.
+    fn ask(&mut self, from: u64, count: u64, answer: u64) {
+        self.put(answer, false);
+        self.put_row(from, count, true);
+    }
+
+    /// What the exit needs, where this is what the blocks need that follow it.
+    pub(crate) fn leave(&mut self, exit: &Exit) {
+        match exit {
+            Exit::Jump { .. } => {}
+            Exit::Branch { slot, .. } => self.put(*slot, true),
+            Exit::Test { left, right, .. } => {
+                self.put(*left, true);
+                self.put(*right, true);
+            }
+            Exit::Call {
+                from,
+                count,
+                answer,
+                ..
+            } => self.ask(*from, *count, *answer),
+            Exit::Return { slot } => self.put(*slot, true),
+            Exit::Cut {
+                from,
+                count,
+                answer,
+                ..
+            } => self.ask(*from, *count, *answer),
+        }
+    }
+}
