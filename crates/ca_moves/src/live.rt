@@ -82,6 +82,19 @@ impl Live {
         false
     }
 
+    /// How many slots it hasn't below the last one that it has.
+    pub(crate) fn holes(&self) -> u64 {
+        let mut slots: u64 = 0;
+        let mut holes: u64 = 0;
+        for slot in 0..self.slots.len() {
+            if self.has(slot) {
+                holes = slot.saturating_sub(slots);
+                slots = slots.saturating_add(1);
+            }
+        }
+        holes
+    }
+
     /// As a set of slots.
     pub(crate) fn as_set(&self, alloc: Global) -> Result<SlotSet, OutOfMemory> {
         let mut below = 0;
