@@ -6,11 +6,12 @@ use Rattle.ca_term.specs.Program.{ProgramView}
 use Rattle.ca_meaning.specs.Body.{BodyView, At, local, at_op, ended, faulted, nowhere, at, fill}
 use Rattle.ca_meaning.specs.Rest.{Rest, LocalSteps}
 use Rattle.ca_meaning.specs.Task.{TaskBody, script, system_task, body_at, body_fill, BodyRest, new_task}
+use Rattle.ca_agent.specs.Seeds.{go_body}
 use Rattle.ca_meaning.proofs.Rests.{one_rest, rests}
 use Rattle.ca_states.specs.Machine.{Move, resumed}
 use Rattle.ca_lower.specs.Lowered.{After, StandsFor}
 use Rattle.ca_lower.proofs.Lowers.{comes}
-use Rattle.ca_machine.specs.Machines.{MachineView, GoesAs, StandsAs, HaltsIn, Runs, AdvancesFrom, Advances, Gives, Begins, go_body, Starts}
+use Rattle.ca_machine.specs.Machines.{MachineView, GoesAs, StandsAs, HaltsIn, Runs, AdvancesFrom, Advances, Gives, Begins, Starts}
 
 -- anywhere but at a local step
 abbrev IsOff : At → Type 0

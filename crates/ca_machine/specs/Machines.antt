@@ -8,6 +8,7 @@ use Rattle.ca_meaning.specs.Operands.{values_in}
 use Rattle.ca_meaning.specs.Rest.{Rest}
 use Rattle.ca_meaning.specs.Started.{procedure_at, started as started_text}
 use Rattle.ca_meaning.specs.Task.{TaskBody, script, system_task}
+use Rattle.ca_agent.specs.Seeds.{go_body}
 use Rattle.ca_states.specs.Code.{CodeView}
 use Rattle.ca_states.specs.Machine.{State, Move, ends, faults, waits, resumed, ComesTo}
 use Rattle.ca_lower.specs.Lowered.{StandsFor}
@@ -65,17 +66,10 @@ Gives m v n = (n.code ≡ m.code) × (n.state ≡ resumed v m.answer m.state) ×
 abbrev pub Begins : ProgramView → MachineView → BodyView → Type 0
 Begins P m b = (m.place ≡ local) × StandsFor P m.code m.state b
 
--- the go body with the values, and last the result port, in place of its names
-abbrev pub go_body : ProgramView → ℕ → Trees → ℕ → BodyView
-go_body P n values result = new_body (started_text (procedure_at P.bodies n) (values_in values ++ port result ∷ []))
-
+-- a new machine of a go block's seed, none of another
 abbrev pub Starts : ProgramView → SeedView → MachineView → Type 0
 Starts P (go n values result place) m = Begins P m (go_body P n values result)
 Starts P (system kind values place) m = ⊥
-
--- the program has the seed's go body, and it takes as many values
-abbrev pub HasGo : ProgramView → ℕ → ℕ → Type 0
-HasGo P n count = (n < length P.bodies) × (count ≡ arity (procedure_at P.bodies n))
 
 -- made over that code, and not refused memory
 abbrev pub IsOver : CodeView → MachineView → Type 0

@@ -11,7 +11,8 @@ ghost use Rattle.ca_states.specs.Machine.{started};
 ghost use Rattle.ca_states.specs.Standing.{IsStart, entry_at};
 ghost use Rattle.ca_states.specs.ValidCode.{valid_code};
 ghost use Rattle.ca_lower.specs.Lowered.{Lowered, StandsFor};
-ghost use Rattle.ca_machine.specs.Machines.{HasGo, IsOver, Begins, StandsAs, Starts};
+ghost use Rattle.ca_agent.specs.Seeds.{HasGo};
+ghost use Rattle.ca_machine.specs.Machines.{IsOver, Begins, StandsAs, Starts};
 ghost use Rattle.ca_machine.specs.View.{machine_view};
 
 use crate::machine::Machine;

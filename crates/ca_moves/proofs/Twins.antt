@@ -140,13 +140,13 @@ module _ (D : CodeView) (valid : ValidParts D) where
       let e = function_at D m in
       let inside : e.block < size D = (takes_room D valid D.functions valid.functions m k counted).0 in
       let frames : FramesAlike D (record { next = next; answer = answer; slots = taken_all s (slots_from b k) } ∷ F) (record { next = next; answer = answer; slots = taken_all t (slots_from b k) } ∷ G) =
-        one_frame next answer (taken_all s (slots_from b k)) (taken_all t (slots_from b k)) F G (target_there w next (both (is_target D w next) true there).0)
-        (answered_alike K next answer b k s t (both (are_entry_slots_known (past (Call m b k answer next p) K) (block_at D next).entry) true known).0 a) f in
+      one_frame next answer (taken_all s (slots_from b k)) (taken_all t (slots_from b k)) F G (target_there w next (both (is_target D w next) true there).0)
+      (answered_alike K next answer b k s t (both (are_entry_slots_known (past (Call m b k answer next p) K) (block_at D next).entry) true known).0 a) f in
       let begins : begun_at C e vs ≡ begun_at D e (reads t (slots_from b k)) = plain_begun D e vs ∙ ap (begun_at D e) (reads_agree (slots_from b k) K s t reads_ok a) in
       let both_called : Twin D (goes (standing e.block (begun_at C e vs) (record { next = next; answer = answer; slots = taken_all s (slots_from b k) } ∷ F) (suc turns))) (goes (standing e.block (begun_at D e (reads t (slots_from b k))) (record { next = next; answer = answer; slots = taken_all t (slots_from b k) } ∷ G) (suc turns))) =
-        both_go _ _ (alike e.block (begun_at C e vs) (begun_at D e (reads t (slots_from b k))) _ _ (suc turns) inside (λ j is. ap (λ u. read u j) begins) frames) in
+      both_go _ _ (alike e.block (begun_at C e vs) (begun_at D e (reads t (slots_from b k))) _ _ (suc turns) inside (λ j is. ap (λ u. read u j) begins) frames) in
       subst (λ l. Twin D (called turns F p (goes (standing e.block (begun_at C e vs) (record { next = next; answer = answer; slots = taken_all s (slots_from b k) } ∷ F) (suc turns))))
-        (turned turns p (cond (is_too_deep l) (faults TooDeep p turns) (goes (standing e.block (begun_at D e (reads t (slots_from b k))) (record { next = next; answer = answer; slots = taken_all t (slots_from b k) } ∷ G) (suc turns)))))) (frame_count f)
+      (turned turns p (cond (is_too_deep l) (faults TooDeep p turns) (goes (standing e.block (begun_at D e (reads t (slots_from b k))) (record { next = next; answer = answer; slots = taken_all t (slots_from b k) } ∷ G) (suc turns)))))) (frame_count f)
       (twin_turned turns p _ _ (twin_cond (is_too_deep (length F)) _ _ _ _ (both_fault TooDeep p turns) both_called))
   twin_leaves (Return b) K w n s t F G turns reads_ok known there counted a f =
       subst (λ v. Twin D (returned (read s b) F turns) (returned v G turns)) (a b (both (K b) true reads_ok).0) (returned_alike (read s b) turns f)
@@ -154,8 +154,8 @@ module _ (D : CodeView) (valid : ValidParts D) where
       let c = standing next (taken_all s (slots_from b k)) F turns in
       let d = standing next (taken_all t (slots_from b k)) G turns in
       let resumes : (v : Tree) → StatesAlike D (resumed v answer c) (resumed v answer d) = λ v.
-        alike next (write (taken_all s (slots_from b k)) answer v) (write (taken_all t (slots_from b k)) answer v) F G 0 (target_there w next (both (is_target D w next) true there).0)
-        (answered_alike K next answer b k s t (both (are_entry_slots_known (past (Cut h b k answer next p) K) (block_at D next).entry) true known).0 a v) f in
+      alike next (write (taken_all s (slots_from b k)) answer v) (write (taken_all t (slots_from b k)) answer v) F G 0 (target_there w next (both (is_target D w next) true there).0)
+      (answered_alike K next answer b k s t (both (are_entry_slots_known (past (Cut h b k answer next p) K) (block_at D next).entry) true known).0 a v) f in
       subst (λ o. Twin D (waiting p answer c (asked h (trees_of (reads s (slots_from b k))) p)) (waiting p answer d o)) (ap (λ vs. asked h (trees_of vs) p) (reads_agree (slots_from b k) K s t reads_ok a))
       (by c d refl resumes (asked h (trees_of (reads s (slots_from b k))) p))
     where

@@ -9,6 +9,10 @@ use std::alloc::Global;
 // A pass sees through one loop more, so nested loops take one each.
 const PASSES: u64 = 64;
 
+// A set of slots is looked through from its first hole to its last, at each slot. So a block that would need slots
+// with more holes keeps its entry slots.
+const MOST_HOLES: u64 = 16;
+
 /// What each block needs.
 #[derive(Drop)]
 pub(crate) struct Needs {
@@ -90,6 +94,9 @@ impl Needs {
         let mut live = self.at_exit(alloc, block)?;
         for instr in block.instrs.as_slice().iter().rev() {
             live.pass(instr);
+        }
+        if live.holes() > MOST_HOLES {
+            live.add_set(&block.entry);
         }
         let Some(before) = self.blocks.get(number) else {
             return Ok(false);

@@ -4,11 +4,13 @@
 //! differs only in what it moves stands for the same programs. Which slots are needed where is guessed (`live`,
 //! `guess`), and no promise hangs on it: the blocks that come of it (`blocks`) are taken only where they are valid.
 //!
-//! Stands on `ca_states` and `ca_lower`. Start with `specs/Plain.antt`, then `moves` and `laws`.
+//! Stands on `ca_states` and `ca_lower`. Start with `specs/Plain.antt`, then `moves`, `lower` and
+//! `laws`.
 #![tactic(auto)]
 
 mod blocks;
 mod guess;
 pub mod laws;
 mod live;
+pub mod lower;
 pub mod moves;

@@ -82,6 +82,19 @@ impl Live {
         false
     }
 
+    /// How many slots it hasn't below the last one that it has.
+    pub(crate) fn holes(&self) -> u64 {
+        let mut slots: u64 = 0;
+        let mut holes: u64 = 0;
+        for slot in 0..self.slots.len() {
+            if self.has(slot) {
+                holes = slot.saturating_sub(slots);
+                slots = slots.saturating_add(1);
+            }
+        }
+        holes
+    }
+
     /// As a set of slots.
     pub(crate) fn as_set(&self, alloc: Global) -> Result<SlotSet, OutOfMemory> {
         let mut below = 0;
@@ -109,36 +122,32 @@ impl Live {
     /// What is needed before the instruction; the answer is whether the slot that it reads first is free after it.
     pub(crate) fn pass(&mut self, instr: &Instr) -> bool {
         match instr {
-            Instr::Const { to, .. } => {
+            Instr::Const { to, .. } | Instr::Clear { slot: to } => {
                 self.put(*to, false);
                 false
             }
-            Instr::Copy { to, from } => self.read_one(*to, *from),
-            Instr::Move { to, from } => self.read_one(*to, *from),
-            Instr::Clear { slot } => {
-                self.put(*slot, false);
-                false
+            Instr::Copy { to, from }
+            | Instr::Move { to, from }
+            | Instr::One {
+                to,
+                operand: from,
+                ..
             }
-            Instr::One { to, operand, .. } => self.read_one(*to, *operand),
-            Instr::TwoInt { to, left, .. } => self.read_one(*to, *left),
+            | Instr::TwoInt { to, left: from, .. } => self.read_one(*to, *from),
             Instr::Two {
                 to,
                 left,
                 right,
                 ..
+            }
+            | Instr::Push {
+                to,
+                collection: left,
+                item: right,
+                ..
             } => {
                 let free = self.read_one(*to, *left);
                 self.put(*right, true);
-                free
-            }
-            Instr::Push {
-                to,
-                collection,
-                item,
-                ..
-            } => {
-                let free = self.read_one(*to, *collection);
-                self.put(*item, true);
                 free
             }
             Instr::Put {
@@ -153,7 +162,12 @@ impl Live {
                 self.put(*value, true);
                 free
             }
-            Instr::Many { to, from, count, .. } => {
+            Instr::Many {
+                to,
+                from,
+                count,
+                ..
+            } => {
                 self.put(*to, false);
                 self.put_row(*from, *count, true);
                 false
@@ -164,25 +178,32 @@ impl Live {
     /// Which slots hold a value after the instruction, where these do before it.
     pub(crate) fn hold(&mut self, instr: &Instr) {
         match instr {
-            Instr::Const { to, .. } => self.put(*to, true),
-            Instr::Copy { to, .. } => self.put(*to, true),
-            Instr::Move { to, from } => {
+            Instr::Const { to, .. }
+            | Instr::Copy { to, .. }
+            | Instr::One { to, .. }
+            | Instr::Two { to, .. }
+            | Instr::TwoInt { to, .. } => self.put(*to, true),
+            Instr::Clear { slot } => self.put(*slot, false),
+            Instr::Move { to, from }
+            | Instr::Push {
+                to,
+                collection: from,
+                ..
+            }
+            | Instr::Put {
+                to,
+                collection: from,
+                ..
+            } => {
                 self.put(*from, false);
                 self.put(*to, true);
             }
-            Instr::Clear { slot } => self.put(*slot, false),
-            Instr::One { to, .. } => self.put(*to, true),
-            Instr::Two { to, .. } => self.put(*to, true),
-            Instr::TwoInt { to, .. } => self.put(*to, true),
-            Instr::Push { to, collection, .. } => {
-                self.put(*collection, false);
-                self.put(*to, true);
-            }
-            Instr::Put { to, collection, .. } => {
-                self.put(*collection, false);
-                self.put(*to, true);
-            }
-            Instr::Many { to, from, count, .. } => {
+            Instr::Many {
+                to,
+                from,
+                count,
+                ..
+            } => {
                 self.put_row(*from, *count, false);
                 self.put(*to, true);
             }

@@ -1,8 +1,9 @@
 //! Runs code of blocks by rows of text, for anyone to add a row to: each line of the input is one row, its
 //! answer stands in the output.
 //!
-//! A row is code, `run`, where it starts, and the answers to its operations. `block 2 0` begins a block with
-//! two slots, of which it begins with the first none; what it does follows, word by word: `const:0:7`,
+//! A row is code, `run`, where it starts, and the answers to its operations; or code and `run moves`, for its blocks
+//! after the pass that moves values at their last use. `block 2 0` begins a block with two slots, of which it begins
+//! with the first none, `block 4 3-1` one that begins with the first three but slot 1; what it does follows, word by word: `const:0:7`,
 //! `copy:1:0`, `move:1:0`, `clear:0`, `one:inc:0:1`, `two:+:0:1:2`, `int:+:0:1:5`, `push:0:1:2`,
 //! `put:0:1:2:3`, `many:str:0:1:2`, and last where it leads: `jump:1`, `branch:0:1:2`, `test:<:0:1:2:3`,
 //! `call:0:1:2:0:3` (function, first slot, how many, the value's slot, the next block), `return:0`,
@@ -11,9 +12,10 @@
 //! it takes. What may fault in a block stands at the line of the block's number, its column counts words.
 //!
 //! The answer has each operation, and then `ended` with the value, or the fault with its place; `invalid`
-//! where the code breaks a rule, `no start` where it doesn't have the start.
+//! where the code breaks a rule, `no start` where it doesn't have the start. Blocks are told in the words of a row.
 #![tactic(auto)]
 
+mod printing;
 mod reading;
 mod running;
 mod words;

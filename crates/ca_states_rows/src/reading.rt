@@ -50,7 +50,7 @@ fn add_block(
     words: &mut SplitWhitespace<'_>,
 ) -> Result<(), RowError> {
     let width = next_number(words)?;
-    let below = next_number(words)?;
+    let entry = slots(alloc, words.next().ok_or(RowError::Unreadable)?)?;
     let mut place = Place {
         line: code.blocks.len(),
         column: 1,
@@ -68,10 +68,7 @@ fn add_block(
                 code.blocks.reserve(1)?;
                 code.blocks.push(Block {
                     width,
-                    entry: SlotSet {
-                        below,
-                        holes: Seq::new(alloc),
-                    },
+                    entry,
                     instrs,
                     exit,
                 });
@@ -81,6 +78,18 @@ fn add_block(
         place.column = place.column.checked_add(1).ok_or(RowError::Unreadable)?;
     }
     Err(RowError::Unreadable)
+}
+
+// The slots below a number, but for those behind a dash.
+fn slots(alloc: Global, word: &str) -> Result<SlotSet, RowError> {
+    let mut parts = word.split('-');
+    let below = number_of(parts.next().ok_or(RowError::Unreadable)?)?;
+    let mut holes = Seq::new(alloc);
+    for part in parts {
+        holes.reserve(1)?;
+        holes.push(number_of(part)?);
+    }
+    Ok(SlotSet { below, holes })
 }
 
 // As many marks as the widest block has slots.

@@ -1,9 +1,12 @@
 ghost use Rattle.ca_states.specs.ValidCode.{valid_code};
 ghost use Rattle.ca_states.specs.Standing.{state_view, Stands};
 
+use crate::printing::{append_value, blocks_text};
 use crate::reading::code;
 use crate::words::{Parts, RowError, value_of};
 use ca_meaning::text::fault_name;
+use ca_moves::moves::moves;
+use ca_states::code::Code;
 use ca_states::runner::{Halt, Runner, Start};
 use ca_states::valid_code::ValidCode;
 use ca_states::validate::validate;
@@ -16,11 +19,35 @@ use std::str::SplitWhitespace;
 /// What the row's code comes to.
 pub fn answer(alloc: Global, row: &str) -> Result<String, RowError> {
     let mut words = row.split_whitespace();
-    let code = match validate(code(alloc, &mut words)?) {
+    let code = code(alloc, &mut words)?;
+    let word = words.next().ok_or(RowError::Unreadable)?;
+    match word.as_bytes() {
+        b"moves" => moved(alloc, code),
+        _ => run(alloc, code, word, words),
+    }
+}
+
+// The blocks after the pass that moves values at their last use.
+fn moved(alloc: Global, code: Code) -> Result<String, RowError> {
+    match moves(alloc, code)? {
+        Some(code) => blocks_text(alloc, code.code()),
+        None => Ok(String::from_str(alloc, "invalid")?),
+    }
+}
+
+// What the code comes to from the start that the word tells.
+fn run(
+    alloc: Global,
+    code: Code,
+    word: &str,
+    words: SplitWhitespace<'_>,
+) -> Result<String, RowError> {
+    let code = match validate(code) {
         Ok(code) => code,
         Err(_) => return Ok(String::from_str(alloc, "invalid")?),
     };
-    let mut parts = Parts::new(words.next().ok_or(RowError::Unreadable)?);
+    let mut words = words;
+    let mut parts = Parts::new(word);
     let start = match parts.part()?.as_bytes() {
         b"main" => Start::Main,
         b"go" => Start::Go(parts.number()?),
@@ -86,14 +113,6 @@ fn halts(
         }
     }
     Ok(text)
-}
-
-fn append_value(alloc: Global, text: &mut String, value: &Value) -> Result<(), RowError> {
-    let bytes = value.print_readable(alloc)?;
-    match str::from_utf8(bytes.as_slice()) {
-        Ok(part) => Ok(text.push_str(part)?),
-        Err(_) => Err(RowError::Unreadable),
-    }
 }
 
 fn append_operation(alloc: Global, text: &mut String, op: &Op) -> Result<(), RowError> {

@@ -1,7 +1,6 @@
-use Rattle.std.proofs.Common.{◌+◌, [], ◌∷◌, length, ap, ◌∙◌, subst, length-append}
-use Rattle.std.proofs.lemmas.List.{length-map}
+use Rattle.std.proofs.Common.{◌+◌, length, ◌∙◌, subst}
 use Rattle.ca_value.specs.Seq.{list}
-use Rattle.ca_value.specs.View.{view, views, trees}
+use Rattle.ca_value.specs.View.{views, trees}
 use Rattle.ca_value.specs.declared.value.Value.TheVariants.{Port}
 use Rattle.ca_term.specs.Program.{ProgramView}
 use Rattle.ca_meaning.specs.Body.{BodyView, new_body}
@@ -10,9 +9,11 @@ use Rattle.ca_states.specs.Code.{body_at}
 use Rattle.ca_states.specs.Machine.{started}
 use Rattle.ca_states.specs.ValidCode.{valid_code}
 use Rattle.ca_lower.specs.Lowered.{Lowered, StandsFor}
-use Rattle.ca_machine.specs.Machines.{Begins, HasGo, go_body}
+use Rattle.ca_agent.specs.Seeds.{HasGo, go_body}
+use Rattle.ca_agent.proofs.SeedLaws.{values_pushed, count_pushed}
+use Rattle.ca_machine.specs.Machines.{Begins}
 use Rattle.ca_machine.specs.View.{machine_view}
-use Rattle.ca_machine.proofs.Starting.{if_ok, values_pushed}
+use Rattle.ca_machine.proofs.Starting.{if_ok}
 use Rattle.ca_machine.proofs.machine.Machine.from_seed.Goals as goal
 
 pub returns-clause-starts : goal.returns-clause-starts
@@ -22,10 +23,10 @@ returns-clause-starts c =
     let xs = list seed.values in
     let zs = list c.push.new.self in
     let same = values_pushed xs (list c.reserve.new.self) zs (Port seed.result) c.push.ensures.added c.reserve.ensures.same in
-    let count = ap length c.push.ensures.added ∙ length-append (list c.reserve.new.self) (Port seed.result ∷ []) ∙ ap (λ l. length l + 1) c.reserve.ensures.same in
+    let count = count_pushed xs (list c.reserve.new.self) zs (Port seed.result) c.push.ensures.added c.reserve.ensures.same in
     if_ok c.start.result (λ m. (program : ProgramView) (b : BodyView) → StandsFor program C (started C (body_at C seed.body) (views zs)) b → Begins program (machine_view m) b)
     (λ m. (program : ProgramView) → Lowered program C → HasGo program seed.body (length xs + 1) → Begins program (machine_view m) (go_body program seed.body (trees xs) seed.result.n))
     (λ m h program low has. h program (go_body program seed.body (trees xs) seed.result.n)
     (subst (λ vs. StandsFor program C (started C (body_at C seed.body) (views zs)) (new_body (started_text (procedure_at program.bodies seed.body) vs))) same
-    (low.bodies seed.body (views zs) has.0 (length-map zs view ∙ count ∙ has.1))))
+    (low.bodies seed.body (views zs) has.0 (count ∙ has.1))))
     c.start.ensures.begins

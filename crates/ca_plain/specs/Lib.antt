@@ -1,0 +1,4 @@
+pub mod Bodies
+pub mod BodyLaws
+pub mod Pauses
+pub mod View
