@@ -37,3 +37,8 @@ pub mod BranchLaws
 pub mod QueueLaws
 pub mod FitLaws
 pub mod RegisterLaws
+pub mod Findings
+pub mod Turns
+pub mod FitsMore
+pub mod PlanTold
+pub mod Outcomes

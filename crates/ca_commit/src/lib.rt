@@ -14,7 +14,10 @@
 #![tactic(auto)]
 
 mod branching;
+mod changing;
 mod counting;
+pub mod decisions;
+pub mod doing;
 pub mod finding;
 mod fit;
 pub mod held;
@@ -24,4 +27,6 @@ mod making;
 pub mod planned;
 pub mod planning;
 mod registering;
+mod replying;
+mod reserving;
 pub mod task;
