@@ -42,3 +42,9 @@ pub mod Turns
 pub mod FitsMore
 pub mod PlanTold
 pub mod Outcomes
+pub mod Updates
+pub mod Woken
+pub mod ShardLaws
+pub mod RowsDone
+pub mod Altered
+pub mod Drawings

@@ -30,3 +30,4 @@ pub mod Registering
 pub mod Deciding
 pub mod Replies
 pub mod Making
+pub mod Waking

@@ -72,7 +72,7 @@ fn answer(alloc: Global, banks: &Banks, branch: &Branch) -> Result<Value, OutOfM
     }
 }
 
-fn port_in(branch: &Branch) -> PortId
+pub(crate) fn port_in(branch: &Branch) -> PortId
     ensures { result.n ≡ port_of (branch_view branch.now) }
 {
     match branch {
