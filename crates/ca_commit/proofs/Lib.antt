@@ -48,3 +48,6 @@ pub mod ShardLaws
 pub mod RowsDone
 pub mod Altered
 pub mod Drawings
+pub mod Meetings
+pub mod Twice
+pub mod SettleMade

@@ -31,3 +31,4 @@ pub mod Deciding
 pub mod Replies
 pub mod Making
 pub mod Waking
+pub mod Settling

@@ -53,7 +53,7 @@ fn is_closed(banks: &Banks, port: PortId) -> bool
     }
 }
 
-fn first_held(alloc: Global, banks: &Banks, port: PortId) -> Result<Value, OutOfMemory>
+pub(crate) fn first_held(alloc: Global, banks: &Banks, port: PortId) -> Result<Value, OutOfMemory>
     ensures { IfOk result (λ v. view v ≡ or_nil (head (held_at (whole (channels_held banks.now) port.n)))) }
 {
     match banks.get(port.n % 16) {

@@ -47,7 +47,7 @@ fn front_value(alloc: Global, bank: &Bank, port: PortId) -> Result<Value, OutOfM
     }
 }
 
-fn offered(alloc: Global, banks: &Banks, port: PortId) -> Result<Value, OutOfMemory>
+pub(crate) fn offered(alloc: Global, banks: &Banks, port: PortId) -> Result<Value, OutOfMemory>
     ensures { IfOk result (λ v. view v ≡ value_in (front_at Put (whole (channels_held banks.now) port.n))) }
 {
     match banks.get(port.n % 16) {
@@ -67,7 +67,7 @@ fn passing(alloc: Global, banks: &Banks, branch: &Branch) -> Result<Value, OutOf
 }
 
 // What a side is told where the value passes.
-fn told(alloc: Global, side: Side, value: &Value) -> Result<Value, OutOfMemory>
+pub(crate) fn told(alloc: Global, side: Side, value: &Value) -> Result<Value, OutOfMemory>
     ensures { IfOk result (λ v. view v ≡ told side (view value.now)) }
 {
     match side {
@@ -94,7 +94,7 @@ fn answer_of<A: Agent>(
 }
 
 // The answer of whoever waits there, if it is a task.
-fn partner<A: Agent>(
+pub(crate) fn partner<A: Agent>(
     alloc: Global,
     shards: &Shards<A>,
     wait: WaitId,
@@ -114,7 +114,7 @@ fn partner<A: Agent>(
     }
 }
 
-fn reserve_ready<A: Drop>(ready: &mut Option<Ready<A>>) -> Result<(), OutOfMemory>
+pub(crate) fn reserve_ready<A: Drop>(ready: &mut Option<Ready<A>>) -> Result<(), OutOfMemory>
     requires { IsSome ready.old }
     ensures tasks { ready_in ready.new ≡ ready_in ready.old }
     ensures there { IsSome ready.new }

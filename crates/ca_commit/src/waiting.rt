@@ -37,7 +37,8 @@ pub(crate) fn put_in<A: Drop>(shards: &mut Shards<A>, wait: WaitId, parked: Park
     }
 }
 
-fn push<A: Drop>(ready: &mut Option<Ready<A>>, task: Task<A>)
+// The task stands last in the ready part.
+pub(crate) fn push<A: Drop>(ready: &mut Option<Ready<A>>, task: Task<A>)
     requires { HasReadyRoom ready.old }
     ensures { ready_in ready.new ≡ option_map (λ q. q ++ task_view task ∷ []) (ready_in ready.old) }
 {
