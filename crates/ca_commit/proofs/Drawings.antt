@@ -1,5 +1,5 @@
 -- What the calls of an event promise is how the event moves the parts.
-use Rattle.std.proofs.Common.{◌≡◌, ℕ, List, [], ◌∷◌, ◌++◌, refl, sym, ap, ◌∙◌, subst, Bool, Option, Some, None, option_map, is_some, true}
+use Rattle.std.proofs.Common.{◌≡◌, ℕ, sym, ap, ◌∙◌, subst, Option, Some, option_map}
 use Rattle.ca_value.specs.Tree.{Tree}
 use Rattle.ca_term.specs.Program.{ProgramView}
 use Rattle.ca_term.specs.Operation.{OpView}
@@ -8,7 +8,6 @@ use Rattle.ca_meaning.specs.Body.{At}
 use Rattle.ca_meaning.specs.Row.{completes}
 use Rattle.ca_meaning.specs.Task.{reply_to}
 use Rattle.ca_meaning.specs.Wait.{port_of}
-use Rattle.ca_commit.specs.Agents.{TaskAgent, gives_of}
 use Rattle.ca_commit.specs.ChannelMoves.{MovesDone}
 use Rattle.ca_commit.specs.Contents.{Kept, Parts, whole}
 use Rattle.ca_commit.specs.Deciding.{IsAlone}

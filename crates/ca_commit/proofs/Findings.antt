@@ -7,11 +7,11 @@ use Rattle.ca_term.specs.declared.event.Side.TheVariants.{Take, Put}
 use Rattle.ca_term.specs.Event.{BranchView, take_of, put_of}
 use Rattle.ca_meaning.specs.Channel.{Channel, giving, has_room, is_promise, keeping}
 use Rattle.ca_meaning.specs.ChannelSteps.{other_side}
-use Rattle.ca_meaning.specs.Row.{Row, completes, meets, not_ready, put_alone, put_open, take_empty, take_of_held}
+use Rattle.ca_meaning.specs.Row.{Row, completes, meets, not_ready, put_alone, put_open, take_of_held}
 use Rattle.ca_meaning.specs.Wait.{Handler, head, side_of}
 use Rattle.ca_commit.specs.Asks.{AskedAfter, Asks, Known, PutAsks, TakeAsks, row_raw}
 use Rattle.ca_commit.specs.Contents.{Kept, on}
-use Rattle.ca_commit.specs.Finding.{Finding, Glance, alone, asking, find_at, find_put, find_putter, find_rival, find_take, find_taker, gone, here, partner, stale, unheld, unready, unseen}
+use Rattle.ca_commit.specs.Finding.{Finding, Glance, alone, asking, find_at, find_put, find_rival, find_take, find_taker, gone, here, partner, stale, unheld, unready, unseen}
 
 abbrev pub is_here : Glance → Bool
 is_here here = true

@@ -1,13 +1,13 @@
 -- What is right in the held banks is right in every state that has them.
-use Rattle.std.proofs.Common.{◌≡◌, ℕ, List, [], ◌∷◌, refl, sym, ap, ◌∙◌, subst, Bool, true, false, ◌&&◌, cond, length, Option, Some, None, is_some, nat_lt}
+use Rattle.std.proofs.Common.{◌≡◌, ℕ, List, [], ◌∷◌, refl, sym, ap, ◌∙◌, Bool, true, false, ◌&&◌, cond, Option, Some, None, is_some, nat_lt}
 use Rattle.ca_value.specs.Tree.{Tree, Trees, TreePairs, empty, item, map, none, pair, port, vector, nil, bool, int, text, key}
 use Rattle.ca_term.specs.declared.fault.Fault.{Fault}
-use Rattle.ca_term.specs.declared.fault.Fault.TheVariants.{NoPorts, NotAPort, TooManyPorts}
+use Rattle.ca_term.specs.declared.fault.Fault.TheVariants.{NotAPort, TooManyPorts}
 use Rattle.ca_term.specs.declared.head.RegisterName.{RegisterName}
 use Rattle.ca_term.specs.declared.head.RegisterName.TheVariants.{Tap, Untap, UntapAll, Taps, Admix, Unmix, UnmixAll, Toggle, SoloMode, Modes, Find, Place, Drop, Clear, Topics}
 use Rattle.ca_term.specs.Operation.{OpView, SeedView, choosing, closing, go, making, posting, printing, putting, registering, spawning, system, taking}
 use Rattle.ca_meaning.specs.Operands.{count_of, first_of, is_pair, or_else, port_number, rest_of, second_of}
-use Rattle.ca_meaning.specs.Registry.{Registered, Registry, all_channels, answers, pairs_in, refuses}
+use Rattle.ca_meaning.specs.Registry.{Registry, all_channels, pairs_in}
 use Rattle.ca_meaning.specs.State.{State}
 use Rattle.ca_meaning.specs.Refusal.{Need, a_channel, anything, bad_choice, bad_port, bad_ports, bad_seed, fault_of_registered, is_channel, is_needed_port, is_port_to, is_the_mix, is_the_mult, is_the_publication, meets_need, needs_of_system, needs_to_make, needs_to_register, nil_put, not_a_channel, not_needed, operands_to_make, registered_at, registering_gives, the_mix, the_mult, the_publication, unfit, unmet}
 use Rattle.ca_commit.specs.Contents.{Kept, Parts, at_key, channel_of, home, whole}

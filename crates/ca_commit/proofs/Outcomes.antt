@@ -1,5 +1,5 @@
 -- What holds where a call succeeds.
-use Rattle.std.proofs.Common.{◌≡◌, Bool, true, false, Result, Ok, Err, OnOk, sym, ap, ◌∙◌}
+use Rattle.std.proofs.Common.{Result, Ok, Err, OnOk}
 
 pub on_ok : {T E P Q : Type 0} (r : Result T E) → (P → Q) → OnOk r P → OnOk r Q
 on_ok (Ok t) f p = f p

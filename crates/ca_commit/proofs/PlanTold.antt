@@ -1,24 +1,22 @@
 -- What a plan says of the held parts from which it was made.
-use Rattle.std.proofs.Common.{◌≡◌, ◌⊎◌, inl, inr, ⊎_elim, ℕ, zero, suc, ◌+◌, ◌%◌, ◌<◌, List, [], ◌∷◌, length, map, refl, sym, ap, ◌∙◌, subst, arith, Bool, true, false, cond, Option, Some, None, is_some, slice_get, nat_lt, ltb-true}
+use Rattle.std.proofs.Common.{◌≡◌, ◌⊎◌, inl, inr, ⊎_elim, ℕ, zero, suc, ◌+◌, ◌%◌, ◌<◌, List, [], ◌∷◌, length, map, refl, sym, ap, ◌∙◌, subst, Bool, true, false, cond, Option, Some, None, is_some, slice_get, nat_lt, ltb-true}
 use Rattle.ca_value.specs.Tree.{Tree, Trees, nil, bool, int, text, key, vector, map as a_map, port, none, item}
 use Rattle.ca_term.specs.declared.fault.Fault.{Fault}
 use Rattle.ca_term.specs.declared.fault.Fault.TheVariants.{NotAPort, TooManyPorts}
 use Rattle.ca_term.specs.declared.event.Side.{Side}
 use Rattle.ca_term.specs.Operation.{OpView, choosing, closing, making, posting, printing, putting, registering, spawning, taking}
-use Rattle.ca_term.specs.Event.{BranchView, put_of, take_of}
-use Rattle.ca_meaning.specs.Channel.{Channel}
+use Rattle.ca_term.specs.Event.{BranchView}
 use Rattle.ca_meaning.specs.ChannelSteps.{other_side}
-use Rattle.ca_meaning.specs.Choice.{branch_of, branches_of, default_of, has_priority, parks}
+use Rattle.ca_meaning.specs.Choice.{branch_of, branches_of, default_of, parks}
 use Rattle.ca_meaning.specs.Operands.{count_of, first_of, is_pair, or_else, port_number, second_of, values_in}
 use Rattle.ca_meaning.specs.Refusal.{bad_choice, bad_port, bad_ports, crowd_of, is_channel, nil_put, not_a_channel, unfit}
-use Rattle.ca_meaning.specs.Row.{Row}
 use Rattle.ca_meaning.specs.State.{State}
 use Rattle.ca_meaning.specs.Wait.{Handler, head, port_of, side_of}
 use Rattle.ca_bank.specs.Kept.{queue_at}
 use Rattle.ca_commit.specs.Asks.{Asks, row_raw}
 use Rattle.ca_commit.specs.Contents.{Kept, Parked, Parts, alive_in, at_key, channel_of, home, on, whole}
-use Rattle.ca_commit.specs.Deciding.{HasPartner, IsAlone, Joinable, PlanTells, seen_in}
-use Rattle.ca_commit.specs.Finding.{Finding, Glance, alone, find_at, glance, glance_at, glance_in, gone, here, partner, stale, unheld, unready, unseen}
+use Rattle.ca_commit.specs.Deciding.{HasPartner, IsAlone, PlanTells, seen_in}
+use Rattle.ca_commit.specs.Finding.{Finding, alone, find_at, glance, glance_at, glance_in, partner, stale, unheld, unready}
 use Rattle.ca_commit.specs.Holds.{groups, live_of}
 use Rattle.ca_commit.specs.Moves.{AllSeen, FewIn, FewOn, FitIn, NoneReadyIn, PicksIn, Unready}
 use Rattle.ca_commit.specs.Planning.{Planned, Seen, all_asked, all_counted, asked, counted, chosen, decided, fitting, found_of, is_alts, otherwise, planned, starting, state_of, to_close, to_default, to_do, to_make, to_meet, to_park, to_post, to_print, to_register, to_spawn, unless_refused, to_look, to_prune, to_refuse}

@@ -2,18 +2,16 @@
 use Rattle.std.proofs.Common.{◌≡◌, ℕ, suc, ◌+◌, arith, List, [], ◌∷◌, refl, sym, ap, ◌∙◌, Bool, true, false, not, cond, Option, Some, None}
 use Rattle.ca_value.specs.Tree.{Tree, bool, nil}
 use Rattle.ca_value.specs.Buffer.{Policy, dropping_buffer, fixed_buffer, give, no_buffer, promise_buffer, sliding_buffer}
-use Rattle.ca_term.specs.declared.event.Side.TheVariants.{Put, Take}
 use Rattle.ca_term.specs.Operation.{OpView, choosing, closing, making, posting, printing, putting, registering, spawning, taking}
 use Rattle.ca_term.specs.Event.{BranchView, put_of, take_of}
 use Rattle.ca_meaning.specs.Channel.{Channel, giving, has_room, is_promise, keeping}
-use Rattle.ca_meaning.specs.ChannelSteps.{other_side}
-use Rattle.ca_meaning.specs.Row.{completes, meets, not_ready, put_alone, put_open, take_empty, take_of_held}
+use Rattle.ca_meaning.specs.Row.{completes, meets, not_ready, put_alone, put_open, take_of_held}
 use Rattle.ca_meaning.specs.Task.{reply_to}
-use Rattle.ca_meaning.specs.Wait.{Handler, head, side_of}
-use Rattle.ca_bank.specs.Kept.{added, removed}
+use Rattle.ca_meaning.specs.Wait.{Handler, head}
+use Rattle.ca_bank.specs.Kept.{added}
 use Rattle.ca_commit.specs.Agents.{alts_by}
 use Rattle.ca_commit.specs.Asks.{row_raw}
-use Rattle.ca_commit.specs.Contents.{Kept, on, with_channel}
+use Rattle.ca_commit.specs.Contents.{Kept, with_channel}
 use Rattle.ca_commit.specs.Planning.{is_alts}
 use Rattle.ca_commit.specs.Replies.{counted_alts, done_answer, done_change, or_nil, reply_by}
 use Rattle.ca_commit.specs.Waking.{passing, value_in}

@@ -1,14 +1,14 @@
 -- What is made for a channel that settles is made for what it then still settles.
-use Rattle.std.proofs.Common.{◌≡◌, ℕ, ◌<◌, List, refl, sym, ap, ap₂, ◌∙◌, subst, Bool, true, false, ◌&&◌, cond, Option, Some, None, is_some, Result, Ok, Err, OnOk}
+use Rattle.std.proofs.Common.{◌≡◌, ℕ, ◌<◌, List, refl, sym, ap, ap₂, ◌∙◌, subst, Bool, true, false, ◌&&◌, Option, Some, None, is_some, Result, Ok, Err, OnOk}
 use Rattle.ca_value.specs.Tree.{Tree}
 use Rattle.ca_value.specs.Buffer.{Policy, dropping_buffer, fixed_buffer, no_buffer, promise_buffer, room_by, sliding_buffer}
 use Rattle.ca_term.specs.declared.event.Side.{Side}
 use Rattle.ca_term.specs.declared.event.Side.TheVariants.{Put, Take}
 use Rattle.ca_meaning.specs.Body.{At}
 use Rattle.ca_meaning.specs.Wait.{Handler}
-use Rattle.ca_bank.specs.Kept.{Spares, buffer_at, buffer_spare, buffered_by, takes_one_more}
+use Rattle.ca_bank.specs.Kept.{buffer_at, buffer_spare, buffered_by, takes_one_more}
 use Rattle.ca_commit.specs.Contents.{Kept, at_key, home, whole}
-use Rattle.ca_commit.specs.Finding.{Glance, Serving, glance, gone, here, is_fixed_at, rests, serve, serve_front, serve_taker, serves, serving, settle_at, unseen, front_at, holds_one}
+use Rattle.ca_commit.specs.Finding.{Glance, Serving, glance, gone, here, is_fixed_at, serve, serve_front, serve_taker, serves, serving, settle_at, unseen, front_at, holds_one}
 use Rattle.ca_bank.specs.Kept.{is_closed_at}
 use Rattle.ca_commit.specs.Settling.{IsMadeToServe, IsMadeToSettle, served_in}
 use Rattle.ca_commit.specs.Showing.{channels_held, spares_held, waits_held}

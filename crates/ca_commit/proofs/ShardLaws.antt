@@ -1,11 +1,10 @@
 -- A held shard with one wait changed.
-use Rattle.std.proofs.Common.{◌≡◌, ℕ, List, refl, ap, ◌∙◌, Option, option_map, eqb, slice_index_or, slice_set}
+use Rattle.std.proofs.Common.{◌≡◌, ℕ, List, ap, ◌∙◌, Option, option_map, eqb, slice_index_or, slice_set}
 use Rattle.std.specs.Map.{update}
 use Rattle.ca_bank.specs.Shard.{parked_in}
 use Rattle.ca_bank.specs.declared.shard.Parked.{Parked as ParkedCode}
 use Rattle.ca_bank.specs.declared.shard.Shard.{Shard}
-use Rattle.ca_commit.specs.Agents.{TaskAgent}
-use Rattle.ca_commit.specs.Contents.{Parked, home}
+use Rattle.ca_commit.specs.Contents.{home}
 use Rattle.ca_commit.specs.Listing.{IsFirst, changed_at, listed}
 use Rattle.ca_commit.specs.Numbers.{number_of_shard}
 use Rattle.ca_commit.specs.Showing.{parked_view, shard_in}

@@ -1,5 +1,5 @@
 -- Branches looked at in turn: the first that isn't unready decides, or none does.
-use Rattle.std.proofs.Common.{◌≡◌, ◌⊎◌, inl, inr, ⊎_elim, ℕ, zero, suc, ◌+◌, ◌<◌, List, [], ◌∷◌, take, drop, refl, sym, ap, ◌∙◌, subst, arith, Bool, Option, Some, None, slice_get}
+use Rattle.std.proofs.Common.{◌≡◌, ◌⊎◌, inl, inr, ⊎_elim, ℕ, zero, suc, ◌+◌, ◌<◌, List, [], ◌∷◌, take, drop, refl, sym, ap, ◌∙◌, subst, arith, Bool, Some, slice_get}
 use Rattle.ca_term.specs.Event.{BranchView}
 use Rattle.ca_commit.specs.Finding.{Finding, alone, partner, stale, unheld, unready}
 use Rattle.ca_commit.specs.Planning.{Planned, Seen, decided, first_from, found_of, in_turn}

@@ -1,5 +1,5 @@
 -- One entry of one held part is changed twice.
-use Rattle.std.proofs.Common.{◌≡◌, ℕ, refl, sym, ap, ◌∙◌, Bool, true, false, cond, Option, Some, None, option_map, eqb, eq-eqb}
+use Rattle.std.proofs.Common.{◌≡◌, ℕ, refl, ap, ◌∙◌, Bool, true, false, cond, Option, Some, None, option_map, eqb, eq-eqb}
 use Rattle.std.specs.Map.{update}
 use Rattle.ca_commit.specs.Contents.{home}
 use Rattle.ca_commit.specs.Listing.{changed_at}

@@ -1,19 +1,18 @@
 -- What a plan says of the held parts from which it was made.
-use Rattle.std.specs.Prelude.{◌≡◌, ◌⊎◌, ℕ, ◌+◌, ◌%◌, ◌<◌, List, [], ◌∷◌, length, slice_get, Option, Some, None, true}
+use Rattle.std.specs.Prelude.{◌≡◌, ℕ, List, ◌∷◌, Some, None, true}
 use Rattle.ca_value.specs.Tree.{Tree}
-use Rattle.ca_term.specs.declared.fault.Fault.{Fault}
 use Rattle.ca_term.specs.Operation.{OpView}
 use Rattle.ca_term.specs.Event.{BranchView}
 use Rattle.ca_meaning.specs.Channel.{Channel}
 use Rattle.ca_meaning.specs.ChannelSteps.{other_side}
-use Rattle.ca_meaning.specs.Choice.{branches_of, default_of, has_priority}
+use Rattle.ca_meaning.specs.Choice.{branches_of, default_of}
 use Rattle.ca_meaning.specs.Row.{completes, meets}
 use Rattle.ca_meaning.specs.Wait.{Handler, port_of, side_of}
 use Rattle.ca_commit.specs.Asks.{Asks, row_raw}
 use Rattle.ca_commit.specs.Contents.{Kept, Parts, alive_in, on, whole}
 use Rattle.ca_commit.specs.Finding.{glance}
-use Rattle.ca_commit.specs.Moves.{CrowdedIn, FewIn, FitIn, NoneReadyIn, PicksIn, Unready}
-use Rattle.ca_commit.specs.Planning.{Planned, Seen, planned, to_default, to_do, to_meet, to_park, to_post}
+use Rattle.ca_commit.specs.Moves.{FewIn, FitIn, NoneReadyIn, PicksIn}
+use Rattle.ca_commit.specs.Planning.{Planned, Seen, to_default, to_do, to_meet, to_park, to_post}
 
 -- what held parts show
 abbrev pub seen_in : {A : Type 0} → Parts A → Seen

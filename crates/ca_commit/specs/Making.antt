@@ -1,5 +1,5 @@
 -- What the reserving calls have made for an event, and what an event leaves as it is.
-use Rattle.std.specs.Prelude.{◌≡◌, ℕ, ◌<◌, Option, Some, is_some, option_map, true}
+use Rattle.std.specs.Prelude.{◌≡◌, ◌<◌, Option, Some, is_some, option_map, true}
 use Rattle.ca_value.specs.Tree.{Tree}
 use Rattle.ca_value.specs.View.{view}
 use Rattle.ca_term.specs.Event.{BranchView, branch_view}

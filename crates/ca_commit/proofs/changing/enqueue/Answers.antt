@@ -1,6 +1,5 @@
-use Rattle.std.proofs.Common.{◌<◌, refl, sym, ap, ◌∙◌, subst, Option, option_map}
-use Rattle.ca_value.specs.View.{view}
-use Rattle.ca_bank.specs.Kept.{Spares, added, buffer_spare, enqueued, one_less, queue_spare, takes_one_more}
+use Rattle.std.proofs.Common.{◌<◌, refl, subst, Option, option_map}
+use Rattle.ca_bank.specs.Kept.{Spares, enqueued, one_less, queue_spare}
 use Rattle.ca_bank.specs.Room.{handler_view}
 use Rattle.ca_commit.specs.Contents.{home}
 use Rattle.ca_commit.specs.Numbers.{number_of_bank}

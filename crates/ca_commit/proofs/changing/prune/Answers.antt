@@ -1,10 +1,8 @@
 use Rattle.std.proofs.Common.{refl, option_map}
-use Rattle.ca_value.specs.View.{view}
-use Rattle.ca_bank.specs.Kept.{added, closed, enqueued, one_less, pruned, removed}
-use Rattle.ca_bank.specs.Room.{handler_view}
+use Rattle.ca_bank.specs.Kept.{pruned}
 use Rattle.ca_commit.specs.Contents.{home}
 use Rattle.ca_commit.specs.Numbers.{number_of_bank}
-use Rattle.ca_commit.specs.Showing.{bank_in, registries_in, spares_in}
+use Rattle.ca_commit.specs.Showing.{bank_in, registries_in}
 use Rattle.ca_commit.proofs.Listed.{none_first, part_changes, part_stays, unchanged_in}
 use Rattle.ca_commit.proofs.changing.prune.Goals as goal
 

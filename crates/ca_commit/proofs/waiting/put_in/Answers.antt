@@ -1,9 +1,8 @@
-use Rattle.std.proofs.Common.{◌≡◌, ◌<◌, refl, sym, ap, ◌∙◌, subst, Some, None, option_map}
+use Rattle.std.proofs.Common.{◌≡◌, ◌<◌, refl, sym, ◌∙◌, subst, Some}
 use Rattle.ca_commit.specs.Numbers.{number_of_shard}
 use Rattle.ca_commit.specs.Contents.{home}
-use Rattle.ca_commit.specs.Showing.{parked_view, shard_in}
 use Rattle.ca_commit.specs.declared.held.HeldShard.{HeldShard}
-use Rattle.ca_bank.specs.Shard.{parked_in, shard_spare}
+use Rattle.ca_bank.specs.Shard.{shard_spare}
 use Rattle.ca_commit.proofs.Listed.{listed_at, listed_none}
 use Rattle.ca_commit.proofs.ShardLaws.{shard_changes}
 use Rattle.ca_commit.proofs.waiting.put_in.Goals as goal

@@ -1,6 +1,5 @@
 use Rattle.std.proofs.Common.{refl, sym, ap, ◌∙◌, None, option_map}
 use Rattle.ca_commit.specs.Numbers.{number_of_shard}
-use Rattle.ca_commit.specs.Contents.{home}
 use Rattle.ca_commit.specs.Showing.{parked_view, shard_in}
 use Rattle.ca_bank.specs.Shard.{parked_in}
 use Rattle.ca_commit.proofs.Listed.{no_part, part_changes, part_is, unchanged_in}
