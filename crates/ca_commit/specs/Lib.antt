@@ -32,3 +32,4 @@ pub mod Replies
 pub mod Making
 pub mod Waking
 pub mod Settling
+pub mod Drawings
