@@ -37,3 +37,17 @@ pub mod BranchLaws
 pub mod QueueLaws
 pub mod FitLaws
 pub mod RegisterLaws
+pub mod Findings
+pub mod Turns
+pub mod FitsMore
+pub mod PlanTold
+pub mod Outcomes
+pub mod Updates
+pub mod Woken
+pub mod ShardLaws
+pub mod RowsDone
+pub mod Altered
+pub mod Drawings
+pub mod Meetings
+pub mod Twice
+pub mod SettleMade

@@ -1,7 +1,7 @@
 -- A list of parts with their numbers, as a map.
-use Rattle.std.proofs.Common.{◌≡◌, ℕ, zero, suc, List, [], ◌∷◌, length, refl, sym, ap, ◌∙◌, arith, Bool, true, false, cond, Option, Some, None, option_map, eqb, eqb-true, eq-eqb, ne_eqb, slice_index_or, slice_set}
+use Rattle.std.proofs.Common.{◌≡◌, ℕ, zero, suc, List, [], ◌∷◌, length, refl, sym, ap, ◌∙◌, arith, Bool, true, false, cond, Option, Some, None, IfNone, option_map, eqb, eqb-true, eq-eqb, ne_eqb, slice_index_or, slice_set}
 use Rattle.std.specs.Map.{update}
-use Rattle.ca_commit.specs.Contents.{home}
+use Rattle.ca_commit.specs.Contents.{at_key, home, whole}
 use Rattle.ca_commit.specs.Listing.{listed, NoneBefore, IsFirst, changed_at}
 
 module _ {T : Type 0} (number : T → ℕ) where
@@ -55,3 +55,29 @@ module _ {T : Type 0} (number : T → ℕ) where
     by : (c : Bool) → eqb n j ≡ c → option_map view (cond c (Some e2) (listed number xs j)) ≡ option_map view (listed number xs j)
     by true h = ap Some after ∙ sym (ap (option_map view) (ap (listed number xs) (sym (eqb-true n j h)) ∙ listed_at xs n i e first at))
     by false h = refl
+
+  numbered : (xs : List T) (n i : ℕ) (e e2 : T) → IsFirst number xs n i → e ≡ slice_index_or xs i e → number e2 ≡ number e → number e2 ≡ n
+  numbered xs n i e e2 first at same = same ∙ ap number at ∙ first.1 e
+
+  -- the same, of parts whose number stays
+  pub part_changes : {X : Type 0} (view : T → ℕ → Option X) (xs : List T) (n i : ℕ) (e e2 : T) (f : Option X → Option X) → IsFirst number xs (home n) i → e ≡ slice_index_or xs i e → number e2 ≡ number e → ((q : ℕ) → view e2 q ≡ update eqb (view e) n (f (view e n)) q)
+      → (j : ℕ) → option_map view (listed number (slice_set xs i e2) j) ≡ changed_at n f (λ i. option_map view (listed number xs i)) j
+  part_changes view xs n i e e2 f first at same after = changed_in view xs n i e e2 f first at (numbered xs (home n) i e e2 first at same) after
+
+  pub part_stays : {X : Type 0} (view : T → ℕ → Option X) (xs : List T) (n i : ℕ) (e e2 : T) → IsFirst number xs n i → e ≡ slice_index_or xs i e → number e2 ≡ number e → ((q : ℕ) → view e2 q ≡ view e q) → (j : ℕ) → option_map view (listed number (slice_set xs i e2) j) ≡ option_map view (listed number xs j)
+  part_stays view xs n i e e2 first at same after = same_in view xs n i e e2 first at (numbered xs n i e e2 first at same) (λ k q. after q k)
+
+  -- no place was found
+  pub none_first : (xs : List T) (n : ℕ) (o : Option ℕ) → ((i : ℕ) → o ≡ Some i → ⊥) → IfNone o (NoneBefore number xs n (length xs)) → NoneBefore number xs n (length xs)
+  none_first xs n None none f = f
+  none_first xs n (Some i) none f = absurd (none i refl)
+
+  -- what the parts show together is what the one that has n shows
+  pub part_is : {X : Type 0} (view : T → ℕ → Option X) (xs : List T) (n i : ℕ) (e : T) → IsFirst number xs (home n) i → e ≡ slice_index_or xs i e → whole (λ i. option_map view (listed number xs i)) n ≡ view e n
+  part_is view xs n i e first at = ap (λ (o : Option T). at_key (option_map view o) n) (listed_at xs (home n) i e first at)
+
+  pub part_after : {X : Type 0} (view : T → ℕ → Option X) (xs : List T) (n i : ℕ) (e e2 : T) → IsFirst number xs (home n) i → e ≡ slice_index_or xs i e → number e2 ≡ number e → whole (λ j. option_map view (listed number (slice_set xs i e2) j)) n ≡ view e2 n
+  part_after view xs n i e e2 first at same = ap (λ (o : Option T). at_key (option_map view o) n) (listed_set xs (home n) i e2 (numbered xs (home n) i e e2 first at same) first (home n) ∙ ap (λ c. cond c (Some e2) (listed number xs (home n))) (eq-eqb (home n) (home n) refl))
+
+  pub no_part : {X : Type 0} (view : T → ℕ → Option X) (xs : List T) (n : ℕ) → NoneBefore number xs (home n) (length xs) → whole (λ i. option_map view (listed number xs i)) n ≡ None
+  no_part view xs n f = ap (λ (o : Option T). at_key (option_map view o) n) (listed_none xs (home n) f)

@@ -27,3 +27,9 @@ pub mod Needs
 pub mod Plans
 pub mod Branching
 pub mod Registering
+pub mod Deciding
+pub mod Replies
+pub mod Making
+pub mod Waking
+pub mod Settling
+pub mod Drawings

@@ -2,8 +2,8 @@
 use Rattle.std.specs.Prelude.{ℕ, Option, option_map}
 use Rattle.ca_meaning.specs.Registry.{Registry}
 use Rattle.ca_meaning.specs.State.{State}
-use Rattle.ca_bank.specs.Bank.{kept_at, registry_at}
-use Rattle.ca_bank.specs.Kept.{Kept}
+use Rattle.ca_bank.specs.Bank.{kept_at, registry_at, spares_at}
+use Rattle.ca_bank.specs.Kept.{Kept, Spares}
 use Rattle.ca_bank.specs.Shard.{parked_in}
 use Rattle.ca_bank.specs.declared.shard.Parked.{Parked as ParkedCode}
 use Rattle.ca_bank.specs.declared.shard.Parked.TheVariants as C
@@ -57,3 +57,10 @@ seen banks shards = seen_by banks (glance (waits_held shards))
 -- the state that has what the held banks have
 abbrev pub state_held : Listing HeldBank → State
 state_held banks = state_of (whole (channels_held banks)) (whole (registries_held banks))
+
+abbrev pub spares_in : HeldBank → ℕ → Option Spares
+spares_in b = spares_at b.bank
+
+-- the room that a held channel has
+abbrev pub spares_held : Listing HeldBank → ℕ → Option (ℕ → Option Spares)
+spares_held b i = option_map spares_in (listed number_of_bank (parts b) i)

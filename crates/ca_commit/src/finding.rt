@@ -64,7 +64,7 @@ fn asking<A: Drop>(shards: &Shards<A>, side: Side, wait: WaitId, live: Finding) 
 
 // The handler in front of that side of the channel.
 #[tactic(auto, using(crate::proofs::Fronts::head_is))]
-fn front(bank: &Bank, port: PortId, side: Side) -> Option<&Handler>
+pub(crate) fn front(bank: &Bank, port: PortId, side: Side) -> Option<&Handler>
     ensures { option_map (λ h. handler_view h.now) result ≡ front_at side (kept_at bank.now port.n) }
 {
     bank.handler(port, side, 0)
@@ -81,7 +81,7 @@ fn is_promise(bank: &Bank, port: PortId) -> bool
 }
 
 // Whether the channel holds a value.
-fn holds_one(bank: &Bank, port: PortId) -> bool
+pub(crate) fn holds_one(bank: &Bank, port: PortId) -> bool
     ensures { result ≡ holds_one (kept_at bank.now port.n) }
 {
     match bank.buffer(port) {

@@ -6,6 +6,7 @@ use crate::listing::{Listing, Numbered};
 use crate::task::{Ready, Task};
 use ca_bank::bank::Bank;
 use ca_bank::shard::Shard;
+use ca_term::event::Event;
 use ca_timers::timers::Timers;
 use ca_value::memory::OutOfMemory;
 use ca_value::value::Value;
@@ -115,7 +116,14 @@ pub struct Held<A> {
     pub new_wait: u64,
     /// The clock's answer, for a new timeout.
     pub moment: u64,
-    spare: Spare,
+    pub(crate) spare: Spare,
+}
+
+/// What an event is, and the task with its answer; None where the task waits.
+#[derive(Drop)]
+pub struct Applied<A> {
+    pub event: Event,
+    pub running: Option<Task<A>>,
 }
 
 const MOST_HELD: u64 = 16;

@@ -14,14 +14,24 @@
 #![tactic(auto)]
 
 mod branching;
+mod changing;
 mod counting;
+pub mod decisions;
+pub mod doing;
 pub mod finding;
 mod fit;
+pub mod going;
 pub mod held;
 pub mod laws;
 pub mod listing;
 mod making;
+pub mod meeting;
 pub mod planned;
 pub mod planning;
 mod registering;
+mod replying;
+mod reserving;
+pub mod serving;
+pub mod settling;
 pub mod task;
+mod waiting;

@@ -1,0 +1,237 @@
+-- What a plan says of the held parts from which it was made.
+use Rattle.std.proofs.Common.{◌≡◌, ◌⊎◌, inl, inr, ⊎_elim, ℕ, zero, suc, ◌+◌, ◌%◌, ◌<◌, List, [], ◌∷◌, length, map, refl, sym, ap, ◌∙◌, subst, Bool, true, false, cond, Option, Some, None, is_some, slice_get, nat_lt, ltb-true}
+use Rattle.ca_value.specs.Tree.{Tree, Trees, nil, bool, int, text, key, vector, map as a_map, port, none, item}
+use Rattle.ca_term.specs.declared.fault.Fault.{Fault}
+use Rattle.ca_term.specs.declared.fault.Fault.TheVariants.{NotAPort, TooManyPorts}
+use Rattle.ca_term.specs.declared.event.Side.{Side}
+use Rattle.ca_term.specs.Operation.{OpView, choosing, closing, making, posting, printing, putting, registering, spawning, taking}
+use Rattle.ca_term.specs.Event.{BranchView}
+use Rattle.ca_meaning.specs.ChannelSteps.{other_side}
+use Rattle.ca_meaning.specs.Choice.{branch_of, branches_of, default_of, parks}
+use Rattle.ca_meaning.specs.Operands.{count_of, first_of, is_pair, or_else, port_number, second_of, values_in}
+use Rattle.ca_meaning.specs.Refusal.{bad_choice, bad_port, bad_ports, crowd_of, is_channel, nil_put, not_a_channel, unfit}
+use Rattle.ca_meaning.specs.State.{State}
+use Rattle.ca_meaning.specs.Wait.{Handler, head, port_of, side_of}
+use Rattle.ca_bank.specs.Kept.{queue_at}
+use Rattle.ca_commit.specs.Asks.{Asks, row_raw}
+use Rattle.ca_commit.specs.Contents.{Kept, Parked, Parts, alive_in, at_key, channel_of, home, on, whole}
+use Rattle.ca_commit.specs.Deciding.{HasPartner, IsAlone, PlanTells, seen_in}
+use Rattle.ca_commit.specs.Finding.{Finding, alone, find_at, glance, glance_at, glance_in, partner, stale, unheld, unready}
+use Rattle.ca_commit.specs.Holds.{groups, live_of}
+use Rattle.ca_commit.specs.Moves.{AllSeen, FewIn, FewOn, FitIn, NoneReadyIn, PicksIn, Unready}
+use Rattle.ca_commit.specs.Planning.{Planned, Seen, all_asked, all_counted, asked, counted, chosen, decided, fitting, found_of, is_alts, otherwise, planned, starting, state_of, to_close, to_default, to_do, to_make, to_meet, to_park, to_post, to_print, to_register, to_spawn, unless_refused, to_look, to_prune, to_refuse}
+use Rattle.ca_commit.proofs.Findings.{Says, found, is_here, lives}
+use Rattle.ca_commit.proofs.FitsMore.{first_none, fits_in, passes, second_none}
+use Rattle.ca_commit.proofs.Laid.{same_map}
+use Rattle.ca_commit.proofs.Turns.{Decides, NoneDecides, from_tells}
+
+-- a plan with which no event is drawn
+abbrev pub Stops : Planned → Type 0
+Stops (to_look w) = Unit {0}
+Stops (to_prune p side place) = Unit {0}
+Stops (to_refuse f) = Unit {0}
+Stops other = ⊥
+
+module _ {A : Type 0} (h : Parts A) where
+  abbrev x : Seen
+  x = seen_in h
+
+  -- what is seen of a wait is whether it lives
+  lives_is : (w : ℕ) → is_here (glance h.shard w) ≡ alive_in h w
+  lives_is w = by (h.shard (home w)) where
+    in_it : (o : Option (Parked A)) → is_here (glance_in o) ≡ is_some o
+    in_it None = refl
+    in_it (Some p) = refl
+
+    by : (o : Option (ℕ → Option (Parked A))) → is_here (glance_at o w) ≡ is_some (at_key o w)
+    by None = refl
+    by (Some f) = in_it (f w)
+
+  lives_same : lives (glance h.shard) ≡ alive_in h
+  lives_same = same_map (lives (glance h.shard)) (alive_in h) lives_is
+
+  pub says : (b : BranchView) (k : Kept) (f : Finding) → whole h.bank (port_of b) ≡ Some k → found_of x b ≡ f → Says (alive_in h) f (Asks (alive_in h) b k) (row_raw k b) (head (on (other_side (side_of b)) k))
+  says b k f there e = subst (λ (al : ℕ → Bool). Says al f (Asks al b k) (row_raw k b) (head (on (other_side (side_of b)) k))) lives_same
+      (subst (λ (g : Finding). Says (lives (glance h.shard)) g (Asks (lives (glance h.shard)) b k) (row_raw k b) (head (on (other_side (side_of b)) k))) (ap (λ o. find_at (glance h.shard) o b) (sym there) ∙ e) (found (glance h.shard) k b))
+
+  -- each branch is of a held channel
+  abbrev pub EachHeld : List BranchView → Type 0
+  EachHeld [] = Unit {0}
+  EachHeld (b ∷ bs) = ((k : Kept) × (whole h.bank (port_of b) ≡ Some k)) × EachHeld bs
+
+  one_held : (bs : List BranchView) (i : ℕ) (b : BranchView) → EachHeld bs → slice_get bs i ≡ Some b → (k : Kept) × (whole h.bank (port_of b) ≡ Some k)
+  one_held [] zero b a e = absurd cc
+  one_held [] (suc i) b a e = absurd cc
+  one_held (c ∷ bs) zero b a e = subst (λ (d : BranchView). (k : Kept) × (whole h.bank (port_of d) ≡ Some k)) (let s : c ≡ b = cc in s) a.0
+  one_held (c ∷ bs) (suc i) b a e = one_held bs i b a.1 e
+
+  not_ready_in : (b : BranchView) → ((k : Kept) × (whole h.bank (port_of b) ≡ Some k)) → found_of x b ≡ unready → Unready h b
+  not_ready_in b k e = let s = says b k.0 unready k.1 e in (k.0, k.1, s.0, s.1)
+
+  pub none_ready_in : (bs : List BranchView) → EachHeld bs → ((i : ℕ) (o : BranchView) → slice_get bs i ≡ Some o → found_of x o ≡ unready) → NoneReadyIn h bs
+  none_ready_in [] a f = tt
+  none_ready_in (b ∷ bs) a f = (not_ready_in b a.0 (f 0 b refl), none_ready_in bs a.1 (λ i o e. f (suc i) o e))
+
+  is_alone : (b : BranchView) (k : Kept) → whole h.bank (port_of b) ≡ Some k → found_of x b ≡ alone → IsAlone h b
+  is_alone b k there e = let s = says b k alone there e in record { kept = k; there = there; asks = s.0; answer = s.1.0; after = s.1.1; by_row = s.1.2 }
+
+  in_front : (q : List Handler) (g : Handler) → head q ≡ Some g → (rest : List Handler) × (q ≡ g ∷ rest)
+  in_front [] g e = absurd cc
+  in_front (f ∷ q) g e = (q, ap (λ i. i ∷ q) (let s : f ≡ g = cc in s))
+
+  abbrev AllTold : List Handler → Planned → Planned → Type 0
+  AllTold q rest r = (AllSeen h q × (live_of (alive_in h) q ≡ q) × (r ≡ rest)) ⊎ Stops r
+
+  -- all handlers are asked, and live; or no event is drawn
+  all_tell : (p : ℕ) (side : Side) (q : List Handler) (place : ℕ) (rest : Planned) → AllTold q rest (all_asked x p side place q rest)
+  all_tell p side [] place rest = inl (tt, refl, refl)
+  all_tell p side (g ∷ q) place rest = outer (h.shard (home g.wait)) refl (all_tell p side q (place + 1) rest) where
+    live_here : (f : ℕ → Option (Parked A)) (a : Parked A) → h.shard (home g.wait) ≡ Some f → f g.wait ≡ Some a → AllSeen h q × (live_of (alive_in h) q ≡ q) × (all_asked x p side (place + 1) q rest ≡ rest) → AllSeen h (g ∷ q) × (live_of (alive_in h) (g ∷ q) ≡ g ∷ q) × (all_asked x p side (place + 1) q rest ≡ rest)
+    live_here f a e u t = (((f, e), t.0), ap (λ (b : Bool). cond b (g ∷ live_of (alive_in h) q) (live_of (alive_in h) q)) (ap (λ (o : Option (ℕ → Option (Parked A))). is_some (at_key o g.wait)) e ∙ ap is_some u) ∙ ap (λ l. g ∷ l) t.1, t.2)
+
+    inner : (f : ℕ → Option (Parked A)) (o : Option (Parked A)) → h.shard (home g.wait) ≡ Some f → f g.wait ≡ o → AllTold q rest (all_asked x p side (place + 1) q rest) → AllTold (g ∷ q) rest (asked (glance_in o) p side place g.wait (all_asked x p side (place + 1) q rest))
+    inner f None e u t = inr tt
+    inner f (Some a) e u t = ⊎_elim (λ k. inl (live_here f a e u k)) (λ k. inr k) t
+
+    outer : (o : Option (ℕ → Option (Parked A))) → h.shard (home g.wait) ≡ o → AllTold q rest (all_asked x p side (place + 1) q rest) → AllTold (g ∷ q) rest (asked (glance_at (h.shard (home g.wait)) g.wait) p side place g.wait (all_asked x p side (place + 1) q rest))
+    outer None e t = subst (λ (z : Option (ℕ → Option (Parked A))). AllTold (g ∷ q) rest (asked (glance_at z g.wait) p side place g.wait (all_asked x p side (place + 1) q rest))) (sym e) (inr tt)
+    outer (Some f) e t = subst (λ (z : Option (ℕ → Option (Parked A))). AllTold (g ∷ q) rest (asked (glance_at z g.wait) p side place g.wait (all_asked x p side (place + 1) q rest))) (sym e) (inner f (f g.wait) e refl t)
+
+  -- a queue has a place for one more wait, or no event is drawn
+  queue_tells : (side : Side) (p : ℕ) (q : List Handler) (rest : Planned) → (FewOn h q × (counted x side p q rest ≡ rest)) ⊎ Stops (counted x side p q rest)
+  queue_tells side p q rest = short (nat_lt (length q) 1024) refl where
+    long : (b : Bool) → nat_lt (groups q) 1024 ≡ b → AllSeen h q × (live_of (alive_in h) q ≡ q) × (all_asked x p side 0 q (cond (nat_lt (groups q) 1024) rest (to_refuse (crowd_of side))) ≡ cond (nat_lt (groups q) 1024) rest (to_refuse (crowd_of side)))
+        → (FewOn h q × (all_asked x p side 0 q (cond (nat_lt (groups q) 1024) rest (to_refuse (crowd_of side))) ≡ rest)) ⊎ Stops (all_asked x p side 0 q (cond (nat_lt (groups q) 1024) rest (to_refuse (crowd_of side))))
+    long true e t = inl (inr (t.0, subst (λ (l : List Handler). groups l < 1024) (sym t.1) (ltb-true (groups q) 1024 e)), t.2 ∙ ap (λ b. cond b rest (to_refuse (crowd_of side))) e)
+    long false e t = inr (subst Stops (sym (t.2 ∙ ap (λ b. cond b rest (to_refuse (crowd_of side))) e)) tt)
+
+    short : (b : Bool) → nat_lt (length q) 1024 ≡ b → (FewOn h q × (cond b rest (all_asked x p side 0 q (cond (nat_lt (groups q) 1024) rest (to_refuse (crowd_of side)))) ≡ rest)) ⊎ Stops (cond b rest (all_asked x p side 0 q (cond (nat_lt (groups q) 1024) rest (to_refuse (crowd_of side)))))
+    short true e = inl (inl (ltb-true (length q) 1024 e), refl)
+    short false e = ⊎_elim (λ t. long (nat_lt (groups q) 1024) refl t) (λ s. inr s) (all_tell p side q 0 (cond (nat_lt (groups q) 1024) rest (to_refuse (crowd_of side))))
+
+  -- so has each queue that a wait would join
+  queues_tell : (bs : List BranchView) (rest : Planned) → EachHeld bs → (FewIn h bs × (all_counted x bs rest ≡ rest)) ⊎ Stops (all_counted x bs rest)
+  queues_tell [] rest a = inl (tt, refl)
+  queues_tell (b ∷ bs) rest a = both (queues_tell bs rest a.1) (queue_tells (side_of b) (port_of b) (queue_at (side_of b) (whole h.bank (port_of b))) (all_counted x bs rest)) where
+    few_here : FewOn h (queue_at (side_of b) (whole h.bank (port_of b))) → FewOn h (on (side_of b) a.0.0)
+    few_here f = subst (FewOn h) (ap (queue_at (side_of b)) a.0.1) f
+
+    both : (FewIn h bs × (all_counted x bs rest ≡ rest)) ⊎ Stops (all_counted x bs rest)
+        → (FewOn h (queue_at (side_of b) (whole h.bank (port_of b))) × (all_counted x (b ∷ bs) rest ≡ all_counted x bs rest)) ⊎ Stops (all_counted x (b ∷ bs) rest)
+        → (FewIn h (b ∷ bs) × (all_counted x (b ∷ bs) rest ≡ rest)) ⊎ Stops (all_counted x (b ∷ bs) rest)
+    both later first = ⊎_elim (λ f. ⊎_elim (λ l. inl (((a.0.0, a.0.1, few_here f.0), l.0), f.1 ∙ l.1)) (λ s. inr (subst Stops (sym f.1) s)) later) (λ s. inr s) first
+
+  abbrev held : State
+  held = state_of (whole h.bank) (whole h.registry)
+
+  -- operands that are right name held channels
+  value_held : (v : Tree) → not_a_channel held v ≡ None → (k : Kept) × (whole h.bank (port_number v) ≡ Some k)
+  value_held (port n) e = by (whole h.bank n) refl where
+    by : (o : Option Kept) → whole h.bank n ≡ o → (k : Kept) × (whole h.bank n ≡ Some k)
+    by None u = absurd (let t : false ≡ true = sym (ap (λ (o : Option Kept). is_some (channel_of o)) u) ∙ passes (is_channel held (port n)) NotAPort e in cc)
+    by (Some k) u = (k, u)
+  value_held nil e = absurd cc
+  value_held (bool b) e = absurd cc
+  value_held (int z) e = absurd cc
+  value_held (text t) e = absurd cc
+  value_held (key t) e = absurd cc
+  value_held (vector vs) e = absurd cc
+  value_held (a_map ps) e = absurd cc
+
+  pair_held : (vs : Trees) (b : Bool) → cond b (or_else (not_a_channel held (first_of vs)) (nil_put (second_of vs))) (Some NotAPort) ≡ None → (k : Kept) × (whole h.bank (port_number (first_of vs)) ≡ Some k)
+  pair_held vs true e = value_held (first_of vs) (first_none (not_a_channel held (first_of vs)) (nil_put (second_of vs)) e)
+  pair_held vs false e = absurd cc
+
+  port_held : (v : Tree) → bad_port held v ≡ None → (k : Kept) × (whole h.bank (port_of (branch_of v)) ≡ Some k)
+  port_held (vector vs) e = pair_held vs (is_pair vs) e
+  port_held (port n) e = value_held (port n) e
+  port_held nil e = value_held nil e
+  port_held (bool b) e = value_held (bool b) e
+  port_held (int z) e = value_held (int z) e
+  port_held (text t) e = value_held (text t) e
+  port_held (key t) e = value_held (key t) e
+  port_held (a_map ps) e = value_held (a_map ps) e
+
+  ports_held : (vs : Trees) → bad_ports held vs ≡ None → EachHeld (map branch_of (values_in vs))
+  ports_held none e = tt
+  ports_held (item v vs) e = (port_held v (first_none (bad_port held v) (bad_ports held vs) e), ports_held vs (second_none (bad_port held v) (bad_ports held vs) e))
+
+  choice_held : (vs : Trees) → bad_choice held vs ≡ None → EachHeld (map branch_of (values_in vs))
+  choice_held none e = tt
+  choice_held (item v vs) e = by (nat_lt 256 (count_of (item v vs))) e where
+    by : (b : Bool) → cond b (Some TooManyPorts) (bad_ports held (item v vs)) ≡ None → EachHeld (map branch_of (values_in (item v vs)))
+    by true e = absurd cc
+    by false e = ports_held (item v vs) e
+
+  partner_is : (b : BranchView) (k : Kept) (w o : ℕ) → whole h.bank (port_of b) ≡ Some k → found_of x b ≡ partner w o → HasPartner h b w o
+  partner_is b k w o there e = let s = says b k (partner w o) there e in let f = in_front (on (other_side (side_of b)) k) s.1.0 s.1.5 in record {
+    kept = k;
+    there = there;
+    asks = s.0;
+    handler = s.1.0;
+    value = s.1.1;
+    rest = f.0;
+    by_row = s.1.2;
+    wait_is = s.1.3;
+    branch_is = s.1.4;
+    in_front = f.1;
+    lives = s.1.6;
+  }
+
+  stop_tells : (op : OpView) (p : Planned) → Stops p → PlanTells h op p
+  stop_tells op (to_look w) s = tt
+  stop_tells op (to_prune p side place) s = tt
+  stop_tells op (to_refuse f) s = tt
+  stop_tells op (to_do k b alts) s = absurd s
+  stop_tells op (to_meet k b alts w o) s = absurd s
+  stop_tells op (to_park bs) s = absurd s
+  stop_tells op (to_post bs) s = absurd s
+  stop_tells op (to_default v) s = absurd s
+  stop_tells op (to_make what) s = absurd s
+  stop_tells op (to_spawn kind r) s = absurd s
+  stop_tells op (to_close p) s = absurd s
+  stop_tells op (to_register name args) s = absurd s
+  stop_tells op (to_print line) s = absurd s
+
+  chosen_tells : (op : OpView) (start : ℕ) → FitIn h op → EachHeld (branches_of op) → PlanTells h op (chosen x op start)
+  chosen_tells op start fit each = ⊎_elim decides no_one (from_tells x (is_alts op) (starting x op start) (branches_of op) (otherwise x op (default_of op))) where
+    picks : (d : Decides x (is_alts op) (branches_of op) (λ j. j) (starting x op start ≡ 0) (chosen x op start) (otherwise x op (default_of op))) → PicksIn h op d.place d.branch
+    picks d = (d.is_branch, λ priority j o lt e. not_ready_in o (one_held (branches_of op) j o each e) (d.first (ap (λ b. cond b 0 (start % length (branches_of op))) priority) j o lt e))
+
+    told : (d : Decides x (is_alts op) (branches_of op) (λ j. j) (starting x op start ≡ 0) (chosen x op start) (otherwise x op (default_of op))) (f : Finding) → d.finding ≡ f → PlanTells h op (decided f (is_alts op) d.place d.branch (otherwise x op (default_of op)))
+    told d unready e = absurd (d.ready e)
+    told d alone e = let k = one_held (branches_of op) d.place d.branch each d.is_branch in (fit, picks d, is_alone d.branch k.0 k.1 (d.is_found ∙ e))
+    told d (partner w o) e = let k = one_held (branches_of op) d.place d.branch each d.is_branch in (fit, picks d, partner_is d.branch k.0 w o k.1 (d.is_found ∙ e))
+    told d (stale side) e = tt
+    told d (unheld w) e = tt
+
+    decides : Decides x (is_alts op) (branches_of op) (λ j. j) (starting x op start ≡ 0) (chosen x op start) (otherwise x op (default_of op)) → PlanTells h op (chosen x op start)
+    decides d = subst (PlanTells h op) (sym d.decides) (told d d.finding refl)
+
+    waits : (n : NoneDecides x (is_alts op) (branches_of op) (chosen x op start) (otherwise x op (default_of op))) → default_of op ≡ None → FewIn h (branches_of op) → (b : Bool) → PlanTells h op (cond b (to_park (branches_of op)) (to_post (branches_of op)))
+    waits n e few true = (fit, refl, e, record { unready = none_ready_in (branches_of op) each n.0; few = few })
+    waits n e few false = (fit, refl, e, record { unready = none_ready_in (branches_of op) each n.0; few = few })
+
+    otherwise_tells : (n : NoneDecides x (is_alts op) (branches_of op) (chosen x op start) (otherwise x op (default_of op))) (d : Option Tree) → default_of op ≡ d → PlanTells h op (otherwise x op d)
+    otherwise_tells n (Some v) e = (fit, e, none_ready_in (branches_of op) each n.0)
+    otherwise_tells n None e = ⊎_elim (λ t. subst (PlanTells h op) (sym t.1) (waits n e t.0 (parks op))) (λ s. stop_tells op (otherwise x op None) s) (queues_tell (branches_of op) (cond (parks op) (to_park (branches_of op)) (to_post (branches_of op))) each)
+
+    no_one : NoneDecides x (is_alts op) (branches_of op) (chosen x op start) (otherwise x op (default_of op)) → PlanTells h op (chosen x op start)
+    no_one n = subst (PlanTells h op) (sym n.1) (otherwise_tells n (default_of op) refl)
+
+  fit_tells : (op : OpView) (start : ℕ) → unfit held op ≡ None → PlanTells h op (fitting x op start)
+  fit_tells (taking c) start e = chosen_tells (taking c) start (fits_in h (taking c) e) (value_held c e, tt)
+  fit_tells (putting c v) start e = chosen_tells (putting c v) start (fits_in h (putting c v) e) (value_held c (first_none (not_a_channel held c) (nil_put v) e), tt)
+  fit_tells (posting c v) start e = chosen_tells (posting c v) start (fits_in h (posting c v) e) (value_held c (first_none (not_a_channel held c) (nil_put v) e), tt)
+  fit_tells (choosing ports priority default) start e = chosen_tells (choosing ports priority default) start (fits_in h (choosing ports priority default) e) (choice_held ports e)
+  fit_tells (making what) start e = tt
+  fit_tells (spawning seed) start e = tt
+  fit_tells (closing c) start e = tt
+  fit_tells (registering name args) start e = tt
+  fit_tells (printing line) start e = tt
+
+  pub plan_tells : (op : OpView) (start : ℕ) → PlanTells h op (planned x op start)
+  plan_tells op start = by (unfit held op) refl where
+    by : (o : Option Fault) → unfit held op ≡ o → PlanTells h op (unless_refused x o (fitting x op start))
+    by (Some f) e = tt
+    by None e = fit_tells op start e

@@ -1,0 +1,16 @@
+use Rattle.std.proofs.Common.{refl, option_map}
+use Rattle.ca_bank.specs.Kept.{removed}
+use Rattle.ca_commit.specs.Contents.{home}
+use Rattle.ca_commit.specs.Numbers.{number_of_bank}
+use Rattle.ca_commit.specs.Showing.{bank_in, registries_in}
+use Rattle.ca_commit.proofs.Listed.{none_first, part_changes, part_stays, unchanged_in}
+use Rattle.ca_commit.proofs.changing.remove.Goals as goal
+
+pub returns-in-Some-clause-channels : goal.returns-in-Some-clause-channels
+returns-in-Some-clause-channels c = part_changes number_of_bank bank_in c.args.banks.now.items.items c.args.port.n c.in-Some.place c.index_mut.result.now _ (option_map removed) c.in-Some.ensures.found c.index_mut.ensures.value refl (c.remove.ensures.kept)
+
+pub returns-in_default-clause-channels : goal.returns-in_default-clause-channels
+returns-in_default-clause-channels c = unchanged_in number_of_bank bank_in c.args.banks.now.items.items c.args.port.n (option_map removed) (none_first number_of_bank c.args.banks.now.items.items (home c.args.port.n) c.place.result c.in_default.not-Some c.place.ensures.none)
+
+pub returns-in-Some-clause-registries : goal.returns-in-Some-clause-registries
+returns-in-Some-clause-registries c = part_stays number_of_bank registries_in c.args.banks.now.items.items (home c.args.port.n) c.in-Some.place c.index_mut.result.now _ c.in-Some.ensures.found c.index_mut.ensures.value refl (c.remove.ensures.others.0)

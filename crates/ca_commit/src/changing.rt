@@ -1,0 +1,67 @@
+// What events do to held banks. None of it takes memory.
+ghost use Rattle.std.specs.Prelude.{◌≡◌, ◌<◌, ℕ, option_map, true};
+ghost use Rattle.ca_value.specs.View.{view};
+ghost use Rattle.ca_bank.specs.Kept.{added, buffer_spare, closed, enqueued, one_less, pruned, queue_spare, removed, takes_one_more};
+ghost use Rattle.ca_bank.specs.Room.{handler_view};
+ghost use Rattle.ca_commit.specs.Contents.{whole};
+ghost use Rattle.ca_commit.specs.Listing.{changed_at};
+ghost use Rattle.ca_commit.specs.Showing.{channels_held, registries_held, spares_held};
+
+use crate::held::Banks;
+use ca_bank::handler::Handler;
+use ca_term::event::Side;
+use ca_value::value::{PortId, Value};
+
+// The channel is closed.
+pub(crate) fn close(banks: &mut Banks, port: PortId)
+    ensures channels { (i : ℕ) → channels_held banks.new i ≡ changed_at port.n (option_map closed) (channels_held banks.old) i }
+    ensures registries { (i : ℕ) → registries_held banks.new i ≡ registries_held banks.old i }
+{
+    if let Some(place) = banks.place(port.n % 16) {
+        banks.items[place].bank.close(port);
+    }
+}
+
+// The channel's buffer gets the value, and a value that is dropped is let go.
+pub(crate) fn add(banks: &mut Banks, port: PortId, value: Value)
+    requires room { takes_one_more (whole (channels_held banks.old) port.n) ≡ true }
+    requires spare { 0 < buffer_spare (whole (spares_held banks.old) port.n) }
+    ensures channels { (i : ℕ) → channels_held banks.new i ≡ changed_at port.n (option_map (added (view value))) (channels_held banks.old) i }
+    ensures registries { (i : ℕ) → registries_held banks.new i ≡ registries_held banks.old i }
+{
+    if let Some(place) = banks.place(port.n % 16) {
+        let _ = banks.items[place].bank.add(port, value);
+    }
+}
+
+// The oldest value leaves the channel's buffer, but a promise's.
+pub(crate) fn remove(banks: &mut Banks, port: PortId)
+    ensures channels { (i : ℕ) → channels_held banks.new i ≡ changed_at port.n (option_map removed) (channels_held banks.old) i }
+    ensures registries { (i : ℕ) → registries_held banks.new i ≡ registries_held banks.old i }
+{
+    if let Some(place) = banks.place(port.n % 16) {
+        let _ = banks.items[place].bank.remove(port);
+    }
+}
+
+// The handler at that place leaves its queue.
+pub(crate) fn prune(banks: &mut Banks, port: PortId, side: Side, place: u64)
+    ensures channels { (i : ℕ) → channels_held banks.new i ≡ changed_at port.n (option_map (pruned side place)) (channels_held banks.old) i }
+    ensures registries { (i : ℕ) → registries_held banks.new i ≡ registries_held banks.old i }
+{
+    if let Some(at) = banks.place(port.n % 16) {
+        let _ = banks.items[at].bank.prune(port, side, place);
+    }
+}
+
+// The handler stands last in its queue.
+pub(crate) fn enqueue(banks: &mut Banks, port: PortId, side: Side, handler: Handler)
+    requires { 0 < queue_spare side (whole (spares_held banks.old) port.n) }
+    ensures channels { (i : ℕ) → channels_held banks.new i ≡ changed_at port.n (option_map (enqueued side (handler_view handler))) (channels_held banks.old) i }
+    ensures registries { (i : ℕ) → registries_held banks.new i ≡ registries_held banks.old i }
+    ensures spares { (i : ℕ) → spares_held banks.new i ≡ changed_at port.n (option_map (one_less side)) (spares_held banks.old) i }
+{
+    if let Some(place) = banks.place(port.n % 16) {
+        banks.items[place].bank.enqueue(port, side, handler);
+    }
+}
