@@ -17,10 +17,10 @@ fn main(rt: HostRuntime) -> io::Result<()> {
     let script = Text::from_vec(script);
     let mut times = 0;
     for word in env::args(&rt)?.skip(1) {
-        times = word?.parse().unwrap_or(0);
+        times = word.parse().unwrap_or(0);
     }
     match running::run_all(rt.alloc(), script.as_slice(), times) {
-        Ok(lines) => rt.writer().write_all(lines.as_slice()),
+        Ok(lines) => io::writer(&rt).write_all(lines.as_slice()),
         Err(error) => println!(rt; "{error:?}"),
     }
 }
