@@ -48,7 +48,7 @@ def count(n):
 def text(n):
     i = s = 0
     while i < n:
-        s, i = s + len(str(i)), i + 1
+        s, i = s + (1 if str(i) == "7" else 0), i + 1
     return s
 
 

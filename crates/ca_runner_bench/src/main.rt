@@ -2,7 +2,7 @@
 //!
 //! `TIMES` is the only word; the script is on the standard input. It is read, checked and lowered once. A new channel
 //! is answered by a port, and every other operation by nil, so a script measures its own work between operations.
-//! `bench/runner.sh` runs it. Stands on `ca_lower` and `ca_check`, with no claim of its own; start with `running`.
+//! `bench/runner.sh` runs it. Stands on `ca_moves` and `ca_check`, with no claim of its own; start with `running`.
 #![tactic(auto)]
 
 mod running;

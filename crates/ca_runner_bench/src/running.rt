@@ -3,7 +3,7 @@ ghost use Rattle.ca_states.specs.Standing.{state_view, Stands};
 
 use ca_check::check::check;
 use ca_check::error::CheckError;
-use ca_lower::lower::lower;
+use ca_moves::lower::lower_moving;
 use ca_reader::error::ReadError;
 use ca_reader::read::read;
 use ca_states::runner::{Halt, Runner, Start};
@@ -38,7 +38,7 @@ pub fn run_all(alloc: Global, script: &[u8], times: u64) -> Result<Text, BenchEr
         Ok(program) => program,
         Err(error) => return Err(BenchError::Check(error)),
     };
-    let code = lower(alloc, &program)?;
+    let code = lower_moving(alloc, &program)?;
     let mut lines = Text::new(alloc);
     for _ in 0..times {
         lines = Text::new(alloc);
