@@ -1,6 +1,6 @@
 -- A runner's slots as trees: one is read, written and taken out.
 use Rattle.std.proofs.Common.{◌≡◌, ℕ, ℤ, zero, suc, ◌+◌, ◌-◌, ◌++◌, append_assoc, ◌<◌, List, [], ◌∷◌, length, get_or, set, Some, None, refl, sym, ap, ◌∙◌, subst, arith}
-use Rattle.std.specs.Prelude.{slice_get, Result, Ok, Err, IfOk, IfErr}
+use Rattle.std.specs.Prelude.{replicate, slice_get, Result, Ok, Err, IfOk, IfErr}
 use Rattle.std.proofs.lemmas.List.{length-map}
 use Rattle.ca_value.specs.Tree.{Tree, nil, int}
 use Rattle.ca_value.specs.View.{view, views}
@@ -8,7 +8,7 @@ use Rattle.ca_value.specs.Outcome.{Outcome, Gives, IsFault}
 use Rattle.ca_value.specs.declared.value.Value.{Value}
 use Rattle.ca_value.specs.declared.value.Value.TheVariants.{Nil, Bool, Int, Text, Key, Vector, Map, Port}
 use Rattle.ca_value.specs.declared.fault.ApplyError.{ApplyError}
-use Rattle.ca_states.specs.Machine.{read, write, reads, taken, taken_all, left_by, slots_from}
+use Rattle.ca_states.specs.Machine.{begun, read, write, reads, taken, taken_all, left_by, slots_from}
 use Rattle.ca_states.proofs.RowLaws.{row_first}
 
 pub read_view : (xs : List Value) (a : ℕ) (v : Value) → a < length xs → v ≡ get_or xs a v → view v ≡ read (views xs) a
@@ -58,6 +58,13 @@ taken_int xs a v z lt e i =
     let within : a < length (views xs) = subst (λ n. a < n) (sym (length-map xs view)) lt in
     sym (ap (write (views xs) a) (left_int (read (views xs) a) z here) ∙ write_read (views xs) a within)
 
+-- an integer that is moved stays where it was
+pub moved_int : (xs : List Value) (a to : ℕ) (z : ℤ) → a < length xs → read (views xs) a ≡ int z → write (views xs) to (int z) ≡ write (taken (views xs) a) to (read (views xs) a)
+moved_int xs a to z lt e =
+    let within : a < length (views xs) = subst (λ n. a < n) (sym (length-map xs view)) lt in
+    let stays : taken (views xs) a ≡ views xs = ap (write (views xs) a) (left_int (read (views xs) a) z e) ∙ write_read (views xs) a within in
+    ap (write (views xs) to) (sym e) ∙ ap (λ r. write r to (read (views xs) a)) (sym stays)
+
 left_other : (v : Value) → ((z : ℤ) → v ≡ Int z → ⊥) → left_by (view v) ≡ nil
 unfolding left_by
 left_other Nil h = refl
@@ -91,3 +98,18 @@ views_push (y ∷ xs) x = ap (λ r. view y ∷ r) (views_push xs x)
 pub length_reads : (s : List Tree) (a n : ℕ) → length (reads s (slots_from a n)) ≡ n
 length_reads s a zero = refl
 length_reads s a (suc n) = ap suc (length_reads s (suc a) n)
+
+-- a slot before another is written
+pub read_other : (s : List Tree) (a k : ℕ) (v : Tree) → a < k → read (write s a v) k ≡ read s k
+read_other [] zero zero v lt = absurd (omega (arith, lt))
+read_other [] zero (suc k) v lt = refl
+read_other [] (suc a) zero v lt = absurd (omega (arith, lt))
+read_other [] (suc a) (suc k) v lt = read_other [] a k v (omega (arith, lt))
+read_other (t ∷ s) zero zero v lt = absurd (omega (arith, lt))
+read_other (t ∷ s) zero (suc k) v lt = refl
+read_other (t ∷ s) (suc a) zero v lt = absurd (omega (arith, lt))
+read_other (t ∷ s) (suc a) (suc k) v lt = read_other s a k v (omega (arith, lt))
+
+-- new slots, from what is read and filled up
+pub begun_reads : (s : List Tree) (a n width : ℕ) → [] ++ reads s (slots_from a n) ++ replicate (width - n) nil ≡ begun width (reads s (slots_from a n))
+begun_reads s a n width = ap (λ m. reads s (slots_from a n) ++ replicate (width - m) nil) (sym (length_reads s a n))

@@ -2,8 +2,10 @@
 use Rattle.std.proofs.Common.{◌≡◌, ℕ, zero, suc, ◌+◌, ◌-◌, ◌*◌, ◌<◌, ◌≤◌, List, [], ◌∷◌, ◌++◌, length, map, reverse, get_or, drop, Bool, true, false, Some, None, refl, sym, ap, ap₂, ◌∙◌, subst, arith, suc-mul, mul-le-mul_right, append_assoc}
 use Rattle.std.proofs.lemmas.Bool.{eqb-true, ltb-true, leb-true, leb-false}
 use Rattle.std.proofs.lemmas.List.{length-map, length-reverse, reverse-append}
-use Rattle.std.specs.Prelude.{cond, ◌&&◌, ◌==◌, nat_lt, nat_le, not, replicate, slice_get, slice_index_or, IsTrue, Result, Ok, Err}
+use Rattle.std.specs.Prelude.{cond, ◌&&◌, ◌==◌, nat_lt, nat_le, not, replicate, slice_get, slice_index_or, IfOk, IsTrue, Result, Ok, Err}
 use Rattle.ca_value.specs.Tree.{Tree}
+use Rattle.ca_value.specs.View.{view, views}
+use Rattle.ca_value.specs.declared.memory.OutOfMemory.{OutOfMemory}
 use Rattle.ca_value.specs.Outcome.{Outcome}
 use Rattle.ca_term.specs.declared.place.Place.{Place}
 use Rattle.ca_term.specs.declared.fault.Fault.{Fault}
@@ -19,6 +21,7 @@ use Rattle.ca_states.specs.declared.code.Exit.{Exit}
 use Rattle.ca_states.specs.declared.code.Exit.TheVariants.{Jump, Branch, Test, Call, Return, Cut}
 use Rattle.ca_states.specs.declared.runner.Frame.{Frame as FrameCode}
 use Rattle.ca_states.specs.declared.runner.Halt.{Halt}
+use Rattle.ca_states.specs.declared.stop.Stop.{Stop}
 use Rattle.ca_states.specs.declared.runner.Runner.{Runner}
 use Rattle.ca_states.specs.declared.runner.Start.{Start}
 use Rattle.ca_states.specs.declared.runner.Start.TheVariants as begin
@@ -27,8 +30,8 @@ use Rattle.ca_states.specs.Code.{has_slot, Instruction, constant, copying, movin
 use Rattle.ca_states.specs.Machine.{read, write, reads, taken, taken_all, left_by, slots_from, Effect, done, failed, effect, answered, applied, Frame, State, Move, goes, ends, faults, waits, begun, turned, at_block, tested, returned, waiting, entered, leaves, went, runs, move, started, resumed, IsHalt, ComesTo, halts}
 use Rattle.ca_states.specs.Touched.{read_by, emptied_by, written_by, read_at, answered_at, targets}
 use Rattle.ca_states.specs.Valid.{each, are_below, takes, is_counted_exit, is_target, is_instruction_in_range, is_exit_in_range, is_in_range, leads_forward, knows_slots, is_valid_block, are_valid_blocks, are_just, begins_well, main_entry, is_valid}
-use Rattle.ca_states.specs.Runs.{follows, effects}
-use Rattle.ca_states.specs.Standing.{frame_view, frames_view, HasSlots, AreFrames, Stands, TakesValue, HasRoom, FitsExit, HaltedAs, HaltsAs, WaitsAt, IsStart, entry_at}
+use Rattle.ca_states.specs.Runs.{StopsAt, follows, effects}
+use Rattle.ca_states.specs.Standing.{frame_view, frames_view, state_view, HasSlots, AreFrames, Stands, TakesValue, HasRoom, FitsAnyway, FitsExit, HaltedAs, HaltsAs, HaltsNext, Passed, StopsAfter, WaitsAt, IsStart, entry_at}
 use Rattle.ca_states.proofs.RowLaws.{both, drop_item, RangeParts, range_parts, in_range_parts}
 use Rattle.ca_states.proofs.SlotLaws.{length_reads}
 
@@ -348,6 +351,10 @@ block_move C c is x s ei ex e = runs_effects C (block_at C c.block).instrs (bloc
 pub block_fault : (C : CodeView) (c : State) (is : List Instruction) (f : Fault) (p : Place) → (block_at C c.block).instrs ≡ is → effects is c.slots ≡ failed f p → move C c ≡ faults f p c.turns
 block_fault C c is f p ei e = runs_effects C (block_at C c.block).instrs (block_at C c.block).exit c ∙ ap (λ js. went (effects js c.slots) c (leaves C (block_at C c.block).exit)) ei ∙ ap (λ g. went g c (leaves C (block_at C c.block).exit)) e
 
+pub block_stop : (A : Type 0) (C : CodeView) (c : State) (is : List Instruction) (e : Stop) (r : Runner) → (block_at C c.block).instrs ≡ is → StopsAt e (effects is c.slots) → r.turns ≡ c.turns → Passed {A = A} (move C c) (Err e) r
+block_stop A C c is (Stop.Fault f p) r ei e t = block_fault C c is f p ei e ∙ ap (faults f p) (sym t)
+block_stop A C c is Stop.OutOfMemory r ei e t = tt
+
 -- an instruction keeps the number of slots
 abbrev Keeps : ℕ → Effect → Type 0
 Keeps n (done s) = length s ≡ n
@@ -424,6 +431,11 @@ halt_waits C v c s (Halt.Cut w) r e =
 halt_waits C v c s (Halt.Ended w) r e = tt
 halt_waits C v c s (Halt.Faulted f p) r e = tt
 
+-- a block that the runner halts at
+pub halt_stop : (C : CodeView) (c : State) (is : List Instruction) (f : Fault) (p : Place) (e : Stop) (r : Runner) → e ≡ Stop.Fault f p → (block_at C c.block).instrs ≡ is → StopsAt e (effects is c.slots) → r.turns ≡ c.turns → HaltedAs (move C c) (Halt.Faulted f p) r
+halt_stop C c is f p e r ee ei k t =
+    block_fault C c is f p ei (subst (λ (g : Stop). StopsAt g (effects is c.slots)) ee k) ∙ ap (faults f p) (sym t)
+
 is_halt : (m : Move) (h : Halt) (r : Runner) → HaltedAs m h r → IsHalt m
 is_halt m (Halt.Cut w) r e = subst IsHalt (sym e) tt
 is_halt m (Halt.Ended w) r e = subst IsHalt (sym e) tt
@@ -443,3 +455,38 @@ pub start_room : (C : CodeView) → ValidParts C → (start : Start) (count : �
 start_room C v begin.Main count h = subst (HasRoom C (main_entry C)) (sym (eqb-true count 0 h)) (main_room C v)
 start_room C v (begin.Go n) count h = takes_room C v C.bodies v.bodies n count h
 start_room C v (begin.Function n) count h = takes_room C v C.functions v.functions n count h
+
+-- a block of valid code at which a runner stands
+pub instrs_fit : (C : CodeView) → is_valid C ≡ true → (r : Runner) (b : BlockView) → Stands C (state_view r) → b ≡ block_at C r.block → IsTrue (each (is_instruction_in_range (length r.slots.items)) b.instrs)
+instrs_fit C valid r b s e =
+    let parts = block_parts C r.block (block_at C r.block) ((valid_parts C valid).blocks r.block s.slots.0) in
+    let w : (block_at C r.block).width ≡ length r.slots.items = sym s.slots.1 ∙ length-map r.slots.items view in
+    subst (λ n. IsTrue (each (is_instruction_in_range n) b.instrs)) w
+    (subst (λ (d : BlockView). IsTrue (each (is_instruction_in_range (block_at C r.block).width) d.instrs)) (sym e) parts.range.instrs)
+
+pub exit_fits : (C : CodeView) → is_valid C ≡ true → (c : State) (b : BlockView) → Stands C c → b ≡ block_at C c.block → FitsAnyway C b.exit c
+exit_fits C valid c b s e t l =
+    let v = valid_parts C valid in
+    let d = record c { slots = t } in
+    subst (λ (f : BlockView). FitsExit C f.exit d) (sym e) (fits_exit C c.block (block_at C c.block).width (block_at C c.block).exit d v (exit_parts C v c.block s.slots.0) (l ∙ s.slots.1) s.frames)
+
+-- what a block did whose instructions ran
+pub ran : (C : CodeView) (q r : Runner) (b : BlockView) → b ≡ block_at C q.block → r ≡ record q { slots = r.slots } → effects b.instrs (views q.slots.items) ≡ done (views r.slots.items) → move C (state_view q) ≡ leaves C b.exit (state_view r)
+ran C q r b e same d =
+    block_move C (state_view q) b.instrs b.exit (views r.slots.items) (sym (ap (λ (f : BlockView). f.instrs) e)) (sym (ap (λ (f : BlockView). f.exit) e)) d
+    ∙ ap (λ (z : Runner). leaves C b.exit (state_view z)) (sym same)
+
+-- a runner that stopped, and one that halted, after it came to a block
+pub stopped : {A : Type 0} → (C : CodeView) (c0 c : State) (o : Result A Stop) (e : Stop) (r : Runner) → ((m : Move) → ComesTo C c m → ComesTo C c0 m) → o ≡ Err e → Passed (move C c) o r → StopsAfter C c0 e r
+stopped C c0 c o (Stop.Fault f p) r k oe h =
+    let e : move C c ≡ faults f p r.turns = subst (λ x. Passed (move C c) x r) oe h in
+    k (faults f p r.turns) (subst (ComesTo C c) e (halts (subst IsHalt (sym e) tt)))
+stopped C c0 c o Stop.OutOfMemory r k oe h = tt
+
+pub halted : (C : CodeView) (c0 c : State) (o : Result Halt OutOfMemory) (r : Runner) → HaltsNext C c0 c → IfOk o (λ h. HaltedAs (move C c) h r) → IfOk o (λ h. HaltsAs C c0 h r)
+halted C c0 c (Ok h) r n e = halt_reached C c0 c h r n.reached e
+halted C c0 c (Err x) r n e = tt
+
+pub halted_waits : (C : CodeView) → is_valid C ≡ true → (c0 c : State) (o : Result Halt OutOfMemory) (r : Runner) → HaltsNext C c0 c → IfOk o (λ h. HaltedAs (move C c) h r) → IfOk o (λ h. WaitsAt C h r)
+halted_waits C valid c0 c (Ok h) r n e = halt_waits C (valid_parts C valid) c n.stands h r e
+halted_waits C valid c0 c (Err x) r n e = tt

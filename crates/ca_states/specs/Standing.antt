@@ -1,5 +1,5 @@
 -- A runner of valid code, and where a runner may stand in code.
-use Rattle.std.specs.Prelude.{◌≡◌, ℕ, ◌<◌, ◌≤◌, List, [], ◌∷◌, length, map, reverse, Bool, ◌==◌, Option, Some, None, IsTrue}
+use Rattle.std.specs.Prelude.{◌≡◌, ℕ, ◌<◌, ◌≤◌, List, [], ◌∷◌, length, map, reverse, Bool, true, false, ◌==◌, Option, Some, None, Result, Ok, Err, IsTrue}
 use Rattle.ca_value.specs.Seq.{list}
 use Rattle.ca_value.specs.Tree.{Tree}
 use Rattle.ca_value.specs.View.{view, views}
@@ -12,6 +12,7 @@ use Rattle.ca_states.specs.declared.runner.Frame.{Frame as FrameCode}
 use Rattle.ca_states.specs.declared.runner.Runner.{Runner}
 use Rattle.ca_states.specs.declared.runner.Start.{Start}
 use Rattle.ca_states.specs.declared.runner.Start.TheVariants as begin
+use Rattle.ca_states.specs.declared.stop.Stop.{Stop}
 use Rattle.ca_states.specs.declared.runner.Halt.{Halt}
 use Rattle.ca_states.specs.declared.runner.Halt.TheVariants as halt
 use Rattle.ca_states.specs.Code.{CodeView, size, block_at, function_at, body_at}
@@ -20,13 +21,13 @@ use Rattle.ca_states.specs.Valid.{are_below, takes, main_entry}
 
 -- What a runner stands for: the frames' last one in the list is the innermost.
 abbrev pub frame_view : FrameCode → Frame
-frame_view f = record { next = f.next; answer = f.answer; slots = views (list f.slots) }
+frame_view f = record { next = f.next; answer = f.answer; slots = views f.slots.items }
 
 abbrev pub frames_view : List FrameCode → List Frame
 frames_view fs = reverse (map frame_view fs)
 
 abbrev pub state_view : Runner → State
-state_view r = record { block = r.block; slots = views (list r.slots); frames = frames_view (list r.frames); turns = r.turns }
+state_view r = record { block = r.block; slots = views r.slots.items; frames = frames_view (list r.frames); turns = r.turns }
 
 -- the slot that the answer to the operation comes into
 abbrev pub waiting_slot : Runner → ℕ
@@ -76,6 +77,33 @@ HaltedAs m (halt.Faulted f p) r = m ≡ faults f p (state_view r).turns
 abbrev pub Did : Move → Option Halt → Runner → Type 0
 Did m None r = m ≡ goes (state_view r)
 Did m (Some h) r = HaltedAs m h r
+
+-- what a block that doesn't halt came to: the runner goes on, or stops; want of memory says nothing
+abbrev pub Passed : {A : Type 0} → Move → Result A Stop → Runner → Type 0
+Passed m (Ok a) r = m ≡ goes (state_view r)
+Passed m (Err (Stop.Fault f p)) r = m ≡ faults f p (state_view r).turns
+Passed m (Err Stop.OutOfMemory) r = Unit {0}
+
+-- an operation halts the runner, and a return where no call waits
+abbrev pub halts_at : Exit → List Frame → Bool
+halts_at (Jump next p) fs = false
+halts_at (Branch a yes_to no_to) fs = false
+halts_at (Test b left right yes_to no_to p) fs = false
+halts_at (Call f a n answer next p) fs = false
+halts_at (Return a) [] = true
+halts_at (Return a) (f ∷ fs) = false
+halts_at (Cut h a n answer next p) fs = true
+
+-- from a state a runner came to a block that it halts at
+pub record HaltsNext (C : CodeView) (c d : State) : Type 0 where
+  pub stands : Stands C d
+  pub reached : (m : Move) → ComesTo C d m → ComesTo C c m
+  pub halts : halts_at (block_at C d.block).exit d.frames ≡ true
+
+-- from a state a runner stopped
+abbrev pub StopsAfter : CodeView → State → Stop → Runner → Type 0
+StopsAfter C c (Stop.Fault f p) r = ComesTo C c (faults f p (state_view r).turns)
+StopsAfter C c Stop.OutOfMemory r = Unit {0}
 
 -- from a state a runner came to this halt
 abbrev pub HaltsAs : CodeView → State → Halt → Runner → Type 0

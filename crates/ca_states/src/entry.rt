@@ -1,6 +1,7 @@
 //! Where a text begins, and the slots that it begins with.
-ghost use Rattle.std.specs.Prelude.{◌≡◌, ◌<◌, ◌≤◌, length, IfOk};
-ghost use Rattle.ca_value.specs.Seq.{list};
+ghost use Rattle.std.specs.Prelude.{◌≡◌, ◌<◌, ◌≤◌, ◌++◌, length, replicate, IfOk};
+ghost use Rattle.ca_value.specs.Seq.{list, spare};
+ghost use Rattle.ca_value.specs.Tree.{nil};
 ghost use Rattle.ca_value.specs.View.{views};
 ghost use Rattle.ca_states.specs.Code.{size, block_at, block_view, function_at, body_at, code_view};
 ghost use Rattle.ca_states.specs.Machine.{begun};
@@ -55,6 +56,16 @@ pub(crate) fn block_at(code: &Code, number: u64) -> &Block
     &code.blocks.as_slice()[number as usize]
 }
 
+/// So many more slots, which hold nil. There is room.
+pub(crate) fn fill(slots: &mut Items, more: u64)
+    requires { more ≤ spare slots.old }
+    ensures { views (list slots.new) ≡ views (list slots.old) ++ replicate more nil }
+{
+    for _i in 0..more {
+        slots.push(Value::Nil);
+    }
+}
+
 /// New slots, so many, with the values in the first of them.
 pub(crate) fn begun(values: Items, width: u64) -> Result<Items, OutOfMemory>
     requires { length (list values) ≤ width }
@@ -63,8 +74,6 @@ pub(crate) fn begun(values: Items, width: u64) -> Result<Items, OutOfMemory>
     let mut slots = values;
     let more = width - slots.len();
     slots.reserve(more)?;
-    for _i in 0..more {
-        slots.push(Value::Nil);
-    }
+    fill(&mut slots, more);
     Ok(slots)
 }

@@ -1,6 +1,5 @@
 //! What each instruction does to the slots.
 ghost use Rattle.std.specs.Prelude.{◌≡◌, ◌<◌, ◌∷◌, [], length, OnOk, IfErr, IsTrue};
-ghost use Rattle.ca_value.specs.Seq.{list};
 ghost use Rattle.ca_value.specs.View.{view, views};
 ghost use Rattle.ca_value.specs.Outcome.{Outcome, Gives};
 ghost use Rattle.ca_value.specs.Tree.{int};
@@ -10,26 +9,26 @@ ghost use Rattle.ca_states.specs.Machine.{read, reads, taken, taken_all, applied
 ghost use Rattle.ca_states.specs.Valid.{are_below};
 ghost use Rattle.ca_states.specs.Runs.{StopsAt};
 
-use crate::slots::{clear_row, copy_at, copy_row, put_at, take_at, value_at};
+use crate::slots::{copy_at, put_at, take_at, take_row, value_at};
 use crate::stop::{Stop, task_fault};
 use ca_term::place::Place;
 use ca_value::builtin::direct::{apply_one, apply_two, assoc_one, conj_one};
 use ca_value::builtin::{Builtin, apply_builtin};
 use ca_value::fault::ApplyError;
-use ca_value::value::{Items, Value};
+use ca_value::value::Value;
 use std::alloc::Global;
 
 // A builtin's value comes into the slot, or its fault stops the runner.
 fn settle(
-    slots: &mut Items,
+    slots: &mut [Value],
     to: u64,
     place: Place,
     outcome: Result<Value, ApplyError>,
 ) -> Result<(), Stop>
-    requires { to < length (list slots.old) }
-    ensures ok { (o : Outcome) → Gives outcome o → OnOk result (answered (views (list slots.old)) to place o ≡ done (views (list slots.new))) }
-    ensures stop { (o : Outcome) → Gives outcome o → IfErr result (λ e. StopsAt e (answered (views (list slots.old)) to place o)) }
-    ensures same { length (list slots.new) ≡ length (list slots.old) }
+    requires { to < length slots.old }
+    ensures ok { (o : Outcome) → Gives outcome o → OnOk result (answered (views slots.old) to place o ≡ done (views slots.new)) }
+    ensures stop { (o : Outcome) → Gives outcome o → IfErr result (λ e. StopsAt e (answered (views slots.old) to place o)) }
+    ensures same { length slots.new ≡ length slots.old }
 {
     match outcome {
         Ok(value) => {
@@ -45,18 +44,18 @@ fn settle(
 #[tactic(auto, using(crate::proofs::SlotLaws::gives_by))]
 pub(crate) fn run_one(
     alloc: Global,
-    slots: &mut Items,
+    slots: &mut [Value],
     builtin: Builtin,
     to: u64,
     operand: u64,
     place: Place,
 ) -> Result<(), Stop>
     requires counted { IsTrue (admits builtin 1) }
-    requires to { to < length (list slots.old) }
-    requires operand { operand < length (list slots.old) }
-    ensures ok { OnOk result (answered (views (list slots.old)) to place (applied builtin (read (views (list slots.old)) operand ∷ [])) ≡ done (views (list slots.new))) }
-    ensures stop { IfErr result (λ e. StopsAt e (answered (views (list slots.old)) to place (applied builtin (read (views (list slots.old)) operand ∷ [])))) }
-    ensures same { length (list slots.new) ≡ length (list slots.old) }
+    requires to { to < length slots.old }
+    requires operand { operand < length slots.old }
+    ensures ok { OnOk result (answered (views slots.old) to place (applied builtin (read (views slots.old) operand ∷ [])) ≡ done (views slots.new)) }
+    ensures stop { IfErr result (λ e. StopsAt e (answered (views slots.old) to place (applied builtin (read (views slots.old) operand ∷ [])))) }
+    ensures same { length slots.new ≡ length slots.old }
 {
     let outcome = apply_one(alloc, builtin, value_at(slots, operand));
     settle(slots, to, place, outcome)
@@ -66,7 +65,7 @@ pub(crate) fn run_one(
 #[tactic(auto, using(crate::proofs::SlotLaws::gives_by))]
 pub(crate) fn run_two(
     alloc: Global,
-    slots: &mut Items,
+    slots: &mut [Value],
     builtin: Builtin,
     to: u64,
     left: u64,
@@ -74,12 +73,12 @@ pub(crate) fn run_two(
     place: Place,
 ) -> Result<(), Stop>
     requires counted { IsTrue (admits builtin 2) }
-    requires to { to < length (list slots.old) }
-    requires left { left < length (list slots.old) }
-    requires right { right < length (list slots.old) }
-    ensures ok { OnOk result (answered (views (list slots.old)) to place (applied builtin (read (views (list slots.old)) left ∷ read (views (list slots.old)) right ∷ [])) ≡ done (views (list slots.new))) }
-    ensures stop { IfErr result (λ e. StopsAt e (answered (views (list slots.old)) to place (applied builtin (read (views (list slots.old)) left ∷ read (views (list slots.old)) right ∷ [])))) }
-    ensures same { length (list slots.new) ≡ length (list slots.old) }
+    requires to { to < length slots.old }
+    requires left { left < length slots.old }
+    requires right { right < length slots.old }
+    ensures ok { OnOk result (answered (views slots.old) to place (applied builtin (read (views slots.old) left ∷ read (views slots.old) right ∷ [])) ≡ done (views slots.new)) }
+    ensures stop { IfErr result (λ e. StopsAt e (answered (views slots.old) to place (applied builtin (read (views slots.old) left ∷ read (views slots.old) right ∷ [])))) }
+    ensures same { length slots.new ≡ length slots.old }
 {
     let outcome = apply_two(
         alloc,
@@ -101,7 +100,7 @@ fn integer(n: i64) -> Value
 #[tactic(auto, using(crate::proofs::SlotLaws::gives_by))]
 pub(crate) fn run_two_int(
     alloc: Global,
-    slots: &mut Items,
+    slots: &mut [Value],
     builtin: Builtin,
     to: u64,
     left: u64,
@@ -109,11 +108,11 @@ pub(crate) fn run_two_int(
     place: Place,
 ) -> Result<(), Stop>
     requires counted { IsTrue (admits builtin 2) }
-    requires to { to < length (list slots.old) }
-    requires left { left < length (list slots.old) }
-    ensures ok { OnOk result (answered (views (list slots.old)) to place (applied builtin (read (views (list slots.old)) left ∷ int right ∷ [])) ≡ done (views (list slots.new))) }
-    ensures stop { IfErr result (λ e. StopsAt e (answered (views (list slots.old)) to place (applied builtin (read (views (list slots.old)) left ∷ int right ∷ [])))) }
-    ensures same { length (list slots.new) ≡ length (list slots.old) }
+    requires to { to < length slots.old }
+    requires left { left < length slots.old }
+    ensures ok { OnOk result (answered (views slots.old) to place (applied builtin (read (views slots.old) left ∷ int right ∷ [])) ≡ done (views slots.new)) }
+    ensures stop { IfErr result (λ e. StopsAt e (answered (views slots.old) to place (applied builtin (read (views slots.old) left ∷ int right ∷ [])))) }
+    ensures same { length slots.new ≡ length slots.old }
 {
     let right = integer(right);
     let outcome = apply_two(alloc, builtin, value_at(slots, left), &right);
@@ -124,18 +123,18 @@ pub(crate) fn run_two_int(
 #[tactic(auto, using(crate::proofs::SlotLaws::gives_by))]
 pub(crate) fn run_push(
     alloc: Global,
-    slots: &mut Items,
+    slots: &mut [Value],
     to: u64,
     collection: u64,
     item: u64,
     place: Place,
 ) -> Result<(), Stop>
-    requires to { to < length (list slots.old) }
-    requires collection { collection < length (list slots.old) }
-    requires item { item < length (list slots.old) }
-    ensures ok { OnOk result (answered (taken (views (list slots.old)) collection) to place (applied Conj (read (views (list slots.old)) collection ∷ read (views (list slots.old)) item ∷ [])) ≡ done (views (list slots.new))) }
-    ensures stop { IfErr result (λ e. StopsAt e (answered (taken (views (list slots.old)) collection) to place (applied Conj (read (views (list slots.old)) collection ∷ read (views (list slots.old)) item ∷ [])))) }
-    ensures same { length (list slots.new) ≡ length (list slots.old) }
+    requires to { to < length slots.old }
+    requires collection { collection < length slots.old }
+    requires item { item < length slots.old }
+    ensures ok { OnOk result (answered (taken (views slots.old) collection) to place (applied Conj (read (views slots.old) collection ∷ read (views slots.old) item ∷ [])) ≡ done (views slots.new)) }
+    ensures stop { IfErr result (λ e. StopsAt e (answered (taken (views slots.old) collection) to place (applied Conj (read (views slots.old) collection ∷ read (views slots.old) item ∷ [])))) }
+    ensures same { length slots.new ≡ length slots.old }
 {
     // The item first: it may stand in the collection's own slot.
     let Ok(item) = copy_at(alloc, slots, item) else {
@@ -150,20 +149,20 @@ pub(crate) fn run_push(
 #[tactic(auto, using(crate::proofs::SlotLaws::gives_by))]
 pub(crate) fn run_put(
     alloc: Global,
-    slots: &mut Items,
+    slots: &mut [Value],
     to: u64,
     collection: u64,
     key: u64,
     value: u64,
     place: Place,
 ) -> Result<(), Stop>
-    requires to { to < length (list slots.old) }
-    requires collection { collection < length (list slots.old) }
-    requires key { key < length (list slots.old) }
-    requires value { value < length (list slots.old) }
-    ensures ok { OnOk result (answered (taken (views (list slots.old)) collection) to place (applied Assoc (read (views (list slots.old)) collection ∷ read (views (list slots.old)) key ∷ read (views (list slots.old)) value ∷ [])) ≡ done (views (list slots.new))) }
-    ensures stop { IfErr result (λ e. StopsAt e (answered (taken (views (list slots.old)) collection) to place (applied Assoc (read (views (list slots.old)) collection ∷ read (views (list slots.old)) key ∷ read (views (list slots.old)) value ∷ [])))) }
-    ensures same { length (list slots.new) ≡ length (list slots.old) }
+    requires to { to < length slots.old }
+    requires collection { collection < length slots.old }
+    requires key { key < length slots.old }
+    requires value { value < length slots.old }
+    ensures ok { OnOk result (answered (taken (views slots.old) collection) to place (applied Assoc (read (views slots.old) collection ∷ read (views slots.old) key ∷ read (views slots.old) value ∷ [])) ≡ done (views slots.new)) }
+    ensures stop { IfErr result (λ e. StopsAt e (answered (taken (views slots.old) collection) to place (applied Assoc (read (views slots.old) collection ∷ read (views slots.old) key ∷ read (views slots.old) value ∷ [])))) }
+    ensures same { length slots.new ≡ length slots.old }
 {
     // The key and the value first: they may stand in the collection's own slot.
     let Ok(key) = copy_at(alloc, slots, key) else {
@@ -180,7 +179,7 @@ pub(crate) fn run_put(
 /// A builtin of the values that are taken out of so many slots, from one on.
 pub(crate) fn run_many(
     alloc: Global,
-    slots: &mut Items,
+    slots: &mut [Value],
     builtin: Builtin,
     to: u64,
     from: u64,
@@ -188,16 +187,15 @@ pub(crate) fn run_many(
     place: Place,
 ) -> Result<(), Stop>
     requires counted { IsTrue (admits builtin count) }
-    requires to { to < length (list slots.old) }
-    requires row { IsTrue (are_below (length (list slots.old)) (slots_from from count)) }
-    ensures ok { OnOk result (answered (taken_all (views (list slots.old)) (slots_from from count)) to place (applied builtin (reads (views (list slots.old)) (slots_from from count))) ≡ done (views (list slots.new))) }
-    ensures stop { IfErr result (λ e. StopsAt e (answered (taken_all (views (list slots.old)) (slots_from from count)) to place (applied builtin (reads (views (list slots.old)) (slots_from from count))))) }
-    ensures same { length (list slots.new) ≡ length (list slots.old) }
+    requires to { to < length slots.old }
+    requires row { IsTrue (are_below (length slots.old) (slots_from from count)) }
+    ensures ok { OnOk result (answered (taken_all (views slots.old) (slots_from from count)) to place (applied builtin (reads (views slots.old) (slots_from from count))) ≡ done (views slots.new)) }
+    ensures stop { IfErr result (λ e. StopsAt e (answered (taken_all (views slots.old) (slots_from from count)) to place (applied builtin (reads (views slots.old) (slots_from from count))))) }
+    ensures same { length slots.new ≡ length slots.old }
 {
-    let Ok(values) = copy_row(alloc, slots, from, count) else {
+    let Ok(values) = take_row(alloc, slots, from, count) else {
         return Err(Stop::OutOfMemory);
     };
-    clear_row(slots, from, count);
     let outcome = apply_builtin(alloc, builtin, values);
     settle(slots, to, place, outcome)
 }

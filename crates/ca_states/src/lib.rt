@@ -10,12 +10,15 @@
 //! `specs/Machine.antt`, `specs/Valid.antt`, and `runner` with `specs/Standing.antt`.
 #![tactic(auto)]
 
+mod call;
 mod check;
 pub mod code;
 mod entry;
+mod halt;
 mod instr;
 mod leave;
 mod notes;
+mod plain;
 mod range;
 pub mod runner;
 mod slots;

@@ -1,15 +1,18 @@
 //! A runner of valid code: it goes on from operation to operation.
-ghost use Rattle.std.specs.Prelude.{◌≡◌, ◌<◌, ◌≤◌, length, map, IfOk};
+ghost use Rattle.std.specs.Prelude.{◌≡◌, ◌<◌, ◌≤◌, true, length, map, IfOk, IfErr, OnOk};
 ghost use Rattle.ca_value.specs.Seq.{list};
 ghost use Rattle.ca_value.specs.View.{view, views};
-ghost use Rattle.ca_states.specs.Code.{CodeView};
+ghost use Rattle.ca_states.specs.Code.{code_view, CodeView};
 ghost use Rattle.ca_states.specs.Machine.{started, resumed};
+ghost use Rattle.ca_states.specs.Valid.{is_valid};
 ghost use Rattle.ca_states.specs.ValidCode.{valid_code};
-ghost use Rattle.ca_states.specs.Standing.{state_view, waiting_slot, entry_at, is_start, IsStart, Stands, HaltsAs, WaitsAt};
+ghost use Rattle.ca_states.specs.Standing.{state_view, waiting_slot, entry_at, is_start, IsStart, Stands, HaltsAs, HaltsNext, StopsAfter, WaitsAt};
 
+use crate::code::Code;
 use crate::entry::{begun, block_at, entry_point};
 use crate::range::takes;
 use crate::slots::put_at;
+use crate::stop::Stop;
 use crate::valid_code::ValidCode;
 use ca_term::fault::Fault;
 use ca_term::operation::Want;
@@ -40,18 +43,20 @@ pub enum Halt {
 pub struct Frame {
     pub(crate) next: u64,
     pub(crate) answer: u64,
-    pub(crate) slots: Items,
+    pub(crate) slots: Vec<Value>,
 }
 
 /// A runner: its block, the values in its slots, the calls that wait, the innermost last, and the turns since
-/// the last event. At an operation `answer` is the slot that its answer comes into.
+/// the last event. At an operation `answer` is the slot that its answer comes into. `pool` has the slots of calls
+/// that returned, without their values, for the next calls.
 #[derive(Drop)]
 pub struct Runner {
     pub(crate) block: u64,
-    pub(crate) slots: Items,
+    pub(crate) slots: Vec<Value>,
     pub(crate) frames: Seq<Frame>,
     pub(crate) turns: u64,
     pub(crate) answer: u64,
+    pub(crate) pool: Seq<Items>,
 }
 
 impl ValidCode {
@@ -84,10 +89,11 @@ impl Runner {
         let slots = begun(values, block_at(code, entry.block).width)?;
         Ok(Runner {
             block: entry.block,
-            slots,
+            slots: slots.into_vec(),
             frames: Seq::new(alloc),
             turns: 0,
             answer: 0,
+            pool: Seq::new(alloc),
         })
     }
 
@@ -98,9 +104,28 @@ impl Runner {
         ensures waits { IfOk result (λ h. WaitsAt (valid_code code.now) h self.new) }
     {
         let code = code.code();
+        match self.go_on(alloc, code) {
+            Ok(()) => self.halt(alloc, code, block_at(code, self.block)),
+            Err(Stop::Fault(fault, place)) => Ok(Halt::Faulted(fault, place)),
+            Err(Stop::OutOfMemory) => Err(OutOfMemory),
+        }
+    }
+
+    // Goes on, block by block, to one whose exit halts it.
+    #[inline(never)]
+    fn go_on(&mut self, alloc: Global, code: &Code) -> Result<(), Stop>
+        requires valid { is_valid (code_view code.now) ≡ true }
+        requires stands { Stands (code_view code.now) (state_view self.old) }
+        ensures on { OnOk result (HaltsNext (code_view code.now) (state_view self.old) (state_view self.new)) }
+        ensures stop { IfErr result (λ e. StopsAfter (code_view code.now) (state_view self.old) e self.new) }
+    {
         loop {
-            if let Some(halt) = self.step(alloc, code)? {
-                return Ok(halt);
+            let block = block_at(code, self.block);
+            if self.halts_at(&block.exit) {
+                return Ok(());
+            }
+            if let Err(stop) = self.pass(alloc, code, block) {
+                return Err(stop);
             }
         }
     }
@@ -111,7 +136,7 @@ impl Runner {
         ensures resumed { state_view self.new ≡ resumed (view answer) (waiting_slot self.old) (state_view self.old) }
         ensures stands { (C : CodeView) → Stands C (state_view self.old) → Stands C (state_view self.new) }
     {
-        put_at(&mut self.slots, self.answer, answer);
+        put_at(self.slots.as_mut_slice(), self.answer, answer);
         self.turns = 0;
     }
 }

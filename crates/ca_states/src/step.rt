@@ -1,29 +1,29 @@
 //! One block of a runner: its instructions, and its exit.
-ghost use Rattle.std.specs.Prelude.{◌≡◌, ◌<◌, ◌≤◌, true, length, map, IfOk, IfErr, OnOk, IsTrue};
+ghost use Rattle.std.specs.Prelude.{◌≡◌, ◌<◌, ◌≤◌, false, length, map, IfErr, OnOk, IsTrue};
 ghost use Rattle.ca_value.specs.Seq.{list};
 ghost use Rattle.ca_value.specs.View.{view, views};
 ghost use Rattle.ca_states.specs.Code.{block_at, block_view, code_view, instruction};
-ghost use Rattle.ca_states.specs.Machine.{done, effect, move, write};
-ghost use Rattle.ca_states.specs.Valid.{each, is_instruction_in_range, is_valid};
+ghost use Rattle.ca_states.specs.Machine.{done, effect, move, read, write};
+ghost use Rattle.ca_states.specs.Valid.{each, is_instruction_in_range};
 ghost use Rattle.ca_states.specs.Runs.{StopsAt, effects};
-ghost use Rattle.ca_states.specs.Standing.{state_view, Did, FitsAnyway, Stands};
+ghost use Rattle.ca_states.specs.Standing.{state_view, frames_view, halts_at, FitsAnyway, Passed};
 
-use crate::code::{Block, Code, Instr};
-use crate::entry::block_at;
+use crate::code::{Block, Code, Exit, Instr};
 use crate::instr::{run_many, run_one, run_push, run_put, run_two, run_two_int};
-use crate::runner::{Halt, Runner};
-use crate::slots::{copy_at, put_at, take_at};
+use crate::plain::run_in_place;
+use crate::runner::Runner;
+use crate::slots::{clear_at, copy_at, move_at, put_at};
 use crate::stop::Stop;
 use ca_value::memory::OutOfMemory;
-use ca_value::value::{Items, Value};
+use ca_value::value::Value;
 use std::alloc::Global;
 
 // A value of the text comes into the slot.
-fn run_const(alloc: Global, slots: &mut Items, to: u64, value: &Value) -> Result<(), Stop>
-    requires { to < length (list slots.old) }
-    ensures ok { OnOk result (done (write (views (list slots.old)) to (view value.now)) ≡ done (views (list slots.new))) }
-    ensures stop { IfErr result (λ e. StopsAt e (done (write (views (list slots.old)) to (view value.now)))) }
-    ensures same { length (list slots.new) ≡ length (list slots.old) }
+fn run_const(alloc: Global, slots: &mut [Value], to: u64, value: &Value) -> Result<(), Stop>
+    requires { to < length slots.old }
+    ensures ok { OnOk result (done (write (views slots.old) to (view value.now)) ≡ done (views slots.new)) }
+    ensures stop { IfErr result (λ e. StopsAt e (done (write (views slots.old) to (view value.now)))) }
+    ensures same { length slots.new ≡ length slots.old }
 {
     match value.copy(alloc) {
         Ok(value) => {
@@ -34,29 +34,40 @@ fn run_const(alloc: Global, slots: &mut Items, to: u64, value: &Value) -> Result
     }
 }
 
-// One instruction.
-fn run_instr(alloc: Global, slots: &mut Items, instr: &Instr) -> Result<(), Stop>
-    requires { IsTrue (is_instruction_in_range (length (list slots.old)) (instruction instr.now)) }
-    ensures ok { OnOk result (effect (instruction instr.now) (views (list slots.old)) ≡ done (views (list slots.new))) }
-    ensures stop { IfErr result (λ e. StopsAt e (effect (instruction instr.now) (views (list slots.old)))) }
-    ensures same { length (list slots.new) ≡ length (list slots.old) }
+// A copy of a slot's value comes into the slot.
+fn run_copy(alloc: Global, slots: &mut [Value], to: u64, from: u64) -> Result<(), Stop>
+    requires to { to < length slots.old }
+    requires from { from < length slots.old }
+    ensures ok { OnOk result (done (write (views slots.old) to (read (views slots.old) from)) ≡ done (views slots.new)) }
+    ensures stop { IfErr result (λ e. StopsAt e (done (write (views slots.old) to (read (views slots.old) from)))) }
+    ensures same { length slots.new ≡ length slots.old }
+{
+    match copy_at(alloc, slots, from) {
+        Ok(value) => {
+            put_at(slots, to, value);
+            Ok(())
+        }
+        Err(OutOfMemory) => Err(Stop::OutOfMemory),
+    }
+}
+
+// One instruction, of any values.
+#[inline(never)]
+fn run_instr(alloc: Global, slots: &mut [Value], instr: &Instr) -> Result<(), Stop>
+    requires { IsTrue (is_instruction_in_range (length slots.old) (instruction instr.now)) }
+    ensures ok { OnOk result (effect (instruction instr.now) (views slots.old) ≡ done (views slots.new)) }
+    ensures stop { IfErr result (λ e. StopsAt e (effect (instruction instr.now) (views slots.old))) }
+    ensures same { length slots.new ≡ length slots.old }
 {
     match instr {
         Instr::Const { to, value } => run_const(alloc, slots, *to, value),
-        Instr::Copy { to, from } => match copy_at(alloc, slots, *from) {
-            Ok(value) => {
-                put_at(slots, *to, value);
-                Ok(())
-            }
-            Err(OutOfMemory) => Err(Stop::OutOfMemory),
-        },
+        Instr::Copy { to, from } => run_copy(alloc, slots, *to, *from),
         Instr::Move { to, from } => {
-            let value = take_at(slots, *from);
-            put_at(slots, *to, value);
+            move_at(slots, *to, *from);
             Ok(())
         }
         Instr::Clear { slot } => {
-            take_at(slots, *slot);
+            clear_at(slots, *slot);
             Ok(())
         }
         Instr::One {
@@ -103,45 +114,47 @@ fn run_instr(alloc: Global, slots: &mut Items, instr: &Instr) -> Result<(), Stop
 }
 
 // The instructions in order, up to the first fault.
-fn run_instrs(alloc: Global, slots: &mut Items, instrs: &[Instr]) -> Result<(), Stop>
-    requires { IsTrue (each (is_instruction_in_range (length (list slots.old))) (map instruction instrs.now)) }
-    ensures ok { OnOk result (effects (map instruction instrs.now) (views (list slots.old)) ≡ done (views (list slots.new))) }
-    ensures stop { IfErr result (λ e. StopsAt e (effects (map instruction instrs.now) (views (list slots.old)))) }
-    ensures same { length (list slots.new) ≡ length (list slots.old) }
+#[inline(always)]
+fn run_instrs(alloc: Global, slots: &mut [Value], instrs: &[Instr]) -> Result<(), Stop>
+    requires { IsTrue (each (is_instruction_in_range (length slots.old)) (map instruction instrs.now)) }
+    ensures ok { OnOk result (effects (map instruction instrs.now) (views slots.old) ≡ done (views slots.new)) }
+    ensures stop { IfErr result (λ e. StopsAt e (effects (map instruction instrs.now) (views slots.old))) }
+    ensures same { length slots.new ≡ length slots.old }
 {
     for instr in instrs {
-        run_instr(alloc, slots, instr)?;
+        if !run_in_place(slots, instr) {
+            run_instr(alloc, slots, instr)?;
+        }
     }
     Ok(())
 }
 
 impl Runner {
-    // One block of the code.
-    fn pass(
-        &mut self,
-        alloc: Global,
-        code: &Code,
-        block: &Block,
-    ) -> Result<Option<Halt>, OutOfMemory>
-        requires same { block_view block.now ≡ block_at (code_view code.now) self.old.block }
-        requires instrs { IsTrue (each (is_instruction_in_range (length (list self.old.slots))) (map instruction (list block.now.instrs))) }
-        requires fits { FitsAnyway (code_view code.now) block.now.exit (state_view self.old) }
-        requires turns { self.old.turns ≤ 999_999 }
-        ensures { IfOk result (λ h. Did (move (code_view code.now) (state_view self.old)) h self.new) }
+    /// The instructions of a block.
+    #[inline(always)]
+    pub(crate) fn run_block(&mut self, alloc: Global, block: &Block) -> Result<(), Stop>
+        requires { IsTrue (each (is_instruction_in_range (length self.old.slots.items)) (map instruction (list block.now.instrs))) }
+        ensures ok { OnOk result (effects (map instruction (list block.now.instrs)) (views self.old.slots.items) ≡ done (views self.new.slots.items)) }
+        ensures stop { IfErr result (λ e. StopsAt e (effects (map instruction (list block.now.instrs)) (views self.old.slots.items))) }
+        ensures same { self.new ≡ record self.old { slots = self.new.slots } }
+        ensures count { length self.new.slots.items ≡ length self.old.slots.items }
     {
-        match run_instrs(alloc, &mut self.slots, block.instrs.as_slice()) {
-            Ok(()) => self.leave(alloc, code, block.exit),
-            Err(Stop::Fault(fault, place)) => Ok(Some(Halt::Faulted(fault, place))),
-            Err(Stop::OutOfMemory) => Err(OutOfMemory),
-        }
+        run_instrs(alloc, self.slots.as_mut_slice(), block.instrs.as_slice())
     }
 
-    /// Runs its block, and leaves it.
-    pub(crate) fn step(&mut self, alloc: Global, code: &Code) -> Result<Option<Halt>, OutOfMemory>
-        requires valid { is_valid (code_view code.now) ≡ true }
-        requires stands { Stands (code_view code.now) (state_view self.old) }
-        ensures { IfOk result (λ h. Did (move (code_view code.now) (state_view self.old)) h self.new) }
+    /// One block of the code, whose exit doesn't halt it.
+    #[inline(always)]
+    pub(crate) fn pass(&mut self, alloc: Global, code: &Code, block: &Block) -> Result<(), Stop>
+        requires same { block_view block.now ≡ block_at (code_view code.now) self.old.block }
+        requires instrs { IsTrue (each (is_instruction_in_range (length self.old.slots.items)) (map instruction (list block.now.instrs))) }
+        requires fits { FitsAnyway (code_view code.now) block.now.exit (state_view self.old) }
+        requires turns { self.old.turns ≤ 999_999 }
+        requires goes { halts_at block.now.exit (frames_view (list self.old.frames)) ≡ false }
+        ensures { Passed (move (code_view code.now) (state_view self.old)) result self.new }
     {
-        self.pass(alloc, code, block_at(code, self.block))
+        match self.run_block(alloc, block) {
+            Ok(()) => self.leave(alloc, code, &block.exit),
+            Err(stop) => Err(stop),
+        }
     }
 }

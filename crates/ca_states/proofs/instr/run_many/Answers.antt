@@ -12,16 +12,16 @@ use Rattle.ca_states.proofs.instr.run_many.Goals as goal
 
 pub apply_builtin-outcome-requires : goal.apply_builtin-outcome-requires
 apply_builtin-outcome-requires c =
-    let s = views (list c.args.slots.now) in
+    let s = views c.args.slots.now in
     let xs = list c.in-Ok.values in
-    subst (λ n. IsTrue (admits c.args.builtin n)) (sym (sym (length-map xs view) ∙ ap length c.in-Ok.ensures ∙ length_reads s c.args.from c.args.count)) c.requires.counted
+    subst (λ n. IsTrue (admits c.args.builtin n)) (sym (sym (length-map xs view) ∙ ap length c.in-Ok.ensures.values ∙ length_reads s c.args.from c.args.count)) c.requires.counted
 
 pub returns-clause-stop : goal.returns-clause-stop
 returns-clause-stop c =
-    let s = views (list c.args.slots.now) in
+    let s = views c.args.slots.now in
     let r = c.apply_builtin-outcome.result in
     let o = applied c.args.builtin (reads s (slots_from c.args.from c.args.count)) in
-    subst (λ z. IfErr c.settle.result (λ e. StopsAt e (answered z c.args.to c.args.place o))) c.clear_row.ensures.taken
+    subst (λ z. IfErr c.settle.result (λ e. StopsAt e (answered z c.args.to c.args.place o))) c.in-Ok.ensures.taken
     (c.settle.ensures.stop o
-    (subst (λ ts. Gives r (applied c.args.builtin ts)) c.in-Ok.ensures
+    (subst (λ ts. Gives r (applied c.args.builtin ts)) c.in-Ok.ensures.values
     (gives_by r (applied c.args.builtin (views (list c.in-Ok.values))) c.apply_builtin-outcome.ensures.value c.apply_builtin-outcome.ensures.fault)))

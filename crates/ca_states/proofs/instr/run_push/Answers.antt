@@ -1,6 +1,5 @@
 use Rattle.std.proofs.Common.{[], ◌∷◌, subst}
 use Rattle.std.specs.Prelude.{IfErr}
-use Rattle.ca_value.specs.Seq.{list}
 use Rattle.ca_value.specs.View.{view, views}
 use Rattle.ca_value.specs.Outcome.{Gives}
 use Rattle.ca_value.specs.declared.builtin.Builtin.TheVariants.{Conj}
@@ -11,7 +10,7 @@ use Rattle.ca_states.proofs.instr.run_push.Goals as goal
 
 pub returns-clause-stop : goal.returns-clause-stop
 returns-clause-stop c =
-    let s = views (list c.args.slots.now) in
+    let s = views c.args.slots.now in
     let r = c.conj_one-outcome.result in
     let o = applied Conj (read s c.args.collection ∷ read s c.args.item ∷ []) in
     subst (λ z. IfErr c.settle.result (λ e. StopsAt e (answered z c.args.to c.args.place o))) c.take_at-collection.ensures.taken

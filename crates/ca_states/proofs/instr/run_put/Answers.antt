@@ -1,6 +1,5 @@
 use Rattle.std.proofs.Common.{[], ◌∷◌, subst}
 use Rattle.std.specs.Prelude.{IfErr}
-use Rattle.ca_value.specs.Seq.{list}
 use Rattle.ca_value.specs.View.{view, views}
 use Rattle.ca_value.specs.Outcome.{Gives}
 use Rattle.ca_value.specs.declared.builtin.Builtin.TheVariants.{Assoc}
@@ -11,7 +10,7 @@ use Rattle.ca_states.proofs.instr.run_put.Goals as goal
 
 pub returns-clause-stop : goal.returns-clause-stop
 returns-clause-stop c =
-    let s = views (list c.args.slots.now) in
+    let s = views c.args.slots.now in
     let r = c.assoc_one-outcome.result in
     let o = applied Assoc (read s c.args.collection ∷ read s c.args.key ∷ read s c.args.value ∷ []) in
     subst (λ z. IfErr c.settle.result (λ e. StopsAt e (answered z c.args.to c.args.place o))) c.take_at-collection.ensures.taken

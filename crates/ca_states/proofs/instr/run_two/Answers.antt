@@ -1,5 +1,4 @@
 use Rattle.std.proofs.Common.{[], ◌∷◌, subst}
-use Rattle.ca_value.specs.Seq.{list}
 use Rattle.ca_value.specs.View.{view, views}
 use Rattle.ca_value.specs.Outcome.{Gives}
 use Rattle.ca_states.specs.Machine.{read, applied}
@@ -9,7 +8,7 @@ use Rattle.ca_states.proofs.instr.run_two.Goals as goal
 pub returns-clause-stop : goal.returns-clause-stop
 returns-clause-stop c =
     let b = c.args.builtin in
-    let s = views (list c.args.slots.now) in
+    let s = views c.args.slots.now in
     let r = c.apply_two-outcome.result in
     c.settle.ensures.stop (applied b (read s c.args.left ∷ read s c.args.right ∷ []))
     (subst (λ t. Gives r (applied b (t ∷ read s c.args.right ∷ []))) c.value_at.ensures

@@ -1,5 +1,4 @@
 use Rattle.std.proofs.Common.{◌≡◌, [], ◌∷◌, subst, rules}
-use Rattle.ca_value.specs.Seq.{list}
 use Rattle.ca_value.specs.Tree.{int}
 use Rattle.ca_value.specs.View.{view, views}
 use Rattle.ca_value.specs.Outcome.{Gives}
@@ -10,7 +9,7 @@ use Rattle.ca_states.proofs.instr.run_two_int.Goals as goal
 pub returns-clause-stop : goal.returns-clause-stop
 returns-clause-stop c =
     let b = c.args.builtin in
-    let s = views (list c.args.slots.now) in
+    let s = views c.args.slots.now in
     let r = c.apply_two-outcome.result in
     let e : view c.integer-right.result ≡ int c.args.right = search rules in
     c.settle.ensures.stop (applied b (read s c.args.left ∷ int c.args.right ∷ []))

@@ -2,13 +2,13 @@ use Rattle.ca_states.specs.Code.{code_view, size}
 use Rattle.ca_states.specs.Machine.{Move, ComesTo}
 use Rattle.ca_states.specs.Standing.{state_view, Stands}
 use Rattle.ca_states.proofs.StandingLaws.{left}
-use Rattle.ca_states.proofs.runner.Runner.run.Given as goal
+use Rattle.ca_states.proofs.runner.Runner.go_on.Given as goal
 
-abbrev pub invariant-loop-halt : goal.invariant-loop-halt
-invariant-loop-halt l = record {
+abbrev pub invariant-loop-block : goal.invariant-loop-block
+invariant-loop-block l = record {
   stands : Stands (code_view l.code) (state_view l.self);
   reached : (m : Move) → ComesTo (code_view l.code) (state_view l.self) m → ComesTo (code_view l.code) (state_view l.fn.self) m;
 }
 
-abbrev pub decreases-loop-halt : goal.decreases-loop-halt
-decreases-loop-halt l = left (size (code_view l.code)) (state_view l.self)
+abbrev pub decreases-loop-block : goal.decreases-loop-block
+decreases-loop-block l = left (size (code_view l.code)) (state_view l.self)

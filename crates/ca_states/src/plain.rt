@@ -1,0 +1,181 @@
+//! Builtins of integers, done in the slots themselves. Each answers whether it was done; a fault, and values of another
+//! kind, it leaves to the builtin's row.
+ghost use Rattle.std.specs.Prelude.{◌≡◌, ◌<◌, ◌∷◌, [], length, Ok, IfSome, IsTrue};
+ghost use Rattle.std.specs.Bool.{OnTrue, OnFalse};
+ghost use Rattle.ca_value.specs.Tree.{int, bool};
+ghost use Rattle.ca_value.specs.View.{view, views};
+ghost use Rattle.ca_term.specs.declared.place.Place.{Place as PurePlace};
+ghost use Rattle.ca_states.specs.Code.{constant, copying, instruction};
+ghost use Rattle.ca_states.specs.Machine.{read, applied, answered, done, effect};
+ghost use Rattle.ca_states.specs.Valid.{is_instruction_in_range};
+
+use crate::code::Instr;
+use crate::slots::{clear_at, int_at, move_at, set_bool, set_int};
+use ca_value::builtin::Builtin;
+use ca_value::builtin::scalars::{int_of_one, int_of_two, truth_of_one, truth_of_two};
+use ca_value::value::Value;
+
+// A value of the text, where it is an integer.
+#[inline(always)]
+fn const_in_place(slots: &mut [Value], to: u64, value: &Value) -> bool
+    requires { to < length slots.old }
+    ensures done { OnTrue result (effect (constant to (view value.now)) (views slots.old) ≡ done (views slots.new)) }
+    ensures left { OnFalse result (slots.new ≡ slots.old) }
+    ensures same { length slots.new ≡ length slots.old }
+{
+    if let Value::Int(n) = value {
+        set_int(slots, to, *n);
+        return true;
+    }
+    false
+}
+
+// A copy, where it is one of an integer.
+#[inline(always)]
+fn copy_in_place(slots: &mut [Value], to: u64, from: u64) -> bool
+    requires to { to < length slots.old }
+    requires from { from < length slots.old }
+    ensures done { OnTrue result (effect (copying to from) (views slots.old) ≡ done (views slots.new)) }
+    ensures left { OnFalse result (slots.new ≡ slots.old) }
+    ensures same { length slots.new ≡ length slots.old }
+{
+    if let Some(n) = int_at(slots, from) {
+        set_int(slots, to, n);
+        return true;
+    }
+    false
+}
+
+// A builtin of an integer.
+#[inline(always)]
+fn one_in_place(slots: &mut [Value], builtin: Builtin, to: u64, operand: u64) -> bool
+    requires to { to < length slots.old }
+    requires operand { operand < length slots.old }
+    ensures done { OnTrue result ((p : PurePlace) → answered (views slots.old) to p (applied builtin (read (views slots.old) operand ∷ [])) ≡ done (views slots.new)) }
+    ensures left { OnFalse result (slots.new ≡ slots.old) }
+    ensures same { length slots.new ≡ length slots.old }
+{
+    let Some(a) = int_at(slots, operand) else {
+        return false;
+    };
+    if let Some(n) = int_of_one(builtin, a) {
+        set_int(slots, to, n);
+        return true;
+    }
+    if let Some(truth) = truth_of_one(builtin, a) {
+        set_bool(slots, to, truth);
+        return true;
+    }
+    false
+}
+
+// A builtin of two integers.
+#[inline(always)]
+fn integers_in_place(slots: &mut [Value], builtin: Builtin, to: u64, a: i64, b: i64) -> bool
+    requires to { to < length slots.old }
+    ensures done { OnTrue result ((p : PurePlace) → answered (views slots.old) to p (applied builtin (int a ∷ int b ∷ [])) ≡ done (views slots.new)) }
+    ensures left { OnFalse result (slots.new ≡ slots.old) }
+    ensures same { length slots.new ≡ length slots.old }
+{
+    if let Some(n) = int_of_two(builtin, a, b) {
+        set_int(slots, to, n);
+        return true;
+    }
+    if let Some(truth) = truth_of_two(builtin, a, b) {
+        set_bool(slots, to, truth);
+        return true;
+    }
+    false
+}
+
+// A builtin of two slots, where both hold integers.
+#[inline(always)]
+fn two_in_place(slots: &mut [Value], builtin: Builtin, to: u64, left: u64, right: u64) -> bool
+    requires to { to < length slots.old }
+    requires left { left < length slots.old }
+    requires right { right < length slots.old }
+    ensures done { OnTrue result ((p : PurePlace) → answered (views slots.old) to p (applied builtin (read (views slots.old) left ∷ read (views slots.old) right ∷ [])) ≡ done (views slots.new)) }
+    ensures left { OnFalse result (slots.new ≡ slots.old) }
+    ensures same { length slots.new ≡ length slots.old }
+{
+    let Some(a) = int_at(slots, left) else {
+        return false;
+    };
+    let Some(b) = int_at(slots, right) else {
+        return false;
+    };
+    integers_in_place(slots, builtin, to, a, b)
+}
+
+// A builtin of a slot and an integer of the text, where the slot holds one too.
+#[inline(always)]
+fn two_int_in_place(slots: &mut [Value], builtin: Builtin, to: u64, left: u64, right: i64) -> bool
+    requires to { to < length slots.old }
+    requires left { left < length slots.old }
+    ensures done { OnTrue result ((p : PurePlace) → answered (views slots.old) to p (applied builtin (read (views slots.old) left ∷ int right ∷ [])) ≡ done (views slots.new)) }
+    ensures left { OnFalse result (slots.new ≡ slots.old) }
+    ensures same { length slots.new ≡ length slots.old }
+{
+    let Some(a) = int_at(slots, left) else {
+        return false;
+    };
+    integers_in_place(slots, builtin, to, a, right)
+}
+
+/// The truth of a builtin of two slots, where both hold integers and it compares them.
+#[inline(always)]
+pub(crate) fn truth_in_place(
+    slots: &[Value],
+    builtin: Builtin,
+    left: u64,
+    right: u64,
+) -> Option<bool>
+    requires left { left < length slots.now }
+    requires right { right < length slots.now }
+    ensures { IfSome result (λ t. applied builtin (read (views slots.now) left ∷ read (views slots.now) right ∷ []) ≡ Ok (bool t)) }
+{
+    truth_of_two(builtin, int_at(slots, left)?, int_at(slots, right)?)
+}
+
+/// Runs the instruction where it needs no memory and can't fault here; else nothing is done.
+#[inline(always)]
+pub(crate) fn run_in_place(slots: &mut [Value], instr: &Instr) -> bool
+    requires { IsTrue (is_instruction_in_range (length slots.old) (instruction instr.now)) }
+    ensures done { OnTrue result (effect (instruction instr.now) (views slots.old) ≡ done (views slots.new)) }
+    ensures left { OnFalse result (slots.new ≡ slots.old) }
+    ensures same { length slots.new ≡ length slots.old }
+{
+    match instr {
+        Instr::Const { to, value } => const_in_place(slots, *to, value),
+        Instr::Copy { to, from } => copy_in_place(slots, *to, *from),
+        Instr::Move { to, from } => {
+            move_at(slots, *to, *from);
+            true
+        }
+        Instr::Clear { slot } => {
+            clear_at(slots, *slot);
+            true
+        }
+        Instr::One {
+            builtin,
+            to,
+            operand,
+            ..
+        } => one_in_place(slots, *builtin, *to, *operand),
+        Instr::Two {
+            builtin,
+            to,
+            left,
+            right,
+            ..
+        } => two_in_place(slots, *builtin, *to, *left, *right),
+        Instr::TwoInt {
+            builtin,
+            to,
+            left,
+            right,
+            ..
+        } => two_int_in_place(slots, *builtin, *to, *left, *right),
+        _ => false,
+    }
+}
