@@ -1,14 +1,19 @@
 -- A runner's slots as trees: one is read, written and taken out.
 use Rattle.std.proofs.Common.{◌≡◌, ℕ, ℤ, zero, suc, ◌+◌, ◌-◌, ◌++◌, append_assoc, ◌<◌, List, [], ◌∷◌, length, get_or, set, Some, None, refl, sym, ap, ◌∙◌, subst, arith}
-use Rattle.std.specs.Prelude.{replicate, slice_get, Result, Ok, Err, IfOk, IfErr}
+use Rattle.std.specs.Prelude.{replicate, slice_get, ok_or, Result, Ok, Err, IfOk, IfErr}
 use Rattle.std.proofs.lemmas.List.{length-map}
-use Rattle.ca_value.specs.Tree.{Tree, nil, int}
+use Rattle.ca_value.specs.Tree.{Tree, nil, int, vector, trees_of}
+use Rattle.ca_value.proofs.Lists.{items_of_trees_of}
+use Rattle.ca_value.specs.Builtins.{builtin_result}
+use Rattle.ca_value.specs.Vectors.{item_at, or_else}
+use Rattle.ca_value.specs.declared.builtin.Builtin.TheVariants.{Nth}
+use Rattle.ca_value.specs.declared.fault.ValueFault.TheVariants.{OutOfRange}
 use Rattle.ca_value.specs.View.{view, views}
-use Rattle.ca_value.specs.Outcome.{Outcome, Gives, IsFault}
+use Rattle.ca_value.specs.Outcome.{Outcome, judged, Gives, IsFault}
 use Rattle.ca_value.specs.declared.value.Value.{Value}
 use Rattle.ca_value.specs.declared.value.Value.TheVariants.{Nil, Bool, Int, Text, Key, Vector, Map, Port}
 use Rattle.ca_value.specs.declared.fault.ApplyError.{ApplyError}
-use Rattle.ca_states.specs.Machine.{begun, read, write, reads, taken, taken_all, left_by, slots_from}
+use Rattle.ca_states.specs.Machine.{begun, read, write, reads, taken, taken_all, left_by, slots_from, applied}
 use Rattle.ca_states.proofs.RowLaws.{row_first}
 
 pub read_view : (xs : List Value) (a : ℕ) (v : Value) → a < length xs → v ≡ get_or xs a v → view v ≡ read (views xs) a
@@ -113,3 +118,10 @@ read_other (t ∷ s) (suc a) (suc k) v lt = read_other s a k v (omega (arith, lt
 -- new slots, from what is read and filled up
 pub begun_reads : (s : List Tree) (a n width : ℕ) → [] ++ reads s (slots_from a n) ++ replicate (width - n) nil ≡ begun width (reads s (slots_from a n))
 begun_reads s a n width = ap (λ m. reads s (slots_from a n) ++ replicate (width - m) nil) (sym (length_reads s a n))
+
+-- `nth` of a vector, where that is an integer
+pub nth_integer : (xs : List Tree) (i n : ℤ) → item_at xs i ≡ Some (int n) → applied Nth (vector (trees_of xs) ∷ int i ∷ []) ≡ Ok (int n)
+unfolding builtin_result
+nth_integer xs i n e =
+    ap (λ us. judged (ok_or (or_else (item_at us i) None) OutOfRange)) (items_of_trees_of xs)
+    ∙ ap (λ o. judged (ok_or (or_else o None) OutOfRange)) e

@@ -31,7 +31,7 @@ use Rattle.ca_states.specs.Machine.{read, write, reads, taken, taken_all, left_b
 use Rattle.ca_states.specs.Touched.{read_by, emptied_by, written_by, read_at, answered_at, targets}
 use Rattle.ca_states.specs.Valid.{each, are_below, takes, is_counted_exit, is_target, is_instruction_in_range, is_exit_in_range, is_in_range, leads_forward, knows_slots, is_valid_block, are_valid_blocks, are_just, begins_well, main_entry, is_valid}
 use Rattle.ca_states.specs.Runs.{StopsAt, follows, effects}
-use Rattle.ca_states.specs.Standing.{frame_view, frames_view, state_view, HasSlots, AreFrames, Stands, TakesValue, HasRoom, FitsAnyway, FitsExit, HaltedAs, HaltsAs, HaltsNext, Passed, StopsAfter, WaitsAt, IsStart, entry_at}
+use Rattle.ca_states.specs.Standing.{frame_view, frames_view, state_view, HasSlots, AreFrames, Stands, TakesValue, HasRoom, FitsAnyway, FitsExit, FitsHere, HaltedAs, HaltsAs, HaltsNext, Passed, StopsAfter, WaitsAt, IsStart, entry_at}
 use Rattle.ca_states.proofs.RowLaws.{both, drop_item, RangeParts, range_parts, in_range_parts}
 use Rattle.ca_states.proofs.SlotLaws.{length_reads}
 
@@ -351,9 +351,9 @@ block_move C c is x s ei ex e = runs_effects C (block_at C c.block).instrs (bloc
 pub block_fault : (C : CodeView) (c : State) (is : List Instruction) (f : Fault) (p : Place) → (block_at C c.block).instrs ≡ is → effects is c.slots ≡ failed f p → move C c ≡ faults f p c.turns
 block_fault C c is f p ei e = runs_effects C (block_at C c.block).instrs (block_at C c.block).exit c ∙ ap (λ js. went (effects js c.slots) c (leaves C (block_at C c.block).exit)) ei ∙ ap (λ g. went g c (leaves C (block_at C c.block).exit)) e
 
-pub block_stop : (A : Type 0) (C : CodeView) (c : State) (is : List Instruction) (e : Stop) (r : Runner) → (block_at C c.block).instrs ≡ is → StopsAt e (effects is c.slots) → r.turns ≡ c.turns → Passed {A = A} (move C c) (Err e) r
-block_stop A C c is (Stop.Fault f p) r ei e t = block_fault C c is f p ei e ∙ ap (faults f p) (sym t)
-block_stop A C c is Stop.OutOfMemory r ei e t = tt
+pub block_stop : (C : CodeView) (c : State) (is : List Instruction) (e : Stop) (r : Runner) → (block_at C c.block).instrs ≡ is → StopsAt e (effects is c.slots) → r.turns ≡ c.turns → Passed (move C c) false e r
+block_stop C c is (Stop.Fault f p) r ei e t = block_fault C c is f p ei e ∙ ap (faults f p) (sym t)
+block_stop C c is Stop.OutOfMemory r ei e t = tt
 
 -- an instruction keeps the number of slots
 abbrev Keeps : ℕ → Effect → Type 0
@@ -431,11 +431,6 @@ halt_waits C v c s (Halt.Cut w) r e =
 halt_waits C v c s (Halt.Ended w) r e = tt
 halt_waits C v c s (Halt.Faulted f p) r e = tt
 
--- a block that the runner halts at
-pub halt_stop : (C : CodeView) (c : State) (is : List Instruction) (f : Fault) (p : Place) (e : Stop) (r : Runner) → e ≡ Stop.Fault f p → (block_at C c.block).instrs ≡ is → StopsAt e (effects is c.slots) → r.turns ≡ c.turns → HaltedAs (move C c) (Halt.Faulted f p) r
-halt_stop C c is f p e r ee ei k t =
-    block_fault C c is f p ei (subst (λ (g : Stop). StopsAt g (effects is c.slots)) ee k) ∙ ap (faults f p) (sym t)
-
 is_halt : (m : Move) (h : Halt) (r : Runner) → HaltedAs m h r → IsHalt m
 is_halt m (Halt.Cut w) r e = subst IsHalt (sym e) tt
 is_halt m (Halt.Ended w) r e = subst IsHalt (sym e) tt
@@ -477,11 +472,11 @@ ran C q r b e same d =
     ∙ ap (λ (z : Runner). leaves C b.exit (state_view z)) (sym same)
 
 -- a runner that stopped, and one that halted, after it came to a block
-pub stopped : {A : Type 0} → (C : CodeView) (c0 c : State) (o : Result A Stop) (e : Stop) (r : Runner) → ((m : Move) → ComesTo C c m → ComesTo C c0 m) → o ≡ Err e → Passed (move C c) o r → StopsAfter C c0 e r
-stopped C c0 c o (Stop.Fault f p) r k oe h =
-    let e : move C c ≡ faults f p r.turns = subst (λ x. Passed (move C c) x r) oe h in
+pub stopped : (C : CodeView) (c0 c : State) (e : Stop) (r : Runner) → ((m : Move) → ComesTo C c m → ComesTo C c0 m) → Passed (move C c) false e r → StopsAfter C c0 e r
+stopped C c0 c (Stop.Fault f p) r k h =
+    let e : move C c ≡ faults f p r.turns = h in
     k (faults f p r.turns) (subst (ComesTo C c) e (halts (subst IsHalt (sym e) tt)))
-stopped C c0 c o Stop.OutOfMemory r k oe h = tt
+stopped C c0 c Stop.OutOfMemory r k h = tt
 
 pub halted : (C : CodeView) (c0 c : State) (o : Result Halt OutOfMemory) (r : Runner) → HaltsNext C c0 c → IfOk o (λ h. HaltedAs (move C c) h r) → IfOk o (λ h. HaltsAs C c0 h r)
 halted C c0 c (Ok h) r n e = halt_reached C c0 c h r n.reached e
@@ -490,3 +485,12 @@ halted C c0 c (Err x) r n e = tt
 pub halted_waits : (C : CodeView) → is_valid C ≡ true → (c0 c : State) (o : Result Halt OutOfMemory) (r : Runner) → HaltsNext C c0 c → IfOk o (λ h. HaltedAs (move C c) h r) → IfOk o (λ h. WaitsAt C h r)
 halted_waits C valid c0 c (Ok h) r n e = halt_waits C (valid_parts C valid) c n.stands h r e
 halted_waits C valid c0 c (Err x) r n e = tt
+
+-- what an exit asks it asks here
+pub fits_here : (C : CodeView) (x : Exit) (c : State) → FitsExit C x c → FitsHere x c
+fits_here C (Jump next p) c h = tt
+fits_here C (Branch a yes_to no_to) c h = h
+fits_here C (Test b left_at right_at yes_to no_to p) c h = (h.1, h.2)
+fits_here C (Call f a n answer next p) c h = tt
+fits_here C (Return a) c h = h
+fits_here C (Cut hd a n answer next p) c h = tt

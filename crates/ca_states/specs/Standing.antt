@@ -73,16 +73,17 @@ HaltedAs m (halt.Cut w) r = m ≡ waits (want_view w) (waiting_slot r) (state_vi
 HaltedAs m (halt.Ended v) r = m ≡ ends (view v) (state_view r).turns
 HaltedAs m (halt.Faulted f p) r = m ≡ faults f p (state_view r).turns
 
--- what a block came to: a halt, or the runner goes on
-abbrev pub Did : Move → Option Halt → Runner → Type 0
-Did m None r = m ≡ goes (state_view r)
-Did m (Some h) r = HaltedAs m h r
+-- what an exit that doesn't halt came to: the runner goes on, or stops; want of memory says nothing
+abbrev pub Left : {A : Type 0} → Move → Result A Stop → Runner → Type 0
+Left m (Ok a) r = m ≡ goes (state_view r)
+Left m (Err (Stop.Fault f p)) r = m ≡ faults f p (state_view r).turns
+Left m (Err Stop.OutOfMemory) r = Unit {0}
 
--- what a block that doesn't halt came to: the runner goes on, or stops; want of memory says nothing
-abbrev pub Passed : {A : Type 0} → Move → Result A Stop → Runner → Type 0
-Passed m (Ok a) r = m ≡ goes (state_view r)
-Passed m (Err (Stop.Fault f p)) r = m ≡ faults f p (state_view r).turns
-Passed m (Err Stop.OutOfMemory) r = Unit {0}
+-- what a block that doesn't halt came to
+abbrev pub Passed : Move → Bool → Stop → Runner → Type 0
+Passed m true e r = m ≡ goes (state_view r)
+Passed m false (Stop.Fault f p) r = m ≡ faults f p (state_view r).turns
+Passed m false Stop.OutOfMemory r = Unit {0}
 
 -- an operation halts the runner, and a return where no call waits
 abbrev pub halts_at : Exit → List Frame → Bool
@@ -136,3 +137,12 @@ FitsExit C (Cut h a n answer next p) c = IsTrue (are_below (length c.slots) (slo
 -- the exit fits whatever the slots hold, as long as they are so many
 abbrev pub FitsAnyway : CodeView → Exit → State → Type 0
 FitsAnyway C x c = (s : List Tree) → length s ≡ length c.slots → FitsExit C x (record c { slots = s })
+
+-- what is asked of an exit that is left in the runner itself
+abbrev pub FitsHere : Exit → State → Type 0
+FitsHere (Jump next p) c = Unit {0}
+FitsHere (Branch a yes_to no_to) c = a < length c.slots
+FitsHere (Test b left right yes_to no_to p) c = (left < length c.slots) × (right < length c.slots)
+FitsHere (Call f a n answer next p) c = Unit {0}
+FitsHere (Return a) c = (a < length c.slots) × TakesValue c.frames
+FitsHere (Cut h a n answer next p) c = Unit {0}

@@ -5,7 +5,7 @@ ghost use Rattle.ca_value.specs.View.{views};
 ghost use Rattle.ca_states.specs.Code.{code_view, function_at};
 ghost use Rattle.ca_states.specs.Machine.{begun, goes, leaves, read, reads, returned, slots_from, taken_all};
 ghost use Rattle.ca_states.specs.Valid.{are_below};
-ghost use Rattle.ca_states.specs.Standing.{state_view, frames_view, halts_at, HasRoom, Passed, TakesValue};
+ghost use Rattle.ca_states.specs.Standing.{state_view, frames_view, halts_at, HasRoom, Left, TakesValue};
 ghost use Rattle.ca_states.specs.declared.code.Exit.TheVariants.{Call, Return};
 
 use crate::code::Code;
@@ -74,7 +74,6 @@ impl Runner {
     }
 
     /// A function begins with the values that are taken out of the slots.
-    #[inline(never)]
     pub(crate) fn call(
         &mut self,
         alloc: Global,
@@ -89,7 +88,7 @@ impl Runner {
         requires turns { self.old.turns ≤ 999_999 }
         requires row { IsTrue (are_below (length self.old.slots.items) (slots_from from count)) }
         requires room { HasRoom (code_view code.now) (function_at (code_view code.now) function) count }
-        ensures { Passed (leaves (code_view code.now) (Call function from count answer next place) (state_view self.old)) result self.new }
+        ensures { Left (leaves (code_view code.now) (Call function from count answer next place) (state_view self.old)) result self.new }
     {
         if LAST_TURN <= self.turns {
             return Err(Stop::Fault(Fault::Spun, place));

@@ -78,10 +78,13 @@ impl Runner {
         requires halts { halts_at block.now.exit (frames_view (list self.old.frames)) ≡ true }
         ensures { IfOk result (λ h. HaltedAs (move (code_view code.now) (state_view self.old)) h self.new) }
     {
-        match self.run_block(alloc, block) {
-            Ok(()) => self.halt_at(alloc, code, block.exit),
-            Err(Stop::Fault(fault, place)) => Ok(Halt::Faulted(fault, place)),
-            Err(Stop::OutOfMemory) => Err(OutOfMemory),
+        let mut stop = Stop::OutOfMemory;
+        if self.run_block(alloc, block, &mut stop) {
+            return self.halt_at(alloc, code, block.exit);
+        }
+        match stop {
+            Stop::Fault(fault, place) => Ok(Halt::Faulted(fault, place)),
+            Stop::OutOfMemory => Err(OutOfMemory),
         }
     }
 }

@@ -1,12 +1,15 @@
 //! How a runner leaves a block, and goes on.
 ghost use Rattle.std.specs.Prelude.{◌≡◌, ◌<◌, ◌≤◌, suc, ◌∷◌, [], length, false, cond, nat_lt, IsTrue};
+ghost use Rattle.std.specs.Bool.{OnTrue, OnFalse};
 ghost use Rattle.ca_value.specs.Seq.{list};
 ghost use Rattle.ca_value.specs.View.{view, views};
 ghost use Rattle.ca_value.specs.Builtins.{admits};
 ghost use Rattle.ca_term.specs.Operands.{truth};
-ghost use Rattle.ca_states.specs.Code.{code_view};
-ghost use Rattle.ca_states.specs.Machine.{applied, at_block, goes, leaves, read, tested, turned, slots_from};
-ghost use Rattle.ca_states.specs.Standing.{state_view, frames_view, halts_at, FitsExit, Passed};
+ghost use Rattle.ca_term.specs.declared.fault.Fault.TheVariants.{Spun};
+ghost use Rattle.ca_term.specs.declared.place.Place.{Place as PurePlace};
+ghost use Rattle.ca_states.specs.Code.{code_view, CodeView};
+ghost use Rattle.ca_states.specs.Machine.{applied, at_block, faults, goes, leaves, read, tested, turned, slots_from};
+ghost use Rattle.ca_states.specs.Standing.{state_view, frames_view, halts_at, FitsExit, FitsHere, Left, Passed};
 
 use crate::code::{Code, Exit};
 use crate::plain::truth_in_place;
@@ -59,21 +62,33 @@ impl Runner {
         self.turns += 1;
     }
 
-    // To a block, by a turn where its number isn't greater; the last turn faults.
+    // To a block, by a turn where its number isn't greater; not by the last turn.
     #[inline(always)]
-    fn jump(&mut self, next: u64, place: Place) -> Result<(), Stop>
-        requires { self.old.turns ≤ 999_999 }
-        ensures { Passed (cond (nat_lt self.old.block next) (goes (at_block next (state_view self.old))) (turned self.old.turns place (goes (record (state_view self.old) { block = next; turns = suc self.old.turns })))) result self.new }
+    fn jump_in_place(&mut self, next: u64) -> bool
+        ensures gone { OnTrue result ((p : PurePlace) → cond (nat_lt self.old.block next) (goes (at_block next (state_view self.old))) (turned self.old.turns p (goes (record (state_view self.old) { block = next; turns = suc self.old.turns }))) ≡ goes (state_view self.new)) }
+        ensures spun { OnFalse result ((p : PurePlace) → cond (nat_lt self.old.block next) (goes (at_block next (state_view self.old))) (turned self.old.turns p (goes (record (state_view self.old) { block = next; turns = suc self.old.turns }))) ≡ faults Spun p self.old.turns) }
+        ensures left { OnFalse result (self.new ≡ self.old) }
     {
         if self.block < next {
             self.block = next;
-            return Ok(());
+            return true;
         }
         if LAST_TURN <= self.turns {
-            return Err(Stop::Fault(Fault::Spun, place));
+            return false;
         }
         self.turn_to(next);
-        Ok(())
+        true
+    }
+
+    // To a block, by a turn where its number isn't greater; the last turn faults.
+    fn jump(&mut self, next: u64, place: Place) -> Result<(), Stop>
+        requires { self.old.turns ≤ 999_999 }
+        ensures { Left (cond (nat_lt self.old.block next) (goes (at_block next (state_view self.old))) (turned self.old.turns place (goes (record (state_view self.old) { block = next; turns = suc self.old.turns })))) result self.new }
+    {
+        if self.jump_in_place(next) {
+            return Ok(());
+        }
+        Err(Stop::Fault(Fault::Spun, place))
     }
 
     // By the truth of a slot.
@@ -89,9 +104,8 @@ impl Runner {
         };
     }
 
-    // By the truth of a builtin of two slots, of any values.
-    #[inline(never)]
-    fn test_values(
+    // By the truth of a builtin of two slots.
+    fn test(
         &mut self,
         alloc: Global,
         builtin: Builtin,
@@ -104,7 +118,7 @@ impl Runner {
         requires counted { IsTrue (admits builtin 2) }
         requires left { left < length self.old.slots.items }
         requires right { right < length self.old.slots.items }
-        ensures { Passed (tested place (state_view self.old) yes no (applied builtin (read (views self.old.slots.items) left ∷ read (views self.old.slots.items) right ∷ []))) result self.new }
+        ensures { Left (tested place (state_view self.old) yes no (applied builtin (read (views self.old.slots.items) left ∷ read (views self.old.slots.items) right ∷ []))) result self.new }
     {
         let slots = self.slots.as_slice();
         let outcome = apply_two(
@@ -123,37 +137,64 @@ impl Runner {
         }
     }
 
-    // By the truth of a builtin of two slots.
+    // By the truth of a builtin of two slots, where both hold integers and it compares them.
     #[inline(always)]
-    fn test(
+    fn test_in_place(
         &mut self,
-        alloc: Global,
         builtin: Builtin,
         left: u64,
         right: u64,
         yes: u64,
         no: u64,
-        place: Place,
-    ) -> Result<(), Stop>
-        requires counted { IsTrue (admits builtin 2) }
+    ) -> bool
         requires left { left < length self.old.slots.items }
         requires right { right < length self.old.slots.items }
-        ensures { Passed (tested place (state_view self.old) yes no (applied builtin (read (views self.old.slots.items) left ∷ read (views self.old.slots.items) right ∷ []))) result self.new }
+        ensures gone { OnTrue result ((p : PurePlace) → tested p (state_view self.old) yes no (applied builtin (read (views self.old.slots.items) left ∷ read (views self.old.slots.items) right ∷ [])) ≡ goes (state_view self.new)) }
+        ensures left { OnFalse result (self.new ≡ self.old) }
     {
-        if let Some(truth) = truth_in_place(self.slots.as_slice(), builtin, left, right) {
-            self.block = if truth { yes } else { no };
-            return Ok(());
-        }
-        self.test_values(alloc, builtin, left, right, yes, no, place)
+        let Some(truth) = truth_in_place(self.slots.as_slice(), builtin, left, right) else {
+            return false;
+        };
+        self.block = if truth { yes } else { no };
+        true
     }
 
-    /// Leaves the block by the exit, and goes on.
+    /// Leaves the block by the exit, and goes on, where that needs no memory and can't fault here; else nothing is done.
     #[inline(always)]
-    pub(crate) fn leave(&mut self, alloc: Global, code: &Code, exit: &Exit) -> Result<(), Stop>
+    pub(crate) fn leave_in_place(&mut self, exit: &Exit) -> bool
+        requires fits { FitsHere exit.now (state_view self.old) }
+        requires goes { halts_at exit.now (frames_view (list self.old.frames)) ≡ false }
+        ensures gone { OnTrue result ((C : CodeView) → leaves C exit.now (state_view self.old) ≡ goes (state_view self.new)) }
+        ensures left { OnFalse result (self.new ≡ self.old) }
+    {
+        match exit {
+            Exit::Jump { next, .. } => self.jump_in_place(*next),
+            Exit::Branch { slot, yes, no } => {
+                self.branch(*slot, *yes, *no);
+                true
+            }
+            Exit::Test {
+                builtin,
+                left,
+                right,
+                yes,
+                no,
+                ..
+            } => self.test_in_place(*builtin, *left, *right, *yes, *no),
+            Exit::Return { slot } => {
+                self.give_back(*slot);
+                true
+            }
+            _ => false,
+        }
+    }
+
+    // Leaves the block by the exit, and goes on.
+    fn leave_by(&mut self, alloc: Global, code: &Code, exit: &Exit) -> Result<(), Stop>
         requires turns { self.old.turns ≤ 999_999 }
         requires fits { FitsExit (code_view code.now) exit.now (state_view self.old) }
         requires goes { halts_at exit.now (frames_view (list self.old.frames)) ≡ false }
-        ensures { Passed (leaves (code_view code.now) exit.now (state_view self.old)) result self.new }
+        ensures { Left (leaves (code_view code.now) exit.now (state_view self.old)) result self.new }
     {
         match exit {
             Exit::Jump { next, place } => self.jump(*next, *place),
@@ -184,6 +225,29 @@ impl Runner {
                 Ok(())
             }
             Exit::Cut { .. } => unreachable!(),
+        }
+    }
+
+    /// Leaves the block by the exit, and goes on. Where that stops the runner, `stop` says why.
+    #[inline(never)]
+    pub(crate) fn leave(
+        &mut self,
+        alloc: Global,
+        code: &Code,
+        exit: &Exit,
+        stop: &mut Stop,
+    ) -> bool
+        requires turns { self.old.turns ≤ 999_999 }
+        requires fits { FitsExit (code_view code.now) exit.now (state_view self.old) }
+        requires goes { halts_at exit.now (frames_view (list self.old.frames)) ≡ false }
+        ensures { Passed (leaves (code_view code.now) exit.now (state_view self.old)) result stop.new self.new }
+    {
+        match self.leave_by(alloc, code, exit) {
+            Ok(()) => true,
+            Err(why) => {
+                *stop = why;
+                false
+            }
         }
     }
 }

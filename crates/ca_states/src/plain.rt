@@ -1,16 +1,18 @@
 //! Builtins of integers, done in the slots themselves. Each answers whether it was done; a fault, and values of another
 //! kind, it leaves to the builtin's row.
-ghost use Rattle.std.specs.Prelude.{◌≡◌, ◌<◌, ◌∷◌, [], length, Ok, IfSome, IsTrue};
+ghost use Rattle.std.specs.Prelude.{◌≡◌, ◌<◌, ◌∷◌, [], length, Ok, Some, IfSome, IsTrue};
 ghost use Rattle.std.specs.Bool.{OnTrue, OnFalse};
 ghost use Rattle.ca_value.specs.Tree.{int, bool};
 ghost use Rattle.ca_value.specs.View.{view, views};
+ghost use Rattle.ca_value.specs.Vectors.{item_at};
+ghost use Rattle.ca_value.specs.declared.builtin.Builtin.TheVariants.{Nth};
 ghost use Rattle.ca_term.specs.declared.place.Place.{Place as PurePlace};
 ghost use Rattle.ca_states.specs.Code.{constant, copying, instruction};
 ghost use Rattle.ca_states.specs.Machine.{read, applied, answered, done, effect};
 ghost use Rattle.ca_states.specs.Valid.{is_instruction_in_range};
 
 use crate::code::Instr;
-use crate::slots::{clear_at, int_at, move_at, set_bool, set_int};
+use crate::slots::{clear_at, int_at, move_at, set_bool, set_int, value_at};
 use ca_value::builtin::Builtin;
 use ca_value::builtin::scalars::{int_of_one, int_of_two, truth_of_one, truth_of_two};
 use ca_value::value::Value;
@@ -88,7 +90,49 @@ fn integers_in_place(slots: &mut [Value], builtin: Builtin, to: u64, a: i64, b: 
     false
 }
 
-// A builtin of two slots, where both hold integers.
+// The integer at a place of the items, if there is one.
+#[inline(always)]
+fn integer_of(items: &[Value], place: i64) -> Option<i64>
+    ensures { IfSome result (λ n. item_at (views items.now) place ≡ Some (int n)) }
+{
+    if place < 0 {
+        return None;
+    }
+    match items.get(place as usize) {
+        Some(Value::Int(n)) => Some(*n),
+        _ => None,
+    }
+}
+
+// `nth` of a vector, where that is an integer.
+#[inline(always)]
+#[tactic(auto, using(crate::proofs::SlotLaws::nth_integer))]
+fn nth_integer(collection: &Value, place: i64) -> Option<i64>
+    ensures { IfSome result (λ n. applied Nth (view collection.now ∷ int place ∷ []) ≡ Ok (int n)) }
+{
+    match collection {
+        Value::Vector(items) => integer_of(items.as_slice(), place),
+        _ => None,
+    }
+}
+
+// `nth` of a slot's vector, where that is an integer.
+#[inline(always)]
+fn nth_in_place(slots: &mut [Value], to: u64, left: u64, place: i64) -> bool
+    requires to { to < length slots.old }
+    requires left { left < length slots.old }
+    ensures done { OnTrue result ((p : PurePlace) → answered (views slots.old) to p (applied Nth (read (views slots.old) left ∷ int place ∷ [])) ≡ done (views slots.new)) }
+    ensures left { OnFalse result (slots.new ≡ slots.old) }
+    ensures same { length slots.new ≡ length slots.old }
+{
+    if let Some(n) = nth_integer(value_at(slots, left), place) {
+        set_int(slots, to, n);
+        return true;
+    }
+    false
+}
+
+// A builtin of two slots, where both hold integers, and `nth` of a vector's integer.
 #[inline(always)]
 fn two_in_place(slots: &mut [Value], builtin: Builtin, to: u64, left: u64, right: u64) -> bool
     requires to { to < length slots.old }
@@ -98,11 +142,14 @@ fn two_in_place(slots: &mut [Value], builtin: Builtin, to: u64, left: u64, right
     ensures left { OnFalse result (slots.new ≡ slots.old) }
     ensures same { length slots.new ≡ length slots.old }
 {
-    let Some(a) = int_at(slots, left) else {
-        return false;
-    };
     let Some(b) = int_at(slots, right) else {
         return false;
+    };
+    let Some(a) = int_at(slots, left) else {
+        return match builtin {
+            Builtin::Nth => nth_in_place(slots, to, left, b),
+            _ => false,
+        };
     };
     integers_in_place(slots, builtin, to, a, b)
 }

@@ -119,12 +119,13 @@ impl Runner {
         ensures on { OnOk result (HaltsNext (code_view code.now) (state_view self.old) (state_view self.new)) }
         ensures stop { IfErr result (λ e. StopsAfter (code_view code.now) (state_view self.old) e self.new) }
     {
+        let mut stop = Stop::OutOfMemory;
         loop {
             let block = block_at(code, self.block);
             if self.halts_at(&block.exit) {
                 return Ok(());
             }
-            if let Err(stop) = self.pass(alloc, code, block) {
+            if !self.pass(alloc, code, block, &mut stop) {
                 return Err(stop);
             }
         }

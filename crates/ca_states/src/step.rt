@@ -1,5 +1,6 @@
 //! One block of a runner: its instructions, and its exit.
 ghost use Rattle.std.specs.Prelude.{◌≡◌, ◌<◌, ◌≤◌, false, length, map, IfErr, OnOk, IsTrue};
+ghost use Rattle.std.specs.Bool.{OnTrue, OnFalse};
 ghost use Rattle.ca_value.specs.Seq.{list};
 ghost use Rattle.ca_value.specs.View.{view, views};
 ghost use Rattle.ca_states.specs.Code.{block_at, block_view, code_view, instruction};
@@ -113,48 +114,65 @@ fn run_instr(alloc: Global, slots: &mut [Value], instr: &Instr) -> Result<(), St
     }
 }
 
-// The instructions in order, up to the first fault.
+// The instructions in order, up to the first fault, which `stop` then is.
 #[inline(always)]
-fn run_instrs(alloc: Global, slots: &mut [Value], instrs: &[Instr]) -> Result<(), Stop>
+fn run_instrs(alloc: Global, slots: &mut [Value], instrs: &[Instr], stop: &mut Stop) -> bool
     requires { IsTrue (each (is_instruction_in_range (length slots.old)) (map instruction instrs.now)) }
-    ensures ok { OnOk result (effects (map instruction instrs.now) (views slots.old) ≡ done (views slots.new)) }
-    ensures stop { IfErr result (λ e. StopsAt e (effects (map instruction instrs.now) (views slots.old))) }
+    ensures ok { OnTrue result (effects (map instruction instrs.now) (views slots.old) ≡ done (views slots.new)) }
+    ensures stop { OnFalse result (StopsAt stop.new (effects (map instruction instrs.now) (views slots.old))) }
     ensures same { length slots.new ≡ length slots.old }
 {
     for instr in instrs {
         if !run_in_place(slots, instr) {
-            run_instr(alloc, slots, instr)?;
+            if let Err(why) = run_instr(alloc, slots, instr) {
+                *stop = why;
+                return false;
+            }
         }
     }
-    Ok(())
+    true
 }
 
 impl Runner {
-    /// The instructions of a block.
+    /// The instructions of a block, up to the first fault, which `stop` then is.
     #[inline(always)]
-    pub(crate) fn run_block(&mut self, alloc: Global, block: &Block) -> Result<(), Stop>
+    pub(crate) fn run_block(&mut self, alloc: Global, block: &Block, stop: &mut Stop) -> bool
         requires { IsTrue (each (is_instruction_in_range (length self.old.slots.items)) (map instruction (list block.now.instrs))) }
-        ensures ok { OnOk result (effects (map instruction (list block.now.instrs)) (views self.old.slots.items) ≡ done (views self.new.slots.items)) }
-        ensures stop { IfErr result (λ e. StopsAt e (effects (map instruction (list block.now.instrs)) (views self.old.slots.items))) }
+        ensures ok { OnTrue result (effects (map instruction (list block.now.instrs)) (views self.old.slots.items) ≡ done (views self.new.slots.items)) }
+        ensures stop { OnFalse result (StopsAt stop.new (effects (map instruction (list block.now.instrs)) (views self.old.slots.items))) }
         ensures same { self.new ≡ record self.old { slots = self.new.slots } }
         ensures count { length self.new.slots.items ≡ length self.old.slots.items }
     {
-        run_instrs(alloc, self.slots.as_mut_slice(), block.instrs.as_slice())
+        run_instrs(
+            alloc,
+            self.slots.as_mut_slice(),
+            block.instrs.as_slice(),
+            stop,
+        )
     }
 
-    /// One block of the code, whose exit doesn't halt it.
+    /// One block of the code, whose exit doesn't halt it. Where that stops the runner, `stop` says why.
     #[inline(always)]
-    pub(crate) fn pass(&mut self, alloc: Global, code: &Code, block: &Block) -> Result<(), Stop>
+    pub(crate) fn pass(
+        &mut self,
+        alloc: Global,
+        code: &Code,
+        block: &Block,
+        stop: &mut Stop,
+    ) -> bool
         requires same { block_view block.now ≡ block_at (code_view code.now) self.old.block }
         requires instrs { IsTrue (each (is_instruction_in_range (length self.old.slots.items)) (map instruction (list block.now.instrs))) }
         requires fits { FitsAnyway (code_view code.now) block.now.exit (state_view self.old) }
         requires turns { self.old.turns ≤ 999_999 }
         requires goes { halts_at block.now.exit (frames_view (list self.old.frames)) ≡ false }
-        ensures { Passed (move (code_view code.now) (state_view self.old)) result self.new }
+        ensures { Passed (move (code_view code.now) (state_view self.old)) result stop.new self.new }
     {
-        match self.run_block(alloc, block) {
-            Ok(()) => self.leave(alloc, code, &block.exit),
-            Err(stop) => Err(stop),
+        if !self.run_block(alloc, block, stop) {
+            return false;
         }
+        if self.leave_in_place(&block.exit) {
+            return true;
+        }
+        self.leave(alloc, code, &block.exit, stop)
     }
 }

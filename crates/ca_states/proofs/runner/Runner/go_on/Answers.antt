@@ -16,7 +16,7 @@ loop-block-preserved c =
     let C = code_view c.args.code.now in
     let s = state_view c.loop-block.self in
     let t = state_view c.pass.new.self in
-    let e : move C s ≡ goes t = c.in_default.ensures in record {
+    let e : move C s ≡ goes t = c.if-not-pass.ensures in record {
       stands = (goes_standing C (valid_parts C c.requires.valid) s t c.loop-block.invariant.stands e).0;
       reached = λ m k. c.loop-block.invariant.reached m (goes_on s t m e k);
     }
@@ -24,8 +24,7 @@ loop-block-preserved c =
 pub loop-block-smaller : goal.loop-block-smaller
 loop-block-smaller c =
     let C = code_view c.args.code.now in
-    (goes_standing C (valid_parts C c.requires.valid) (state_view c.loop-block.self) (state_view c.pass.new.self) c.loop-block.invariant.stands c.in_default.ensures).1
+    (goes_standing C (valid_parts C c.requires.valid) (state_view c.loop-block.self) (state_view c.pass.new.self) c.loop-block.invariant.stands c.if-not-pass.ensures).1
 
-pub returns-in-Err-clause-stop : goal.returns-in-Err-clause-stop
-returns-in-Err-clause-stop c =
-    stopped (code_view c.args.code.now) (state_view c.args.self.now) (state_view c.loop-block.self) c.pass.result c.in-Err.stop c.pass.new.self c.loop-block.invariant.reached c.in-Err.is c.pass.ensures
+pub returns-then-not-pass-clause-stop : goal.returns-then-not-pass-clause-stop
+returns-then-not-pass-clause-stop c = stopped (code_view c.args.code.now) (state_view c.args.self.now) (state_view c.loop-block.self) c.pass.new.stop c.pass.new.self c.loop-block.invariant.reached c.if-not-pass.ensures
