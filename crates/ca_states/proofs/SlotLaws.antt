@@ -63,6 +63,11 @@ taken_int xs a v z lt e i =
     let within : a < length (views xs) = subst (λ n. a < n) (sym (length-map xs view)) lt in
     sym (ap (write (views xs) a) (left_int (read (views xs) a) z here) ∙ write_read (views xs) a within)
 
+pub taken_integer : (xs : List Value) (a : ℕ) (z : ℤ) → a < length xs → read (views xs) a ≡ int z → views xs ≡ taken (views xs) a
+taken_integer xs a z lt e =
+    let within : a < length (views xs) = subst (λ n. a < n) (sym (length-map xs view)) lt in
+    sym (ap (write (views xs) a) (left_int (read (views xs) a) z e) ∙ write_read (views xs) a within)
+
 -- an integer that is moved stays where it was
 pub moved_int : (xs : List Value) (a to : ℕ) (z : ℤ) → a < length xs → read (views xs) a ≡ int z → write (views xs) to (int z) ≡ write (taken (views xs) a) to (read (views xs) a)
 moved_int xs a to z lt e =

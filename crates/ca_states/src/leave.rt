@@ -139,14 +139,7 @@ impl Runner {
 
     // By the truth of a builtin of two slots, where both hold integers and it compares them.
     #[inline(always)]
-    fn test_in_place(
-        &mut self,
-        builtin: Builtin,
-        left: u64,
-        right: u64,
-        yes: u64,
-        no: u64,
-    ) -> bool
+    fn test_in_place(&mut self, builtin: Builtin, left: u64, right: u64, yes: u64, no: u64) -> bool
         requires left { left < length self.old.slots.items }
         requires right { right < length self.old.slots.items }
         ensures gone { OnTrue result ((p : PurePlace) → tested p (state_view self.old) yes no (applied builtin (read (views self.old.slots.items) left ∷ read (views self.old.slots.items) right ∷ [])) ≡ goes (state_view self.new)) }
@@ -230,13 +223,7 @@ impl Runner {
 
     /// Leaves the block by the exit, and goes on. Where that stops the runner, `stop` says why.
     #[inline(never)]
-    pub(crate) fn leave(
-        &mut self,
-        alloc: Global,
-        code: &Code,
-        exit: &Exit,
-        stop: &mut Stop,
-    ) -> bool
+    pub(crate) fn leave(&mut self, alloc: Global, code: &Code, exit: &Exit, stop: &mut Stop) -> bool
         requires turns { self.old.turns ≤ 999_999 }
         requires fits { FitsExit (code_view code.now) exit.now (state_view self.old) }
         requires goes { halts_at exit.now (frames_view (list self.old.frames)) ≡ false }

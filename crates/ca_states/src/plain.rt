@@ -2,20 +2,22 @@
 //! kind, it leaves to the builtin's row.
 ghost use Rattle.std.specs.Prelude.{◌≡◌, ◌<◌, ◌∷◌, [], length, Ok, Some, IfSome, IsTrue};
 ghost use Rattle.std.specs.Bool.{OnTrue, OnFalse};
-ghost use Rattle.ca_value.specs.Tree.{int, bool};
-ghost use Rattle.ca_value.specs.View.{view, views};
+ghost use Rattle.ca_value.specs.Tree.{Tree, int, bool};
+ghost use Rattle.ca_value.specs.Equality.{equals};
+ghost use Rattle.ca_value.specs.Maps.{value_at as value_of};
+ghost use Rattle.ca_value.specs.View.{view, views, pair_views};
 ghost use Rattle.ca_value.specs.Vectors.{item_at};
-ghost use Rattle.ca_value.specs.declared.builtin.Builtin.TheVariants.{Nth};
+ghost use Rattle.ca_value.specs.declared.builtin.Builtin.TheVariants.{Get, Nth};
 ghost use Rattle.ca_term.specs.declared.place.Place.{Place as PurePlace};
 ghost use Rattle.ca_states.specs.Code.{constant, copying, instruction};
-ghost use Rattle.ca_states.specs.Machine.{read, applied, answered, done, effect};
-ghost use Rattle.ca_states.specs.Valid.{is_instruction_in_range};
+ghost use Rattle.ca_states.specs.Machine.{read, reads, applied, answered, done, effect, slots_from, taken_all};
+ghost use Rattle.ca_states.specs.Valid.{are_below, is_instruction_in_range};
 
 use crate::code::Instr;
-use crate::slots::{clear_at, int_at, move_at, set_bool, set_int, value_at};
+use crate::slots::{clear_at, clear_row, int_at, move_at, set_bool, set_int, value_at, width_of};
 use ca_value::builtin::Builtin;
 use ca_value::builtin::scalars::{int_of_one, int_of_two, truth_of_one, truth_of_two};
-use ca_value::value::Value;
+use ca_value::value::{Pair, Value};
 
 // A value of the text, where it is an integer.
 #[inline(always)]
@@ -169,6 +171,95 @@ fn two_int_in_place(slots: &mut [Value], builtin: Builtin, to: u64, left: u64, r
     integers_in_place(slots, builtin, to, a, right)
 }
 
+// The integer of an integer key, if there is one.
+#[inline(never)]
+#[tactic(auto, using(crate::proofs::PairLaws::found_here, crate::proofs::PairLaws::not_here))]
+fn integer_of_key(pairs: &[Pair], key: i64) -> Option<i64>
+    ensures { IfSome result (λ n. value_of (pair_views pairs.now) (int key) ≡ Some (int n)) }
+{
+    for pair in pairs {
+        if holds_integer(&pair.key, key) {
+            return integer_in(&pair.value);
+        }
+    }
+    None
+}
+
+// Whether the value is that integer.
+#[inline(always)]
+#[tactic(auto, using(crate::proofs::PairLaws::not_equal))]
+fn holds_integer(value: &Value, n: i64) -> bool
+    ensures { result ≡ equals (int n) (view value.now) }
+{
+    match value {
+        Value::Int(m) => n == *m,
+        _ => false,
+    }
+}
+
+// The integer, where the value is one.
+#[inline(always)]
+fn integer_in(value: &Value) -> Option<i64>
+    ensures { IfSome result (λ n. view value.now ≡ int n) }
+{
+    match value {
+        Value::Int(n) => Some(*n),
+        _ => None,
+    }
+}
+
+// `get` of a map under an integer key, where that is an integer; so with any default.
+#[inline(always)]
+fn get_integer(collection: &Value, key: i64) -> Option<i64>
+    ensures { IfSome result (λ n. (d : Tree) → applied Get (view collection.now ∷ int key ∷ d ∷ []) ≡ Ok (int n)) }
+{
+    match collection {
+        Value::Map(pairs) => integer_of_key(pairs.as_slice(), key),
+        _ => None,
+    }
+}
+
+// `get` of a row of three slots: a map, an integer key whose value is an integer, and a default.
+#[inline(never)]
+#[tactic(auto, using(crate::proofs::PairLaws::get_row, crate::proofs::RowLaws::row_within))]
+fn get_in_place(slots: &mut [Value], to: u64, from: u64, count: u64) -> bool
+    requires to { to < length slots.old }
+    requires row { IsTrue (are_below (length slots.old) (slots_from from count)) }
+    ensures done { OnTrue result ((p : PurePlace) → answered (taken_all (views slots.old) (slots_from from count)) to p (applied Get (reads (views slots.old) (slots_from from count))) ≡ done (views slots.new)) }
+    ensures left { OnFalse result (slots.new ≡ slots.old) }
+    ensures same { length slots.new ≡ length slots.old }
+{
+    // Each of the slots is below it, so its number fits.
+    let _width = width_of(slots);
+    if count != 3 {
+        return false;
+    }
+    let Some(key) = int_at(slots, from + 1) else {
+        return false;
+    };
+    let Some(n) = get_integer(value_at(slots, from), key) else {
+        return false;
+    };
+    clear_row(slots, from, count);
+    set_int(slots, to, n);
+    true
+}
+
+// A builtin of a row of slots, where it is `get` as above.
+#[inline(always)]
+fn many_in_place(slots: &mut [Value], builtin: Builtin, to: u64, from: u64, count: u64) -> bool
+    requires to { to < length slots.old }
+    requires row { IsTrue (are_below (length slots.old) (slots_from from count)) }
+    ensures done { OnTrue result ((p : PurePlace) → answered (taken_all (views slots.old) (slots_from from count)) to p (applied builtin (reads (views slots.old) (slots_from from count))) ≡ done (views slots.new)) }
+    ensures left { OnFalse result (slots.new ≡ slots.old) }
+    ensures same { length slots.new ≡ length slots.old }
+{
+    match builtin {
+        Builtin::Get => get_in_place(slots, to, from, count),
+        _ => false,
+    }
+}
+
 /// The truth of a builtin of two slots, where both hold integers and it compares them.
 #[inline(always)]
 pub(crate) fn truth_in_place(
@@ -223,6 +314,13 @@ pub(crate) fn run_in_place(slots: &mut [Value], instr: &Instr) -> bool
             right,
             ..
         } => two_int_in_place(slots, *builtin, *to, *left, *right),
+        Instr::Many {
+            builtin,
+            to,
+            from,
+            count,
+            ..
+        } => many_in_place(slots, *builtin, *to, *from, *count),
         _ => false,
     }
 }

@@ -108,7 +108,11 @@ pub(crate) fn put_at(slots: &mut [Value], slot: u64, value: Value)
     ensures written { views slots.new ≡ write (views slots.old) slot (view value) }
     ensures same { length slots.new ≡ length slots.old }
 {
-    slots[slot as usize] = value;
+    if is_bare(value_at(slots, slot)) {
+        mem::forget(mem::replace(&mut slots[slot as usize], value));
+    } else {
+        slots[slot as usize] = value;
+    }
 }
 
 /// The slot's value, taken out of it.
@@ -152,8 +156,21 @@ fn move_value(slots: &mut [Value], to: u64, from: u64)
 }
 
 /// The slot's value is let go.
-#[inline(never)]
+#[inline(always)]
+#[tactic(auto, using(crate::proofs::SlotLaws::taken_integer))]
 pub(crate) fn clear_at(slots: &mut [Value], slot: u64)
+    requires { slot < length slots.old }
+    ensures taken { views slots.new ≡ taken (views slots.old) slot }
+    ensures same { length slots.new ≡ length slots.old }
+{
+    if let Some(_n) = int_at(slots, slot) {
+        return;
+    }
+    clear_value(slots, slot);
+}
+
+#[inline(never)]
+fn clear_value(slots: &mut [Value], slot: u64)
     requires { slot < length slots.old }
     ensures taken { views slots.new ≡ taken (views slots.old) slot }
     ensures same { length slots.new ≡ length slots.old }
@@ -161,9 +178,9 @@ pub(crate) fn clear_at(slots: &mut [Value], slot: u64)
     take_at(slots, slot);
 }
 
-// How many slots there are.
+/// How many slots there are.
 #[inline(always)]
-fn width_of(slots: &[Value]) -> u64
+pub(crate) fn width_of(slots: &[Value]) -> u64
     ensures { result ≡ length slots.now }
 {
     slots.len() as u64
@@ -182,6 +199,19 @@ pub(crate) fn take_into(values: &mut Items, slots: &mut [Value], from: u64, coun
     let _width = width_of(slots);
     for i in 0..count {
         values.push(take_at(slots, from + i));
+    }
+}
+
+/// The values of so many slots, from one on, are let go.
+pub(crate) fn clear_row(slots: &mut [Value], from: u64, count: u64)
+    requires { IsTrue (are_below (length slots.old) (slots_from from count)) }
+    ensures taken { views slots.new ≡ taken_all (views slots.old) (slots_from from count) }
+    ensures same { length slots.new ≡ length slots.old }
+{
+    // Each of the slots is below it, so its number fits.
+    let _width = width_of(slots);
+    for i in 0..count {
+        clear_at(slots, from + i);
     }
 }
 
