@@ -2,3 +2,4 @@ pub mod PairLaws
 pub mod RowLaws
 pub mod SlotLaws
 pub mod StandingLaws
+pub mod TextLaws

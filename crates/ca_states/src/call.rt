@@ -12,7 +12,7 @@ use crate::code::Code;
 use crate::entry::{block_at, fill, function_at};
 use crate::leave::LAST_TURN;
 use crate::runner::{Frame, Runner};
-use crate::slots::{put_at, take_at, take_into};
+use crate::slots::{hand_over, take_into};
 use crate::stop::Stop;
 use ca_term::fault::Fault;
 use ca_term::place::Place;
@@ -122,13 +122,17 @@ impl Runner {
         requires waits { halts_at (Return slot) (frames_view (list self.old.frames)) ≡ false }
         ensures { returned (read (views self.old.slots.items) slot) (frames_view (list self.old.frames)) self.old.turns ≡ goes (state_view self.new) }
     {
-        let value = take_at(self.slots.as_mut_slice(), slot);
         match self.frames.pop() {
             None => unreachable!(),
             Some(frame) => {
                 self.block = frame.next;
-                let slots = mem::replace(&mut self.slots, frame.slots);
-                put_at(self.slots.as_mut_slice(), frame.answer, value);
+                let mut slots = mem::replace(&mut self.slots, frame.slots);
+                hand_over(
+                    slots.as_mut_slice(),
+                    slot,
+                    self.slots.as_mut_slice(),
+                    frame.answer,
+                );
                 self.keep(slots);
             }
         }

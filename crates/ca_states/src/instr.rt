@@ -1,10 +1,10 @@
 //! What each instruction does to the slots.
-ghost use Rattle.std.specs.Prelude.{◌≡◌, ◌<◌, ◌∷◌, [], length, OnOk, IfErr, IsTrue};
+ghost use Rattle.std.specs.Prelude.{◌≡◌, ◌<◌, ◌∷◌, [], length, OnOk, IfErr, IfOk, IfSome, Ok, IsTrue};
 ghost use Rattle.ca_value.specs.View.{view, views};
 ghost use Rattle.ca_value.specs.Outcome.{Outcome, Gives};
 ghost use Rattle.ca_value.specs.Tree.{int};
 ghost use Rattle.ca_value.specs.Builtins.{admits};
-ghost use Rattle.ca_value.specs.declared.builtin.Builtin.TheVariants.{Conj, Assoc};
+ghost use Rattle.ca_value.specs.declared.builtin.Builtin.TheVariants.{Conj, Assoc, Str};
 ghost use Rattle.ca_states.specs.Machine.{read, reads, taken, taken_all, applied, answered, done, slots_from};
 ghost use Rattle.ca_states.specs.Valid.{are_below};
 ghost use Rattle.ca_states.specs.Runs.{StopsAt};
@@ -15,8 +15,13 @@ use ca_term::place::Place;
 use ca_value::builtin::direct::{apply_one, apply_two, assoc_one, conj_one};
 use ca_value::builtin::{Builtin, apply_builtin};
 use ca_value::fault::ApplyError;
+use ca_value::memory::OutOfMemory;
+use ca_value::seq::Text;
 use ca_value::value::Value;
 use std::alloc::Global;
+
+// The bytes of the longest integer: its sign and 19 digits.
+const LONGEST_INTEGER: u64 = 20;
 
 // A builtin's value comes into the slot, or its fault stops the runner.
 fn settle(
@@ -40,9 +45,74 @@ fn settle(
     }
 }
 
-/// A builtin of one slot.
+// The text of an integer, as `str` has it; None leaves it to the builtin's row.
+#[inline(never)]
+#[tactic(auto, using(crate::proofs::TextLaws::str_integer))]
+fn text_of_integer(alloc: Global, value: &Value) -> Result<Option<Value>, OutOfMemory>
+    ensures { IfOk result (λ o. IfSome o (λ v. applied Str (view value.now ∷ []) ≡ Ok (view v))) }
+{
+    let Value::Int(_n) = value else {
+        return Ok(None);
+    };
+    let mut text = Text::new(alloc);
+    text.reserve(LONGEST_INTEGER)?;
+    value.append_readable(&mut text)?;
+    if LONGEST_INTEGER < text.len() {
+        return Ok(None);
+    }
+    Ok(Some(Value::text(alloc, text)?))
+}
+
+// `str` of one slot.
 #[tactic(auto, using(crate::proofs::SlotLaws::gives_by))]
+fn run_str(
+    alloc: Global,
+    slots: &mut [Value],
+    to: u64,
+    operand: u64,
+    place: Place,
+) -> Result<(), Stop>
+    requires to { to < length slots.old }
+    requires operand { operand < length slots.old }
+    ensures ok { OnOk result (answered (views slots.old) to place (applied Str (read (views slots.old) operand ∷ [])) ≡ done (views slots.new)) }
+    ensures stop { IfErr result (λ e. StopsAt e (answered (views slots.old) to place (applied Str (read (views slots.old) operand ∷ [])))) }
+    ensures same { length slots.new ≡ length slots.old }
+{
+    match text_of_integer(alloc, value_at(slots, operand)) {
+        Ok(Some(value)) => {
+            put_at(slots, to, value);
+            Ok(())
+        }
+        Ok(None) => run_row(alloc, slots, Builtin::Str, to, operand, place),
+        Err(OutOfMemory) => Err(Stop::OutOfMemory),
+    }
+}
+
+/// A builtin of one slot.
 pub(crate) fn run_one(
+    alloc: Global,
+    slots: &mut [Value],
+    builtin: Builtin,
+    to: u64,
+    operand: u64,
+    place: Place,
+) -> Result<(), Stop>
+    requires counted { IsTrue (admits builtin 1) }
+    requires to { to < length slots.old }
+    requires operand { operand < length slots.old }
+    ensures ok { OnOk result (answered (views slots.old) to place (applied builtin (read (views slots.old) operand ∷ [])) ≡ done (views slots.new)) }
+    ensures stop { IfErr result (λ e. StopsAt e (answered (views slots.old) to place (applied builtin (read (views slots.old) operand ∷ [])))) }
+    ensures same { length slots.new ≡ length slots.old }
+{
+    match builtin {
+        Builtin::Str => run_str(alloc, slots, to, operand, place),
+        _ => run_row(alloc, slots, builtin, to, operand, place),
+    }
+}
+
+// A builtin of one slot, by its row.
+#[tactic(auto, using(crate::proofs::SlotLaws::gives_by))]
+fn run_row(
     alloc: Global,
     slots: &mut [Value],
     builtin: Builtin,

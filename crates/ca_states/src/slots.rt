@@ -2,7 +2,7 @@
 //!
 //! The small functions are inlined into the runner's loop, where integers and truths are all that is touched. What
 //! makes or lets go of another value is a function of its own, which is not.
-ghost use Rattle.std.specs.Prelude.{◌≡◌, ◌<◌, length, IfOk, OnOk, IfSome, IsTrue, ◌≤◌, ◌+◌, ◌++◌};
+ghost use Rattle.std.specs.Prelude.{◌≡◌, ◌<◌, length, IfOk, OnOk, IfSome, IsTrue, ◌≤◌, ◌+◌, ◌++◌, ◌∷◌, []};
 ghost use Rattle.ca_value.specs.Seq.{list, spare};
 ghost use Rattle.ca_value.specs.Tree.{int, bool};
 ghost use Rattle.ca_value.specs.View.{view, views};
@@ -186,6 +186,62 @@ pub(crate) fn width_of(slots: &[Value]) -> u64
     slots.len() as u64
 }
 
+// The slot's value, taken out of it, at the end of the others. There is room.
+#[inline(always)]
+#[tactic(auto, using(crate::proofs::SlotLaws::taken_integer, crate::proofs::SlotLaws::views_push))]
+fn take_onto(values: &mut Items, slots: &mut [Value], slot: u64)
+    requires slot { slot < length slots.old }
+    requires room { 0 < spare values.old }
+    ensures added { views (list values.new) ≡ views (list values.old) ++ read (views slots.old) slot ∷ [] }
+    ensures taken { views slots.new ≡ taken (views slots.old) slot }
+    ensures same { length slots.new ≡ length slots.old }
+    ensures spare { spare values.old ≤ spare values.new + 1 }
+{
+    if let Some(n) = int_at(slots, slot) {
+        values.push(Value::Int(n));
+        return;
+    }
+    take_value_onto(values, slots, slot);
+}
+
+#[inline(never)]
+#[tactic(auto, using(crate::proofs::SlotLaws::views_push))]
+fn take_value_onto(values: &mut Items, slots: &mut [Value], slot: u64)
+    requires slot { slot < length slots.old }
+    requires room { 0 < spare values.old }
+    ensures added { views (list values.new) ≡ views (list values.old) ++ read (views slots.old) slot ∷ [] }
+    ensures taken { views slots.new ≡ taken (views slots.old) slot }
+    ensures same { length slots.new ≡ length slots.old }
+    ensures spare { spare values.old ≤ spare values.new + 1 }
+{
+    values.push(take_at(slots, slot));
+}
+
+/// The value is taken out of a slot, and a slot of others has it.
+#[inline(always)]
+pub(crate) fn hand_over(slots: &mut [Value], from: u64, others: &mut [Value], to: u64)
+    requires from { from < length slots.old }
+    requires to { to < length others.old }
+    ensures written { views others.new ≡ write (views others.old) to (read (views slots.old) from) }
+    ensures same { length others.new ≡ length others.old }
+{
+    if let Some(n) = int_at(slots, from) {
+        set_int(others, to, n);
+    } else {
+        hand_value_over(slots, from, others, to);
+    }
+}
+
+#[inline(never)]
+fn hand_value_over(slots: &mut [Value], from: u64, others: &mut [Value], to: u64)
+    requires from { from < length slots.old }
+    requires to { to < length others.old }
+    ensures written { views others.new ≡ write (views others.old) to (read (views slots.old) from) }
+    ensures same { length others.new ≡ length others.old }
+{
+    put_at(others, to, take_at(slots, from));
+}
+
 /// The values of so many slots, from one on, taken out of them in order, at the end of the others. There is room.
 pub(crate) fn take_into(values: &mut Items, slots: &mut [Value], from: u64, count: u64)
     requires row { IsTrue (are_below (length slots.old) (slots_from from count)) }
@@ -198,7 +254,7 @@ pub(crate) fn take_into(values: &mut Items, slots: &mut [Value], from: u64, coun
     // Each of the slots is below it, so its number fits.
     let _width = width_of(slots);
     for i in 0..count {
-        values.push(take_at(slots, from + i));
+        take_onto(values, slots, from + i);
     }
 }
 

@@ -3,7 +3,7 @@ use Rattle.ca_value.specs.View.{view, views}
 use Rattle.ca_value.specs.Outcome.{Gives}
 use Rattle.ca_states.specs.Machine.{read, applied}
 use Rattle.ca_states.proofs.SlotLaws.{gives_by}
-use Rattle.ca_states.proofs.instr.run_one.Goals as goal
+use Rattle.ca_states.proofs.instr.run_row.Goals as goal
 
 pub returns-clause-stop : goal.returns-clause-stop
 returns-clause-stop c =
