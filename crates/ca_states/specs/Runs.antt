@@ -1,8 +1,8 @@
 -- What the code of a runner comes to.
-use Rattle.std.specs.Prelude.{◌≡◌, List, [], ◌∷◌}
+use Rattle.std.specs.Prelude.{◌≡◌, List, [], ◌∷◌, Bool, true, false}
 use Rattle.ca_value.specs.Tree.{Tree}
 use Rattle.ca_states.specs.declared.stop.Stop.{Stop}
-use Rattle.ca_states.specs.Code.{Instruction}
+use Rattle.ca_states.specs.Code.{Instruction, constant, copying, moving, clearing, one, two, two_int, pushing, putting, many}
 use Rattle.ca_states.specs.Machine.{Effect, done, failed, effect}
 
 -- it stops at the effect's fault; want of memory says nothing
@@ -18,3 +18,16 @@ follows (failed f p) g = failed f p
 abbrev pub effects : List Instruction → List Tree → Effect
 effects [] s = done s
 effects (i ∷ is) s = follows (effect i s) (effects is)
+
+-- a builtin that takes no collection out of its slot
+abbrev pub applies : Instruction → Bool
+applies (constant to v) = false
+applies (copying to a) = false
+applies (moving to a) = false
+applies (clearing a) = false
+applies (one b to a p) = true
+applies (two b to a c p) = true
+applies (two_int b to a z p) = true
+applies (pushing to a c p) = false
+applies (putting to a k v p) = false
+applies (many b to a n p) = true

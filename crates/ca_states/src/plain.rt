@@ -275,25 +275,15 @@ pub(crate) fn truth_in_place(
     truth_of_two(builtin, int_at(slots, left)?, int_at(slots, right)?)
 }
 
-/// Runs the instruction where it needs no memory and can't fault here; else nothing is done.
+// A builtin that is done in place; else nothing is done.
 #[inline(always)]
-pub(crate) fn run_in_place(slots: &mut [Value], instr: &Instr) -> bool
+fn apply_in_place(slots: &mut [Value], instr: &Instr) -> bool
     requires { IsTrue (is_instruction_in_range (length slots.old) (instruction instr.now)) }
     ensures done { OnTrue result (effect (instruction instr.now) (views slots.old) ≡ done (views slots.new)) }
     ensures left { OnFalse result (slots.new ≡ slots.old) }
     ensures same { length slots.new ≡ length slots.old }
 {
     match instr {
-        Instr::Const { to, value } => const_in_place(slots, *to, value),
-        Instr::Copy { to, from } => copy_in_place(slots, *to, *from),
-        Instr::Move { to, from } => {
-            move_at(slots, *to, *from);
-            true
-        }
-        Instr::Clear { slot } => {
-            clear_at(slots, *slot);
-            true
-        }
         Instr::One {
             builtin,
             to,
@@ -322,5 +312,28 @@ pub(crate) fn run_in_place(slots: &mut [Value], instr: &Instr) -> bool
             ..
         } => many_in_place(slots, *builtin, *to, *from, *count),
         _ => false,
+    }
+}
+
+/// Runs the instruction where it needs no memory and can't fault here; else nothing is done.
+#[inline(always)]
+pub(crate) fn run_in_place(slots: &mut [Value], instr: &Instr) -> bool
+    requires { IsTrue (is_instruction_in_range (length slots.old) (instruction instr.now)) }
+    ensures done { OnTrue result (effect (instruction instr.now) (views slots.old) ≡ done (views slots.new)) }
+    ensures left { OnFalse result (slots.new ≡ slots.old) }
+    ensures same { length slots.new ≡ length slots.old }
+{
+    match instr {
+        Instr::Const { to, value } => const_in_place(slots, *to, value),
+        Instr::Copy { to, from } => copy_in_place(slots, *to, *from),
+        Instr::Move { to, from } => {
+            move_at(slots, *to, *from);
+            true
+        }
+        Instr::Clear { slot } => {
+            clear_at(slots, *slot);
+            true
+        }
+        _ => apply_in_place(slots, instr),
     }
 }

@@ -6,7 +6,7 @@ ghost use Rattle.ca_value.specs.View.{view, views};
 ghost use Rattle.ca_states.specs.Code.{block_at, block_view, code_view, instruction};
 ghost use Rattle.ca_states.specs.Machine.{done, effect, move, read, write};
 ghost use Rattle.ca_states.specs.Valid.{each, is_instruction_in_range};
-ghost use Rattle.ca_states.specs.Runs.{StopsAt, effects};
+ghost use Rattle.ca_states.specs.Runs.{StopsAt, applies, effects};
 ghost use Rattle.ca_states.specs.Standing.{state_view, frames_view, halts_at, FitsAnyway, Passed};
 
 use crate::code::{Block, Code, Exit, Instr};
@@ -52,25 +52,15 @@ fn run_copy(alloc: Global, slots: &mut [Value], to: u64, from: u64) -> Result<()
     }
 }
 
-// One instruction, of any values.
-#[inline(never)]
-fn run_instr(alloc: Global, slots: &mut [Value], instr: &Instr) -> Result<(), Stop>
-    requires { IsTrue (is_instruction_in_range (length slots.old) (instruction instr.now)) }
+// A builtin that takes no collection out of its slot, of any values.
+fn apply_instr(alloc: Global, slots: &mut [Value], instr: &Instr) -> Result<(), Stop>
+    requires range { IsTrue (is_instruction_in_range (length slots.old) (instruction instr.now)) }
+    requires applies { IsTrue (applies (instruction instr.now)) }
     ensures ok { OnOk result (effect (instruction instr.now) (views slots.old) ≡ done (views slots.new)) }
     ensures stop { IfErr result (λ e. StopsAt e (effect (instruction instr.now) (views slots.old))) }
     ensures same { length slots.new ≡ length slots.old }
 {
     match instr {
-        Instr::Const { to, value } => run_const(alloc, slots, *to, value),
-        Instr::Copy { to, from } => run_copy(alloc, slots, *to, *from),
-        Instr::Move { to, from } => {
-            move_at(slots, *to, *from);
-            Ok(())
-        }
-        Instr::Clear { slot } => {
-            clear_at(slots, *slot);
-            Ok(())
-        }
         Instr::One {
             builtin,
             to,
@@ -91,6 +81,36 @@ fn run_instr(alloc: Global, slots: &mut [Value], instr: &Instr) -> Result<(), St
             right,
             place,
         } => run_two_int(alloc, slots, *builtin, *to, *left, *right, *place),
+        Instr::Many {
+            builtin,
+            to,
+            from,
+            count,
+            place,
+        } => run_many(alloc, slots, *builtin, *to, *from, *count, *place),
+        _ => unreachable!(),
+    }
+}
+
+// One instruction, of any values.
+#[inline(never)]
+fn run_instr(alloc: Global, slots: &mut [Value], instr: &Instr) -> Result<(), Stop>
+    requires { IsTrue (is_instruction_in_range (length slots.old) (instruction instr.now)) }
+    ensures ok { OnOk result (effect (instruction instr.now) (views slots.old) ≡ done (views slots.new)) }
+    ensures stop { IfErr result (λ e. StopsAt e (effect (instruction instr.now) (views slots.old))) }
+    ensures same { length slots.new ≡ length slots.old }
+{
+    match instr {
+        Instr::Const { to, value } => run_const(alloc, slots, *to, value),
+        Instr::Copy { to, from } => run_copy(alloc, slots, *to, *from),
+        Instr::Move { to, from } => {
+            move_at(slots, *to, *from);
+            Ok(())
+        }
+        Instr::Clear { slot } => {
+            clear_at(slots, *slot);
+            Ok(())
+        }
         Instr::Push {
             to,
             collection,
@@ -104,13 +124,7 @@ fn run_instr(alloc: Global, slots: &mut [Value], instr: &Instr) -> Result<(), St
             value,
             place,
         } => run_put(alloc, slots, *to, *collection, *key, *value, *place),
-        Instr::Many {
-            builtin,
-            to,
-            from,
-            count,
-            place,
-        } => run_many(alloc, slots, *builtin, *to, *from, *count, *place),
+        _ => apply_instr(alloc, slots, instr),
     }
 }
 
