@@ -1,7 +1,6 @@
 -- The code that implements a term goes as the term does.
 use Rattle.std.proofs.Common.{◌≡◌, ℕ, zero, suc, ◌+◌, ◌<◌, ◌≤◌, List, [], ◌∷◌, ◌++◌, length, None, Some, Option, Bool, true, false, refl, sym, ap, ap₂, ◌∙◌, subst, arith, cond, append_assoc, append-nil, lt-ltb}
 use Rattle.std.specs.Prelude.{nat_lt, Ok, Err}
-use Rattle.ca_value.specs.declared.builtin.Builtin.{Builtin as BuiltinName}
 use Rattle.ca_value.specs.Tree.{Tree}
 use Rattle.ca_value.specs.Outcome.{Outcome}
 use Rattle.ca_term.specs.declared.place.Place.{Place}

@@ -1,9 +1,9 @@
 -- Heads whose operands are values, sequences and loops go as the term does; and so does every term.
-use Rattle.std.proofs.Common.{◌≡◌, ℕ, suc, ◌-◌, ◌<◌, ◌≤◌, List, [], ◌∷◌, length, None, Some, Bool, true, false, refl, sym, ap, ap₂, ◌∙◌, subst, arith, cond}
+use Rattle.std.proofs.Common.{◌≡◌, ℕ, suc, ◌-◌, ◌<◌, ◌≤◌, List, [], ◌∷◌, length, Option, None, Some, ℤ, Bool, true, false, refl, sym, ap, ap₂, ◌∙◌, subst, arith, cond}
 use Rattle.std.specs.Prelude.{nat_le, Result, Ok, Err}
 use Rattle.ca_value.specs.declared.builtin.Builtin.{Builtin as BuiltinName}
 use Rattle.ca_value.specs.declared.builtin.Builtin.TheVariants.{Conj, Assoc}
-use Rattle.ca_value.specs.Tree.{Tree, trees_of}
+use Rattle.ca_value.specs.Tree.{Tree, int, trees_of}
 use Rattle.ca_value.specs.Outcome.{Outcome}
 use Rattle.ca_value.specs.Builtins.{builtin_result}
 use Rattle.ca_term.specs.declared.place.Place.{Place}
@@ -23,16 +23,20 @@ use Rattle.ca_meaning.specs.Rest.{LocalSteps, here, after}
 use Rattle.ca_meaning.specs.Started.{procedure_at, started as started_text}
 use Rattle.ca_states.specs.declared.code.Exit.TheVariants.{Jump, Branch, Return, Cut}
 use Rattle.ca_states.specs.declared.code.Exit.TheVariants as exit
-use Rattle.ca_states.specs.Code.{Instruction, one, two, pushing, putting, many, CodeView, function_at}
+use Rattle.ca_states.specs.Code.{Instruction, one, two, two_int, pushing, putting, many, CodeView, function_at}
 use Rattle.ca_states.specs.Machine.{Frame, goes, faults, read, write, reads, taken, taken_all, slots_from, effect, answered, applied, begun_at, waiting}
-use Rattle.ca_lower.specs.Implements.{Position, position, start_of, before, Scope, moves, operand_slot, next_slot, Operand, LeadsByCut, Implements, ImplementsAll}
+use Rattle.ca_lower.specs.Implements.{Position, position, start_of, before, Scope, moves, operand_slot, next_slot, integer_of, paired, Operand, Second, LeadsByCut, Implements, ImplementsAll}
 use Rattle.ca_lower.specs.Lowered.{After, AreAlike}
-use Rattle.ca_lower.proofs.Puts.{puts_items, puts_one, puts_two, puts_three, puts-apply, consts, values-consts, operands-consts}
+use Rattle.ca_lower.proofs.Puts.{puts_items, puts_one, puts_two, puts_three, puts-apply, puts-const, consts, values-consts, operands-consts}
 use Rattle.ca_lower.proofs.Contexts.{Context, inside, in_frame, in_apply, in_first, in_rest}
 use Rattle.ca_lower.proofs.Slots.{Same, same_trans, same_less, same_then_write, same_taken, same_taken_all, Holds, holds_same, length-reads, read-write_same, move_slots, same_moves, reads_moved}
 use Rattle.ca_lower.proofs.Alike.{body, state, AlikeAt, alike_back, alike_next, fire, stands, filled}
 use Rattle.ca_lower.proofs.Goes.{went_by, run_moves, many_move, Calls, Then, Gen, GenAll, calls_less, at_back, gen_none, gen_item, gen_operand, slot_before, from_next}
 use Rattle.ca_lower.proofs.Leaves.{IsOperation, not_ready, at_asked, asks_at, apply_redex, apply_replace}
+
+integer_is : (u : Kernel) (z : ℤ) → integer_of u ≡ Some z → u ≡ const (int z)
+integer_is (const (int y)) z e = let g : y ≡ z = cc in ap (λ k. const (int k)) g
+integer_is t z e = absurd (let g : None ≡ Some z = e in cc)
 
 module _ (P : ProgramView) (C : CodeView) where
   -- BUILTINS
@@ -94,12 +98,27 @@ module _ (P : ProgramView) (C : CodeView) where
       (λ m le s1 turns1 same1. built m h r q b pl (one b h a pl) (read s1 a ∷ []) s s1 s1 K E turns1 er refl ctx same1 (then_less m n q h s K E le cont)) in
       subst (λ u. AlikeAt P C n p s K turns (E u)) (sym (puts-apply fs (Builtin b) (item t none) pl ∙ ap F (puts_one fs t))) g
 
+  -- over one and an integer of the text
+  gen_integer : (b : BuiltinName) (t u : Kernel) (z : ℤ) (pl : Place) → u ≡ const (int z) → Gen P C t
+      → (n : ℕ) (names : Scope) (fs : Founds) (h : ℕ) (p q : Position) (s : List Tree) (K : List Frame) (E : Kernel → Kernel) (turns : ℕ) → Calls P C n
+      → (r : Position) → Operand names t (Implements C None names h t p r) p r → r ≡ before (two_int b h (operand_slot names h t) z pl) q
+      → Holds names fs s h → Context E → Then P C n q h s K E → AlikeAt P C n p s K turns (E (puts fs (apply (Builtin b) (item t (item u none)) pl)))
+  gen_integer b t u z pl eu gt n names fs h p q s K E turns calls r it er holds ctx cont =
+      let F : Kernels → Kernel = λ us. apply (Builtin b) us pl in
+      let a = operand_slot names h t in
+      let rest : Kernels = item (const (int z)) none in
+      let g : AlikeAt P C n p s K turns (E (F (item (puts fs t) rest))) =
+      gen_operand P C t gt n names fs h p r s K (λ y. E (F (item y rest))) turns calls it holds (inside E (λ y. F (item y rest)) ctx (in_first F rest (in_apply (Builtin b) pl)))
+      (λ m le s1 turns1 same1. built m h r q b pl (two_int b h a z pl) (read s1 a ∷ int z ∷ []) s s1 s1 K E turns1 er refl ctx same1 (then_less m n q h s K E le cont)) in
+      let second_is : puts fs u ≡ const (int z) = ap (puts fs) eu ∙ puts-const fs (int z) in
+      subst (λ y. AlikeAt P C n p s K turns (E y)) (sym (puts-apply fs (Builtin b) (item t (item u none)) pl ∙ ap F (puts_two fs t u) ∙ ap (λ y. F (item (puts fs t) (item y none))) second_is)) g
+
   -- over two, the first of which is read in its slot too
-  gen_both : (b : BuiltinName) (t u : Kernel) (pl : Place) → Gen P C t → Gen P C u
+  gen_slots : (b : BuiltinName) (t u : Kernel) (pl : Place) → Gen P C t → Gen P C u
       → (n : ℕ) (names : Scope) (fs : Founds) (h : ℕ) (p q : Position) (s : List Tree) (K : List Frame) (E : Kernel → Kernel) (turns : ℕ) → Calls P C n
       → (r r2 : Position) × Operand names t (Implements C None names h t p r) p r × Operand names u (Implements C None names (next_slot h t) u r r2) r r2 × (r2 ≡ before (two b h (operand_slot names h t) (operand_slot names (next_slot h t) u) pl) q)
       → Holds names fs s h → Context E → Then P C n q h s K E → AlikeAt P C n p s K turns (E (puts fs (apply (Builtin b) (item t (item u none)) pl)))
-  gen_both b t u pl gt gu n names fs h p q s K E turns calls (r, r2, it, iu, er) holds ctx cont =
+  gen_slots b t u pl gt gu n names fs h p q s K E turns calls (r, r2, it, iu, er) holds ctx cont =
       let F : Kernels → Kernel = λ us. apply (Builtin b) us pl in
       let inn = in_apply (Builtin b) pl in
       let a = operand_slot names h t in
@@ -120,6 +139,22 @@ module _ (P : ProgramView) (C : CodeView) where
       (built k h r2 q b pl (two b h a c pl) (read s2 a ∷ read s2 c ∷ []) s s2 s2 K E turns2 er refl ctx (same_trans h h2 s s1 s2 le1 same1 same2)
       (then_less k n q h s K E (omega (arith, le, le2)) cont)))) in
       subst (λ z. AlikeAt P C n p s K turns (E z)) (sym (puts-apply fs (Builtin b) (item t (item u none)) pl ∙ ap F (puts_two fs t u))) g
+
+  gen_second : (o : Option ℤ) (b : BuiltinName) (t u : Kernel) (pl : Place) → integer_of u ≡ o → Gen P C t → Gen P C u
+      → (n : ℕ) (names : Scope) (fs : Founds) (h : ℕ) (p q : Position) (s : List Tree) (K : List Frame) (E : Kernel → Kernel) (turns : ℕ) → Calls P C n
+      → (r r2 : Position) × Operand names t (Implements C None names h t p r) p r × Second o (Operand names u (Implements C None names (next_slot h t) u r r2) r r2) r r2
+      × (r2 ≡ before (paired b h (operand_slot names h t) o (operand_slot names (next_slot h t) u) pl) q)
+      → Holds names fs s h → Context E → Then P C n q h s K E → AlikeAt P C n p s K turns (E (puts fs (apply (Builtin b) (item t (item u none)) pl)))
+  gen_second (Some z) b t u pl e gt gu n names fs h p q s K E turns calls (r, r2, it, iu, er) holds ctx cont =
+      gen_integer b t u z pl (integer_is u z e) gt n names fs h p q s K E turns calls r it (iu ∙ er) holds ctx cont
+  gen_second None b t u pl e gt gu n names fs h p q s K E turns calls im holds ctx cont = gen_slots b t u pl gt gu n names fs h p q s K E turns calls im holds ctx cont
+
+  gen_both : (b : BuiltinName) (t u : Kernel) (pl : Place) → Gen P C t → Gen P C u
+      → (n : ℕ) (names : Scope) (fs : Founds) (h : ℕ) (p q : Position) (s : List Tree) (K : List Frame) (E : Kernel → Kernel) (turns : ℕ) → Calls P C n
+      → (r r2 : Position) × Operand names t (Implements C None names h t p r) p r × Second (integer_of u) (Operand names u (Implements C None names (next_slot h t) u r r2) r r2) r r2
+      × (r2 ≡ before (paired b h (operand_slot names h t) (integer_of u) (operand_slot names (next_slot h t) u) pl) q)
+      → Holds names fs s h → Context E → Then P C n q h s K E → AlikeAt P C n p s K turns (E (puts fs (apply (Builtin b) (item t (item u none)) pl)))
+  gen_both b t u pl gt gu n names fs h p q s K E turns calls im holds ctx cont = gen_second (integer_of u) b t u pl refl gt gu n names fs h p q s K E turns calls im holds ctx cont
 
   -- `conj` of an item: the collection is taken out of slot h
   gen_conj : (t u : Kernel) (pl : Place) → Gen P C t → Gen P C u

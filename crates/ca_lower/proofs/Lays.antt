@@ -1,7 +1,7 @@
 -- What is laid out for a term implements it.
-use Rattle.std.proofs.Common.{◌≡◌, ℕ, suc, ◌+◌, ◌<◌, ◌≤◌, List, [], ◌∷◌, ◌++◌, length, get_or, Option, Some, None, refl, sym, ap, ◌∙◌, subst, arith, append_assoc, append-nil, length-append, inl, inr, ⊎_elim}
+use Rattle.std.proofs.Common.{◌≡◌, ℕ, suc, ◌+◌, ◌<◌, ◌≤◌, List, [], ◌∷◌, ◌++◌, length, get_or, Option, Some, None, ℤ, refl, sym, ap, ◌∙◌, subst, arith, append_assoc, append-nil, length-append, inl, inr, ⊎_elim}
 use Rattle.std.proofs.lemmas.List.{get_or_at}
-use Rattle.ca_value.specs.Tree.{nil}
+use Rattle.ca_value.specs.Tree.{nil, int}
 use Rattle.ca_value.specs.declared.builtin.Builtin.TheVariants.{Conj, Assoc}
 use Rattle.ca_term.specs.declared.place.Place.{Place}
 use Rattle.ca_term.specs.declared.head.Head.{Head}
@@ -13,10 +13,10 @@ use Rattle.ca_term.specs.Fits.{Known, Takes, Suits, Fits, FitTerms, FitInOrder, 
 use Rattle.ca_states.specs.declared.code.Exit.{Exit}
 use Rattle.ca_states.specs.declared.code.Exit.TheVariants.{Jump, Branch, Return, Cut}
 use Rattle.ca_states.specs.declared.code.Exit.TheVariants as exit
-use Rattle.ca_states.specs.Code.{Instruction, constant, copying, moving, one, two, pushing, putting, many, BlockView, CodeView, no_block, block_at, function_at}
+use Rattle.ca_states.specs.Code.{Instruction, constant, copying, moving, one, pushing, putting, many, BlockView, CodeView, no_block, block_at, function_at}
 use Rattle.ca_term.specs.Source.{IsSource, AreSource, AreSourceBindings}
-use Rattle.ca_lower.specs.Implements.{Position, position, start_of, before, Scope, slot_of, IsInScope, in_slots, names_bound, Target, moves, LeadsByCut, operand_slot, next_slot, Operand, LeadsBy, Implements, ImplementsInOrder, ImplementsBindings, ImplementsAll}
-use Rattle.ca_lower.specs.Emit.{Builder, building, at_work, block_of, add, close, nowhere, blocks_by, blocks, blocks_all, blocks_bound, recur_code, recur_exit, finish_by_cut, finish, no_side, both_ends, operand, emit, emit_in_order, emit_bindings, emit_all}
+use Rattle.ca_lower.specs.Implements.{Position, position, start_of, before, Scope, slot_of, IsInScope, in_slots, names_bound, Target, moves, LeadsByCut, operand_slot, next_slot, integer_of, paired, Operand, Second, LeadsBy, Implements, ImplementsInOrder, ImplementsBindings, ImplementsAll}
+use Rattle.ca_lower.specs.Emit.{Builder, building, at_work, block_of, add, close, nowhere, blocks_by, blocks, blocks_all, blocks_bound, recur_code, recur_exit, finish_by_cut, finish, no_side, both_ends, operand, second, emit, emit_in_order, emit_bindings, emit_all}
 
 -- the code goes on from the builder, where the block at work goes on with these instructions and this exit
 abbrev pub Ends : CodeView → ℕ → Builder → List Instruction → Exit → Type 0
@@ -62,6 +62,10 @@ finished_at w lp Post h k p B = closed_at w (Cut Post h k h (at_work B + 1) p) (
 pub operand_at : (t : Kernel) (own B : Builder) → at_work own ≡ at_work B + blocks t → at_work (operand t own B) ≡ at_work B + blocks t
 operand_at (var x) own B e = omega arith
 operand_at t own B e = e
+
+pub second_at : (t : Kernel) (own B : Builder) → at_work own ≡ at_work B + blocks t → at_work (second (integer_of t) own B) ≡ at_work B + blocks t
+second_at (const (int z)) own B e = omega arith
+second_at t own B e = e
 
 module _ (w : ℕ) where
   mutual
@@ -109,9 +113,10 @@ module _ (w : ℕ) where
     emit_at lp names h (apply (Builtin b) (item t (item u none)) p) B =
         let B1 = operand t (emit w None names h t B) B in
         let m = next_slot h t in
-        let B2 = operand u (emit w None names m u B1) B1 in
-        added_at (two b h (operand_slot names h t) (operand_slot names m u) p ∷ []) B2
-        ∙ omega (arith, operand_at u (emit w None names m u B1) B1 (emit_at None names m u B1), operand_at t (emit w None names h t B) B (emit_at None names h t B))
+        let own = operand u (emit w None names m u B1) B1 in
+        let B2 = second (integer_of u) own B1 in
+        added_at (paired b h (operand_slot names h t) (integer_of u) (operand_slot names m u) p ∷ []) B2
+        ∙ omega (arith, second_at u own B1 (operand_at u (emit w None names m u B1) B1 (emit_at None names m u B1)), operand_at t (emit w None names h t B) B (emit_at None names h t B))
     emit_at lp names h (apply (Builtin Assoc) (item t (item u (item v none))) p) B =
         let m = next_slot (suc h) u in
         let B1 = emit w None names h t B in
@@ -242,6 +247,19 @@ module _ (C : CodeView) (w : ℕ) where
     lays_operand ns names h (var y) B more x bound cov own ends = (more, x, ends, (cov y bound, refl))
     lays_operand ns names h t B more x bound cov own ends = own ends
 
+    -- a second operand
+    abbrev LaysSecond : Option ℤ → Scope → ℕ → Kernel → Builder → List Instruction → Exit → Type 0
+    LaysSecond o names h t B more x =
+        let own = operand t (emit w None names h t B) B in
+        let q = position (at_work (second o own B)) more x in
+        (is : List Instruction) × (x0 : Exit) × Ends C w B is x0 × Second o (Operand names t (Implements C None names h t (position (at_work B) is x0) q) (position (at_work B) is x0) q) (position (at_work B) is x0) q
+
+    lays_second : (o : Option ℤ) (names : Scope) (h : ℕ) (t : Kernel) (B : Builder) (more : List Instruction) (x : Exit)
+        → (Ends C w (operand t (emit w None names h t B) B) more x → LaysOperand names h t B more x)
+        → Ends C w (second o (operand t (emit w None names h t B) B) B) more x → LaysSecond o names h t B more x
+    lays_second (Some z) names h t B more x own ends = (more, x, ends, refl)
+    lays_second None names h t B more x own ends = own ends
+
     -- one instruction behind
     behind_add : (B : Builder) (i : Instruction) (more : List Instruction) (x : Exit) → position (at_work B) (i ∷ more) x ≡ before i (position (at_work (add (i ∷ []) B)) more x)
     behind_add B i more x = ap (λ k. position k (i ∷ more) x) (sym (added_at (i ∷ []) B))
@@ -334,9 +352,10 @@ module _ (C : CodeView) (w : ℕ) where
       lays lp target ns names h (apply (Builtin b) (item t (item u none)) p) B more x src bound fit cov ins ends =
           let m = next_slot h t in
           let B1 = operand t (emit w None names h t B) B in
-          let B2 = operand u (emit w None names m u B1) B1 in
-          let i = two b h (operand_slot names h t) (operand_slot names m u) p in
-          let iu = lays_operand ns names m u B1 (i ∷ more) x bound.1.0 cov (λ e. lays None None ns names m u B1 (i ∷ more) x src.1.0 bound.1.0 fit.1.1.0 cov tt e) (ends_add C w B2 (i ∷ []) more x ends) in
+          let B2 = second (integer_of u) (operand u (emit w None names m u B1) B1) B1 in
+          let i = paired b h (operand_slot names h t) (integer_of u) (operand_slot names m u) p in
+          let iu = lays_second (integer_of u) names m u B1 (i ∷ more) x
+          (λ d. lays_operand ns names m u B1 (i ∷ more) x bound.1.0 cov (λ e. lays None None ns names m u B1 (i ∷ more) x src.1.0 bound.1.0 fit.1.1.0 cov tt e) d) (ends_add C w B2 (i ∷ []) more x ends) in
           let it = lays_operand ns names h t B iu.0 iu.1 bound.0 cov (λ e. lays None None ns names h t B iu.0 iu.1 src.0 bound.0 fit.1.0 cov tt e) iu.2 in
           (it.0, it.1, it.2, (position (at_work B1) iu.0 iu.1, position (at_work B2) (i ∷ more) x, it.3, iu.3, behind_add B2 i more x))
       lays lp target ns names h (apply (Builtin Assoc) (item t (item u (item v none))) p) B more x src bound fit cov ins ends =

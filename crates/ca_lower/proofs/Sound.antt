@@ -1,9 +1,11 @@
 -- What is laid out for a term is valid.
-use Rattle.std.proofs.Common.{◌≡◌, ℕ, suc, ◌+◌, ◌<◌, ◌≤◌, List, [], ◌∷◌, ◌++◌, length, Option, Some, None, Bool, true, false, refl, sym, ap, ◌∙◌, subst, arith, cond, append-nil, length-append, ◌⊎◌, ⊎_elim}
+use Rattle.std.proofs.Common.{◌≡◌, ℕ, suc, ◌+◌, ◌<◌, ◌≤◌, List, [], ◌∷◌, ◌++◌, length, Option, Some, None, ℤ, Bool, true, false, refl, sym, ap, ◌∙◌, subst, arith, cond, append-nil, length-append, ◌⊎◌, ⊎_elim}
 use Rattle.std.proofs.lemmas.Bool.{cases_lt, ltb-true, ltb-false, eq-eqb}
 use Rattle.std.specs.Prelude.{◌==◌, nat_lt}
 use Rattle.ca_value.specs.Tree.{nil}
+use Rattle.ca_value.specs.declared.builtin.Builtin.{Builtin as BuiltinName}
 use Rattle.ca_value.specs.declared.builtin.Builtin.TheVariants.{Conj, Assoc}
+use Rattle.ca_value.specs.Builtins.{admits}
 use Rattle.ca_term.specs.declared.place.Place.{Place}
 use Rattle.ca_term.specs.declared.head.Head.{Head}
 use Rattle.ca_term.specs.declared.head.Head.TheVariants.{Recur, Builtin, Take, Put, Alts, Make, Spawn, Close, Register, Print, Post}
@@ -14,11 +16,11 @@ use Rattle.ca_term.specs.Fits.{Known, Takes, Suits, Fits, FitTerms, FitInOrder, 
 use Rattle.ca_states.specs.declared.code.Exit.{Exit}
 use Rattle.ca_states.specs.declared.code.Exit.TheVariants.{Jump, Branch, Return, Cut}
 use Rattle.ca_states.specs.declared.code.Exit.TheVariants as exit
-use Rattle.ca_states.specs.Code.{has_slot, Instruction, constant, copying, moving, one, two, pushing, putting, many, BlockView, CodeView, size, block_at, function_at}
+use Rattle.ca_states.specs.Code.{has_slot, Instruction, constant, copying, moving, one, two, two_int, pushing, putting, many, BlockView, CodeView, size, block_at, function_at}
 use Rattle.ca_states.specs.Valid.{Known as Tells, takes, is_operation, is_valid_block, noted}
 use Rattle.ca_term.specs.Source.{IsSource, AreSource, AreSourceBindings}
-use Rattle.ca_lower.specs.Implements.{Scope, slot_of, operand_slot, next_slot, IsInScope, in_slots, names_bound, Target, moves}
-use Rattle.ca_lower.specs.Emit.{Builder, building, at_work, block_of, add, close, nowhere, finish_by_cut, finish, no_side, both_ends, operand, emit, emit_in_order, emit_bindings, emit_all, greater, slots_for, slots_in_order, slots_for_bound, slots_for_all}
+use Rattle.ca_lower.specs.Implements.{Scope, slot_of, operand_slot, next_slot, integer_of, paired, IsInScope, in_slots, names_bound, Target, moves}
+use Rattle.ca_lower.specs.Emit.{Builder, building, at_work, block_of, add, close, nowhere, finish_by_cut, finish, no_side, both_ends, operand, second, emit, emit_in_order, emit_bindings, emit_all, greater, slots_for, slots_in_order, slots_for_bound, slots_for_all}
 use Rattle.ca_lower.proofs.Goes.{Under, from_next}
 use Rattle.ca_lower.proofs.Slots.{length-bound}
 use Rattle.ca_lower.proofs.Lays.{Ends, ends_add, ends_close, closed_at, added_at, opened_at, Covers, covers_one, covers_bound, Inside, inside_more, emit_at, emit_bindings_at, emit_all_at, lays}
@@ -102,6 +104,19 @@ mutual
 up_to_next : (h : ℕ) (t : Kernel) → next_slot h t ≤ suc h
 up_to_next h (var x) = omega arith
 up_to_next h t = omega arith
+
+-- the next free slot behind a second operand
+abbrev second_next : Option ℤ → ℕ → ℕ → ℕ
+second_next (Some z) h n = h
+second_next None h n = n
+
+-- a builtin of two
+valid_pair : (o : Option ℤ) (C : CodeView) (w n h a h2 c g : ℕ) (b : BuiltinName) (p : Place) (K : Tells) (is : List Instruction) (x : Exit) → admits b 2 ≡ true
+    → h < w → h ≤ h2 → h2 ≤ g → g ≤ w → a < h2 → c < g → Up (second_next o h2 g) K → ((L : Tells) → Up (suc h) L → Valid C w n L is x) → Valid C w n K (paired b h a o c p ∷ is) x
+valid_pair (Some z) C w n h a h2 c g b p K is x counted lt le le2 lg la lc up go =
+    valid_reading C w n h h2 (a ∷ []) (two_int b h a z p) K is x refl refl refl counted lt le (omega (arith, le2, lg)) (la, tt) up go
+valid_pair None C w n h a h2 c g b p K is x counted lt le le2 lg la lc up go =
+    valid_reading C w n h g (a ∷ c ∷ []) (two b h a c p) K is x refl refl refl counted lt (omega (arith, le, le2)) lg (omega (arith, la, le2), (lc, tt)) up go
 
 -- an operand that isn't the first may stand one slot earlier
 earlier : (h w : ℕ) (t u : Kernel) → slots_for (suc h) u ≤ w → slots_for (next_slot h t) u ≤ w
@@ -254,6 +269,13 @@ module _ (C : CodeView) where
       sound_operand names h (var y) B more x own ends = λ go. (more, x, ends, go, none_between (at_work B) (at_work B) (omega arith))
       sound_operand names h t B more x own ends = own ends
 
+      -- a second operand
+      sound_second : (o : Option ℤ) (names : Scope) (h : ℕ) (t : Kernel) (B : Builder) (more : List Instruction) (x : Exit)
+          → (Ends C w (operand t (emit w None names h t B) B) more x → Sound h (next_slot h t) B (operand t (emit w None names h t B) B) more x)
+          → Ends C w (second o (operand t (emit w None names h t B) B) B) more x → Sound h (second_next o h (next_slot h t)) B (second o (operand t (emit w None names h t B) B) B) more x
+      sound_second (Some z) names h t B more x own ends = λ go. (more, x, ends, go, none_between (at_work B) (at_work B) (omega arith))
+      sound_second None names h t B more x own ends = own ends
+
       mutual
         pub sound : (lp : Option Target) (target : Option ℕ) (ns : List ℕ) (names : Scope) (h : ℕ) (t : Kernel) (B : Builder) (more : List Instruction) (x : Exit)
             → IsSource t → IsClosed ns t → Fits (Suits known) target t → Covers ns names → Inside lp target (at_work B) → Below names h → Under lp h → IsHead lp → slots_for h t ≤ w → Ends C w (emit w lp names h t B) more x
@@ -383,10 +405,11 @@ module _ (C : CodeView) where
             let B1 = operand t (emit w None names h t B) B in
             let a = operand_slot names h t in
             let h2 = next_slot h t in
-            let B2 = operand u (emit w None names h2 u B1) B1 in
+            let o = integer_of u in
+            let B2 = second o (operand u (emit w None names h2 u B1) B1) B1 in
             let c = operand_slot names h2 u in
             let g = next_slot h2 u in
-            let i = two b h a c p in
+            let i = paired b h a o c p in
             let f0 = enough (suc h) (slots_for_all h (item t (item u none))) w fits in
             let f = enough (slots_for h t) (slots_for_all (suc h) (item u none)) w f0.1 in
             let f2 = enough (slots_for (suc h) u) (suc (suc h)) w f.1 in
@@ -397,9 +420,10 @@ module _ (C : CodeView) where
             let from2 = from_next h2 u in
             let bel2 = below_more names h h2 from1 bel in
             let first = below_operand ns names h t bel cov bound.0 in
-            let si = sound_add g (suc h) i B2 more x ends
-            (λ n go2 K up. valid_reading C w n h g (a ∷ c ∷ []) i K more x refl refl refl fit.0 f0.0 (omega (arith, from1, from2)) (omega (arith, up1, up2, wide2)) (omega (arith, first, from2), (below_operand ns names h2 u bel2 cov bound.1.0, tt)) up go2) go in
-            let su = sound_operand names h2 u B1 si.0 si.1 (sound None None ns names h2 u B1 si.0 si.1 src.1.0 bound.1.0 fit.1.1.0 cov tt bel2 tt tt (earlier h w t u f2.0)) si.2 si.3 in
+            let si = sound_add (second_next o h2 g) (suc h) i B2 more x ends
+            (λ n go2 K up. valid_pair o C w n h a h2 c g b p K more x fit.0 f0.0 from1 from2 (omega (arith, up1, up2, wide2)) first (below_operand ns names h2 u bel2 cov bound.1.0) up go2) go in
+            let su = sound_second o names h2 u B1 si.0 si.1
+            (λ e. sound_operand names h2 u B1 si.0 si.1 (sound None None ns names h2 u B1 si.0 si.1 src.1.0 bound.1.0 fit.1.1.0 cov tt bel2 tt tt (earlier h w t u f2.0)) e) si.2 si.3 in
             let st = sound_operand names h t B su.0 su.1 (sound None None ns names h t B su.0 su.1 src.0 bound.0 fit.1.0 cov tt bel tt tt f.0) su.2 su.3 in
             (st.0, st.1, st.2, st.3, between (at_work B) (at_work B1) (at_work (add (i ∷ []) B2)) st.4 (between (at_work B1) (at_work B2) (at_work (add (i ∷ []) B2)) su.4 si.4))
         sound lp target ns names h (apply (Builtin Assoc) (item t (item u (item v none))) p) B more x src bound fit cov ins bel und head fits ends = λ go.

@@ -3,7 +3,7 @@ use Rattle.std.proofs.Common.{◌≡◌, true, ap, ◌∙◌, sym, subst, Result
 use Rattle.ca_value.specs.declared.memory.OutOfMemory.{OutOfMemory}
 use Rattle.ca_term.specs.Program.{ProgramView, IsProgram}
 use Rattle.ca_states.specs.declared.code.Code.{Code}
-use Rattle.ca_states.specs.Code.{CodeView, code_view}
+use Rattle.ca_states.specs.Code.{code_view}
 use Rattle.ca_states.specs.Valid.{is_valid}
 use Rattle.ca_lower.specs.Emit.{code_of}
 use Rattle.ca_lower.specs.Lowered.{Lowered}

@@ -1,7 +1,6 @@
 -- How a term's code is laid out: blocks are appended one after another, and none is changed afterwards.
-use Rattle.std.specs.Prelude.{ℕ, suc, ◌+◌, List, [], ◌∷◌, ◌++◌, length, Option, Some, None, cond, nat_lt}
+use Rattle.std.specs.Prelude.{ℕ, suc, ◌+◌, List, [], ◌∷◌, ◌++◌, length, Option, Some, None, cond, nat_lt, ℤ}
 use Rattle.ca_value.specs.Tree.{nil}
-use Rattle.ca_value.specs.declared.builtin.Builtin.{Builtin as BuiltinName}
 use Rattle.ca_value.specs.declared.builtin.Builtin.TheVariants.{Conj, Assoc}
 use Rattle.ca_term.specs.declared.place.Place.{Place}
 use Rattle.ca_term.specs.declared.head.Head.{Head}
@@ -14,8 +13,8 @@ use Rattle.ca_states.specs.declared.code.EntryPoint.{EntryPoint}
 use Rattle.ca_states.specs.declared.code.Exit.{Exit}
 use Rattle.ca_states.specs.declared.code.Exit.TheVariants.{Jump, Branch, Return, Cut}
 use Rattle.ca_states.specs.declared.code.Exit.TheVariants as exit
-use Rattle.ca_states.specs.Code.{Instruction, constant, copying, moving, one, two, pushing, putting, many, BlockView, CodeView}
-use Rattle.ca_lower.specs.Implements.{Scope, slot_of, in_slots, names_bound, Target, moves, operand_slot, next_slot}
+use Rattle.ca_states.specs.Code.{Instruction, constant, copying, moving, one, pushing, putting, many, BlockView, CodeView}
+use Rattle.ca_lower.specs.Implements.{Scope, slot_of, in_slots, names_bound, Target, moves, operand_slot, next_slot, integer_of, paired}
 
 -- the finished blocks, and the block at work: how many slots it begins with, and its instructions so far
 pub data Builder : Type 0 where
@@ -115,6 +114,11 @@ abbrev pub operand : Kernel → Builder → Builder → Builder
 operand (var x) own B = B
 operand t own B = own
 
+-- nor for a second one that is an integer of the text
+abbrev pub second : Option ℤ → Builder → Builder → Builder
+second (Some z) own B = B
+second None own B = own
+
 abbrev mutual
   -- the term's value comes into slot h
   pub emit : ℕ → Option Target → Scope → ℕ → Kernel → Builder → Builder
@@ -144,7 +148,7 @@ abbrev mutual
       add (pushing h h (operand_slot names (suc h) u) p ∷ []) (operand u (emit w None names (suc h) u B1) B1)
   emit w lp names h (apply (Builtin b) (item t (item u none)) p) B =
       let B1 = operand t (emit w None names h t B) B in
-      add (two b h (operand_slot names h t) (operand_slot names (next_slot h t) u) p ∷ []) (operand u (emit w None names (next_slot h t) u B1) B1)
+      add (paired b h (operand_slot names h t) (integer_of u) (operand_slot names (next_slot h t) u) p ∷ []) (second (integer_of u) (operand u (emit w None names (next_slot h t) u B1) B1) B1)
   emit w lp names h (apply (Builtin Assoc) (item t (item u (item v none))) p) B =
       let B1 = emit w None names h t B in
       let B2 = operand u (emit w None names (suc h) u B1) B1 in

@@ -1,6 +1,6 @@
 -- The code that implements a term: from a place in the code it leads to another, with the term's value in a slot.
-use Rattle.std.specs.Prelude.{◌≡◌, ℕ, zero, suc, ◌+◌, ◌<◌, ◌≤◌, List, [], ◌∷◌, ◌++◌, length, Option, Some, None, cond, ◌==◌, ◌⊎◌}
-use Rattle.ca_value.specs.Tree.{nil}
+use Rattle.std.specs.Prelude.{◌≡◌, ℕ, zero, suc, ◌+◌, ◌<◌, ◌≤◌, List, [], ◌∷◌, ◌++◌, length, Option, Some, None, cond, ◌==◌, ◌⊎◌, ℤ}
+use Rattle.ca_value.specs.Tree.{nil, int}
 use Rattle.ca_value.specs.declared.builtin.Builtin.{Builtin as BuiltinName}
 use Rattle.ca_value.specs.declared.builtin.Builtin.TheVariants.{Conj, Assoc}
 use Rattle.ca_term.specs.declared.place.Place.{Place}
@@ -15,7 +15,7 @@ use Rattle.ca_states.specs.declared.code.EntryPoint.{EntryPoint}
 use Rattle.ca_states.specs.declared.code.Exit.{Exit}
 use Rattle.ca_states.specs.declared.code.Exit.TheVariants.{Jump, Branch, Return, Cut}
 use Rattle.ca_states.specs.declared.code.Exit.TheVariants as exit
-use Rattle.ca_states.specs.Code.{Instruction, constant, copying, moving, one, two, pushing, putting, many, CodeView, block_at, function_at, body_at}
+use Rattle.ca_states.specs.Code.{Instruction, constant, copying, moving, one, two, two_int, pushing, putting, many, CodeView, block_at, function_at, body_at}
 use Rattle.ca_states.specs.Valid.{main_entry}
 
 -- a place in the code: the block's number, and what is left of it
@@ -74,6 +74,21 @@ abbrev pub Operand : Scope → Kernel → Type 0 → Position → Position → T
 Operand names (var x) own p q = IsInScope x names × (p ≡ q)
 Operand names t own p q = own
 
+-- the integer that a term is, where it is one of the text
+abbrev pub integer_of : Kernel → Option ℤ
+integer_of (const (int z)) = Some z
+integer_of t = None
+
+-- a builtin of a slot and an integer of the text, or of two slots
+abbrev pub paired : BuiltinName → ℕ → ℕ → Option ℤ → ℕ → Place → Instruction
+paired b h a (Some z) c p = two_int b h a z p
+paired b h a None c p = two b h a c p
+
+-- for a second operand that is an integer of the text no code stands
+abbrev pub Second : Option ℤ → Type 0 → Position → Position → Type 0
+Second (Some z) own p q = p ≡ q
+Second None own p q = own
+
 -- by a Cut over so many operands from slot h on
 abbrev pub LeadsByCut : Head → CodeView → ℕ → ℕ → Place → Position → Position → Type 0
 LeadsByCut f C h k pl r q = (n to : ℕ) × (r ≡ position n [] (Cut f h k h to pl)) × (q ≡ start_of C to)
@@ -114,7 +129,7 @@ abbrev mutual
   Implements C target names h (seq ts) p q = ImplementsInOrder C target names h ts p q
   Implements C target names h (frame body) p q = ⊥
   Implements C target names h (turn ns text now) p q = ⊥
-  -- one operand or two of a builtin are read where they are
+  -- one operand or two of a builtin are read where they are, the second in the instruction if it is an integer of the text
   Implements C target names h (apply (Builtin b) (item t none) pl) p q =
       (r : Position) × Operand names t (Implements C None names h t p r) p r × (r ≡ before (one b h (operand_slot names h t) pl) q)
   -- a collection that grows is taken out of slot h
@@ -122,8 +137,8 @@ abbrev mutual
       (r r2 : Position) × Implements C None names h t p r × Operand names u (Implements C None names (suc h) u r r2) r r2
       × (r2 ≡ before (pushing h h (operand_slot names (suc h) u) pl) q)
   Implements C target names h (apply (Builtin b) (item t (item u none)) pl) p q =
-      (r r2 : Position) × Operand names t (Implements C None names h t p r) p r × Operand names u (Implements C None names (next_slot h t) u r r2) r r2
-      × (r2 ≡ before (two b h (operand_slot names h t) (operand_slot names (next_slot h t) u) pl) q)
+      (r r2 : Position) × Operand names t (Implements C None names h t p r) p r × Second (integer_of u) (Operand names u (Implements C None names (next_slot h t) u r r2) r r2) r r2
+      × (r2 ≡ before (paired b h (operand_slot names h t) (integer_of u) (operand_slot names (next_slot h t) u) pl) q)
   Implements C target names h (apply (Builtin Assoc) (item t (item u (item v none))) pl) p q =
       (r r2 r3 : Position) × Implements C None names h t p r × Operand names u (Implements C None names (suc h) u r r2) r r2
       × Operand names v (Implements C None names (next_slot (suc h) u) v r2 r3) r2 r3

@@ -4,8 +4,9 @@ ghost use Rattle.ca_value.specs.Seq.{list};
 ghost use Rattle.ca_term.specs.View.{bindings as bindings_view, kernel, kernels};
 ghost use Rattle.ca_term.specs.declared.head.Head.TheVariants as heads;
 ghost use Rattle.ca_term.specs.Kernel.{apply};
-ghost use Rattle.ca_lower.specs.Implements.{Target, in_slots, names_bound, next_slot, operand_slot};
-ghost use Rattle.ca_lower.specs.Emit.{emit, emit_all, emit_bindings, emit_in_order, operand};
+ghost use Rattle.ca_states.specs.Code.{instruction};
+ghost use Rattle.ca_lower.specs.Implements.{Target, in_slots, integer_of, names_bound, next_slot, operand_slot, paired};
+ghost use Rattle.ca_lower.specs.Emit.{emit, emit_all, emit_bindings, emit_in_order, operand, second};
 ghost use Rattle.ca_lower.specs.Layouts.{layout_of};
 ghost use Rattle.ca_lower.specs.Views.{builder_view, scope_view, target_view};
 
@@ -157,6 +158,79 @@ fn emit_operand(
     }
 }
 
+// A builtin's second operand: an integer of the text, or what is read in a slot.
+#[derive(Clone, Copy, PartialEq, Eq, Debug)]
+struct Second {
+    integer: Option<i64>,
+    slot: u64,
+}
+
+// The integer that the term is, where it is one of the text.
+fn integer_of(term: &Term) -> Option<i64>
+    ensures { result ≡ integer_of (kernel term.now) }
+{
+    match term {
+        Term::Const(value) => match value {
+            Value::Int(n) => Some(*n),
+            _ => None,
+        },
+        _ => None,
+    }
+}
+
+// A second operand, which is read where it is: an integer of the text in the instruction itself.
+#[cycle(emit)]
+#[tactic(auto, using(crate::proofs::LayoutLaws::integer_slot))]
+fn emit_second(
+    alloc: Global,
+    b: &mut Builder,
+    width: u64,
+    names: &mut Seq<Name>,
+    h: u64,
+    term: &Term,
+) -> Result<Second, OutOfMemory>
+    ensures code { OnOk result (builder_view b.new ≡ second (integer_of (kernel term.now)) (operand (kernel term.now) (emit width None (scope_view (list names.old)) h (kernel term.now) (builder_view b.old)) (builder_view b.old)) (builder_view b.old)) }
+    ensures names { OnOk result (list names.new ≡ list names.old) }
+    ensures integer { IfOk result (λ s. s.integer ≡ integer_of (kernel term.now)) }
+    ensures slot { IfOk result (λ s. s.slot ≡ operand_slot (scope_view (list names.old)) h (kernel term.now)) }
+{
+    match integer_of(term) {
+        Some(n) => Ok(Second {
+            integer: Some(n),
+            slot: h,
+        }),
+        None => {
+            let operand = emit_operand(alloc, b, width, names, h, term)?;
+            Ok(Second {
+                integer: None,
+                slot: operand.slot,
+            })
+        }
+    }
+}
+
+// A builtin of a slot and a second operand.
+fn paired(builtin: Builtin, to: u64, left: u64, right: Second, place: Place) -> Instr
+    ensures { instruction result ≡ paired builtin to left right.integer right.slot place }
+{
+    match right.integer {
+        Some(right) => Instr::TwoInt {
+            builtin,
+            to,
+            left,
+            right,
+            place,
+        },
+        None => Instr::Two {
+            builtin,
+            to,
+            left,
+            right: right.slot,
+            place,
+        },
+    }
+}
+
 // A builtin over its operands, whose value comes into slot h.
 #[cycle(emit)]
 fn emit_builtin(
@@ -184,14 +258,8 @@ fn emit_builtin(
         }
         Layout::Two => {
             let left = emit_operand(alloc, b, width, names, h, &operands.as_slice()[0])?;
-            let right = emit_operand(alloc, b, width, names, left.next, &operands.as_slice()[1])?;
-            b.put(Instr::Two {
-                builtin,
-                to: h,
-                left: left.slot,
-                right: right.slot,
-                place,
-            })
+            let right = emit_second(alloc, b, width, names, left.next, &operands.as_slice()[1])?;
+            b.put(paired(builtin, h, left.slot, right, place))
         }
         Layout::Push => {
             emit_term(alloc, b, width, None, names, h, &operands.as_slice()[0])?;

@@ -5,11 +5,11 @@ use Rattle.ca_term.specs.declared.term.Term.{Term, the_lemmas}
 use Rattle.ca_term.specs.Kernel.{apply, bind, loop}
 use Rattle.ca_term.specs.declared.head.Head.TheVariants.{Builtin}
 use Rattle.ca_value.specs.declared.builtin.Builtin.{Builtin as BuiltinName}
-use Rattle.ca_states.specs.Code.{one, two, pushing, putting, many}
+use Rattle.ca_states.specs.Code.{one, pushing, putting, many}
 use Rattle.ca_term.specs.View.{bindings, founds, kernel, kernels}
 use Rattle.ca_lower.specs.declared.emit.Layout.{Layout}
 use Rattle.ca_lower.specs.Layouts.{layout_of}
-use Rattle.ca_lower.specs.Implements.{Target}
+use Rattle.ca_lower.specs.Implements.{Target, paired}
 use Rattle.ca_lower.specs.Emit.{add, emit, finish}
 use Rattle.ca_lower.specs.InOrder.{emit_rest}
 use Rattle.ca_lower.specs.Views.{builder_view, scope_view, target_view}
@@ -115,13 +115,14 @@ emit_builtin-returns-in_ok-right-in-Two-clause-code t c =
     let B = builder_view c.args.b.now in
     let left = c.in_ok-left-in-Two.left in
     let right = c.in_ok-right-in-Two.right in
-    on_ok c.put-in-Two.result (builder_view c.put-in-Two.new.self ≡ add (two b h left.slot right.slot p ∷ []) (builder_view c.emit_operand-in-Two-2.new.b))
+    on_ok c.put-in-Two.result (builder_view c.put-in-Two.new.self ≡ add (paired b h left.slot right.integer right.slot p ∷ []) (builder_view c.emit_second.new.b))
     ((lp : Option Target) → builder_view c.put-in-Two.new.self ≡ emit w lp S h (apply (Builtin b) (kernels ts) p) B)
-    (λ e. two_done w S h p b ts c.index-as_slice-0-in-Two.result c.index-as_slice-1.result left.next left.slot right.slot (scope_view (list c.emit_operand-in-Two.new.names)) B
-    (builder_view c.emit_operand-in-Two.new.b) (builder_view c.emit_operand-in-Two-2.new.b) (builder_view c.put-in-Two.new.self)
+    (λ e. two_done w S h p b ts c.index-as_slice-0-in-Two.result c.index-as_slice-1.result left.next left.slot right.slot right.integer (scope_view (list c.emit_operand-in-Two.new.names)) B
+    (builder_view c.emit_operand-in-Two.new.b) (builder_view c.emit_second.new.b) (builder_view c.put-in-Two.new.self)
     (lays_by b ts c.len.result c.layout_of.result Layout.Two c.layout_of.ensures c.len.ensures c.in-Two.is) (seen c.as_slice-in-Two.result.now ts 0 c.index-as_slice-0-in-Two.result c.as_slice-in-Two.ensures c.index-as_slice-0-in-Two.is) (seen c.as_slice-in-Two-2.result.now ts 1 c.index-as_slice-1.result c.as_slice-in-Two-2.ensures c.index-as_slice-1.is)
-    (ap scope_view c.in_ok-left-in-Two.ensures.names) c.in_ok-left-in-Two.ensures.next c.in_ok-left-in-Two.ensures.slot c.in_ok-right-in-Two.ensures.slot
-    c.in_ok-left-in-Two.ensures.code c.in_ok-right-in-Two.ensures.code e) c.put-in-Two.ensures
+    (ap scope_view c.in_ok-left-in-Two.ensures.names) c.in_ok-left-in-Two.ensures.next c.in_ok-left-in-Two.ensures.slot c.in_ok-right-in-Two.ensures.slot c.in_ok-right-in-Two.ensures.integer
+    c.in_ok-left-in-Two.ensures.code c.in_ok-right-in-Two.ensures.code e)
+    (subst (λ i. OnOk c.put-in-Two.result (builder_view c.put-in-Two.new.self ≡ add (i ∷ []) (builder_view c.emit_second.new.b))) c.paired.ensures c.put-in-Two.ensures)
 
 pub emit_builtin-returns-in_ok-item-in-Push-clause-code : goal.emit_builtin-returns-in_ok-item-in-Push-clause-code
 emit_builtin-returns-in_ok-item-in-Push-clause-code t c =
