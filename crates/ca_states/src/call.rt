@@ -12,7 +12,7 @@ use crate::code::Code;
 use crate::entry::{block_at, fill, function_at};
 use crate::leave::LAST_TURN;
 use crate::runner::{Frame, Runner};
-use crate::slots::{hand_over, take_into};
+use crate::slots::{drop_last, hand_over, take_into};
 use crate::stop::Stop;
 use ca_term::fault::Fault;
 use ca_term::place::Place;
@@ -23,6 +23,18 @@ use std::mem;
 
 // The calls that a call may stand in.
 const DEEPEST_CALL: u64 = 256;
+
+// No slots, in the same memory; the values are let go.
+fn emptied(slots: Items) -> Items
+    ensures { list result ≡ [] }
+{
+    let mut slots = slots;
+    for _i in 0..slots.len() {
+        drop_last(&mut slots);
+    }
+    slots.truncate(0);
+    slots
+}
 
 impl Runner {
     // No slots, with room for so many: those of a call that returned, if there are any.
@@ -66,8 +78,7 @@ impl Runner {
     fn keep(&mut self, slots: Vec<Value>)
         ensures { self.new ≡ record self.old { pool = self.new.pool } }
     {
-        let mut slots = Items::from_vec(slots);
-        slots.truncate(0);
+        let slots = emptied(Items::from_vec(slots));
         if self.pool.reserve(1).is_ok() {
             self.pool.push(slots);
         }

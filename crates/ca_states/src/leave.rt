@@ -105,6 +105,7 @@ impl Runner {
     }
 
     // By the truth of a builtin of two slots.
+    #[inline(never)]
     fn test(
         &mut self,
         alloc: Global,

@@ -45,6 +45,25 @@ fn is_bare(value: &Value) -> bool {
     }
 }
 
+/// The last value is let go.
+#[inline(always)]
+pub(crate) fn drop_last(slots: &mut Items) {
+    let is_last_bare = match slots.as_slice().last() {
+        Some(value) => is_bare(value),
+        None => false,
+    };
+    if is_last_bare {
+        mem::forget(slots.pop());
+    } else {
+        drop_last_value(slots);
+    }
+}
+
+#[inline(never)]
+fn drop_last_value(slots: &mut Items) {
+    slots.pop();
+}
+
 /// The slot has that integer.
 #[inline(always)]
 #[tactic(auto, using(crate::proofs::SlotLaws::write_view))]
