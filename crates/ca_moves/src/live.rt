@@ -134,6 +134,23 @@ impl Live {
                 ..
             }
             | Instr::TwoInt { to, left: from, .. } => self.read_one(*to, *from),
+            Instr::Many {
+                to,
+                from,
+                count,
+                ..
+            } => {
+                self.put(*to, false);
+                self.put_row(*from, *count, true);
+                false
+            }
+            _ => self.pass_several(instr),
+        }
+    }
+
+    // The same, of an instruction that reads more than one slot where it lies.
+    fn pass_several(&mut self, instr: &Instr) -> bool {
+        match instr {
             Instr::Two {
                 to,
                 left,
@@ -162,16 +179,7 @@ impl Live {
                 self.put(*value, true);
                 free
             }
-            Instr::Many {
-                to,
-                from,
-                count,
-                ..
-            } => {
-                self.put(*to, false);
-                self.put_row(*from, *count, true);
-                false
-            }
+            _ => false,
         }
     }
 
