@@ -1,0 +1,13 @@
+pub mod Rules
+pub mod Steps
+pub mod Taken
+pub mod LongWords
+pub mod Walks
+pub mod Rows
+pub mod RunWords
+pub mod Program
+pub mod RunTheorem
+pub mod CheckTheorem
+pub mod LoadTheorem
+pub mod Whole
+pub mod Examples
