@@ -9,6 +9,9 @@ use Rattle.ca_words.proofs.Rules.{is_bare, leaf}
 use Rattle.ca_words.proofs.Taken.{Served, all_taken, any, taken}
 use Rattle.ca_words.proofs.LongWords.{some≢none}
 use Rattle.ca_words.proofs.Walks.{Opens, back, on}
+use Rattle.std.specs.List.{list_all}
+use Rattle.ca_words.specs.Reading.{is_open}
+use Rattle.ca_words.proofs.OpenWords.{all_open, is_fine}
 use Rattle.ca_words.proofs.Program.{below, below_passes, passes_below}
 
 check_served : Served []
@@ -37,3 +40,11 @@ all_none (x ∷ xs) e = absurd (true≢false (sym e))
 pub check_takes : (ws : List Text) → Opens ws → is_some (check_words (joined ws)) ≡ true → below (leaf (codes "check") []) ws ≡ []
 unfolding defaults_fault
 check_takes ws o e = passes_below ws (codes "check") [] (λ rows. refl) (λ rows. refl) (on (codes "check") [] check_served ws o [] None 1 refl (all_none (joined ws) e))
+
+-- and such words are given to clap
+pub check_open : (ws : List Text) → is_some (check_words (joined ws)) ≡ true → list_all is_open ws ≡ true
+check_open ws e = all_open ws (by (joined ws) e)
+  where
+    by : (js : List Text) → is_some (check_words js) ≡ true → list_all is_fine js ≡ true
+    by [] e = refl
+    by (x ∷ xs) e = absurd (true≢false (sym e))

@@ -1,8 +1,9 @@
 -- One step of clap's walk over the words of a command: by options with one value, flags and positionals, over
 -- words that are neither `--` nor short options.
 use Rattle.ca_words.specs.Words.{Text}
-use Rattle.std.proofs.Common.{◌≡◌, ◌⊎◌, ◌&&◌, ℕ, Bool, true, false, refl, sym, ap, List, [], ◌∷◌, Option, Some, None, inl, inr, true≢false}
+use Rattle.std.proofs.Common.{◌≡◌, ◌⊎◌, ◌&&◌, ℕ, Bool, true, false, not, refl, sym, ap, List, [], ◌∷◌, Option, Some, None, inl, inr, true≢false}
 use Rattle.std.proofs.lemmas.Slice.Eq.{bytes_eq-Decides}
+use Rattle.std.specs.Prelude.{if◌then◌else◌}
 use Rattle.std.specs.Str.{bytes_eq}
 use Rattle.clap.specs.Lexer.{long_of}
 use Rattle.clap.specs.Kinds.{Kinds, or_else}
@@ -124,32 +125,24 @@ module _ (m : Text) (c : List Rule) where
 
 -- ---- when a use passes
 
+unrepeated : (b : Bool) → or_else (if b && not false then kind.ArgumentConflict ∷ [] else []) [] ≡ [] → b ≡ false
+unrepeated false e = refl
+unrepeated true e = absurd (cons≢nil _ _ e)
+
 pub fresh_value : (n v : Text) (rows : List Row) → use_fault false (valued n) (v ∷ []) rows ≡ [] → has_row n rows ≡ false
-fresh_value n v rows e = go (has_row n rows) refl
-  where
-    go : (b : Bool) → has_row n rows ≡ b → has_row n rows ≡ false
-    go false h = h
-    go true h = absurd (cons≢nil _ _ (rw h at e))
+fresh_value n v rows e = unrepeated (has_row n rows) e
 
 pub value_fresh : (n v : Text) (rows : List Row) → has_row n rows ≡ false → use_fault false (valued n) (v ∷ []) rows ≡ []
 value_fresh n v rows h = rw h refl
 
 pub fresh_flag : (n : Text) (rows : List Row) → use_fault false (flag n) [] rows ≡ [] → has_row n rows ≡ false
-fresh_flag n rows e = go (has_row n rows) refl
-  where
-    go : (b : Bool) → has_row n rows ≡ b → has_row n rows ≡ false
-    go false h = h
-    go true h = absurd (cons≢nil _ _ (rw h at e))
+fresh_flag n rows e = unrepeated (has_row n rows) e
 
 pub flag_fresh : (n : Text) (rows : List Row) → has_row n rows ≡ false → use_fault false (flag n) [] rows ≡ []
 flag_fresh n rows h = rw h refl
 
 pub fresh_place : (n v : Text) (k : ℕ) (rows : List Row) → use_fault false (place n k) (v ∷ []) rows ≡ [] → has_row n rows ≡ false
-fresh_place n v k rows e = go (has_row n rows) refl
-  where
-    go : (b : Bool) → has_row n rows ≡ b → has_row n rows ≡ false
-    go false h = h
-    go true h = absurd (cons≢nil _ _ (rw h at e))
+fresh_place n v k rows e = unrepeated (has_row n rows) e
 
 pub place_fresh : (n v : Text) (k : ℕ) (rows : List Row) → has_row n rows ≡ false → use_fault false (place n k) (v ∷ []) rows ≡ []
 place_fresh n v k rows h = rw h refl
