@@ -1,0 +1,17 @@
+pub mod Rules
+pub mod LongWords
+pub mod Steps
+pub mod Taken
+pub mod Walks
+pub mod OpenWords
+pub mod Rows
+pub mod Arguments
+pub mod Settings
+pub mod Program
+pub mod RunWords
+pub mod RunTheorem
+pub mod LoadWords
+pub mod LoadTheorem
+pub mod CheckTheorem
+pub mod Whole
+pub mod Examples

@@ -1,0 +1,135 @@
+-- The whole command line: what the definition asks for is what is read of clap's matches.
+use Rattle.std.proofs.Common.{◌≡◌, ◌∙◌, Bool, true, false, codes, refl, sym, ap, List, [], ◌∷◌, Option, Some, None, is_some, true≢false}
+use Rattle.std.specs.Prelude.{option_and_then}
+use Rattle.std.specs.List.{list_all}
+use Rattle.std.specs.Option.{option_map_or}
+use Rattle.std.specs.Str.{bytes_eq}
+use Rattle.std.proofs.lemmas.Slice.Eq.{bytes_eq-Decides}
+use Rattle.clap.specs.Walk.{Row, rows_after}
+use Rattle.clap.specs.Simple.{subcommand_of}
+use Rattle.clap.specs.Faults.{fault_of}
+use Rattle.ca_words.specs.declared.command.Command.{Command}
+use Rattle.ca_words.specs.declared.name.Name.{Name}
+use Rattle.ca_words.specs.declared.name.Name.TheVariants.{Run, Check, Load}
+use Rattle.ca_words.specs.Line.{command_line}
+use Rattle.ca_words.specs.Reading.{Reads, is_open, name_in, name_of}
+use Rattle.ca_words.specs.Words.{Text, check_words, command_in, joined, load_words, run_words}
+use Rattle.ca_words.proofs.Rules.{load_rules, run_rules}
+use Rattle.ca_words.proofs.LongWords.{some≢none}
+use Rattle.ca_words.proofs.Walks.{Opens}
+use Rattle.ca_words.proofs.RunTheorem.{run_open, run_taken, run_takes}
+use Rattle.ca_words.proofs.LoadTheorem.{load_open, load_taken, load_takes}
+use Rattle.ca_words.proofs.CheckTheorem.{check_open, check_taken, check_takes}
+use Rattle.ca_words.proofs.OpenWords.{opens}
+use Rattle.ca_words.proofs.Program.{check_entered, check_fault_is, load_entered, load_fault, run_entered, run_fault}
+
+-- ---- by the command's name
+
+abbrev pub asked : Name → List Text → Option Command
+asked Run ws = run_words (joined ws)
+asked Check ws = check_words (joined ws)
+asked Load ws = load_words (joined ws)
+
+pub words_asked : (w : Text) (ws : List Text) → command_in (w ∷ ws) ≡ option_and_then (λ n. asked n ws) (name_of w)
+words_asked w ws = go (bytes_eq w (codes "run")) (bytes_eq w (codes "check")) (bytes_eq w (codes "load")) refl refl refl
+  where
+    go : (a b d : Bool) → bytes_eq w (codes "run") ≡ a → bytes_eq w (codes "check") ≡ b → bytes_eq w (codes "load") ≡ d → command_in (w ∷ ws) ≡ option_and_then (λ n. asked n ws) (name_of w)
+    go true b d h k l = rw h refl
+    go false true d h k l = rw (h, k) refl
+    go false false true h k l = rw (h, k, l) refl
+    go false false false h k l = rw (h, k, l) refl
+
+asked_open : (n : Name) (ws : List Text) → is_some (asked n ws) ≡ true → list_all is_open ws ≡ true
+asked_open Run ws e = run_open ws e
+asked_open Check ws e = check_open ws e
+asked_open Load ws e = load_open ws e
+
+abbrev word_of : Name → Text
+word_of Run = codes "run"
+word_of Check = codes "check"
+word_of Load = codes "load"
+
+named : (w : Text) (n : Name) → name_of w ≡ Some n → w ≡ word_of n
+named w n e = go (bytes_eq w (codes "run")) (bytes_eq w (codes "check")) (bytes_eq w (codes "load")) refl refl refl
+  where
+    inside_name : (a b : Name) → Some a ≡ Some b → word_of a ≡ word_of b
+    inside_name a b h = ap (λ o. option_map_or word_of o []) h
+
+    go : (a b d : Bool) → bytes_eq w (codes "run") ≡ a → bytes_eq w (codes "check") ≡ b → bytes_eq w (codes "load") ≡ d → w ≡ word_of n
+    go true b d h k l = (bytes_eq-Decides w (codes "run")).0 h ∙ inside_name Run n (rw h at e)
+    go false true d h k l = (bytes_eq-Decides w (codes "check")).0 k ∙ inside_name Check n (rw (h, k) at e)
+    go false false true h k l = (bytes_eq-Decides w (codes "load")).0 l ∙ inside_name Load n (rw (h, k, l) at e)
+    go false false false h k l = absurd (some≢none n (rw (h, k, l) at e))
+
+-- ---- what clap takes, is what is asked for
+
+abbrev pub Told : Name → List Text → Type 0
+Told n ws = (t : Text) × (rows : List Row) × (subcommand_of command_line (word_of n ∷ ws) ≡ Some (t, rows)) × ((c : Option Command) → Reads n rows c → asked n ws ≡ c)
+
+told : (n : Name) (ws : List Text) → Opens ws → fault_of command_line (word_of n ∷ ws) ≡ [] → Told n ws
+told Run ws o e =
+    let r = run_taken ws o (sym (run_fault ws) ∙ e) in
+    (codes "run", rows_after run_rules [] ws, run_entered ws, λ c reads. r.2 ∙ sym (reads r.0 r.1))
+told Check ws o e = (codes "check", rows_after [] [] ws, check_entered ws, λ c reads. check_taken ws o (sym (check_fault_is ws) ∙ e) ∙ sym reads)
+told Load ws o e = (codes "load", rows_after load_rules [] ws, load_entered ws, λ c reads. load_taken ws o (sym (load_fault ws) ∙ e) ∙ sym reads)
+
+takes : (n : Name) (ws : List Text) → Opens ws → is_some (asked n ws) ≡ true → fault_of command_line (word_of n ∷ ws) ≡ []
+takes Run ws o e = run_fault ws ∙ run_takes ws o e
+takes Check ws o e = check_fault_is ws ∙ check_takes ws o e
+takes Load ws o e = load_fault ws ∙ load_takes ws o e
+
+none_if : {X : Type 0} (o : Option X) → (is_some o ≡ true → ⊥) → o ≡ None
+none_if None h = refl
+none_if (Some x) h = absurd (h refl)
+
+module _ (w : Text) (ws : List Text) (n : Name) (is : name_of w ≡ Some n) where
+  here : command_in (w ∷ ws) ≡ asked n ws
+  here = words_asked w ws ∙ ap (option_and_then (λ m. asked m ws)) is
+
+  -- a word that the product itself refuses
+  pub closed_none : list_all is_open ws ≡ false → command_in (w ∷ ws) ≡ None
+  closed_none h = here ∙ none_if (asked n ws) (λ e. true≢false (sym (asked_open n ws e) ∙ h))
+
+  -- words that clap refuses
+  pub fault_none : list_all is_open ws ≡ true → (fault_of command_line (w ∷ ws) ≡ [] → ⊥) → command_in (w ∷ ws) ≡ None
+  fault_none h bad = here ∙ none_if (asked n ws) (λ e. bad (ap (λ z. fault_of command_line (z ∷ ws)) (named w n is) ∙ takes n ws (opens ws h) e))
+
+  -- words that it takes
+  pub taken_told : list_all is_open ws ≡ true → fault_of command_line (w ∷ ws) ≡ []
+      → (t : Text) × (rows : List Row) × (subcommand_of command_line (w ∷ ws) ≡ Some (t, rows)) × ((c : Option Command) → Reads n rows c → command_in (w ∷ ws) ≡ c)
+  taken_told h e =
+      let r = told n ws (opens ws h) (ap (λ z. fault_of command_line (z ∷ ws)) (sym (named w n is)) ∙ e) in
+      (r.0, r.1, ap (λ z. subcommand_of command_line (z ∷ ws)) (named w n is) ∙ r.2, λ c reads. here ∙ r.3 c reads)
+
+-- ---- the same, of all the words
+
+open_name : (w : Text) (ws : List Text) (n : Name) → name_in (w ∷ ws) ≡ Some n → (list_all is_open ws ≡ true) × (name_of w ≡ Some n)
+open_name w ws n e = go (list_all is_open ws) refl
+  where
+    go : (b : Bool) → list_all is_open ws ≡ b → (list_all is_open ws ≡ true) × (name_of w ≡ Some n)
+    go true h = (h, rw h at e)
+    go false h = absurd (some≢none n (rw h at e))
+
+pub whole_none : (ws : List Text) → name_in ws ≡ None → command_in ws ≡ None
+whole_none [] e = refl
+whole_none (w ∷ ws) e = go (list_all is_open ws) (name_of w) refl refl
+  where
+    go : (b : Bool) (o : Option Name) → list_all is_open ws ≡ b → name_of w ≡ o → command_in (w ∷ ws) ≡ None
+    go false (Some n) h k = closed_none w ws n k h
+    go true (Some n) h k = absurd (some≢none n (sym (rw (h, k) at e)))
+    go b None h k = words_asked w ws ∙ ap (option_and_then (λ n. asked n ws)) k
+
+pub whole_fault : (ws : List Text) (n : Name) → name_in ws ≡ Some n → (fault_of command_line ws ≡ [] → ⊥) → command_in ws ≡ None
+whole_fault [] n e bad = refl
+whole_fault (w ∷ ws) n e bad =
+    let o = open_name w ws n e in
+    fault_none w ws n o.1 o.0 bad
+
+-- what is read of the matches of the words is what they ask for
+pub whole_told : (ws : List Text) (n : Name) (c : Option Command) → name_in ws ≡ Some n → fault_of command_line ws ≡ []
+    → ((t : Text) (rows : List Row) → subcommand_of command_line ws ≡ Some (t, rows) → Reads n rows c) → command_in ws ≡ c
+whole_told [] n c e none reads = absurd (some≢none n e)
+whole_told (w ∷ ws) n c e none reads =
+    let o = open_name w ws n e in
+    let t = taken_told w ws n o.1 o.0 none in
+    t.3 c (reads t.0 t.1 t.2)

@@ -1,0 +1,55 @@
+ghost use Rattle.std.specs.Prelude.{◌≡◌};
+
+use std::alloc::{AllocError, AllocFailed};
+
+/// What a command line asks for.
+#[derive(Clone, Copy, PartialEq, Eq, Debug)]
+pub enum Command {
+    /// To run the script.
+    Run {
+        /// The number of workers, 1 to 16.
+        workers: u64,
+        /// The cost at which the run ends, 1 to 4,000,000.
+        budget: u64,
+        /// Whether the journal follows the output.
+        journal: bool,
+    },
+    /// To read and check the script alone.
+    Check,
+    /// To run the generator's script for a number.
+    Load {
+        /// The number, 1 to 20,000.
+        n: u64,
+        /// The number of workers, 1 to 16.
+        workers: u64,
+    },
+}
+
+/// Why words are no command.
+#[derive(Clone, Copy, PartialEq, Eq, Debug)]
+pub enum WordsError {
+    /// The words are not admitted.
+    Usage,
+    /// Memory ran out.
+    OutOfMemory,
+}
+
+impl From<AllocError> for WordsError {
+    ghost use Rattle.ca_words.specs.declared.command.WordsError.TheVariants.{OutOfMemory};
+
+    ghost from_gives = { λ _ e. e ≡ OutOfMemory };
+
+    fn from(_: AllocError) -> WordsError {
+        WordsError::OutOfMemory
+    }
+}
+
+impl<T: Drop> From<AllocFailed<T>> for WordsError {
+    ghost use Rattle.ca_words.specs.declared.command.WordsError.TheVariants.{OutOfMemory};
+
+    ghost from_gives = { λ _ e. e ≡ OutOfMemory };
+
+    fn from(_: AllocFailed<T>) -> WordsError {
+        WordsError::OutOfMemory
+    }
+}

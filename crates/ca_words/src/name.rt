@@ -1,0 +1,68 @@
+//! The command that the first word names, and which words clap may read behind it.
+
+ghost use Rattle.std.specs.List.{list_all};
+ghost use Rattle.std.specs.Prelude.{◌≡◌, map, string_bytes};
+ghost use Rattle.std.specs.Str.{bytes_eq};
+ghost use Rattle.ca_words.specs.Reading.{is_open, name_in, name_of};
+
+/// The names of commands.
+#[derive(Clone, Copy, PartialEq, Eq, Debug)]
+pub enum Name {
+    Run,
+    Check,
+    Load,
+}
+
+/// The command that the words name, or None where they name none or one of the others is not for clap to read.
+pub fn name_in(words: &[String]) -> Option<Name>
+    ensures { result ≡ name_in (map string_bytes words.now) }
+{
+    match words {
+        [first, rest @ ..] if are_open(rest) => name_of(first.as_str()),
+        _ => None,
+    }
+}
+
+// The command that a word names.
+fn name_of(word: &str) -> Option<Name>
+    ensures { result ≡ name_of word.now }
+{
+    if is_word(word, "run") {
+        Some(Name::Run)
+    } else if is_word(word, "check") {
+        Some(Name::Check)
+    } else if is_word(word, "load") {
+        Some(Name::Load)
+    } else {
+        None
+    }
+}
+
+fn is_word(word: &str, name: &str) -> bool
+    ensures { result ≡ bytes_eq word.now name.now }
+{
+    word == name
+}
+
+fn are_open(words: &[String]) -> bool
+    ensures { result ≡ list_all is_open (map string_bytes words.now) }
+{
+    for word in words {
+        if !is_open(word.as_str()) {
+            return false;
+        }
+    }
+    true
+}
+
+// The word is not `--`, behind which clap takes all words as they are, and doesn't begin with a single `-`, behind
+// which it looks for short options.
+fn is_open(word: &str) -> bool
+    ensures { result ≡ is_open word.now }
+{
+    match word.as_bytes() {
+        [b'-', b'-', _, ..] => true,
+        [b'-', ..] => false,
+        _ => true,
+    }
+}
