@@ -12,8 +12,7 @@ use Rattle.ca_meaning.specs.declared.body.FaultAt.{FaultAt}
 use Rattle.ca_meaning.specs.Redex.{redex}
 use Rattle.ca_meaning.specs.Body.{BodyView, local, at_op, faulted, asking, at_or, at, standing, standing_turn}
 use Rattle.ca_meaning.specs.Rest.{LocalSteps, here, after}
-use Rattle.ca_meaning.specs.IsBody.{IsBodyBy, IsBodyOf}
-use Rattle.ca_meaning.proofs.PutFits.{fits-gentler}
+use Rattle.ca_meaning.specs.IsBody.{IsBodyBy}
 use Rattle.ca_meaning.proofs.RedexFits.{seat}
 use Rattle.ca_meaning.proofs.Contracts.{Judges}
 use Rattle.ca_meaning.proofs.Bodies.{stepped, program_judges}
@@ -127,17 +126,6 @@ all_served program checked e =
 pub rest_keeps : (program : ProgramView) (S : Option ℕ → Head → ℕ → Type 0) → Judges program S → (b c : BodyView) → LocalSteps program b c → IsBodyBy S b.term → IsBodyBy S c.term
 rest_keeps program S judges b c here h = h
 rest_keeps program S judges b c (after l s) h = rest_keeps program S judges _ c s (stepped program S judges b.term h)
-
-pub body_of_program : (program : ProgramView) (checked : IsProgram program) (plain : ℕ → Bool) (t : Kernel) → IsBodyBy (ServedBy (known_in plain program)) t → IsBodyOf program t
-body_of_program program checked plain t b = record {
-  checked = checked;
-  plain = plain;
-  suits = record { bound = b.bound; fits = fits-gentler (ServedBy (known_in plain program)) (Suits (known_in plain program)) (λ target h k s. s.0) None t b.fits };
-}
-
--- the main text is a body of its program
-pub main_of_program : (program : ProgramView) → IsProgram program → IsBodyOf program program.main
-main_of_program program checked = record { checked = checked; plain = checked.plain; suits = record { bound = checked.main_fits.bound; fits = checked.main_fits.fits } }
 
 -- an operation at which a served redex stands is a print
 asks : (p : Place) (f : Option Fault) (op : OpView) (w : WantView) → asking p f op ≡ at_op w → op ≡ w.op

@@ -7,3 +7,4 @@ pub mod Top
 pub mod Answers
 pub mod Served
 pub mod Over
+pub mod Pausing

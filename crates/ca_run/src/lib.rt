@@ -7,8 +7,9 @@
 //! Here also stands what serves until crates of its own do: which programs are run so far (`served`), the run
 //! of a main text alone, within its budget (`run`), and gates.
 //!
-//! Stands on `ca_value`, `ca_term`, `ca_meaning`, `ca_timers`, `ca_journal`, `ca_reader`, `ca_check` and `itoa`.
-//! Start with `top` and `specs/Top.antt`, then `answer`, `served` and `run`.
+//! Stands on `ca_reader` and `ca_check` for a script's program, on `ca_moves` and `ca_machine` for its compiled text, on
+//! `ca_timers`, `ca_journal` and what these stand on, and on `itoa`. Start with `top` and `specs/Top.antt`, then `answer`,
+//! `served` and `run`.
 #![tactic(auto)]
 
 pub mod answer;

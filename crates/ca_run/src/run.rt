@@ -1,25 +1,36 @@
-ghost use Rattle.std.specs.Prelude.{◌≡◌, ◌++◌, ◌≤◌, [], ◌∷◌, true, None, IfOk};
-ghost use Rattle.ca_term.specs.Program.{program_view};
-ghost use Rattle.ca_term.specs.Operation.{op_view};
+ghost use Rattle.std.specs.Prelude.{◌≡◌, ◌++◌, ◌≤◌, [], ◌∷◌, true, None, IfOk, OnOk};
+ghost use Rattle.ca_term.specs.Program.{ProgramView, program_view};
+ghost use Rattle.ca_term.specs.Operation.{want_view};
 ghost use Rattle.ca_term.specs.Event.{event_view, printed, over};
+ghost use Rattle.ca_meaning.specs.Body.{BodyView};
+ghost use Rattle.ca_meaning.specs.BodyViews.{is_at_op};
 ghost use Rattle.ca_meaning.specs.Legal.{Legal};
 ghost use Rattle.ca_meaning.specs.Ends.{HasEnd};
+ghost use Rattle.ca_states.specs.ValidCode.{valid_code};
+ghost use Rattle.ca_lower.specs.Lowered.{Lowered};
+ghost use Rattle.ca_agent.specs.Agents.{PausesAt};
+ghost use Rattle.ca_machine.specs.Machines.{IsOver};
+ghost use Rattle.ca_machine.specs.View.{machine_view};
 ghost use Rattle.ca_run.specs.Answers.{end_of, line_of_end};
 ghost use Rattle.ca_journal.specs.Events.{events};
 ghost use Rattle.ca_run.specs.Over.{ending_of, end_at};
+ghost use Rattle.ca_run.specs.Pausing.{GoesPast};
 ghost use Rattle.ca_run.specs.Printing.{is_printing, printed_line};
 ghost use Rattle.ca_run.specs.Served.{first_unserved};
 ghost use Rattle.ca_run.specs.Top.{EndLine};
 
+use ca_agent::agent::{Agent, Outcome, Pause};
 use ca_journal::entry::Journal;
-use ca_meaning::body::{Body, Stand};
+use ca_machine::machine::Machine;
+use ca_moves::lower::lower_moving;
+use ca_states::valid_code::ValidCode;
 use ca_term::event::{Ending, Event};
 use ca_term::fault::Fault;
-use ca_term::operation::Op;
+use ca_term::operation::{Op, Want};
 use ca_term::place::Place;
 use ca_term::program::Program;
 use ca_value::memory::OutOfMemory;
-use ca_value::seq::Seq;
+use ca_value::seq::{Seq, Text};
 use ca_value::value::Value;
 use std::alloc::Global;
 
@@ -51,12 +62,15 @@ pub fn run_main(alloc: Global, program: &Program, budget: u64) -> Result<MainRun
     ensures end { IfOk result (λ m. HasEnd (program_view program.now) budget (events m.journal) (end_of m.end)) }
     ensures line { IfOk result (λ m. EndLine (events m.journal) (end_of m.end) (line_of_end m.end)) }
 {
+    // What the main text tells: the program is a checked one.
+    let _main = program.main();
+    let code = lower_moving(alloc, program)?;
+    let mut machine = Machine::main(alloc, &code)?;
     let mut journal = Seq::new(alloc);
     let mut cost = 0;
-    let mut body = Body::of(program.main().copy(alloc)?);
-    body.rest(alloc, program)?;
-    while body.at() == Stand::AtOp {
-        let event = event_of(body.want(alloc)?.op);
+    let mut pause = machine.advance(alloc, &code)?;
+    while pause == Pause::AtOp {
+        let event = event_of(alloc, machine.want())?;
         cost += event.cost();
         journal.reserve(1)?;
         journal.push(event);
@@ -66,18 +80,32 @@ pub fn run_main(alloc: Global, program: &Program, budget: u64) -> Result<MainRun
                 end: MainEnd::Limit,
             });
         }
-        body.fill(Value::Nil);
-        body.rest(alloc, program)?;
+        pause = past_print(alloc, &code, &mut machine)?;
     }
-    over(journal, body.at())
+    over(journal, pause)
 }
 
-// The run whose main text stands at its end.
-fn over(mut journal: Journal, stand: Stand) -> Result<MainRun, OutOfMemory>
-    ensures { IfOk result (λ m. (events m.journal ≡ events journal ++ over 0 (ending_of m.end) ∷ []) × (m.end ≡ end_at stand)) }
+// Goes on from a print, which is answered with nil, to the next pause.
+fn past_print(alloc: Global, code: &ValidCode, machine: &mut Machine) -> Result<Pause, OutOfMemory>
+    requires paused { is_at_op (machine_view machine.old).place ≡ true }
+    requires over { IsOver (valid_code code.now) (machine_view machine.old) }
+    ensures over { OnOk result (IsOver (valid_code code.now) (machine_view machine.new)) }
+    ensures pauses { IfOk result (λ p. PausesAt p (machine_view machine.new).place) }
+    ensures goes { OnOk result ((program : ProgramView) (b : BodyView) → Lowered program (valid_code code.now) → GoesPast program b (machine_view machine.old) (machine_view machine.new)) }
 {
-    let (ending, end) = match stand {
-        Stand::Faulted(fault, place) => (
+    machine.give(Outcome {
+        value: Value::Nil,
+        branch: None,
+    });
+    machine.advance(alloc, code)
+}
+
+// The run whose main text is paused at its end.
+fn over(mut journal: Journal, pause: Pause) -> Result<MainRun, OutOfMemory>
+    ensures { IfOk result (λ m. (events m.journal ≡ events journal ++ over 0 (ending_of m.end) ∷ []) × (m.end ≡ end_at pause)) }
+{
+    let (ending, end) = match pause {
+        Pause::Faulted(fault, place) => (
             Ending::Faulted {
                 fault,
                 place,
@@ -92,13 +120,16 @@ fn over(mut journal: Journal, stand: Stand) -> Result<MainRun, OutOfMemory>
     Ok(MainRun { journal, end })
 }
 
-// The event that answers the operation.
-fn event_of(op: Op) -> Event
-    requires { is_printing (op_view op) ≡ true }
-    ensures { event_view result ≡ printed 0 (printed_line (op_view op)) }
+// The event of a print.
+fn event_of(alloc: Global, want: &Want) -> Result<Event, OutOfMemory>
+    requires { is_printing (want_view want.now).op ≡ true }
+    ensures { IfOk result (λ e. event_view e ≡ printed 0 (printed_line (want_view want.now).op)) }
 {
-    match op {
-        Op::Print(line) => Event::Print { task: 0, line },
+    match &want.op {
+        Op::Print(line) => Ok(Event::Print {
+            task: 0,
+            line: Text::from_bytes(alloc, line.as_slice())?,
+        }),
         _ => unreachable!(),
     }
 }
