@@ -8,6 +8,7 @@ ghost use Rattle.ca_states.specs.Code.{instruction};
 ghost use Rattle.ca_lower.specs.Implements.{Target, in_slots, integer_of, names_bound, next_slot, operand_slot, paired};
 ghost use Rattle.ca_lower.specs.Emit.{emit, emit_all, emit_bindings, emit_in_order, operand, second};
 ghost use Rattle.ca_lower.specs.Layouts.{layout_of};
+ghost use Rattle.ca_lower.specs.declared.emit.Layout.TheVariants.{Push, Put};
 ghost use Rattle.ca_lower.specs.Views.{builder_view, scope_view, target_view};
 
 use crate::builder::{Builder, Loop, Name, no_place, slot_of, sum};
@@ -261,30 +262,8 @@ fn emit_builtin(
             let right = emit_second(alloc, b, width, names, left.next, &operands.as_slice()[1])?;
             b.put(paired(builtin, h, left.slot, right, place))
         }
-        Layout::Push => {
-            emit_term(alloc, b, width, None, names, h, &operands.as_slice()[0])?;
-            let next = sum(h, 1)?;
-            let item = emit_operand(alloc, b, width, names, next, &operands.as_slice()[1])?;
-            b.put(Instr::Push {
-                to: h,
-                collection: h,
-                item: item.slot,
-                place,
-            })
-        }
-        Layout::Put => {
-            emit_term(alloc, b, width, None, names, h, &operands.as_slice()[0])?;
-            let next = sum(h, 1)?;
-            let key = emit_operand(alloc, b, width, names, next, &operands.as_slice()[1])?;
-            let value = emit_operand(alloc, b, width, names, key.next, &operands.as_slice()[2])?;
-            b.put(Instr::Put {
-                to: h,
-                collection: h,
-                key: key.slot,
-                value: value.slot,
-                place,
-            })
-        }
+        Layout::Push => emit_push(alloc, b, width, names, h, builtin, operands, place),
+        Layout::Put => emit_put(alloc, b, width, names, h, builtin, operands, place),
         Layout::Row => {
             emit_all(alloc, b, width, names, h, operands)?;
             b.put(Instr::Many {
@@ -296,6 +275,62 @@ fn emit_builtin(
             })
         }
     }
+}
+
+// `conj` of one item: the collection is taken out of its slot.
+#[cycle(emit)]
+fn emit_push(
+    alloc: Global,
+    b: &mut Builder,
+    width: u64,
+    names: &mut Seq<Name>,
+    h: u64,
+    builtin: Builtin,
+    operands: &Seq<Term>,
+    place: Place,
+) -> Result<(), OutOfMemory>
+    requires { layout_of builtin (length (list operands.now)) ≡ Push }
+    ensures code { OnOk result ((lp : Option Target) → builder_view b.new ≡ emit width lp (scope_view (list names.old)) h (apply (heads.Builtin builtin) (kernels (list operands.now)) place) (builder_view b.old)) }
+    ensures names { OnOk result (list names.new ≡ list names.old) }
+{
+    emit_term(alloc, b, width, None, names, h, &operands.as_slice()[0])?;
+    let next = sum(h, 1)?;
+    let item = emit_operand(alloc, b, width, names, next, &operands.as_slice()[1])?;
+    b.put(Instr::Push {
+        to: h,
+        collection: h,
+        item: item.slot,
+        place,
+    })
+}
+
+// `assoc` of one pair: the collection is taken out of its slot.
+#[cycle(emit)]
+fn emit_put(
+    alloc: Global,
+    b: &mut Builder,
+    width: u64,
+    names: &mut Seq<Name>,
+    h: u64,
+    builtin: Builtin,
+    operands: &Seq<Term>,
+    place: Place,
+) -> Result<(), OutOfMemory>
+    requires { layout_of builtin (length (list operands.now)) ≡ Put }
+    ensures code { OnOk result ((lp : Option Target) → builder_view b.new ≡ emit width lp (scope_view (list names.old)) h (apply (heads.Builtin builtin) (kernels (list operands.now)) place) (builder_view b.old)) }
+    ensures names { OnOk result (list names.new ≡ list names.old) }
+{
+    emit_term(alloc, b, width, None, names, h, &operands.as_slice()[0])?;
+    let next = sum(h, 1)?;
+    let key = emit_operand(alloc, b, width, names, next, &operands.as_slice()[1])?;
+    let value = emit_operand(alloc, b, width, names, key.next, &operands.as_slice()[2])?;
+    b.put(Instr::Put {
+        to: h,
+        collection: h,
+        key: key.slot,
+        value: value.slot,
+        place,
+    })
 }
 
 // How a builtin's operands come to it: one or two where they are, a collection that grows taken out of its slot and

@@ -124,8 +124,8 @@ emit_builtin-returns-in_ok-right-in-Two-clause-code t c =
     c.in_ok-left-in-Two.ensures.code c.in_ok-right-in-Two.ensures.code e)
     (subst (λ i. OnOk c.put-in-Two.result (builder_view c.put-in-Two.new.self ≡ add (i ∷ []) (builder_view c.emit_second.new.b))) c.paired.ensures c.put-in-Two.ensures)
 
-pub emit_builtin-returns-in_ok-item-in-Push-clause-code : goal.emit_builtin-returns-in_ok-item-in-Push-clause-code
-emit_builtin-returns-in_ok-item-in-Push-clause-code t c =
+pub emit_push-returns-clause-code : goal.emit_push-returns-clause-code
+emit_push-returns-clause-code t c =
     let w = c.args.width in
     let S = scope_view (list c.args.names.now) in
     let h = c.args.h in
@@ -133,17 +133,17 @@ emit_builtin-returns-in_ok-item-in-Push-clause-code t c =
     let b = c.args.builtin in
     let ts = list c.args.operands.now in
     let B = builder_view c.args.b.now in
-    let item = c.in_ok-item-in-Push.item in
-    let next = c.in_ok-next-in-Push.ensures in
-    on_ok c.put-in-Push.result (builder_view c.put-in-Push.new.self ≡ add (pushing h h item.slot p ∷ []) (builder_view c.emit_operand-in-Push.new.b))
-    ((lp : Option Target) → builder_view c.put-in-Push.new.self ≡ emit w lp S h (apply (Builtin b) (kernels ts) p) B)
-    (λ e. push_done w S h p b ts c.index-as_slice-0-in-Push.result c.index-as_slice-1-in-Push.result c.in_ok-next-in-Push.next item.slot (scope_view (list c.emit_term.new.names)) B
-    (builder_view c.emit_term.new.b) (builder_view c.emit_operand-in-Push.new.b) (builder_view c.put-in-Push.new.self)
-    (lays_by b ts c.len.result c.layout_of.result Layout.Push c.layout_of.ensures c.len.ensures c.in-Push.is) (seen c.as_slice-in-Push.result.now ts 0 c.index-as_slice-0-in-Push.result c.as_slice-in-Push.ensures c.index-as_slice-0-in-Push.is) (seen c.as_slice-in-Push-2.result.now ts 1 c.index-as_slice-1-in-Push.result c.as_slice-in-Push-2.ensures c.index-as_slice-1-in-Push.is)
-    (ap scope_view c.in_ok-emit_term-in-Push.ensures.names) (omega (arith, next)) c.in_ok-item-in-Push.ensures.slot c.in_ok-emit_term-in-Push.ensures.code c.in_ok-item-in-Push.ensures.code e) c.put-in-Push.ensures
+    let item = c.in_ok-item.item in
+    let next = c.in_ok-next.ensures in
+    on_ok c.put.result (builder_view c.put.new.self ≡ add (pushing h h item.slot p ∷ []) (builder_view c.emit_operand.new.b))
+    ((lp : Option Target) → builder_view c.put.new.self ≡ emit w lp S h (apply (Builtin b) (kernels ts) p) B)
+    (λ e. push_done w S h p b ts c.index-as_slice-0.result c.index-as_slice-1.result c.in_ok-next.next item.slot (scope_view (list c.emit_term.new.names)) B
+    (builder_view c.emit_term.new.b) (builder_view c.emit_operand.new.b) (builder_view c.put.new.self)
+    c.requires (seen c.as_slice.result.now ts 0 c.index-as_slice-0.result c.as_slice.ensures c.index-as_slice-0.is) (seen c.as_slice-2.result.now ts 1 c.index-as_slice-1.result c.as_slice-2.ensures c.index-as_slice-1.is)
+    (ap scope_view c.in_ok-emit_term.ensures.names) (omega (arith, next)) c.in_ok-item.ensures.slot c.in_ok-emit_term.ensures.code c.in_ok-item.ensures.code e) c.put.ensures
 
-pub emit_builtin-returns-in_ok-value-in-Put-clause-code : goal.emit_builtin-returns-in_ok-value-in-Put-clause-code
-emit_builtin-returns-in_ok-value-in-Put-clause-code t c =
+pub emit_put-returns-clause-code : goal.emit_put-returns-clause-code
+emit_put-returns-clause-code t c =
     let w = c.args.width in
     let S = scope_view (list c.args.names.now) in
     let h = c.args.h in
@@ -151,18 +151,18 @@ emit_builtin-returns-in_ok-value-in-Put-clause-code t c =
     let b = c.args.builtin in
     let ts = list c.args.operands.now in
     let B = builder_view c.args.b.now in
-    let key = c.in_ok-key-in-Put.key in
-    let value = c.in_ok-value-in-Put.value in
-    let next = c.in_ok-next-in-Put.ensures in
-    let names1 = c.in_ok-emit_term-in-Put.ensures.names in
-    on_ok c.put-in-Put.result (builder_view c.put-in-Put.new.self ≡ add (putting h h key.slot value.slot p ∷ []) (builder_view c.emit_operand-in-Put-2.new.b))
-    ((lp : Option Target) → builder_view c.put-in-Put.new.self ≡ emit w lp S h (apply (Builtin b) (kernels ts) p) B)
-    (λ e. put_done w S h p b ts c.index-as_slice-0-in-Put.result c.index-as_slice-1-in-Put.result c.index-as_slice-2.result c.in_ok-next-in-Put.next key.next key.slot value.slot
-    (scope_view (list c.emit_term-in-Put.new.names)) (scope_view (list c.emit_operand-in-Put.new.names)) B
-    (builder_view c.emit_term-in-Put.new.b) (builder_view c.emit_operand-in-Put.new.b) (builder_view c.emit_operand-in-Put-2.new.b) (builder_view c.put-in-Put.new.self)
-    (lays_by b ts c.len.result c.layout_of.result Layout.Put c.layout_of.ensures c.len.ensures c.in-Put.is) (seen c.as_slice-in-Put.result.now ts 0 c.index-as_slice-0-in-Put.result c.as_slice-in-Put.ensures c.index-as_slice-0-in-Put.is) (seen c.as_slice-in-Put-2.result.now ts 1 c.index-as_slice-1-in-Put.result c.as_slice-in-Put-2.ensures c.index-as_slice-1-in-Put.is) (seen c.as_slice-in-Put-3.result.now ts 2 c.index-as_slice-2.result c.as_slice-in-Put-3.ensures c.index-as_slice-2.is)
-    (ap scope_view names1) (ap scope_view (c.in_ok-key-in-Put.ensures.names ∙ names1)) (omega (arith, next)) c.in_ok-key-in-Put.ensures.next c.in_ok-key-in-Put.ensures.slot c.in_ok-value-in-Put.ensures.slot
-    c.in_ok-emit_term-in-Put.ensures.code c.in_ok-key-in-Put.ensures.code c.in_ok-value-in-Put.ensures.code e) c.put-in-Put.ensures
+    let key = c.in_ok-key.key in
+    let value = c.in_ok-value.value in
+    let next = c.in_ok-next.ensures in
+    let names1 = c.in_ok-emit_term.ensures.names in
+    on_ok c.put.result (builder_view c.put.new.self ≡ add (putting h h key.slot value.slot p ∷ []) (builder_view c.emit_operand-2.new.b))
+    ((lp : Option Target) → builder_view c.put.new.self ≡ emit w lp S h (apply (Builtin b) (kernels ts) p) B)
+    (λ e. put_done w S h p b ts c.index-as_slice-0.result c.index-as_slice-1.result c.index-as_slice-2.result c.in_ok-next.next key.next key.slot value.slot
+    (scope_view (list c.emit_term.new.names)) (scope_view (list c.emit_operand.new.names)) B
+    (builder_view c.emit_term.new.b) (builder_view c.emit_operand.new.b) (builder_view c.emit_operand-2.new.b) (builder_view c.put.new.self)
+    c.requires (seen c.as_slice.result.now ts 0 c.index-as_slice-0.result c.as_slice.ensures c.index-as_slice-0.is) (seen c.as_slice-2.result.now ts 1 c.index-as_slice-1.result c.as_slice-2.ensures c.index-as_slice-1.is) (seen c.as_slice-3.result.now ts 2 c.index-as_slice-2.result c.as_slice-3.ensures c.index-as_slice-2.is)
+    (ap scope_view names1) (ap scope_view (c.in_ok-key.ensures.names ∙ names1)) (omega (arith, next)) c.in_ok-key.ensures.next c.in_ok-key.ensures.slot c.in_ok-value.ensures.slot
+    c.in_ok-emit_term.ensures.code c.in_ok-key.ensures.code c.in_ok-value.ensures.code e) c.put.ensures
 
 pub emit_builtin-returns-in_ok-emit_all-in-Row-clause-code : goal.emit_builtin-returns-in_ok-emit_all-in-Row-clause-code
 emit_builtin-returns-in_ok-emit_all-in-Row-clause-code t c =
