@@ -1,7 +1,7 @@
 -- The pairs of a map, and the integer of an integer key.
-use Rattle.std.proofs.Common.{◌≡◌, ℕ, ℤ, zero, suc, ◌+◌, ◌<◌, List, [], ◌∷◌, length, map, drop, get_or, Bool, true, false, Option, Some, None, Ok, refl, sym, ap, ◌∙◌, subst, arith}
+use Rattle.std.proofs.Common.{◌≡◌, ℕ, ℤ, suc, ◌+◌, ◌<◌, List, [], ◌∷◌, length, drop, get_or, Bool, true, false, Option, Some, None, Ok, refl, sym, ap, ◌∙◌, subst, arith}
 use Rattle.std.specs.Prelude.{if◌then◌else◌, unwrap_or, IfSome}
-use Rattle.ca_value.specs.Tree.{Tree, int, map as mapping, pairs_of, entries_of}
+use Rattle.ca_value.specs.Tree.{Tree, int, map as mapping, pairs_of}
 use Rattle.ca_value.specs.View.{view, pair_view, pair_views, map_pairs}
 use Rattle.ca_value.specs.Outcome.{judged}
 use Rattle.ca_value.specs.Equality.{equals}

@@ -1,10 +1,10 @@
 -- The text of an integer.
-use Rattle.std.proofs.Common.{◌≡◌, ℕ, ℤ, suc, ◌<◌, ◌≤◌, ◌++◌, List, [], ◌∷◌, length, Bool, true, Ok, Err, refl, sym, ap, ◌∙◌, arith}
+use Rattle.std.proofs.Common.{◌≡◌, ℕ, ℤ, suc, ◌≤◌, ◌++◌, List, [], ◌∷◌, length, true, Ok, Err, refl, sym, ap, ◌∙◌, arith}
 use Rattle.std.proofs.lemmas.Bool.{le-leb}
 use Rattle.std.specs.Prelude.{if◌then◌else◌, nat_le}
 use Rattle.ca_value.specs.Tree.{Tree, int, text}
 use Rattle.ca_value.specs.Printed.{readable_text}
-use Rattle.ca_value.specs.Outcome.{Outcome, judged}
+use Rattle.ca_value.specs.Outcome.{judged}
 use Rattle.ca_value.specs.Builtins.{builtin_result}
 use Rattle.ca_value.specs.declared.builtin.Builtin.TheVariants.{Str}
 use Rattle.ca_value.specs.declared.value.Value.{Value}

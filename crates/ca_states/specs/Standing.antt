@@ -1,5 +1,5 @@
 -- A runner of valid code, and where a runner may stand in code.
-use Rattle.std.specs.Prelude.{◌≡◌, ℕ, ◌<◌, ◌≤◌, List, [], ◌∷◌, length, map, reverse, Bool, true, false, ◌==◌, Option, Some, None, Result, Ok, Err, IsTrue}
+use Rattle.std.specs.Prelude.{◌≡◌, ℕ, ◌<◌, ◌≤◌, List, [], ◌∷◌, length, map, reverse, Bool, true, false, ◌==◌, IsTrue}
 use Rattle.ca_value.specs.Seq.{list}
 use Rattle.ca_value.specs.Tree.{Tree}
 use Rattle.ca_value.specs.View.{view, views}
@@ -73,13 +73,7 @@ HaltedAs m (halt.Cut w) r = m ≡ waits (want_view w) (waiting_slot r) (state_vi
 HaltedAs m (halt.Ended v) r = m ≡ ends (view v) (state_view r).turns
 HaltedAs m (halt.Faulted f p) r = m ≡ faults f p (state_view r).turns
 
--- what an exit that doesn't halt came to: the runner goes on, or stops; want of memory says nothing
-abbrev pub Left : {A : Type 0} → Move → Result A Stop → Runner → Type 0
-Left m (Ok a) r = m ≡ goes (state_view r)
-Left m (Err (Stop.Fault f p)) r = m ≡ faults f p (state_view r).turns
-Left m (Err Stop.OutOfMemory) r = Unit {0}
-
--- what a block that doesn't halt came to
+-- what a block or an exit that doesn't halt came to: the runner goes on, or stops; want of memory says nothing
 abbrev pub Passed : Move → Bool → Stop → Runner → Type 0
 Passed m true e r = m ≡ goes (state_view r)
 Passed m false (Stop.Fault f p) r = m ≡ faults f p (state_view r).turns

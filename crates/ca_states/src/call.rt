@@ -5,7 +5,7 @@ ghost use Rattle.ca_value.specs.View.{views};
 ghost use Rattle.ca_states.specs.Code.{code_view, function_at};
 ghost use Rattle.ca_states.specs.Machine.{begun, goes, leaves, read, reads, returned, slots_from, taken_all};
 ghost use Rattle.ca_states.specs.Valid.{are_below};
-ghost use Rattle.ca_states.specs.Standing.{state_view, frames_view, halts_at, HasRoom, Left, TakesValue};
+ghost use Rattle.ca_states.specs.Standing.{state_view, frames_view, halts_at, HasRoom, Passed, TakesValue};
 ghost use Rattle.ca_states.specs.declared.code.Exit.TheVariants.{Call, Return};
 
 use crate::code::Code;
@@ -95,25 +95,30 @@ impl Runner {
         answer: u64,
         next: u64,
         place: Place,
-    ) -> Result<(), Stop>
+        stop: &mut Stop,
+    ) -> bool
         requires turns { self.old.turns ≤ 999_999 }
         requires row { IsTrue (are_below (length self.old.slots.items) (slots_from from count)) }
         requires room { HasRoom (code_view code.now) (function_at (code_view code.now) function) count }
-        ensures { Left (leaves (code_view code.now) (Call function from count answer next place) (state_view self.old)) result self.new }
+        ensures { Passed (leaves (code_view code.now) (Call function from count answer next place) (state_view self.old)) result stop.new self.new }
     {
         if LAST_TURN <= self.turns {
-            return Err(Stop::Fault(Fault::Spun, place));
+            *stop = Stop::Fault(Fault::Spun, place);
+            return false;
         }
         if DEEPEST_CALL <= self.frames.len() {
-            return Err(Stop::Fault(Fault::TooDeep, place));
+            *stop = Stop::Fault(Fault::TooDeep, place);
+            return false;
         }
         let entry = function_at(code, function);
         let width = block_at(code, entry.block).width;
         let Ok(begun) = self.begin(alloc, width, from, count) else {
-            return Err(Stop::OutOfMemory);
+            *stop = Stop::OutOfMemory;
+            return false;
         };
         let Ok(()) = self.frames.reserve(1) else {
-            return Err(Stop::OutOfMemory);
+            *stop = Stop::OutOfMemory;
+            return false;
         };
         let slots = mem::replace(&mut self.slots, begun.into_vec());
         self.frames.push(Frame {
@@ -122,7 +127,7 @@ impl Runner {
             slots,
         });
         self.turn_to(entry.block);
-        Ok(())
+        true
     }
 
     /// A slot's value goes to the call that waits for it.

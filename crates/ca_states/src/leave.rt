@@ -9,7 +9,7 @@ ghost use Rattle.ca_term.specs.declared.fault.Fault.TheVariants.{Spun};
 ghost use Rattle.ca_term.specs.declared.place.Place.{Place as PurePlace};
 ghost use Rattle.ca_states.specs.Code.{code_view, CodeView};
 ghost use Rattle.ca_states.specs.Machine.{applied, at_block, faults, goes, leaves, read, tested, turned, slots_from};
-ghost use Rattle.ca_states.specs.Standing.{state_view, frames_view, halts_at, FitsExit, FitsHere, Left, Passed};
+ghost use Rattle.ca_states.specs.Standing.{state_view, frames_view, halts_at, FitsExit, FitsHere, Passed};
 
 use crate::code::{Code, Exit};
 use crate::plain::truth_in_place;
@@ -81,14 +81,15 @@ impl Runner {
     }
 
     // To a block, by a turn where its number isn't greater; the last turn faults.
-    fn jump(&mut self, next: u64, place: Place) -> Result<(), Stop>
+    fn jump(&mut self, next: u64, place: Place, stop: &mut Stop) -> bool
         requires { self.old.turns ≤ 999_999 }
-        ensures { Left (cond (nat_lt self.old.block next) (goes (at_block next (state_view self.old))) (turned self.old.turns place (goes (record (state_view self.old) { block = next; turns = suc self.old.turns })))) result self.new }
+        ensures { Passed (cond (nat_lt self.old.block next) (goes (at_block next (state_view self.old))) (turned self.old.turns place (goes (record (state_view self.old) { block = next; turns = suc self.old.turns })))) result stop.new self.new }
     {
         if self.jump_in_place(next) {
-            return Ok(());
+            return true;
         }
-        Err(Stop::Fault(Fault::Spun, place))
+        *stop = Stop::Fault(Fault::Spun, place);
+        false
     }
 
     // By the truth of a slot.
@@ -115,11 +116,12 @@ impl Runner {
         yes: u64,
         no: u64,
         place: Place,
-    ) -> Result<(), Stop>
+        stop: &mut Stop,
+    ) -> bool
         requires counted { IsTrue (admits builtin 2) }
         requires left { left < length self.old.slots.items }
         requires right { right < length self.old.slots.items }
-        ensures { Left (tested place (state_view self.old) yes no (applied builtin (read (views self.old.slots.items) left ∷ read (views self.old.slots.items) right ∷ []))) result self.new }
+        ensures { Passed (tested place (state_view self.old) yes no (applied builtin (read (views self.old.slots.items) left ∷ read (views self.old.slots.items) right ∷ []))) result stop.new self.new }
     {
         let slots = self.slots.as_slice();
         let outcome = apply_two(
@@ -131,10 +133,16 @@ impl Runner {
         match outcome {
             Ok(value) => {
                 self.block = if is_true(&value) { yes } else { no };
-                Ok(())
+                true
             }
-            Err(ApplyError::Fault(fault)) => Err(Stop::Fault(task_fault(fault), place)),
-            Err(ApplyError::OutOfMemory) => Err(Stop::OutOfMemory),
+            Err(ApplyError::Fault(fault)) => {
+                *stop = Stop::Fault(task_fault(fault), place);
+                false
+            }
+            Err(ApplyError::OutOfMemory) => {
+                *stop = Stop::OutOfMemory;
+                false
+            }
         }
     }
 
@@ -183,45 +191,6 @@ impl Runner {
         }
     }
 
-    // Leaves the block by the exit, and goes on.
-    fn leave_by(&mut self, alloc: Global, code: &Code, exit: &Exit) -> Result<(), Stop>
-        requires turns { self.old.turns ≤ 999_999 }
-        requires fits { FitsExit (code_view code.now) exit.now (state_view self.old) }
-        requires goes { halts_at exit.now (frames_view (list self.old.frames)) ≡ false }
-        ensures { Left (leaves (code_view code.now) exit.now (state_view self.old)) result self.new }
-    {
-        match exit {
-            Exit::Jump { next, place } => self.jump(*next, *place),
-            Exit::Branch { slot, yes, no } => {
-                self.branch(*slot, *yes, *no);
-                Ok(())
-            }
-            Exit::Test {
-                builtin,
-                left,
-                right,
-                yes,
-                no,
-                place,
-            } => self.test(alloc, *builtin, *left, *right, *yes, *no, *place),
-            Exit::Call {
-                function,
-                from,
-                count,
-                answer,
-                next,
-                place,
-            } => self.call(
-                alloc, code, *function, *from, *count, *answer, *next, *place,
-            ),
-            Exit::Return { slot } => {
-                self.give_back(*slot);
-                Ok(())
-            }
-            Exit::Cut { .. } => unreachable!(),
-        }
-    }
-
     /// Leaves the block by the exit, and goes on. Where that stops the runner, `stop` says why.
     #[inline(never)]
     pub(crate) fn leave(&mut self, alloc: Global, code: &Code, exit: &Exit, stop: &mut Stop) -> bool
@@ -230,12 +199,35 @@ impl Runner {
         requires goes { halts_at exit.now (frames_view (list self.old.frames)) ≡ false }
         ensures { Passed (leaves (code_view code.now) exit.now (state_view self.old)) result stop.new self.new }
     {
-        match self.leave_by(alloc, code, exit) {
-            Ok(()) => true,
-            Err(why) => {
-                *stop = why;
-                false
+        match exit {
+            Exit::Jump { next, place } => self.jump(*next, *place, stop),
+            Exit::Branch { slot, yes, no } => {
+                self.branch(*slot, *yes, *no);
+                true
             }
+            Exit::Test {
+                builtin,
+                left,
+                right,
+                yes,
+                no,
+                place,
+            } => self.test(alloc, *builtin, *left, *right, *yes, *no, *place, stop),
+            Exit::Call {
+                function,
+                from,
+                count,
+                answer,
+                next,
+                place,
+            } => self.call(
+                alloc, code, *function, *from, *count, *answer, *next, *place, stop,
+            ),
+            Exit::Return { slot } => {
+                self.give_back(*slot);
+                true
+            }
+            Exit::Cut { .. } => unreachable!(),
         }
     }
 }

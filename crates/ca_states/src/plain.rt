@@ -16,7 +16,9 @@ ghost use Rattle.ca_states.specs.Valid.{are_below, is_instruction_in_range};
 use crate::code::Instr;
 use crate::slots::{clear_at, clear_row, int_at, move_at, set_bool, set_int, value_at, width_of};
 use ca_value::builtin::Builtin;
-use ca_value::builtin::scalars::{int_of_one, int_of_two, truth_of_one, truth_of_two};
+use ca_value::builtin::scalars::{
+    int_of_one, int_of_two, truth_of_one, truth_of_two, truth_of_values,
+};
 use ca_value::value::{Pair, Value};
 
 // A value of the text, where it is an integer.
@@ -134,7 +136,24 @@ fn nth_in_place(slots: &mut [Value], to: u64, left: u64, place: i64) -> bool
     false
 }
 
-// A builtin of two slots, where both hold integers, and `nth` of a vector's integer.
+// A builtin of two slots that compares values of any kind.
+#[inline(never)]
+fn compare_in_place(slots: &mut [Value], builtin: Builtin, to: u64, left: u64, right: u64) -> bool
+    requires to { to < length slots.old }
+    requires left { left < length slots.old }
+    requires right { right < length slots.old }
+    ensures done { OnTrue result ((p : PurePlace) → answered (views slots.old) to p (applied builtin (read (views slots.old) left ∷ read (views slots.old) right ∷ [])) ≡ done (views slots.new)) }
+    ensures left { OnFalse result (slots.new ≡ slots.old) }
+    ensures same { length slots.new ≡ length slots.old }
+{
+    if let Some(truth) = truth_of_values(builtin, value_at(slots, left), value_at(slots, right)) {
+        set_bool(slots, to, truth);
+        return true;
+    }
+    false
+}
+
+// A builtin of two slots, where both hold integers, `nth` of a vector's integer, or a comparison.
 #[inline(always)]
 fn two_in_place(slots: &mut [Value], builtin: Builtin, to: u64, left: u64, right: u64) -> bool
     requires to { to < length slots.old }
@@ -145,7 +164,7 @@ fn two_in_place(slots: &mut [Value], builtin: Builtin, to: u64, left: u64, right
     ensures same { length slots.new ≡ length slots.old }
 {
     let Some(b) = int_at(slots, right) else {
-        return false;
+        return compare_in_place(slots, builtin, to, left, right);
     };
     let Some(a) = int_at(slots, left) else {
         return match builtin {

@@ -113,10 +113,14 @@ fn put_bool(slots: &mut [Value], slot: u64, truth: bool)
 }
 
 /// A copy of the slot's value.
+#[inline(always)]
 pub(crate) fn copy_at(alloc: Global, slots: &[Value], slot: u64) -> Result<Value, OutOfMemory>
     requires { slot < length slots.now }
     ensures { IfOk result (λ v. view v ≡ read (views slots.now) slot) }
 {
+    if let Some(n) = int_at(slots, slot) {
+        return Ok(Value::Int(n));
+    }
     value_at(slots, slot).copy(alloc)
 }
 

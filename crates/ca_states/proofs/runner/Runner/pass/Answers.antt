@@ -4,7 +4,7 @@ use Rattle.ca_states.specs.declared.runner.Runner.{Runner}
 use Rattle.ca_states.specs.Code.{BlockView, block_view, instruction, code_view}
 use Rattle.ca_states.specs.Machine.{Move, leaves}
 use Rattle.ca_states.specs.Standing.{state_view, Passed}
-use Rattle.ca_states.proofs.StandingLaws.{block_stop, fits_here, ran}
+use Rattle.ca_states.proofs.StandingLaws.{block_stop, ran}
 use Rattle.ca_states.proofs.runner.Runner.pass.Goals as goal
 
 pub returns-then-not-run_block : goal.returns-then-not-run_block
