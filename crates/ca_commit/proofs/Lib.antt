@@ -51,3 +51,10 @@ pub mod Drawings
 pub mod Meetings
 pub mod Twice
 pub mod SettleMade
+pub mod Wholes
+pub mod Parkings
+pub mod Enterings
+pub mod NewPorts
+pub mod Everywhere
+pub mod EventMoves
+pub mod Dues

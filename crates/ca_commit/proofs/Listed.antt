@@ -1,5 +1,5 @@
 -- A list of parts with their numbers, as a map.
-use Rattle.std.proofs.Common.{◌≡◌, ℕ, zero, suc, List, [], ◌∷◌, length, refl, sym, ap, ◌∙◌, arith, Bool, true, false, cond, Option, Some, None, IfNone, option_map, eqb, eqb-true, eq-eqb, ne_eqb, slice_index_or, slice_set}
+use Rattle.std.proofs.Common.{◌≡◌, ℕ, zero, suc, List, [], ◌∷◌, length, refl, sym, ap, ◌∙◌, arith, Bool, true, false, cond, Option, Some, None, IfNone, IsSome, is_some, option_map, eqb, eqb-true, eq-eqb, ne_eqb, slice_index_or, slice_set}
 use Rattle.std.specs.Map.{update}
 use Rattle.ca_commit.specs.Contents.{at_key, home, whole}
 use Rattle.ca_commit.specs.Listing.{listed, NoneBefore, IsFirst, changed_at}
@@ -81,3 +81,10 @@ module _ {T : Type 0} (number : T → ℕ) where
 
   pub no_part : {X : Type 0} (view : T → ℕ → Option X) (xs : List T) (n : ℕ) → NoneBefore number xs (home n) (length xs) → whole (λ i. option_map view (listed number xs i)) n ≡ None
   no_part view xs n f = ap (λ (o : Option T). at_key (option_map view o) n) (listed_none xs (home n) f)
+
+  -- the part stands where it stood
+  pub part_there : (xs : List T) (n i : ℕ) (e e2 : T) → IsFirst number xs n i → e ≡ slice_index_or xs i e → number e2 ≡ number e → listed number (slice_set xs i e2) n ≡ Some e2
+  part_there xs n i e e2 first at same = listed_set xs n i e2 (numbered xs n i e e2 first at same) first n ∙ ap (λ c. cond c (Some e2) (listed number xs n)) (eq-eqb n n refl)
+
+  pub part_unheld : {V : Type 0} (view : T → V) (xs : List T) (n : ℕ) → NoneBefore number xs n (length xs) → IsSome (option_map view (listed number xs n)) → ⊥
+  part_unheld view xs n none there = let k : false ≡ true = sym (ap (λ (o : Option T). is_some (option_map view o)) (listed_none xs n none)) ∙ there in cc

@@ -40,7 +40,7 @@ module _ {X : Type 0} where
         by false is e2 v = h (home n) k a.from x a.was v ∙ sym is
 
   -- every part changes by a map that makes no entry
-  placed_mapped : (old new : ℕ → Option (ℕ → Option X)) (change : (ℕ → Option X) → ℕ → Option X) → ((g : ℕ → Option X) (k : ℕ) (x : X) → change g k ≡ Some x → (y : X) × (g k ≡ Some y)) → Placed old → ((i : ℕ) → new i ≡ option_map change (old i)) → Placed new
+  pub placed_mapped : (old new : ℕ → Option (ℕ → Option X)) (change : (ℕ → Option X) → ℕ → Option X) → ((g : ℕ → Option X) (k : ℕ) (x : X) → change g k ≡ Some x → (y : X) × (g k ≡ Some y)) → Placed old → ((i : ℕ) → new i ≡ option_map change (old i)) → Placed new
   placed_mapped old new change none h m i k f x e g = by (old i) refl (sym (m i) ∙ e) where
     by : (o : Option (ℕ → Option X)) → old i ≡ o → option_map change o ≡ Some f → home k ≡ i
     by None is z = absurd (let y : None ≡ Some f = z in cc)

@@ -4,24 +4,29 @@ use Rattle.ca_value.specs.Tree.{Tree, Trees, nil, bool, int, text, key, vector, 
 use Rattle.ca_term.specs.declared.fault.Fault.{Fault}
 use Rattle.ca_term.specs.declared.fault.Fault.TheVariants.{NotAPort, TooManyPorts}
 use Rattle.ca_term.specs.declared.event.Side.{Side}
+use Rattle.ca_term.specs.declared.head.RegisterName.{RegisterName}
 use Rattle.ca_term.specs.Operation.{OpView, choosing, closing, making, posting, printing, putting, registering, spawning, taking}
 use Rattle.ca_term.specs.Event.{BranchView}
 use Rattle.ca_meaning.specs.ChannelSteps.{other_side}
 use Rattle.ca_meaning.specs.Choice.{branch_of, branches_of, default_of, parks}
-use Rattle.ca_meaning.specs.Operands.{count_of, first_of, is_pair, or_else, port_number, second_of, values_in}
-use Rattle.ca_meaning.specs.Refusal.{bad_choice, bad_port, bad_ports, crowd_of, is_channel, nil_put, not_a_channel, unfit}
+use Rattle.ca_meaning.specs.Operands.{count_of, first_of, is_pair, or_else, port_number, rest_of, second_of, values_in}
+use Rattle.ca_meaning.specs.Refusal.{bad_choice, bad_port, bad_ports, crowd_of, fault_of_registered, is_channel, needs_to_register, nil_put, not_a_channel, registered_at, registering_gives, unfit, unmet}
+use Rattle.ca_meaning.specs.Registry.{Registered, Registry, answers, refuses}
 use Rattle.ca_meaning.specs.State.{State}
 use Rattle.ca_meaning.specs.Wait.{Handler, head, port_of, side_of}
 use Rattle.ca_bank.specs.Kept.{queue_at}
+use Rattle.ca_bank.specs.Registry.{comes_to}
 use Rattle.ca_commit.specs.Asks.{Asks, row_raw}
 use Rattle.ca_commit.specs.Contents.{Kept, Parked, Parts, alive_in, at_key, channel_of, home, on, whole}
-use Rattle.ca_commit.specs.Deciding.{HasPartner, IsAlone, PlanTells, seen_in}
+use Rattle.ca_commit.specs.Deciding.{HasPartner, IsAlone, IsAnswered, IsPost, PlanTells, seen_in}
 use Rattle.ca_commit.specs.Finding.{Finding, alone, find_at, glance, glance_at, glance_in, partner, stale, unheld, unready}
 use Rattle.ca_commit.specs.Holds.{groups, live_of}
 use Rattle.ca_commit.specs.Moves.{AllSeen, FewIn, FewOn, FitIn, NoneReadyIn, PicksIn, Unready}
 use Rattle.ca_commit.specs.Planning.{Planned, Seen, all_asked, all_counted, asked, counted, chosen, decided, fitting, found_of, is_alts, otherwise, planned, starting, state_of, to_close, to_default, to_do, to_make, to_meet, to_park, to_post, to_print, to_register, to_spawn, unless_refused, to_look, to_prune, to_refuse}
 use Rattle.ca_commit.proofs.Findings.{Says, found, is_here, lives}
-use Rattle.ca_commit.proofs.FitsMore.{first_none, fits_in, passes, second_none}
+use Rattle.ca_commit.specs.Registering.{keys_pass}
+use Rattle.ca_commit.proofs.FitsMore.{first_none, fits_in, passes, register_more, second_none}
+use Rattle.ca_commit.proofs.RegisterLaws.{refused_keys, same_table}
 use Rattle.ca_commit.proofs.Laid.{same_map}
 use Rattle.ca_commit.proofs.Turns.{Decides, NoneDecides, from_tells}
 
@@ -193,42 +198,81 @@ module _ {A : Type 0} (h : Parts A) where
   stop_tells op (to_register name args) s = absurd s
   stop_tells op (to_print line) s = absurd s
 
-  chosen_tells : (op : OpView) (start : ℕ) → FitIn h op → EachHeld (branches_of op) → PlanTells h op (chosen x op start)
-  chosen_tells op start fit each = ⊎_elim decides no_one (from_tells x (is_alts op) (starting x op start) (branches_of op) (otherwise x op (default_of op))) where
+  chosen_tells : (op : OpView) (start : ℕ) → FitIn h op → EachHeld (branches_of op) → (parks op ≡ false → IsPost h op (branches_of op)) → PlanTells h op (chosen x op start)
+  chosen_tells op start fit each post = ⊎_elim decides no_one (from_tells x (is_alts op) (starting x op start) (branches_of op) (otherwise x op (default_of op))) where
     picks : (d : Decides x (is_alts op) (branches_of op) (λ j. j) (starting x op start ≡ 0) (chosen x op start) (otherwise x op (default_of op))) → PicksIn h op d.place d.branch
     picks d = (d.is_branch, λ priority j o lt e. not_ready_in o (one_held (branches_of op) j o each e) (d.first (ap (λ b. cond b 0 (start % length (branches_of op))) priority) j o lt e))
 
     told : (d : Decides x (is_alts op) (branches_of op) (λ j. j) (starting x op start ≡ 0) (chosen x op start) (otherwise x op (default_of op))) (f : Finding) → d.finding ≡ f → PlanTells h op (decided f (is_alts op) d.place d.branch (otherwise x op (default_of op)))
     told d unready e = absurd (d.ready e)
-    told d alone e = let k = one_held (branches_of op) d.place d.branch each d.is_branch in (fit, picks d, is_alone d.branch k.0 k.1 (d.is_found ∙ e))
-    told d (partner w o) e = let k = one_held (branches_of op) d.place d.branch each d.is_branch in (fit, picks d, partner_is d.branch k.0 w o k.1 (d.is_found ∙ e))
+    told d alone e = let k = one_held (branches_of op) d.place d.branch each d.is_branch in (fit, picks d, is_alone d.branch k.0 k.1 (d.is_found ∙ e), refl)
+    told d (partner w o) e = let k = one_held (branches_of op) d.place d.branch each d.is_branch in (fit, picks d, partner_is d.branch k.0 w o k.1 (d.is_found ∙ e), refl)
     told d (stale side) e = tt
     told d (unheld w) e = tt
 
     decides : Decides x (is_alts op) (branches_of op) (λ j. j) (starting x op start ≡ 0) (chosen x op start) (otherwise x op (default_of op)) → PlanTells h op (chosen x op start)
     decides d = subst (PlanTells h op) (sym d.decides) (told d d.finding refl)
 
-    waits : (n : NoneDecides x (is_alts op) (branches_of op) (chosen x op start) (otherwise x op (default_of op))) → default_of op ≡ None → FewIn h (branches_of op) → (b : Bool) → PlanTells h op (cond b (to_park (branches_of op)) (to_post (branches_of op)))
-    waits n e few true = (fit, refl, e, record { unready = none_ready_in (branches_of op) each n.0; few = few })
-    waits n e few false = (fit, refl, e, record { unready = none_ready_in (branches_of op) each n.0; few = few })
+    waits : (n : NoneDecides x (is_alts op) (branches_of op) (chosen x op start) (otherwise x op (default_of op))) → default_of op ≡ None → FewIn h (branches_of op) → (b : Bool) → parks op ≡ b → PlanTells h op (cond b (to_park (branches_of op)) (to_post (branches_of op)))
+    waits n e few true is = (fit, refl, e, record { unready = none_ready_in (branches_of op) each n.0; few = few }, is)
+    waits n e few false is = (fit, refl, e, record { unready = none_ready_in (branches_of op) each n.0; few = few }, post is)
 
     otherwise_tells : (n : NoneDecides x (is_alts op) (branches_of op) (chosen x op start) (otherwise x op (default_of op))) (d : Option Tree) → default_of op ≡ d → PlanTells h op (otherwise x op d)
     otherwise_tells n (Some v) e = (fit, e, none_ready_in (branches_of op) each n.0)
-    otherwise_tells n None e = ⊎_elim (λ t. subst (PlanTells h op) (sym t.1) (waits n e t.0 (parks op))) (λ s. stop_tells op (otherwise x op None) s) (queues_tell (branches_of op) (cond (parks op) (to_park (branches_of op)) (to_post (branches_of op))) each)
+    otherwise_tells n None e = ⊎_elim (λ t. subst (PlanTells h op) (sym t.1) (waits n e t.0 (parks op) refl)) (λ s. stop_tells op (otherwise x op None) s) (queues_tell (branches_of op) (cond (parks op) (to_park (branches_of op)) (to_post (branches_of op))) each)
 
     no_one : NoneDecides x (is_alts op) (branches_of op) (chosen x op start) (otherwise x op (default_of op)) → PlanTells h op (chosen x op start)
     no_one n = subst (PlanTells h op) (sym n.1) (otherwise_tells n (default_of op) refl)
 
+  -- a post's channel is a port
+  post_is : (c v : Tree) → not_a_channel held c ≡ None → IsPost h (posting c v) (branches_of (posting c v))
+  post_is (port n) v e = (n, v, refl, refl)
+  post_is nil v e = absurd cc
+  post_is (bool b) v e = absurd cc
+  post_is (int z) v e = absurd cc
+  post_is (text t) v e = absurd cc
+  post_is (key t) v e = absurd cc
+  post_is (vector vs) v e = absurd cc
+  post_is (a_map ps) v e = absurd cc
+
+  close_tells : (c : Tree) → FitIn h (closing c) → not_a_channel held c ≡ None → PlanTells h (closing c) (to_close (port_number c))
+  close_tells (port n) fit e = (fit, refl, value_held (port n) e)
+  close_tells nil fit e = absurd cc
+  close_tells (bool b) fit e = absurd cc
+  close_tells (int z) fit e = absurd cc
+  close_tells (text t) fit e = absurd cc
+  close_tells (key t) fit e = absurd cc
+  close_tells (vector vs) fit e = absurd cc
+  close_tells (a_map ps) fit e = absurd cc
+
+  register_tells : (name : RegisterName) (args : Trees) → fault_of_registered (registering_gives held name args) ≡ None → IsAnswered h name args
+  register_tells name args table = by (whole h.registry (port_number (first_of args))) refl table where
+    right : (r : Registry) → whole h.registry (port_number (first_of args)) ≡ Some r → (b : Bool) → keys_pass held name (rest_of args) ≡ b → (z : Registered) → comes_to (Some r) name (rest_of args) ≡ z → fault_of_registered (registered_at held (Some r) name (rest_of args)) ≡ None → IsAnswered h name args
+    right r e false k z is f = absurd (let c : Some NotAPort ≡ None = sym (ap fault_of_registered (refused_keys held (Some r) name (rest_of args) k)) ∙ f in cc)
+    right r e true k (refuses g) is f = absurd (let c : Some g ≡ None = sym (ap fault_of_registered (same_table held (Some r) name (rest_of args) k ∙ is)) ∙ f in cc)
+    right r e true k (answers v r2) is f = record {
+      answer = v;
+      after = r2;
+      by_table = λ s shows. register_more h s shows name args table ∙ ap (λ o. registered_at held o name (rest_of args)) e ∙ same_table held (Some r) name (rest_of args) k ∙ is;
+      old = r;
+      there = e;
+      by_bank = is;
+    }
+
+    by : (o : Option Registry) → whole h.registry (port_number (first_of args)) ≡ o → fault_of_registered (registered_at held o name (rest_of args)) ≡ None → IsAnswered h name args
+    by None e f = absurd cc
+    by (Some r) e f = right r e (keys_pass held name (rest_of args)) refl (comes_to (Some r) name (rest_of args)) refl f
+
   fit_tells : (op : OpView) (start : ℕ) → unfit held op ≡ None → PlanTells h op (fitting x op start)
-  fit_tells (taking c) start e = chosen_tells (taking c) start (fits_in h (taking c) e) (value_held c e, tt)
-  fit_tells (putting c v) start e = chosen_tells (putting c v) start (fits_in h (putting c v) e) (value_held c (first_none (not_a_channel held c) (nil_put v) e), tt)
-  fit_tells (posting c v) start e = chosen_tells (posting c v) start (fits_in h (posting c v) e) (value_held c (first_none (not_a_channel held c) (nil_put v) e), tt)
-  fit_tells (choosing ports priority default) start e = chosen_tells (choosing ports priority default) start (fits_in h (choosing ports priority default) e) (choice_held ports e)
-  fit_tells (making what) start e = tt
-  fit_tells (spawning seed) start e = tt
-  fit_tells (closing c) start e = tt
-  fit_tells (registering name args) start e = tt
-  fit_tells (printing line) start e = tt
+  fit_tells (taking c) start e = chosen_tells (taking c) start (fits_in h (taking c) e) (value_held c e, tt) (λ p. absurd cc)
+  fit_tells (putting c v) start e = chosen_tells (putting c v) start (fits_in h (putting c v) e) (value_held c (first_none (not_a_channel held c) (nil_put v) e), tt) (λ p. absurd cc)
+  fit_tells (posting c v) start e = chosen_tells (posting c v) start (fits_in h (posting c v) e) (value_held c (first_none (not_a_channel held c) (nil_put v) e), tt) (λ p. post_is c v (first_none (not_a_channel held c) (nil_put v) e))
+  fit_tells (choosing ports priority default) start e = chosen_tells (choosing ports priority default) start (fits_in h (choosing ports priority default) e) (choice_held ports e) (λ p. absurd cc)
+  fit_tells (making what) start e = (fits_in h (making what) e, refl)
+  fit_tells (spawning seed) start e = (fits_in h (spawning seed) e, (seed, refl, refl, refl))
+  fit_tells (closing c) start e = close_tells c (fits_in h (closing c) e) e
+  fit_tells (registering name args) start e = (fits_in h (registering name args) e, refl, register_tells name args (second_none (unmet held (needs_to_register name) args) (fault_of_registered (registering_gives held name args)) e))
+  fit_tells (printing line) start e = (fits_in h (printing line) e, refl)
 
   pub plan_tells : (op : OpView) (start : ℕ) → PlanTells h op (planned x op start)
   plan_tells op start = by (unfit held op) refl where

@@ -1,18 +1,26 @@
 -- What a plan says of the held parts from which it was made.
-use Rattle.std.specs.Prelude.{◌≡◌, ℕ, List, ◌∷◌, Some, None, true}
-use Rattle.ca_value.specs.Tree.{Tree}
-use Rattle.ca_term.specs.Operation.{OpView}
-use Rattle.ca_term.specs.Event.{BranchView}
+use Rattle.std.specs.Prelude.{◌≡◌, ℕ, List, [], ◌∷◌, Option, Some, None, true, slice_get}
+use Rattle.ca_value.specs.Tree.{Tree, Trees, port}
+use Rattle.ca_term.specs.declared.event.Side.{Side}
+use Rattle.ca_term.specs.declared.head.RegisterName.{RegisterName}
+use Rattle.ca_term.specs.Operation.{OpView, SeedView, closing, making, posting, printing, registering, spawning}
+use Rattle.ca_term.specs.Event.{BranchView, put_of}
 use Rattle.ca_meaning.specs.Channel.{Channel}
 use Rattle.ca_meaning.specs.ChannelSteps.{other_side}
-use Rattle.ca_meaning.specs.Choice.{branches_of, default_of}
+use Rattle.ca_meaning.specs.Choice.{branches_of, default_of, parks}
+use Rattle.ca_meaning.specs.Operands.{first_of, port_number, rest_of}
+use Rattle.ca_meaning.specs.Refusal.{registering_gives}
+use Rattle.ca_meaning.specs.Registry.{Registry, answers}
 use Rattle.ca_meaning.specs.Row.{completes, meets}
+use Rattle.ca_meaning.specs.State.{State}
+use Rattle.ca_meaning.specs.TaskSteps.{kind_of, result_of}
 use Rattle.ca_meaning.specs.Wait.{Handler, port_of, side_of}
+use Rattle.ca_bank.specs.Registry.{comes_to}
 use Rattle.ca_commit.specs.Asks.{Asks, row_raw}
-use Rattle.ca_commit.specs.Contents.{Kept, Parts, alive_in, on, whole}
+use Rattle.ca_commit.specs.Contents.{Kept, Parked, Parts, alive_in, home, on, whole}
 use Rattle.ca_commit.specs.Finding.{glance}
-use Rattle.ca_commit.specs.Moves.{FewIn, FitIn, NoneReadyIn, PicksIn}
-use Rattle.ca_commit.specs.Planning.{Planned, Seen, to_default, to_do, to_meet, to_park, to_post}
+use Rattle.ca_commit.specs.Moves.{FewIn, FitIn, NoneReadyIn, PicksIn, Shows}
+use Rattle.ca_commit.specs.Planning.{Planned, Seen, is_alts, to_close, to_default, to_do, to_look, to_make, to_meet, to_park, to_post, to_print, to_prune, to_refuse, to_register, to_spawn}
 
 -- what held parts show
 abbrev pub seen_in : {A : Type 0} → Parts A → Seen
@@ -47,11 +55,41 @@ module _ {A : Type 0} (h : Parts A) where
     pub unready : NoneReadyIn h (branches_of op)
     pub few : FewIn h (branches_of op)
 
+  -- the operation on the registry has an answer, by the table
+  pub record IsAnswered (name : RegisterName) (args : Trees) : Type 0 where
+    pub answer : Tree
+    pub after : Registry
+    pub by_table : (s : State) → Shows h s → registering_gives s name args ≡ answers answer after
+    pub old : Registry
+    pub there : whole h.registry (port_number (first_of args)) ≡ Some old
+    pub by_bank : comes_to (Some old) name (rest_of args) ≡ answers answer after
+
+  -- the handler at that place of the queue, whose wait is gone from its shard
+  pub record IsStale (p : ℕ) (side : Side) (place : ℕ) : Type 0 where
+    pub kept : Kept
+    pub there : whole h.bank p ≡ Some kept
+    pub handler : Handler
+    pub at_place : slice_get (on side kept) place ≡ Some handler
+    pub from : ℕ → Option (Parked A)
+    pub shard : h.shard (home handler.wait) ≡ Some from
+    pub gone : from handler.wait ≡ None
+
+  -- a put without its task: its one branch
+  abbrev pub IsPost : OpView → List BranchView → Type 0
+  IsPost op bs = (p : ℕ) × (v : Tree) × (op ≡ posting (port p) v) × (bs ≡ put_of p v ∷ [])
+
   -- what the plan of an operation says
   abbrev pub PlanTells : OpView → Planned → Type 0
-  PlanTells op (to_do k b alts) = FitIn h op × PicksIn h op k b × IsAlone b
-  PlanTells op (to_meet k b alts w o) = FitIn h op × PicksIn h op k b × HasPartner b w o
-  PlanTells op (to_park bs) = FitIn h op × (branches_of op ≡ bs) × (default_of op ≡ None) × Joinable op
-  PlanTells op (to_post bs) = FitIn h op × (branches_of op ≡ bs) × (default_of op ≡ None) × Joinable op
+  PlanTells op (to_do k b alts) = FitIn h op × PicksIn h op k b × IsAlone b × (alts ≡ is_alts op)
+  PlanTells op (to_meet k b alts w o) = FitIn h op × PicksIn h op k b × HasPartner b w o × (alts ≡ is_alts op)
+  PlanTells op (to_park bs) = FitIn h op × (branches_of op ≡ bs) × (default_of op ≡ None) × Joinable op × (parks op ≡ true)
+  PlanTells op (to_post bs) = FitIn h op × (branches_of op ≡ bs) × (default_of op ≡ None) × Joinable op × IsPost op bs
   PlanTells op (to_default v) = FitIn h op × (default_of op ≡ Some v) × NoneReadyIn h (branches_of op)
-  PlanTells op other = Unit {0}
+  PlanTells op (to_make what) = FitIn h op × (op ≡ making what)
+  PlanTells op (to_spawn kind r) = FitIn h op × ((seed : SeedView) × (op ≡ spawning seed) × (kind_of seed ≡ kind) × (result_of seed ≡ r))
+  PlanTells op (to_close p) = FitIn h op × (op ≡ closing (port p)) × ((k : Kept) × (whole h.bank p ≡ Some k))
+  PlanTells op (to_register name args) = FitIn h op × (op ≡ registering name args) × IsAnswered name args
+  PlanTells op (to_print line) = FitIn h op × (op ≡ printing line)
+  PlanTells op (to_prune p side place) = Unit {0}
+  PlanTells op (to_look w) = Unit {0}
+  PlanTells op (to_refuse f) = Unit {0}

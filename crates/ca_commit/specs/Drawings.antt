@@ -1,5 +1,5 @@
 -- What the calls of an event promise of the parts, with what the plan tells, is how the event moves them.
-use Rattle.std.specs.Prelude.{◌≡◌, ℕ, List, Option, Some, None, option_map}
+use Rattle.std.specs.Prelude.{◌≡◌, ℕ, List, Some, None, option_map}
 use Rattle.ca_value.specs.Tree.{Tree}
 use Rattle.ca_term.specs.Program.{ProgramView}
 use Rattle.ca_term.specs.Operation.{OpView}

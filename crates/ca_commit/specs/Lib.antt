@@ -32,4 +32,9 @@ pub mod Replies
 pub mod Making
 pub mod Waking
 pub mod Settling
+pub mod Parking
+pub mod NewPort
+pub mod Entering
+pub mod Ticking
 pub mod Drawings
+pub mod EventMoves

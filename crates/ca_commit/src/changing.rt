@@ -1,16 +1,26 @@
 // What events do to held banks. None of it takes memory.
-ghost use Rattle.std.specs.Prelude.{◌≡◌, ◌<◌, ℕ, option_map, true};
-ghost use Rattle.ca_value.specs.View.{view};
+ghost use Rattle.std.specs.Prelude.{◌≡◌, ◌<◌, ℕ, is_some, option_map, true};
+ghost use Rattle.ca_value.specs.Seq.{list};
+ghost use Rattle.ca_value.specs.View.{trees, view};
+ghost use Rattle.ca_bank.specs.Bank.{kept_made, registry_made};
 ghost use Rattle.ca_bank.specs.Kept.{added, buffer_spare, closed, enqueued, one_less, pruned, queue_spare, removed, takes_one_more};
+ghost use Rattle.ca_bank.specs.Mixes.{TogglesApart};
+ghost use Rattle.ca_bank.specs.Registry.{registered};
 ghost use Rattle.ca_bank.specs.Room.{handler_view};
 ghost use Rattle.ca_commit.specs.Contents.{whole};
+ghost use Rattle.ca_commit.specs.Entering.{HasMembersRoom};
 ghost use Rattle.ca_commit.specs.Listing.{changed_at};
+ghost use Rattle.ca_commit.specs.NewPort.{HasPortRoom};
+ghost use Rattle.ca_commit.specs.Running.{or_was};
 ghost use Rattle.ca_commit.specs.Showing.{channels_held, registries_held, spares_held};
 
 use crate::held::Banks;
+use ca_bank::bank::Made;
 use ca_bank::handler::Handler;
 use ca_term::event::Side;
-use ca_value::value::{PortId, Value};
+use ca_term::head::RegisterName;
+use ca_value::value::{Items, PortId, Value};
+use std::alloc::Global;
 
 // The channel is closed.
 pub(crate) fn close(banks: &mut Banks, port: PortId)
@@ -63,5 +73,31 @@ pub(crate) fn enqueue(banks: &mut Banks, port: PortId, side: Side, handler: Hand
 {
     if let Some(place) = banks.place(port.n % 16) {
         banks.items[place].bank.enqueue(port, side, handler);
+    }
+}
+
+// What is made stands at the port.
+pub(crate) fn make(alloc: Global, banks: &mut Banks, port: PortId, made: Made)
+    requires { HasPortRoom banks.old port.n }
+    ensures channels { (i : ℕ) → channels_held banks.new i ≡ changed_at port.n (or_was (kept_made made)) (channels_held banks.old) i }
+    ensures registries { (i : ℕ) → registries_held banks.new i ≡ changed_at port.n (or_was (registry_made made)) (registries_held banks.old) i }
+{
+    match banks.place(port.n % 16) {
+        Some(place) => banks.items[place].bank.make(alloc, port, made),
+        None => {}
+    }
+}
+
+// The registry changes by the operation.
+pub(crate) fn register(banks: &mut Banks, port: PortId, name: RegisterName, rest: Items)
+    requires there { is_some (whole (registries_held banks.old) port.n) ≡ true }
+    requires room { HasMembersRoom banks.old port.n name (trees (list rest)) }
+    requires apart { TogglesApart name (trees (list rest)) }
+    ensures channels { (i : ℕ) → channels_held banks.new i ≡ channels_held banks.old i }
+    ensures registries { (i : ℕ) → registries_held banks.new i ≡ changed_at port.n (option_map (registered name (trees (list rest)))) (registries_held banks.old) i }
+{
+    match banks.place(port.n % 16) {
+        Some(place) => banks.items[place].bank.register(port, name, rest),
+        None => {}
     }
 }

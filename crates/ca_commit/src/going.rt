@@ -13,6 +13,7 @@ ghost use Rattle.ca_commit.specs.Making.{KeepsOthers};
 ghost use Rattle.ca_commit.specs.Replies.{GoesOn};
 ghost use Rattle.ca_commit.specs.Showing.{channels_held, registries_held};
 ghost use Rattle.ca_commit.specs.Tasks.{agent_of, task_view};
+ghost use Rattle.ca_commit.specs.Ticking.{closed_result};
 ghost use Rattle.ca_commit.specs.Waking.{HasReadyRoom, KeepsNumbers, ready_in};
 
 use crate::changing::close;
@@ -143,5 +144,16 @@ pub fn apply_default<A: Agent>(held: &mut Held<A>, value: Value, task: Task<A>) 
             value,
         },
         running: Some(task),
+    }
+}
+
+/// A task faulted: the channel of its result port is closed, if it has one. It takes no memory.
+pub fn apply_fault<A: Drop>(held: &mut Held<A>, port: Option<PortId>)
+    ensures channels { (i : ℕ) → channels_held held.new.banks i ≡ closed_result (option_map port_number port) (channels_held held.old.banks) i }
+    ensures registries { (i : ℕ) → registries_held held.new.banks i ≡ registries_held held.old.banks i }
+    ensures others { KeepsOthers held.old held.new }
+{
+    if let Some(port) = port {
+        close(&mut held.banks, port);
     }
 }

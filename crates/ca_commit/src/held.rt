@@ -9,7 +9,8 @@ use ca_bank::shard::Shard;
 use ca_term::event::Event;
 use ca_timers::timers::Timers;
 use ca_value::memory::OutOfMemory;
-use ca_value::value::Value;
+use ca_value::seq::Seq;
+use ca_value::value::{PortId, Value};
 use std::alloc::Global;
 
 /// A bank of sixteen, with its number.
@@ -94,13 +95,14 @@ impl<A: Drop> Numbered for HeldShard<A> {
     }
 }
 
-// Copies of values that the reserving calls make and an event moves out: the event's value, the answer of the task,
-// and that of the one who waited.
+// What the reserving calls make and an event moves out: copies of values, which are the event's value, the answer of
+// the task, and that of the one who waited; and the ports of a tick.
 #[derive(Drop)]
 pub(crate) struct Spare {
     pub(crate) value: Option<Value>,
     pub(crate) answer: Option<Value>,
     pub(crate) partner: Option<Value>,
+    pub(crate) ports: Option<Seq<PortId>>,
 }
 
 /// The parts that a worker has moved out of its hand, and the numbers that an event may give.
@@ -151,6 +153,7 @@ impl<A: Drop> Held<A> {
                 value: None,
                 answer: None,
                 partner: None,
+                ports: None,
             },
         })
     }

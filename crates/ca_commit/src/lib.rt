@@ -15,9 +15,11 @@
 
 mod branching;
 mod changing;
+pub mod clock;
 mod counting;
 pub mod decisions;
 pub mod doing;
+pub mod entering;
 pub mod finding;
 mod fit;
 pub mod going;
@@ -26,6 +28,8 @@ pub mod laws;
 pub mod listing;
 mod making;
 pub mod meeting;
+pub mod new_port;
+pub mod parking;
 pub mod planned;
 pub mod planning;
 mod registering;

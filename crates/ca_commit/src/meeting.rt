@@ -126,7 +126,7 @@ pub(crate) fn reserve_ready<A: Drop>(ready: &mut Option<Ready<A>>) -> Result<(),
     }
 }
 
-fn side_in(branch: &Branch) -> Side
+pub(crate) fn side_in(branch: &Branch) -> Side
     ensures { result ≡ side_of (branch_view branch.now) }
 {
     match branch {

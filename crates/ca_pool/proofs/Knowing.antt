@@ -1,0 +1,45 @@
+-- What a hand of a table of a run knows.
+use Rattle.std.proofs.Common.{◌≡◌, ◌∙◌, ℕ, List, refl, sym, subst, Option}
+use Rattle.ca_value.specs.Tree.{Tree}
+use Rattle.ca_term.specs.Program.{ProgramView}
+use Rattle.ca_term.specs.Operation.{SeedView}
+use Rattle.ca_meaning.specs.Body.{At}
+use Rattle.ca_meaning.specs.Task.{TaskBody}
+use Rattle.ca_meaning.specs.State.{State, opening_state}
+use Rattle.ca_meaning.specs.Legal.{Reaches}
+use Rattle.ca_meaning.specs.Steps.{Steps}
+use Rattle.ca_agent.specs.Agents.{Advanced, Answered, Started}
+use Rattle.ca_turns.specs.declared.rule.Turn.{Turn}
+use Rattle.ca_turns.specs.declared.rule.View.{View}
+use Rattle.ca_turns.specs.Steps.{Sees}
+use Rattle.ca_commit.specs.Agents.{TaskAgent}
+use Rattle.ca_commit.specs.Contents.{Content}
+use Rattle.ca_commit.specs.Opening.{unasked}
+use Rattle.ca_commit.specs.Running.{RunStands}
+use Rattle.ca_commit.proofs.Opens.{opens as opening_stands}
+use Rattle.ca_pool.specs.Draws.{drawn_moves, drawn_touches}
+use Rattle.ca_pool.specs.Running.{Knows, TableStands, shown_by}
+use Rattle.ca_pool.specs.Seen.{PartSeen}
+use Rattle.ca_pool.specs.declared.drawn.Drawn.{Drawn}
+use Rattle.ca_pool.proofs.Openings.{opens}
+use Rattle.ca_pool.proofs.Running.{runs_on}
+
+-- a hand of the same table knows the same
+pub knows_same : {A : Type 0} (stands : ProgramView → A → TaskBody → Type 0) (program : ProgramView) (n : ℕ) (v u : View (PartSeen A) Drawn) → u.opening ≡ v.opening → Knows stands program n v → Knows stands program n u
+knows_same stands program n v u e k = record { texts = k.texts; is_program = k.is_program; main = k.main; body = k.body; opens = k.opens; stands_for = k.stands_for; least = k.least; faults = k.faults; readings = k.readings; opening = e ∙ k.opening; some = k.some }
+
+module _ {A : Type 0} (place : A → At) (stands : ProgramView → A → TaskBody → Type 0) (advances : ProgramView → A → A → Type 0) (gives : A → Tree → A → Type 0) (starts : ProgramView → SeedView → A → Type 0)
+    (advance_law : Advanced stands place advances) (answer_law : Answered stands place gives) (start_law : Started stands place starts) (program : ProgramView) (n : ℕ) (v : View (PartSeen A) Drawn) (k : Knows stands program n v) where
+  opening_is : TableStands place stands program n v.opening (opening_state k.body)
+  opening_is = subst (λ (cs : List (PartSeen A)). TableStands place stands program n cs (opening_state k.body)) (sym k.opening)
+      (subst (λ (f : ℕ → Option (Content (TaskAgent A))). RunStands place stands program n f (opening_state k.body)) (sym (opens n k.texts k.main (unasked k.least k.faults k.readings) k.some))
+      (subst (λ (p : ProgramView). RunStands place stands program n (Rattle.ca_commit.specs.Opening.opening_parts n p k.main (unasked k.least k.faults k.readings)) (opening_state k.body)) (sym k.is_program)
+      (opening_stands place stands n program k.main k.body (unasked k.least k.faults k.readings) k.some k.stands_for refl refl)))
+
+  -- the history that it sees is a run of the program, and the parts stand for its state
+  pub sees_run : (log : List (Turn (PartSeen A) Drawn)) (now : List (PartSeen A)) → Sees drawn_touches (drawn_moves place advances gives starts) v log now → (s : State) × Steps program (opening_state k.body) (shown_by log) s × TableStands place stands program n now s
+  sees_run log now sees = runs_on place stands advances gives starts advance_law answer_law start_law program n log v.opening now (opening_state k.body) opening_is sees.run
+
+  -- so what the history shows leads from the program's opening to the state that its parts stand for
+  pub reaches : (log : List (Turn (PartSeen A) Drawn)) (now : List (PartSeen A)) → Sees drawn_touches (drawn_moves place advances gives starts) v log now → (s : State) × Reaches program (shown_by log) s × TableStands place stands program n now s
+  reaches log now sees = let r = sees_run log now sees in (r.0, record { opening = opening_state k.body; opens = (k.body, k.opens, refl); steps = r.1 }, r.2)

@@ -1,0 +1,10 @@
+pub mod Finite
+pub mod Pushes
+pub mod Openings
+pub mod Running
+pub mod Knowing
+pub mod Members
+pub mod Ordering
+pub mod Gathers
+pub mod Joining
+pub mod Enlisting

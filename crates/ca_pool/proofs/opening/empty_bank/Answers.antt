@@ -1,0 +1,14 @@
+use Rattle.std.proofs.Common.{ap₂}
+use Rattle.std.specs.FinMap as map
+use Rattle.std.specs.Ordering.{nat_cmp}
+use Rattle.ca_meaning.specs.Registry.{Registry}
+use Rattle.ca_bank.specs.Kept.{Kept}
+use Rattle.ca_bank.specs.Registry.{registry_view}
+use Rattle.ca_bank.specs.Room.{kept_view}
+use Rattle.ca_pool.specs.Opening.{part_of}
+use Rattle.ca_pool.specs.Seen.{seen_bank}
+use Rattle.ca_pool.proofs.Finite.{empty_finite}
+use Rattle.ca_pool.proofs.opening.empty_bank.Goals as goal
+
+pub returns : goal.returns
+returns g c = let b = c.new-bank in ap₂ (λ (x : map.FinMap nat_cmp Kept) (y : map.FinMap nat_cmp Registry). part_of c.args.workers (seen_bank (record { channels = x; registries = y }))) (empty_finite kept_view b.result.rooms b.ensures.channels) (empty_finite registry_view b.result.registries b.ensures.registries)

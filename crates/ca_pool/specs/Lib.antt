@@ -1,0 +1,7 @@
+pub mod Seen
+pub mod Parts
+pub mod Draws
+pub mod Opening
+pub mod Running
+pub mod Members
+pub mod Workers

@@ -1,0 +1,74 @@
+-- A worker between two calls.
+use Rattle.std.specs.Prelude.{◌≡◌, ℕ, ◌+◌, ◌<◌, ◌≤◌, List, [], ◌∷◌, ◌++◌, map}
+use Rattle.ca_term.specs.Program.{ProgramView, program_view}
+use Rattle.ca_meaning.specs.Task.{TaskBody}
+use Rattle.ca_value.specs.declared.seq.Seq.{Seq}
+use Rattle.ca_journal.specs.Merge.{EachAscends, Numbered, entries, joined}
+use Rattle.ca_journal.specs.declared.entry.Entry.{Entry}
+use Rattle.ca_turns.specs.Hands.{Held, HoldsNothing, IsFresh, TableId}
+use Rattle.ca_turns.specs.Views.{stands}
+use Rattle.ca_turns.specs.declared.rule.Turn.{Turn}
+use Rattle.ca_commit.specs.Moving.{visible}
+use Rattle.ca_pool.specs.Draws.{turn_view}
+use Rattle.ca_pool.specs.Running.{Knows}
+use Rattle.ca_pool.specs.Seen.{PartSeen}
+use Rattle.ca_pool.specs.declared.drawn.Drawn.{Drawn}
+use Rattle.ca_pool.specs.declared.part.Part.{Part}
+use Rattle.ca_pool.specs.declared.worker.Worker.{Worker}
+
+-- the events of a turn that the journal shows, with its number
+abbrev pub numbered : {C : Type 0} → Turn C Drawn → List Numbered
+numbered t = map (λ e. record { number = t.number; event = e }) (visible (turn_view t.event.what))
+
+abbrev pub noted : {C : Type 0} → List (Turn C Drawn) → List Numbered
+noted [] = []
+noted (t ∷ ts) = numbered t ++ noted ts
+
+-- each stands above the ones before it
+abbrev pub AllAbove : {C : Type 0} → ℕ → List (Turn C Drawn) → Type 0
+AllAbove n [] = Unit {0}
+AllAbove n (t ∷ ts) = (n ≤ t.number) × AllAbove (t.number + 1) ts
+
+-- how many parts a run of n workers has
+abbrev pub part_count : ℕ → ℕ
+part_count n = n + 33 + n
+
+module _ {A C : Type 0} (stands_as : ProgramView → A → TaskBody → Type 0) (program : ProgramView) (id : TableId) where
+  -- it is one of n, of a table that was opened for a run of the program, and has noted what it drew
+  pub record IsOne (n : ℕ) (w : Worker A C) : Type 0 where
+    pub table : w.hand.table ≡ id
+    pub slots : id.slots ≡ part_count n
+    pub of : w.workers ≡ n
+    pub few : n ≤ 16
+    pub below : w.number < n
+    pub of_program : program_view w.program.value ≡ program
+    pub knows : Knows stands_as program n w.hand.view
+    pub opened_for : w.hand.view.hands ≡ n
+    pub above : AllAbove 0 w.hand.view.turns
+    pub notes : entries w.entries ≡ noted w.hand.view.turns
+
+  -- between two calls it holds nothing
+  pub record IsReady (n : ℕ) (w : Worker A C) : Type 0 where
+    pub one : IsOne n w
+    pub nothing : HoldsNothing w.hand
+
+-- it is one of n with a fresh hand of its table, and has noted nothing
+pub record IsNew {A C : Type 0} (program : ProgramView) (n : ℕ) (id : TableId) (cs : List (PartSeen A)) (hands : ℕ) (w : Worker A C) : Type 0 where
+  pub of : w.workers ≡ n
+  pub below : w.number < n
+  pub of_program : program_view w.program.value ≡ program
+  pub notes : entries w.entries ≡ []
+  pub fresh : IsFresh id cs hands w.hand
+
+abbrev pub stands_for : {A C : Type 0} → Worker A C → ℕ
+stands_for w = stands w.hand.view
+
+-- a hand with those of the workers before joined into it, and the lists of what they noted
+pub record IsJoined {A C : Type 0} (stands_as : ProgramView → A → TaskBody → Type 0) (program : ProgramView) (id : TableId) (n count : ℕ) (hand : Held (Part A C) (PartSeen A) Drawn) (lists : List (Seq Entry)) : Type 0 where
+  pub table : hand.table ≡ id
+  pub knows : Knows stands_as program n hand.view
+  pub opened_for : hand.view.hands ≡ n
+  pub nothing : HoldsNothing hand
+  pub notes : joined (map entries lists) ≡ noted hand.view.turns
+  pub ascends : EachAscends (map entries lists)
+  pub counted : stands hand.view ≡ count

@@ -1,0 +1,17 @@
+//! The workers of a run: the table that they share, how it is opened, and what they drew once it closes.
+//!
+//! The one model: the parts of a run are those of `ca_commit`'s definitions, in a table of `ca_turns`, and what is drawn
+//! on it is one of `ca_commit`'s events, with `ca_commit`'s moves as the table's condition. So whatever any number of
+//! workers draw is one history, and each such history is a run of the script's text.
+//!
+//! Stands on `ca_commit`, for what a part has and what an event does to it, on `ca_turns`, for the table, and on
+//! `ca_journal`, for what was noted. Start with `part`, what a worker holds, then `drawn`, what it draws, then `pool`,
+//! which ties both to the definitions; then `opening` and `gathering`.
+#![tactic(auto)]
+
+pub mod drawn;
+pub mod gathering;
+pub mod opening;
+pub mod part;
+pub mod pool;
+pub mod worker;
