@@ -1,7 +1,7 @@
 -- A drawn event of the table as the definitions of a run have it: what it touches, and how it moves that.
-use Rattle.std.specs.Prelude.{ℕ, List, [], ◌∷◌, map}
+use Rattle.std.specs.Prelude.{◌≡◌, ◌⊎◌, ℕ, ◌+◌, ◌<◌, ◌≤◌, List, [], ◌∷◌, map}
 use Rattle.ca_value.specs.Tree.{Tree}
-use Rattle.ca_term.specs.Event.{event_view}
+use Rattle.ca_term.specs.Event.{event_view, settled, ticked}
 use Rattle.ca_term.specs.Operation.{SeedView}
 use Rattle.ca_term.specs.Program.{ProgramView}
 use Rattle.ca_meaning.specs.Body.{At}
@@ -33,6 +33,21 @@ drawn_touches d = said.touches (drawn_view d)
 
 abbrev pub drawn_moves : {A : Type 0} → (A → At) → (ProgramView → A → A → Type 0) → (A → Tree → A → Type 0) → (ProgramView → SeedView → A → Type 0) → Drawn → List (PartSeen A) → List (PartSeen A) → Type 0
 drawn_moves place advances gives starts d before after = Moves place advances gives starts (drawn_view d) (map content_of before) (map content_of after)
+
+-- a shard, or the worker's own ready part
+abbrev pub IsAside : ℕ → ℕ → ℕ → Type 0
+IsAside w n i = ((n + 16 ≤ i) × (i < n + 32)) ⊎ (i ≡ n + 33 + w)
+
+-- Which other parts worker w of n may hold at what it draws: at an event of a task shards and its own ready part alone,
+-- so no bank, timers or lane of another that the event doesn't touch; at the others any part.
+abbrev pub MayHold : ℕ → ℕ → said.Turn → ℕ → Type 0
+MayHold w n (said.shown (settled wait k side p v)) i = Unit {0}
+MayHold w n (said.shown (ticked m ps)) i = Unit {0}
+MayHold w n (said.shown other) i = IsAside w n i
+MayHold w n other i = Unit {0}
+
+abbrev pub drawn_allows : Drawn → ℕ → Type 0
+drawn_allows d i = MayHold d.worker d.workers (turn_view d.what) i
 
 all_apart : (P : ℕ → Type 0) (is : List ℕ) → said.AllIn P is → places.AllIn P is
 all_apart P [] h = tt

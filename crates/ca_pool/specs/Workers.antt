@@ -60,6 +60,10 @@ pub record IsNew {A C : Type 0} (program : ProgramView) (n : ℕ) (id : TableId)
   pub notes : entries w.entries ≡ []
   pub fresh : IsFresh id cs hands w.hand
 
+-- its table was opened with these parts
+abbrev pub IsOpenedWith : {A C : Type 0} → List (PartSeen A) → Worker A C → Type 0
+IsOpenedWith cs w = w.hand.view.opening ≡ cs
+
 abbrev pub stands_for : {A C : Type 0} → Worker A C → ℕ
 stands_for w = stands w.hand.view
 

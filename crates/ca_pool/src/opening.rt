@@ -9,7 +9,7 @@ ghost use Rattle.ca_commit.specs.Opening.{unasked};
 ghost use Rattle.ca_pool.specs.Opening.{empty_bank, empty_shard, idle_lane, main_ready, none_ready, opening_list, part_of};
 ghost use Rattle.ca_pool.specs.Parts.{part_seen};
 ghost use Rattle.ca_pool.specs.Seen.{PartSeen, seen_timers};
-ghost use Rattle.ca_pool.specs.Workers.{IsNew, IsReady, stands_for};
+ghost use Rattle.ca_pool.specs.Workers.{IsNew, IsOpenedWith, IsReady, stands_for};
 
 use crate::part::{Clockwork, Contents, Counts, Lane, Mark, Part};
 use crate::pool::Pool;
@@ -218,6 +218,7 @@ pub fn open_pool<A: Agent, C: Clock + Drop>(
     ensures workers { IfOk result (λ t. length t.1.items ≡ workers) }
     ensures ready { IfOk result (λ t. All (IsReady A.stands (program_view program.now) t.0.id workers) t.1.items) }
     ensures all { IfOk result (λ t. total stands_for t.1.items ≡ workers) }
+    ensures opening { IfOk result (λ t. All (IsOpenedWith (opening_list workers program.now main (unasked (C.least clock) (C.faults clock) (C.readings clock)))) t.1.items) }
 {
     let parts = opening_parts(alloc, program, main, workers, clock)?;
     let Ok((table, hands)) = Table::<Pool<A, C>>::open(alloc, parts, workers) else {

@@ -37,7 +37,7 @@ impl<A: Agent, C: Clock + Drop> Object for Pool<A, C> {
     type Event = Drawn;
 
     ghost use Rattle.ca_pool.specs.Parts.{part_seen};
-    ghost use Rattle.ca_pool.specs.Draws.{drawn_apart, drawn_moves, drawn_touches};
+    ghost use Rattle.ca_pool.specs.Draws.{drawn_allows, drawn_apart, drawn_moves, drawn_touches};
 
     ghost content = { part_seen C.least C.faults C.readings };
 
@@ -45,7 +45,7 @@ impl<A: Agent, C: Clock + Drop> Object for Pool<A, C> {
 
     ghost moves = { drawn_moves A.place A.advances A.gives A.starts };
 
-    ghost allows = { λ d i. Unit {0} };
+    ghost allows = { drawn_allows };
 
     ghost distinct = { drawn_apart };
 }

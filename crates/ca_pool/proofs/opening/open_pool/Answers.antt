@@ -14,3 +14,7 @@ returns-clause-ready g c = let K = g.C.Clock in let seen = part_seen K.least K.f
 pub returns-clause-all : goal.returns-clause-all
 returns-clause-all g c = let K = g.C.Clock in let seen = part_seen K.least K.faults K.readings in let n = c.args.workers in let parts = c.in_ok-parts.parts.items in let id = c.in-Ok.table.id in
     one_each (program_view c.args.program.now) n id (map seen parts) n c.in_ok-enlist.field-0.items (c.in_ok-enlist.ensures.new id (map seen parts) n c.in-Ok.ensures.fresh) ∙ c.in_ok-enlist.ensures.many
+
+pub returns-clause-opening : goal.returns-clause-opening
+returns-clause-opening g c = let K = g.C.Clock in let seen = part_seen K.least K.faults K.readings in let n = c.args.workers in let parts = c.in_ok-parts.parts.items in let id = c.in-Ok.table.id in
+    λ k d lt. (c.in_ok-enlist.ensures.new id (map seen parts) n c.in-Ok.ensures.fresh k d lt).fresh.opening ∙ c.in_ok-parts.ensures
