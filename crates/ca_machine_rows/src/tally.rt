@@ -17,7 +17,6 @@ pub struct Tally {
 }
 
 impl Tally {
-    /// Nothing counted yet.
     pub fn new() -> Tally {
         Tally {
             scripts: 0,
@@ -28,7 +27,6 @@ impl Tally {
         }
     }
 
-    /// Counts a task whose two runs differed; the count stays at its greatest.
     pub fn add_difference(&mut self) {
         self.differences = self.differences.saturating_add(1);
     }
