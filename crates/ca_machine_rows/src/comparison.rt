@@ -44,6 +44,7 @@ pub struct Comparison {
 }
 
 impl Comparison {
+    /// A comparison that has run nothing, and gives the same answers for the same seed.
     pub fn new(alloc: Global, seed: u64) -> Comparison {
         Comparison {
             tally: Tally::new(),

@@ -95,6 +95,7 @@ pub struct Generator {
 }
 
 impl Generator {
+    /// A generator that writes the same scripts for the same seed.
     pub fn new(seed: u64) -> Generator {
         Generator {
             words: Pcg32::new(seed, 2),

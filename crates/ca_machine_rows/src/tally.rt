@@ -17,6 +17,7 @@ pub struct Tally {
 }
 
 impl Tally {
+    /// Nothing counted yet.
     pub fn new() -> Tally {
         Tally {
             scripts: 0,
@@ -27,6 +28,7 @@ impl Tally {
         }
     }
 
+    /// Counts a task whose two runs differed; the count stays at its greatest.
     pub fn add_difference(&mut self) {
         self.differences = self.differences.saturating_add(1);
     }
