@@ -6,6 +6,7 @@ ghost use Rattle.ca_commit.specs.Planning.{planned};
 ghost use Rattle.ca_commit.specs.Agents.{TaskAgent, advances_of, gives_of, place_of};
 ghost use Rattle.ca_commit.specs.Drawings.{DoneMoves, MeetMoves};
 ghost use Rattle.ca_commit.specs.EventMoves.{CloseMoves, DefaultMoves, MakeMoves, ParkMoves, PostMoves, PrintMoves, PruneMoves, RegisterMoves, ResultCloses, SpawnMoves, TickMoves};
+ghost use Rattle.ca_commit.specs.PlanMoves.{PlanMoves};
 
 use ca_agent::agent::Agent;
 
@@ -33,4 +34,9 @@ pub fn calls_are_moves<A: Agent>()
     ensures result { ResultCloses A.place A.advances }
     ensures tick { TickMoves (TaskAgent A) }
     ensures prune { PruneMoves (TaskAgent A) }
+{}
+
+/// So what the calls of a plan's event promise is how that event moves the parts, whichever it is.
+pub fn plans_are_moves<A: Agent>()
+    ensures { PlanMoves A.place A.advances A.gives A.starts }
 {}
