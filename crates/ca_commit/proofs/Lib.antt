@@ -59,3 +59,4 @@ pub mod Everywhere
 pub mod EventMoves
 pub mod Dues
 pub mod PlanMoving
+pub mod Stales

@@ -1,7 +1,9 @@
-ghost use Rattle.std.specs.Prelude.{ℕ};
+ghost use Rattle.std.specs.Prelude.{◌≡◌, ℕ};
+ghost use Rattle.ca_term.specs.declared.event.Side.{Side};
 ghost use Rattle.ca_term.specs.Operation.{OpView};
-ghost use Rattle.ca_commit.specs.Contents.{Parts};
-ghost use Rattle.ca_commit.specs.Deciding.{PlanTells, seen_in};
+ghost use Rattle.ca_commit.specs.Contents.{Parts, whole};
+ghost use Rattle.ca_commit.specs.Deciding.{IsStale, PlanTells, seen_in};
+ghost use Rattle.ca_commit.specs.Finding.{glance, rests_on_stale, settle_at};
 ghost use Rattle.ca_commit.specs.Planning.{planned};
 ghost use Rattle.ca_commit.specs.Agents.{TaskAgent, advances_of, gives_of, place_of};
 ghost use Rattle.ca_commit.specs.Drawings.{DoneMoves, MeetMoves};
@@ -13,9 +15,15 @@ use ca_agent::agent::Agent;
 /// What is planned over held parts is right by them, and its operands are: of a branch that is done or meets a wait,
 /// that with priority none before it is ready, and its row with all that it asks; of a wait, a posted put and a default,
 /// that no branch is ready, and of the first two that each queue has a place; of the other events, that the operation is
-/// theirs, and of a registry that its table answers.
+/// theirs, and of a registry that its table answers. Of a refusal, that the operands aren't right, or a wait would be one
+/// too many; of a stale handler, that it stands there and its wait is gone.
 pub fn plans_tell<A>()
     ensures { (h : Parts A) (op : OpView) (start : ℕ) → PlanTells h op (planned (seen_in h) op start) }
+{}
+
+/// Where a stale handler stands in the way of what a channel settles, it is in front of its queue.
+pub fn settling_tells<A>()
+    ensures { (h : Parts A) (p : ℕ) (side : Side) → settle_at (glance h.shard) (whole h.bank p) ≡ rests_on_stale side → IsStale h p side 0 }
 {}
 
 /// What the calls of an event promise, with what the plan tells, is how the event moves the parts, where the worker's
