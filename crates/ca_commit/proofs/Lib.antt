@@ -60,3 +60,5 @@ pub mod EventMoves
 pub mod Dues
 pub mod PlanMoving
 pub mod Stales
+pub mod NamesTold
+pub mod Ends

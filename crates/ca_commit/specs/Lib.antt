@@ -40,3 +40,5 @@ pub mod Drawings
 pub mod EventMoves
 pub mod Applying
 pub mod PlanMoves
+pub mod Naming
+pub mod Ending

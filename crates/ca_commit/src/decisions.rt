@@ -1,14 +1,18 @@
 ghost use Rattle.std.specs.Prelude.{◌≡◌, ℕ};
 ghost use Rattle.ca_term.specs.declared.event.Side.{Side};
+ghost use Rattle.ca_term.specs.declared.fault.Fault.{Fault};
 ghost use Rattle.ca_term.specs.Operation.{OpView};
 ghost use Rattle.ca_commit.specs.Contents.{Parts, whole};
-ghost use Rattle.ca_commit.specs.Deciding.{IsStale, PlanTells, seen_in};
+ghost use Rattle.ca_commit.specs.Deciding.{IsRefused, IsStale, PlanTells, seen_in};
+ghost use Rattle.ca_commit.specs.Moves.{UnfitIn};
 ghost use Rattle.ca_commit.specs.Finding.{glance, rests_on_stale, settle_at};
 ghost use Rattle.ca_commit.specs.Planning.{planned};
 ghost use Rattle.ca_commit.specs.Agents.{TaskAgent, advances_of, gives_of, place_of};
 ghost use Rattle.ca_commit.specs.Drawings.{DoneMoves, MeetMoves};
 ghost use Rattle.ca_commit.specs.EventMoves.{CloseMoves, DefaultMoves, MakeMoves, ParkMoves, PostMoves, PrintMoves, PruneMoves, RegisterMoves, ResultCloses, SpawnMoves, TickMoves};
 ghost use Rattle.ca_commit.specs.PlanMoves.{PlanMoves};
+ghost use Rattle.ca_commit.specs.Ending.{EndMoves, FaultMoves, RefusedMoves};
+ghost use Rattle.ca_commit.specs.Naming.{NamesHeld};
 
 use ca_agent::agent::Agent;
 
@@ -47,4 +51,18 @@ pub fn calls_are_moves<A: Agent>()
 /// So what the calls of a plan's event promise is how that event moves the parts, whichever it is.
 pub fn plans_are_moves<A: Agent>()
     ensures { PlanMoves A.place A.advances A.gives A.starts }
+{}
+
+/// Where the banks of all ports that an operation names are held, and refuse its operands, these are refused whatever is
+/// in the other banks.
+pub fn names_decide<A>()
+    ensures { (h : Parts A) (op : OpView) (f : Fault) → NamesHeld h op → IsRefused h op f → UnfitIn h op f }
+{}
+
+/// What the end of a task promises, by a value, by a fault of its own, or at an operation that is refused, is how its
+/// event moves the parts.
+pub fn ends_are_moves<A: Agent>()
+    ensures ended { EndMoves A.place A.advances A.gives A.starts }
+    ensures faulted { FaultMoves A.place A.advances A.gives A.starts }
+    ensures refused { RefusedMoves A.place A.advances A.gives A.starts }
 {}
