@@ -1,5 +1,5 @@
 -- What the end of a task promises of the parts is how its event moves them.
-use Rattle.std.proofs.Common.{◌≡◌, ◌⊎◌, inl, inr, ⊎_elim, ℕ, sym, ap, ◌∙◌, subst, Option, Some, option_map, unwrap_or}
+use Rattle.std.proofs.Common.{◌≡◌, inl, inr, ⊎_elim, ℕ, sym, ap, ◌∙◌, subst, Option, Some, option_map, unwrap_or}
 use Rattle.ca_value.specs.Tree.{Tree}
 use Rattle.ca_term.specs.Event.{port_number}
 use Rattle.ca_term.specs.Operation.{SeedView}

@@ -105,7 +105,7 @@ module _ {A : Type 0} (place : A → At) (advances : ProgramView → A → A →
       let a = x.readys.0.0 in let q = x.has_parts.0 in
       spawn_moves place advances gives starts old new w n t u x.op kind r a q e
       (answered w n t u p v m (to_spawn kind r) old new x x.runs_on.0 nil x.runs_on.1 x.runs_on.2 (ap is_alts e.1.1) refl e.0)
-      x.task_is x.counts x.readys.0.1
+      (x.task_is kind r refl) x.counts x.readys.0.1
       (record { was = x.has_parts.1; is = x.readys.0.2 ∙ ap (option_map (λ (l : List (ℕ × TaskAgent A)). l ++ (u, a) ∷ [])) x.has_parts.1; others = x.readys.1 })
       x.banks x.registries x.shards x.timers
   plan_moves old new w n t u p v m (to_close z) x = let e = told w n t u p v m (to_close z) old new x in

@@ -1,10 +1,9 @@
 -- What an event does to held parts, by its plan.
-use Rattle.std.specs.Prelude.{◌≡◌, ◌≢◌, ℕ, List, [], ◌∷◌, ◌++◌, Option, Some, None, IsSome, option_map, is_some, Bool, true, false, map}
+use Rattle.std.specs.Prelude.{◌≡◌, ℕ, [], ◌∷◌, ◌++◌, Option, Some, None, IsSome, option_map, is_some, Bool, true, false, map}
 use Rattle.ca_value.specs.Seq.{list}
-use Rattle.ca_value.specs.Tree.{Tree, Trees, bool, nil, port}
+use Rattle.ca_value.specs.Tree.{Tree, bool, nil, port}
 use Rattle.ca_value.specs.View.{trees, view}
-use Rattle.ca_term.specs.declared.head.RegisterName.{RegisterName}
-use Rattle.ca_term.specs.Event.{BranchView, EventView, branch_view, closed as closed_event, defaulted, done, made, met, parked, posted, printed, registered as registered_event, spawned}
+use Rattle.ca_term.specs.Event.{EventView, branch_view, closed as closed_event, defaulted, done, made, met, parked, posted, printed, registered as registered_event, spawned}
 use Rattle.ca_term.specs.Operation.{WantView, what_view}
 use Rattle.ca_meaning.specs.Body.{At, at_op}
 use Rattle.ca_meaning.specs.Channel.{channel_made}
@@ -17,19 +16,18 @@ use Rattle.ca_bank.specs.Mixes.{TogglesApart}
 use Rattle.ca_bank.specs.Publications.{PlacesItself}
 use Rattle.ca_bank.specs.Registry.{registered}
 use Rattle.ca_commit.specs.Agents.{TaskAgent}
-use Rattle.ca_commit.specs.Contents.{Kept, Parked, home, nobody, owner, whole}
+use Rattle.ca_commit.specs.Contents.{Kept, Parked, home, whole}
 use Rattle.ca_commit.specs.Entering.{IsMadeToRegister, answer_of, registry_of}
 use Rattle.ca_commit.specs.Listing.{changed_at}
 use Rattle.ca_commit.specs.Making.{IsDoneRow, IsMadeForDone}
 use Rattle.ca_commit.specs.NewPort.{HasTimers, IsMadeToMake, IsNoEarlier, Times, moment_for, timed}
-use Rattle.ca_commit.specs.Parking.{AreChannels, IsMadeToWait, front_port, front_value, queued_from, waiting_as}
+use Rattle.ca_commit.specs.Parking.{AreChannels, IsMadeToWait, front_port, front_value, queued_from}
 use Rattle.ca_commit.specs.Planning.{Planned, planned, to_close, to_default, to_do, to_look, to_make, to_meet, to_park, to_post, to_print, to_prune, to_refuse, to_register, to_spawn}
-use Rattle.ca_commit.specs.Plans.{plan_view}
 use Rattle.ca_commit.specs.Replies.{GoesOn, done_answer, done_change, reply_by}
 use Rattle.ca_commit.specs.Running.{or_was}
 use Rattle.ca_commit.specs.Showing.{channels_held, registries_held, seen, waits_held}
 use Rattle.ca_commit.specs.Tasks.{agent_of, task_view}
-use Rattle.ca_commit.specs.Waking.{HasReadyRoom, IsMadeForMeeting, IsPaused, WakesBy, passing, ready_in}
+use Rattle.ca_commit.specs.Waking.{HasReadyRoom, IsMadeForMeeting, WakesBy, passing, ready_in}
 use Rattle.ca_commit.specs.declared.held.Held.{Held}
 use Rattle.ca_commit.specs.declared.planned.Plan.{Plan}
 use Rattle.ca_commit.specs.declared.planned.Plan.TheVariants as P

@@ -38,7 +38,7 @@ abbrev pub ports_toggled : RegisterName → Trees → List ℕ
 ports_toggled Toggle args = port_keys (pairs_in (second_of args))
 ports_toggled other args = []
 
--- a go block's operands are its own affair, but for its result port
+-- of a go block its result port, and of another task the ports among its values
 abbrev pub ports_of_seed : SeedView → List ℕ
 ports_of_seed (go n values result place) = result ∷ []
 ports_of_seed (system kind values place) = ports_among values
