@@ -58,3 +58,7 @@ pub mod NewPorts
 pub mod Everywhere
 pub mod EventMoves
 pub mod Dues
+pub mod PlanMoving
+pub mod Stales
+pub mod NamesTold
+pub mod Ends

@@ -1,5 +1,5 @@
 -- What a plan says of the held parts from which it was made.
-use Rattle.std.proofs.Common.{◌≡◌, ◌⊎◌, inl, inr, ⊎_elim, ℕ, zero, suc, ◌+◌, ◌%◌, ◌<◌, List, [], ◌∷◌, length, map, refl, sym, ap, ◌∙◌, subst, Bool, true, false, cond, Option, Some, None, is_some, slice_get, nat_lt, ltb-true}
+use Rattle.std.proofs.Common.{◌≡◌, ◌⊎◌, inl, inr, ⊎_elim, ℕ, zero, suc, ◌+◌, ◌%◌, ◌<◌, List, [], ◌∷◌, length, map, refl, sym, ap, ◌∙◌, subst, Bool, true, false, cond, Option, Some, None, is_some, slice_get, nat_lt, ltb-true, ltb-false, ◌≤◌, arith}
 use Rattle.ca_value.specs.Tree.{Tree, Trees, nil, bool, int, text, key, vector, map as a_map, port, none, item}
 use Rattle.ca_term.specs.declared.fault.Fault.{Fault}
 use Rattle.ca_term.specs.declared.fault.Fault.TheVariants.{NotAPort, TooManyPorts}
@@ -10,7 +10,7 @@ use Rattle.ca_term.specs.Event.{BranchView}
 use Rattle.ca_meaning.specs.ChannelSteps.{other_side}
 use Rattle.ca_meaning.specs.Choice.{branch_of, branches_of, default_of, parks}
 use Rattle.ca_meaning.specs.Operands.{count_of, first_of, is_pair, or_else, port_number, rest_of, second_of, values_in}
-use Rattle.ca_meaning.specs.Refusal.{bad_choice, bad_port, bad_ports, crowd_of, fault_of_registered, is_channel, needs_to_register, nil_put, not_a_channel, registered_at, registering_gives, unfit, unmet}
+use Rattle.ca_meaning.specs.Refusal.{bad_choice, bad_port, bad_ports, crowd_of, fault_of_registered, has_no_default, is_channel, needs_to_register, nil_put, not_a_channel, registered_at, registering_gives, unfit, unmet}
 use Rattle.ca_meaning.specs.Registry.{Registered, Registry, answers, refuses}
 use Rattle.ca_meaning.specs.State.{State}
 use Rattle.ca_meaning.specs.Wait.{Handler, head, port_of, side_of}
@@ -18,28 +18,28 @@ use Rattle.ca_bank.specs.Kept.{queue_at}
 use Rattle.ca_bank.specs.Registry.{comes_to}
 use Rattle.ca_commit.specs.Asks.{Asks, row_raw}
 use Rattle.ca_commit.specs.Contents.{Kept, Parked, Parts, alive_in, at_key, channel_of, home, on, whole}
-use Rattle.ca_commit.specs.Deciding.{HasPartner, IsAlone, IsAnswered, IsPost, PlanTells, seen_in}
+use Rattle.ca_commit.specs.Deciding.{HasPartner, IsAlone, IsAnswered, IsPost, IsStale, PlanTells, seen_in}
 use Rattle.ca_commit.specs.Finding.{Finding, alone, find_at, glance, glance_at, glance_in, partner, stale, unheld, unready}
 use Rattle.ca_commit.specs.Holds.{groups, live_of}
-use Rattle.ca_commit.specs.Moves.{AllSeen, FewIn, FewOn, FitIn, NoneReadyIn, PicksIn, Unready}
+use Rattle.ca_commit.specs.Moves.{AllSeen, CrowdedIn, FewIn, FewOn, FitIn, NoneReadyIn, PicksIn, Unready}
 use Rattle.ca_commit.specs.Planning.{Planned, Seen, all_asked, all_counted, asked, counted, chosen, decided, fitting, found_of, is_alts, otherwise, planned, starting, state_of, to_close, to_default, to_do, to_make, to_meet, to_park, to_post, to_print, to_register, to_spawn, unless_refused, to_look, to_prune, to_refuse}
 use Rattle.ca_commit.proofs.Findings.{Says, found, is_here, lives}
 use Rattle.ca_commit.specs.Registering.{keys_pass}
 use Rattle.ca_commit.proofs.FitsMore.{first_none, fits_in, passes, register_more, second_none}
 use Rattle.ca_commit.proofs.RegisterLaws.{refused_keys, same_table}
 use Rattle.ca_commit.proofs.Laid.{same_map}
+use Rattle.ca_commit.proofs.Stales.{found_stale}
 use Rattle.ca_commit.proofs.Turns.{Decides, NoneDecides, from_tells}
-
--- a plan with which no event is drawn
-abbrev pub Stops : Planned → Type 0
-Stops (to_look w) = Unit {0}
-Stops (to_prune p side place) = Unit {0}
-Stops (to_refuse f) = Unit {0}
-Stops other = ⊥
 
 module _ {A : Type 0} (h : Parts A) where
   abbrev x : Seen
   x = seen_in h
+
+  -- a plan that waits for a shard, or for a stale handler to go
+  abbrev Stops : Planned → Type 0
+  Stops (to_look w) = Unit {0}
+  Stops (to_prune p side place) = IsStale h p side place
+  Stops other = ⊥
 
   -- what is seen of a wait is whether it lives
   lives_is : (w : ℕ) → is_here (glance h.shard w) ≡ alive_in h w
@@ -87,44 +87,72 @@ module _ {A : Type 0} (h : Parts A) where
   abbrev AllTold : List Handler → Planned → Planned → Type 0
   AllTold q rest r = (AllSeen h q × (live_of (alive_in h) q ≡ q) × (r ≡ rest)) ⊎ Stops r
 
-  -- all handlers are asked, and live; or no event is drawn
-  all_tell : (p : ℕ) (side : Side) (q : List Handler) (place : ℕ) (rest : Planned) → AllTold q rest (all_asked x p side place q rest)
-  all_tell p side [] place rest = inl (tt, refl, refl)
-  all_tell p side (g ∷ q) place rest = outer (h.shard (home g.wait)) refl (all_tell p side q (place + 1) rest) where
+  -- the handlers of a queue from a place on are asked, and live; or one is stale, or unseen
+  all_tell : (p : ℕ) (side : Side) (k : Kept) → whole h.bank p ≡ Some k → (q : List Handler) (place : ℕ) (rest : Planned) → ((i : ℕ) → slice_get q i ≡ slice_get (on side k) (place + i)) → AllTold q rest (all_asked x p side place q rest)
+  all_tell p side k there [] place rest at = inl (tt, refl, refl)
+  all_tell p side k there (g ∷ q) place rest at = outer (h.shard (home g.wait)) refl (all_tell p side k there q (place + 1) rest later) where
+    later : (i : ℕ) → slice_get q i ≡ slice_get (on side k) (place + 1 + i)
+    later i = at (suc i) ∙ ap (slice_get (on side k)) (let e : place + suc i ≡ place + 1 + i = omega arith in e)
+
+    here : slice_get (on side k) place ≡ Some g
+    here = ap (slice_get (on side k)) (let e : place ≡ place + 0 = omega arith in e) ∙ sym (at 0)
+
     live_here : (f : ℕ → Option (Parked A)) (a : Parked A) → h.shard (home g.wait) ≡ Some f → f g.wait ≡ Some a → AllSeen h q × (live_of (alive_in h) q ≡ q) × (all_asked x p side (place + 1) q rest ≡ rest) → AllSeen h (g ∷ q) × (live_of (alive_in h) (g ∷ q) ≡ g ∷ q) × (all_asked x p side (place + 1) q rest ≡ rest)
     live_here f a e u t = (((f, e), t.0), ap (λ (b : Bool). cond b (g ∷ live_of (alive_in h) q) (live_of (alive_in h) q)) (ap (λ (o : Option (ℕ → Option (Parked A))). is_some (at_key o g.wait)) e ∙ ap is_some u) ∙ ap (λ l. g ∷ l) t.1, t.2)
 
+    gone_here : (f : ℕ → Option (Parked A)) → h.shard (home g.wait) ≡ Some f → f g.wait ≡ None → IsStale h p side place
+    gone_here f e u = record { kept = k; there = there; handler = g; at_place = here; from = f; shard = e; gone = u }
+
     inner : (f : ℕ → Option (Parked A)) (o : Option (Parked A)) → h.shard (home g.wait) ≡ Some f → f g.wait ≡ o → AllTold q rest (all_asked x p side (place + 1) q rest) → AllTold (g ∷ q) rest (asked (glance_in o) p side place g.wait (all_asked x p side (place + 1) q rest))
-    inner f None e u t = inr tt
+    inner f None e u t = inr (gone_here f e u)
     inner f (Some a) e u t = ⊎_elim (λ k. inl (live_here f a e u k)) (λ k. inr k) t
 
     outer : (o : Option (ℕ → Option (Parked A))) → h.shard (home g.wait) ≡ o → AllTold q rest (all_asked x p side (place + 1) q rest) → AllTold (g ∷ q) rest (asked (glance_at (h.shard (home g.wait)) g.wait) p side place g.wait (all_asked x p side (place + 1) q rest))
     outer None e t = subst (λ (z : Option (ℕ → Option (Parked A))). AllTold (g ∷ q) rest (asked (glance_at z g.wait) p side place g.wait (all_asked x p side (place + 1) q rest))) (sym e) (inr tt)
     outer (Some f) e t = subst (λ (z : Option (ℕ → Option (Parked A))). AllTold (g ∷ q) rest (asked (glance_at z g.wait) p side place g.wait (all_asked x p side (place + 1) q rest))) (sym e) (inner f (f g.wait) e refl t)
 
-  -- a queue has a place for one more wait, or no event is drawn
-  queue_tells : (side : Side) (p : ℕ) (q : List Handler) (rest : Planned) → (FewOn h q × (counted x side p q rest ≡ rest)) ⊎ Stops (counted x side p q rest)
-  queue_tells side p q rest = short (nat_lt (length q) 1024) refl where
-    long : (b : Bool) → nat_lt (groups q) 1024 ≡ b → AllSeen h q × (live_of (alive_in h) q ≡ q) × (all_asked x p side 0 q (cond (nat_lt (groups q) 1024) rest (to_refuse (crowd_of side))) ≡ cond (nat_lt (groups q) 1024) rest (to_refuse (crowd_of side)))
-        → (FewOn h q × (all_asked x p side 0 q (cond (nat_lt (groups q) 1024) rest (to_refuse (crowd_of side))) ≡ rest)) ⊎ Stops (all_asked x p side 0 q (cond (nat_lt (groups q) 1024) rest (to_refuse (crowd_of side))))
-    long true e t = inl (inr (t.0, subst (λ (l : List Handler). groups l < 1024) (sym t.1) (ltb-true (groups q) 1024 e)), t.2 ∙ ap (λ b. cond b rest (to_refuse (crowd_of side))) e)
-    long false e t = inr (subst Stops (sym (t.2 ∙ ap (λ b. cond b rest (to_refuse (crowd_of side))) e)) tt)
+  abbrev IsFull : List Handler → Type 0
+  IsFull q = AllSeen h q × (1024 ≤ groups (live_of (alive_in h) q))
 
-    short : (b : Bool) → nat_lt (length q) 1024 ≡ b → (FewOn h q × (cond b rest (all_asked x p side 0 q (cond (nat_lt (groups q) 1024) rest (to_refuse (crowd_of side)))) ≡ rest)) ⊎ Stops (cond b rest (all_asked x p side 0 q (cond (nat_lt (groups q) 1024) rest (to_refuse (crowd_of side)))))
-    short true e = inl (inl (ltb-true (length q) 1024 e), refl)
-    short false e = ⊎_elim (λ t. long (nat_lt (groups q) 1024) refl t) (λ s. inr s) (all_tell p side q 0 (cond (nat_lt (groups q) 1024) rest (to_refuse (crowd_of side))))
+  -- what counting a queue comes to
+  abbrev QueueTold : Side → List Handler → Planned → Planned → Type 0
+  QueueTold side q rest r = (FewOn h q × (r ≡ rest)) ⊎ ((IsFull q × (r ≡ to_refuse (crowd_of side))) ⊎ Stops r)
 
-  -- so has each queue that a wait would join
-  queues_tell : (bs : List BranchView) (rest : Planned) → EachHeld bs → (FewIn h bs × (all_counted x bs rest ≡ rest)) ⊎ Stops (all_counted x bs rest)
+  -- a queue has a place for one more wait, or none, or it can't be told
+  queue_tells : (side : Side) (p : ℕ) (k : Kept) (rest : Planned) → whole h.bank p ≡ Some k → QueueTold side (on side k) rest (counted x side p (on side k) rest)
+  queue_tells side p k rest there = short (nat_lt (length (on side k)) 1024) refl where
+    after : Planned
+    after = cond (nat_lt (groups (on side k)) 1024) rest (to_refuse (crowd_of side))
+
+    long : (b : Bool) → nat_lt (groups (on side k)) 1024 ≡ b → AllSeen h (on side k) × (live_of (alive_in h) (on side k) ≡ on side k) × (all_asked x p side 0 (on side k) after ≡ after) → QueueTold side (on side k) rest (all_asked x p side 0 (on side k) after)
+    long true e t = inl (inr (t.0, subst (λ (l : List Handler). groups l < 1024) (sym t.1) (ltb-true (groups (on side k)) 1024 e)), t.2 ∙ ap (λ b. cond b rest (to_refuse (crowd_of side))) e)
+    long false e t = inr (inl ((t.0, subst (λ (l : List Handler). 1024 ≤ groups l) (sym t.1) (ltb-false (groups (on side k)) 1024 e)), t.2 ∙ ap (λ b. cond b rest (to_refuse (crowd_of side))) e))
+
+    short : (b : Bool) → nat_lt (length (on side k)) 1024 ≡ b → QueueTold side (on side k) rest (cond b rest (all_asked x p side 0 (on side k) after))
+    short true e = inl (inl (ltb-true (length (on side k)) 1024 e), refl)
+    short false e = ⊎_elim (λ t. long (nat_lt (groups (on side k)) 1024) refl t) (λ s. inr (inr s)) (all_tell p side k there (on side k) 0 after (λ i. ap (slice_get (on side k)) (let e : i ≡ 0 + i = omega arith in e)))
+
+  -- what counting the queue of each branch comes to
+  abbrev QueuesTold : List BranchView → Planned → Planned → Type 0
+  QueuesTold bs rest r = (FewIn h bs × (r ≡ rest)) ⊎ (((f : Fault) × CrowdedIn h bs f × (r ≡ to_refuse f)) ⊎ Stops r)
+
+  -- so has each queue that a wait would join; or the first that has none decides
+  queues_tell : (bs : List BranchView) (rest : Planned) → EachHeld bs → QueuesTold bs rest (all_counted x bs rest)
   queues_tell [] rest a = inl (tt, refl)
-  queues_tell (b ∷ bs) rest a = both (queues_tell bs rest a.1) (queue_tells (side_of b) (port_of b) (queue_at (side_of b) (whole h.bank (port_of b))) (all_counted x bs rest)) where
-    few_here : FewOn h (queue_at (side_of b) (whole h.bank (port_of b))) → FewOn h (on (side_of b) a.0.0)
-    few_here f = subst (FewOn h) (ap (queue_at (side_of b)) a.0.1) f
+  queues_tell (b ∷ bs) rest a = subst (QueuesTold (b ∷ bs) rest) (sym here) (both (queues_tell bs rest a.1) (queue_tells (side_of b) (port_of b) a.0.0 (all_counted x bs rest) a.0.1)) where
+    after : Planned
+    after = counted x (side_of b) (port_of b) (on (side_of b) a.0.0) (all_counted x bs rest)
 
-    both : (FewIn h bs × (all_counted x bs rest ≡ rest)) ⊎ Stops (all_counted x bs rest)
-        → (FewOn h (queue_at (side_of b) (whole h.bank (port_of b))) × (all_counted x (b ∷ bs) rest ≡ all_counted x bs rest)) ⊎ Stops (all_counted x (b ∷ bs) rest)
-        → (FewIn h (b ∷ bs) × (all_counted x (b ∷ bs) rest ≡ rest)) ⊎ Stops (all_counted x (b ∷ bs) rest)
-    both later first = ⊎_elim (λ f. ⊎_elim (λ l. inl (((a.0.0, a.0.1, few_here f.0), l.0), f.1 ∙ l.1)) (λ s. inr (subst Stops (sym f.1) s)) later) (λ s. inr s) first
+    here : all_counted x (b ∷ bs) rest ≡ after
+    here = ap (λ o. counted x (side_of b) (port_of b) (queue_at (side_of b) o) (all_counted x bs rest)) a.0.1
+
+    full : IsFull (on (side_of b) a.0.0) → CrowdedIn h (b ∷ bs) (crowd_of (side_of b))
+    full f = (a.0.0, a.0.1, inl (f.0, f.1, refl))
+
+    both : QueuesTold bs rest (all_counted x bs rest) → QueueTold (side_of b) (on (side_of b) a.0.0) (all_counted x bs rest) after → QueuesTold (b ∷ bs) rest after
+    both later first = ⊎_elim
+        (λ f. ⊎_elim (λ l. inl (((a.0.0, a.0.1, f.0), l.0), f.1 ∙ l.1)) (λ o. ⊎_elim (λ l. inr (inl (l.0, (a.0.0, a.0.1, inr (f.0, l.1)), f.1 ∙ l.2))) (λ s. inr (inr (subst Stops (sym f.1) s))) o) later)
+        (λ o. ⊎_elim (λ f. inr (inl (crowd_of (side_of b), full f.0, f.1))) (λ s. inr (inr s)) o) first
 
   abbrev held : State
   held = state_of (whole h.bank) (whole h.registry)
@@ -185,8 +213,8 @@ module _ {A : Type 0} (h : Parts A) where
 
   stop_tells : (op : OpView) (p : Planned) → Stops p → PlanTells h op p
   stop_tells op (to_look w) s = tt
-  stop_tells op (to_prune p side place) s = tt
-  stop_tells op (to_refuse f) s = tt
+  stop_tells op (to_prune p side place) s = s
+  stop_tells op (to_refuse f) s = absurd s
   stop_tells op (to_do k b alts) s = absurd s
   stop_tells op (to_meet k b alts w o) s = absurd s
   stop_tells op (to_park bs) s = absurd s
@@ -198,6 +226,18 @@ module _ {A : Type 0} (h : Parts A) where
   stop_tells op (to_register name args) s = absurd s
   stop_tells op (to_print line) s = absurd s
 
+  no_default : (op : OpView) → default_of op ≡ None → has_no_default op ≡ true
+  no_default (choosing ports priority None) e = refl
+  no_default (choosing ports priority (Some v)) e = absurd (let k : Some v ≡ None = e in cc)
+  no_default (taking c) e = refl
+  no_default (putting c v) e = refl
+  no_default (posting c v) e = refl
+  no_default (making what) e = refl
+  no_default (spawning seed) e = refl
+  no_default (closing c) e = refl
+  no_default (registering name args) e = refl
+  no_default (printing line) e = refl
+
   chosen_tells : (op : OpView) (start : ℕ) → FitIn h op → EachHeld (branches_of op) → (parks op ≡ false → IsPost h op (branches_of op)) → PlanTells h op (chosen x op start)
   chosen_tells op start fit each post = ⊎_elim decides no_one (from_tells x (is_alts op) (starting x op start) (branches_of op) (otherwise x op (default_of op))) where
     picks : (d : Decides x (is_alts op) (branches_of op) (λ j. j) (starting x op start ≡ 0) (chosen x op start) (otherwise x op (default_of op))) → PicksIn h op d.place d.branch
@@ -207,7 +247,7 @@ module _ {A : Type 0} (h : Parts A) where
     told d unready e = absurd (d.ready e)
     told d alone e = let k = one_held (branches_of op) d.place d.branch each d.is_branch in (fit, picks d, is_alone d.branch k.0 k.1 (d.is_found ∙ e), refl)
     told d (partner w o) e = let k = one_held (branches_of op) d.place d.branch each d.is_branch in (fit, picks d, partner_is d.branch k.0 w o k.1 (d.is_found ∙ e), refl)
-    told d (stale side) e = tt
+    told d (stale side) e = let k = one_held (branches_of op) d.place d.branch each d.is_branch in found_stale h d.branch k.0 side k.1 (d.is_found ∙ e)
     told d (unheld w) e = tt
 
     decides : Decides x (is_alts op) (branches_of op) (λ j. j) (starting x op start ≡ 0) (chosen x op start) (otherwise x op (default_of op)) → PlanTells h op (chosen x op start)
@@ -217,9 +257,14 @@ module _ {A : Type 0} (h : Parts A) where
     waits n e few true is = (fit, refl, e, record { unready = none_ready_in (branches_of op) each n.0; few = few }, is)
     waits n e few false is = (fit, refl, e, record { unready = none_ready_in (branches_of op) each n.0; few = few }, post is)
 
+    crowd_tells : (n : NoneDecides x (is_alts op) (branches_of op) (chosen x op start) (otherwise x op (default_of op))) → default_of op ≡ None → (f : Fault) → CrowdedIn h (branches_of op) f → PlanTells h op (to_refuse f)
+    crowd_tells n e f crowd = inr (fit, no_default op e, none_ready_in (branches_of op) each n.0, crowd)
+
     otherwise_tells : (n : NoneDecides x (is_alts op) (branches_of op) (chosen x op start) (otherwise x op (default_of op))) (d : Option Tree) → default_of op ≡ d → PlanTells h op (otherwise x op d)
     otherwise_tells n (Some v) e = (fit, e, none_ready_in (branches_of op) each n.0)
-    otherwise_tells n None e = ⊎_elim (λ t. subst (PlanTells h op) (sym t.1) (waits n e t.0 (parks op) refl)) (λ s. stop_tells op (otherwise x op None) s) (queues_tell (branches_of op) (cond (parks op) (to_park (branches_of op)) (to_post (branches_of op))) each)
+    otherwise_tells n None e = ⊎_elim (λ t. subst (PlanTells h op) (sym t.1) (waits n e t.0 (parks op) refl))
+        (λ o. ⊎_elim (λ t. subst (PlanTells h op) (sym t.2) (crowd_tells n e t.0 t.1)) (λ s. stop_tells op (otherwise x op None) s) o)
+        (queues_tell (branches_of op) (cond (parks op) (to_park (branches_of op)) (to_post (branches_of op))) each)
 
     no_one : NoneDecides x (is_alts op) (branches_of op) (chosen x op start) (otherwise x op (default_of op)) → PlanTells h op (chosen x op start)
     no_one n = subst (PlanTells h op) (sym n.1) (otherwise_tells n (default_of op) refl)
@@ -277,5 +322,5 @@ module _ {A : Type 0} (h : Parts A) where
   pub plan_tells : (op : OpView) (start : ℕ) → PlanTells h op (planned x op start)
   plan_tells op start = by (unfit held op) refl where
     by : (o : Option Fault) → unfit held op ≡ o → PlanTells h op (unless_refused x o (fitting x op start))
-    by (Some f) e = tt
+    by (Some f) e = inl e
     by None e = fit_tells op start e

@@ -1,6 +1,7 @@
 -- What a plan says of the held parts from which it was made.
-use Rattle.std.specs.Prelude.{◌≡◌, ℕ, List, [], ◌∷◌, Option, Some, None, true, slice_get}
+use Rattle.std.specs.Prelude.{◌⊎◌, ◌≡◌, ℕ, List, [], ◌∷◌, Option, Some, None, true, slice_get}
 use Rattle.ca_value.specs.Tree.{Tree, Trees, port}
+use Rattle.ca_term.specs.declared.fault.Fault.{Fault}
 use Rattle.ca_term.specs.declared.event.Side.{Side}
 use Rattle.ca_term.specs.declared.head.RegisterName.{RegisterName}
 use Rattle.ca_term.specs.Operation.{OpView, SeedView, closing, making, posting, printing, registering, spawning}
@@ -9,7 +10,7 @@ use Rattle.ca_meaning.specs.Channel.{Channel}
 use Rattle.ca_meaning.specs.ChannelSteps.{other_side}
 use Rattle.ca_meaning.specs.Choice.{branches_of, default_of, parks}
 use Rattle.ca_meaning.specs.Operands.{first_of, port_number, rest_of}
-use Rattle.ca_meaning.specs.Refusal.{registering_gives}
+use Rattle.ca_meaning.specs.Refusal.{has_no_default, registering_gives, unfit}
 use Rattle.ca_meaning.specs.Registry.{Registry, answers}
 use Rattle.ca_meaning.specs.Row.{completes, meets}
 use Rattle.ca_meaning.specs.State.{State}
@@ -19,8 +20,8 @@ use Rattle.ca_bank.specs.Registry.{comes_to}
 use Rattle.ca_commit.specs.Asks.{Asks, row_raw}
 use Rattle.ca_commit.specs.Contents.{Kept, Parked, Parts, alive_in, home, on, whole}
 use Rattle.ca_commit.specs.Finding.{glance}
-use Rattle.ca_commit.specs.Moves.{FewIn, FitIn, NoneReadyIn, PicksIn, Shows}
-use Rattle.ca_commit.specs.Planning.{Planned, Seen, is_alts, to_close, to_default, to_do, to_look, to_make, to_meet, to_park, to_post, to_print, to_prune, to_refuse, to_register, to_spawn}
+use Rattle.ca_commit.specs.Moves.{CrowdedIn, FewIn, FitIn, NoneReadyIn, PicksIn, Shows}
+use Rattle.ca_commit.specs.Planning.{Planned, Seen, is_alts, state_of, to_close, to_default, to_do, to_look, to_make, to_meet, to_park, to_post, to_print, to_prune, to_refuse, to_register, to_spawn}
 
 -- what held parts show
 abbrev pub seen_in : {A : Type 0} → Parts A → Seen
@@ -78,6 +79,14 @@ module _ {A : Type 0} (h : Parts A) where
   abbrev pub IsPost : OpView → List BranchView → Type 0
   IsPost op bs = (p : ℕ) × (v : Tree) × (op ≡ posting (port p) v) × (bs ≡ put_of p v ∷ [])
 
+  -- the operands are refused, as far as the held banks tell
+  abbrev pub IsRefused : OpView → Fault → Type 0
+  IsRefused op f = unfit (state_of (whole h.bank) (whole h.registry)) op ≡ Some f
+
+  -- or they are right, and a wait would be one too many
+  abbrev pub IsCrowded : OpView → Fault → Type 0
+  IsCrowded op f = FitIn h op × (has_no_default op ≡ true) × NoneReadyIn h (branches_of op) × CrowdedIn h (branches_of op) f
+
   -- what the plan of an operation says
   abbrev pub PlanTells : OpView → Planned → Type 0
   PlanTells op (to_do k b alts) = FitIn h op × PicksIn h op k b × IsAlone b × (alts ≡ is_alts op)
@@ -90,6 +99,6 @@ module _ {A : Type 0} (h : Parts A) where
   PlanTells op (to_close p) = FitIn h op × (op ≡ closing (port p)) × ((k : Kept) × (whole h.bank p ≡ Some k))
   PlanTells op (to_register name args) = FitIn h op × (op ≡ registering name args) × IsAnswered name args
   PlanTells op (to_print line) = FitIn h op × (op ≡ printing line)
-  PlanTells op (to_prune p side place) = Unit {0}
+  PlanTells op (to_prune p side place) = IsStale p side place
   PlanTells op (to_look w) = Unit {0}
-  PlanTells op (to_refuse f) = Unit {0}
+  PlanTells op (to_refuse f) = IsRefused op f ⊎ IsCrowded op f

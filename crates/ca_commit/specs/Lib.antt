@@ -38,3 +38,7 @@ pub mod Entering
 pub mod Ticking
 pub mod Drawings
 pub mod EventMoves
+pub mod Applying
+pub mod PlanMoves
+pub mod Naming
+pub mod Ending

@@ -1,20 +1,33 @@
-ghost use Rattle.std.specs.Prelude.{ℕ};
+ghost use Rattle.std.specs.Prelude.{◌≡◌, ℕ};
+ghost use Rattle.ca_term.specs.declared.event.Side.{Side};
+ghost use Rattle.ca_term.specs.declared.fault.Fault.{Fault};
 ghost use Rattle.ca_term.specs.Operation.{OpView};
-ghost use Rattle.ca_commit.specs.Contents.{Parts};
-ghost use Rattle.ca_commit.specs.Deciding.{PlanTells, seen_in};
+ghost use Rattle.ca_commit.specs.Contents.{Parts, whole};
+ghost use Rattle.ca_commit.specs.Deciding.{IsRefused, IsStale, PlanTells, seen_in};
+ghost use Rattle.ca_commit.specs.Moves.{UnfitIn};
+ghost use Rattle.ca_commit.specs.Finding.{glance, rests_on_stale, settle_at};
 ghost use Rattle.ca_commit.specs.Planning.{planned};
 ghost use Rattle.ca_commit.specs.Agents.{TaskAgent, advances_of, gives_of, place_of};
 ghost use Rattle.ca_commit.specs.Drawings.{DoneMoves, MeetMoves};
 ghost use Rattle.ca_commit.specs.EventMoves.{CloseMoves, DefaultMoves, MakeMoves, ParkMoves, PostMoves, PrintMoves, PruneMoves, RegisterMoves, ResultCloses, SpawnMoves, TickMoves};
+ghost use Rattle.ca_commit.specs.PlanMoves.{PlanMoves};
+ghost use Rattle.ca_commit.specs.Ending.{EndMoves, FaultMoves, RefusedMoves};
+ghost use Rattle.ca_commit.specs.Naming.{NamesHeld};
 
 use ca_agent::agent::Agent;
 
 /// What is planned over held parts is right by them, and its operands are: of a branch that is done or meets a wait,
 /// that with priority none before it is ready, and its row with all that it asks; of a wait, a posted put and a default,
 /// that no branch is ready, and of the first two that each queue has a place; of the other events, that the operation is
-/// theirs, and of a registry that its table answers.
+/// theirs, and of a registry that its table answers. Of a refusal, that the operands aren't right, or a wait would be one
+/// too many; of a stale handler, that it stands there and its wait is gone.
 pub fn plans_tell<A>()
     ensures { (h : Parts A) (op : OpView) (start : ℕ) → PlanTells h op (planned (seen_in h) op start) }
+{}
+
+/// Where a stale handler stands in the way of what a channel settles, it is in front of its queue.
+pub fn settling_tells<A>()
+    ensures { (h : Parts A) (p : ℕ) (side : Side) → settle_at (glance h.shard) (whole h.bank p) ≡ rests_on_stale side → IsStale h p side 0 }
 {}
 
 /// What the calls of an event promise, with what the plan tells, is how the event moves the parts, where the worker's
@@ -33,4 +46,23 @@ pub fn calls_are_moves<A: Agent>()
     ensures result { ResultCloses A.place A.advances }
     ensures tick { TickMoves (TaskAgent A) }
     ensures prune { PruneMoves (TaskAgent A) }
+{}
+
+/// So what the calls of a plan's event promise is how that event moves the parts, whichever it is.
+pub fn plans_are_moves<A: Agent>()
+    ensures { PlanMoves A.place A.advances A.gives A.starts }
+{}
+
+/// Where the banks of all ports that an operation names are held, and refuse its operands, these are refused whatever is
+/// in the other banks.
+pub fn names_decide<A>()
+    ensures { (h : Parts A) (op : OpView) (f : Fault) → NamesHeld h op → IsRefused h op f → UnfitIn h op f }
+{}
+
+/// What the end of a task promises, by a value, by a fault of its own, or at an operation that is refused, is how its
+/// event moves the parts.
+pub fn ends_are_moves<A: Agent>()
+    ensures ended { EndMoves A.place A.advances A.gives A.starts }
+    ensures faulted { FaultMoves A.place A.advances A.gives A.starts }
+    ensures refused { RefusedMoves A.place A.advances A.gives A.starts }
 {}
