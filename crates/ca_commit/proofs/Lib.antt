@@ -58,3 +58,4 @@ pub mod NewPorts
 pub mod Everywhere
 pub mod EventMoves
 pub mod Dues
+pub mod PlansRight

@@ -38,3 +38,4 @@ pub mod Entering
 pub mod Ticking
 pub mod Drawings
 pub mod EventMoves
+pub mod Applying
