@@ -59,3 +59,5 @@ pub mod Everywhere
 pub mod EventMoves
 pub mod Dues
 pub mod PlansRight
+pub mod SettleMoves
+pub mod PlansApart

@@ -2,10 +2,12 @@ ghost use Rattle.std.specs.Prelude.{ℕ};
 ghost use Rattle.ca_term.specs.Operation.{OpView};
 ghost use Rattle.ca_commit.specs.Contents.{Parts};
 ghost use Rattle.ca_commit.specs.Deciding.{PlanTells, seen_in};
-ghost use Rattle.ca_commit.specs.Planning.{planned};
+ghost use Rattle.ca_commit.specs.Applying.{KeepsApart};
+ghost use Rattle.ca_commit.specs.Planning.{Seen, planned, state_of};
+ghost use Rattle.ca_commit.specs.Registering.{AreApart};
 ghost use Rattle.ca_commit.specs.Agents.{TaskAgent, advances_of, gives_of, place_of};
 ghost use Rattle.ca_commit.specs.Drawings.{DoneMoves, MeetMoves};
-ghost use Rattle.ca_commit.specs.EventMoves.{CloseMoves, DefaultMoves, MakeMoves, ParkMoves, PostMoves, PrintMoves, PruneMoves, RegisterMoves, ResultCloses, SpawnMoves, TickMoves};
+ghost use Rattle.ca_commit.specs.EventMoves.{CloseMoves, DefaultMoves, MakeMoves, ParkMoves, PostMoves, PrintMoves, PruneMoves, RegisterMoves, ResultCloses, SettleMoves, SpawnMoves, TickMoves};
 
 use ca_agent::agent::Agent;
 
@@ -15,6 +17,12 @@ use ca_agent::agent::Agent;
 /// theirs, and of a registry that its table answers.
 pub fn plans_tell<A>()
     ensures { (h : Parts A) (op : OpView) (start : ℕ) → PlanTells h op (planned (seen_in h) op start) }
+{}
+
+/// Where the names that an operation brings are as `plan` wants them, those of what it becomes are as `reserve` and
+/// `apply` do: a registering that isn't refused has channels as its keys.
+pub fn plans_keep_apart()
+    ensures { (x : Seen) (op : OpView) (start : ℕ) → AreApart (state_of x.ports x.registries) op → KeepsApart (planned x op start) }
 {}
 
 /// What the calls of an event promise, with what the plan tells, is how the event moves the parts, where the worker's
@@ -31,6 +39,7 @@ pub fn calls_are_moves<A: Agent>()
     ensures register { RegisterMoves A.place A.advances A.gives }
     ensures print { PrintMoves A.place A.advances A.gives }
     ensures result { ResultCloses A.place A.advances }
+    ensures settle { SettleMoves A.place A.gives }
     ensures tick { TickMoves (TaskAgent A) }
     ensures prune { PruneMoves (TaskAgent A) }
 {}
