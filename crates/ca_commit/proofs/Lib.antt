@@ -62,3 +62,6 @@ pub mod PlanMoving
 pub mod Stales
 pub mod NamesTold
 pub mod Ends
+pub mod PlansRight
+pub mod SettleMoves
+pub mod PlansApart

@@ -21,7 +21,7 @@ use Rattle.ca_commit.specs.Waking.{WakesBy, passing}
 use Rattle.ca_commit.proofs.Altered.{alters}
 use Rattle.ca_commit.proofs.RowsDone.{row_meets}
 
-there_is : {X : Type 0} (o : Option X) → is_some o ≡ true → (x : X) × (o ≡ Some x)
+pub there_is : {X : Type 0} (o : Option X) → is_some o ≡ true → (x : X) × (o ≡ Some x)
 there_is None e = absurd cc
 there_is (Some x) e = (x, refl)
 

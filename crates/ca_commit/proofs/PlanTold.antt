@@ -52,7 +52,7 @@ module _ {A : Type 0} (h : Parts A) where
     by None = refl
     by (Some f) = in_it (f w)
 
-  lives_same : lives (glance h.shard) ≡ alive_in h
+  pub lives_same : lives (glance h.shard) ≡ alive_in h
   lives_same = same_map (lives (glance h.shard)) (alive_in h) lives_is
 
   pub says : (b : BranchView) (k : Kept) (f : Finding) → whole h.bank (port_of b) ≡ Some k → found_of x b ≡ f → Says (alive_in h) f (Asks (alive_in h) b k) (row_raw k b) (head (on (other_side (side_of b)) k))

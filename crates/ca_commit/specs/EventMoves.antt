@@ -15,23 +15,26 @@ use Rattle.ca_meaning.specs.ChannelSteps.{with_default}
 use Rattle.ca_meaning.specs.Operands.{rest_of}
 use Rattle.ca_meaning.specs.Registry.{Registry, registry_made}
 use Rattle.ca_meaning.specs.TaskSteps.{moments}
-use Rattle.ca_meaning.specs.Wait.{is_among}
+use Rattle.ca_meaning.specs.Wait.{is_among, told}
 use Rattle.ca_bank.specs.Kept.{closed, pruned, unattended}
 use Rattle.ca_bank.specs.Registry.{registered}
-use Rattle.ca_commit.specs.Agents.{TaskAgent, advances_of, gives_of, parks_of, place_of, starts_of}
-use Rattle.ca_commit.specs.ChannelMoves.{MovesClose, MovesDefault, MovesPark, MovesPost}
+use Rattle.ca_commit.specs.Agents.{TaskAgent, advances_of, gives_of, parks_of, place_of, starts_of, wakes_of}
+use Rattle.ca_commit.specs.ChannelMoves.{MovesClose, MovesDefault, MovesPark, MovesPost, MovesSettle}
 use Rattle.ca_commit.specs.Contents.{Counts, Kept, Parked, Parts, TimersPart, home, nobody, owner, whole}
 use Rattle.ca_commit.specs.Deciding.{IsStale, PlanTells}
 use Rattle.ca_commit.specs.Entering.{answer_of, registry_of}
+use Rattle.ca_commit.specs.Finding.{glance, serves, settle_at}
 use Rattle.ca_commit.specs.Listing.{changed_at}
 use Rattle.ca_commit.specs.Moves.{Answers, Becomes, Stays, Stood}
 use Rattle.ca_commit.specs.NewPort.{Times, moment_for, timed}
 use Rattle.ca_commit.specs.Parking.{front_port, front_value, queued_from, waiting_as}
 use Rattle.ca_commit.specs.Planning.{to_close, to_default, to_make, to_park, to_post, to_print, to_register, to_spawn}
 use Rattle.ca_commit.specs.Running.{Placed, or_was}
+use Rattle.ca_commit.specs.Settling.{settle_change, settling}
 use Rattle.ca_commit.specs.SilentMoves.{MovesPrune}
 use Rattle.ca_commit.specs.TaskMoves.{MovesMake, MovesPrint, MovesRegister, MovesSpawn, MovesTick, Reads, ShutsAt}
 use Rattle.ca_commit.specs.Ticking.{closed_all, closed_result, ticked_at}
+use Rattle.ca_commit.specs.Waking.{WakesBy}
 
 abbrev pub one_wait_more : Counts → Counts
 one_wait_more c = record { tasks = c.tasks; ports = c.ports; waits = c.waits + 1 }
@@ -143,3 +146,13 @@ abbrev pub PruneMoves : Type 0 → Type 0
 PruneMoves A = (old new : Parts A) (p : ℕ) (side : Side) (place : ℕ) (stale : IsStale old p side place)
     → ((i : ℕ) → new.bank i ≡ changed_at p (option_map (pruned side place)) old.bank i) → Stays old.registry new.registry → Stays old.shard new.shard → Stays old.lane new.lane → Stays old.ready new.ready → new.timers ≡ old.timers
     → MovesPrune side p stale.handler.wait old new
+
+-- a channel that serves a side by itself
+abbrev pub SettleMoves : {A : Type 0} → (A → At) → (A → Tree → A → Type 0) → Type 0
+SettleMoves {A} place gives = (old new : Parts (TaskAgent A)) (w wait o p : ℕ) (side : Side) (q : List (ℕ × TaskAgent A)) → settle_at (glance old.shard) (whole old.bank p) ≡ serves side wait o
+    → ((i : ℕ) → new.bank i ≡ changed_at p (option_map (settle_change side (settling side (whole old.bank p)))) old.bank i) → Stays old.registry new.registry
+    → ((i : ℕ) → new.shard i ≡ changed_at wait (λ z. None) old.shard i)
+    → old.ready w ≡ Some q → ((i : ℕ) → (i ≡ w → ⊥) → new.ready i ≡ old.ready i) → ((new.ready w ≡ old.ready w) → Stays old.ready new.ready)
+    → WakesBy place gives (whole old.shard wait) p (told side (settling side (whole old.bank p))) (old.ready w) (new.ready w)
+    → Stays old.lane new.lane → new.timers ≡ old.timers
+    → MovesSettle (place_of place) (wakes_of gives) w wait o side p (settling side (whole old.bank p)) old new

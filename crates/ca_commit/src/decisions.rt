@@ -6,10 +6,12 @@ ghost use Rattle.ca_commit.specs.Contents.{Parts, whole};
 ghost use Rattle.ca_commit.specs.Deciding.{IsRefused, IsStale, PlanTells, seen_in};
 ghost use Rattle.ca_commit.specs.Moves.{UnfitIn};
 ghost use Rattle.ca_commit.specs.Finding.{glance, rests_on_stale, settle_at};
-ghost use Rattle.ca_commit.specs.Planning.{planned};
+ghost use Rattle.ca_commit.specs.Applying.{KeepsApart};
+ghost use Rattle.ca_commit.specs.Planning.{Seen, planned, state_of};
+ghost use Rattle.ca_commit.specs.Registering.{AreApart};
 ghost use Rattle.ca_commit.specs.Agents.{TaskAgent, advances_of, gives_of, place_of};
 ghost use Rattle.ca_commit.specs.Drawings.{DoneMoves, MeetMoves};
-ghost use Rattle.ca_commit.specs.EventMoves.{CloseMoves, DefaultMoves, MakeMoves, ParkMoves, PostMoves, PrintMoves, PruneMoves, RegisterMoves, ResultCloses, SpawnMoves, TickMoves};
+ghost use Rattle.ca_commit.specs.EventMoves.{CloseMoves, DefaultMoves, MakeMoves, ParkMoves, PostMoves, PrintMoves, PruneMoves, RegisterMoves, ResultCloses, SettleMoves, SpawnMoves, TickMoves};
 ghost use Rattle.ca_commit.specs.PlanMoves.{PlanMoves};
 ghost use Rattle.ca_commit.specs.Ending.{EndMoves, FaultMoves, RefusedMoves};
 ghost use Rattle.ca_commit.specs.Naming.{NamesHeld};
@@ -30,6 +32,12 @@ pub fn settling_tells<A>()
     ensures { (h : Parts A) (p : ℕ) (side : Side) → settle_at (glance h.shard) (whole h.bank p) ≡ rests_on_stale side → IsStale h p side 0 }
 {}
 
+/// Where the names that an operation brings are as `plan` wants them, those of what it becomes are as `reserve` and
+/// `apply` do: a registering that isn't refused has channels as its keys.
+pub fn plans_keep_apart()
+    ensures { (x : Seen) (op : OpView) (start : ℕ) → AreApart (state_of x.ports x.registries) op → KeepsApart (planned x op start) }
+{}
+
 /// What the calls of an event promise, with what the plan tells, is how the event moves the parts, where the worker's
 /// lane has the task with its answer, or is empty where the task waits.
 pub fn calls_are_moves<A: Agent>()
@@ -44,6 +52,7 @@ pub fn calls_are_moves<A: Agent>()
     ensures register { RegisterMoves A.place A.advances A.gives }
     ensures print { PrintMoves A.place A.advances A.gives }
     ensures result { ResultCloses A.place A.advances }
+    ensures settle { SettleMoves A.place A.gives }
     ensures tick { TickMoves (TaskAgent A) }
     ensures prune { PruneMoves (TaskAgent A) }
 {}

@@ -2,6 +2,7 @@ use Rattle.ca_commit.specs.Agents.{advances_of, gives_of, place_of}
 use Rattle.ca_commit.proofs.Drawings.{done_moves}
 use Rattle.ca_commit.proofs.EventMoves.{close_moves, default_moves, make_moves, park_moves, post_moves, print_moves, prune_moves, register_moves, result_closes, spawn_moves, tick_moves}
 use Rattle.ca_commit.proofs.Meetings.{meet_moves}
+use Rattle.ca_commit.proofs.SettleMoves.{settle_moves}
 use Rattle.ca_commit.proofs.decisions.calls_are_moves.Goals as goal
 
 pub returns-clause-done : goal.returns-clause-done
@@ -42,3 +43,6 @@ returns-clause-tick g c = tick_moves
 
 pub returns-clause-prune : goal.returns-clause-prune
 returns-clause-prune g c = prune_moves
+
+pub returns-clause-settle : goal.returns-clause-settle
+returns-clause-settle g c = settle_moves g.A.Agent.place g.A.Agent.advances g.A.Agent.gives
