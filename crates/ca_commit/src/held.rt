@@ -46,6 +46,13 @@ impl HeldBank {
         HeldBank { number, bank }
     }
 
+    /// The bank, to look at.
+    pub fn bank(&self) -> &Bank
+        ensures { result.now ≡ self.now.bank }
+    {
+        &self.bank
+    }
+
     /// The bank.
     pub fn into_bank(self) -> Bank
         ensures bank { result ≡ self.bank }

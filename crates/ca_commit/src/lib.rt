@@ -36,6 +36,7 @@ pub mod new_port;
 pub mod parking;
 pub mod planned;
 pub mod planning;
+pub mod pruning;
 mod registering;
 mod replying;
 mod reserving;

@@ -1,4 +1,4 @@
-ghost use Rattle.std.specs.Prelude.{◌≡◌, ◌+◌, ◌<◌, ◌≤◌, [], ◌∷◌, ◌++◌, Some, None, OnOk, IfSome, IfNone};
+ghost use Rattle.std.specs.Prelude.{◌≡◌, ◌+◌, ◌<◌, ◌≤◌, [], ◌∷◌, ◌++◌, Some, None, OnOk, IfSome, IfNone, ◌↔◌, IsTrue};
 ghost use Rattle.ca_commit.specs.Tasks.{task_view, tasks_in, ready_spare};
 
 use ca_value::memory::OutOfMemory;
@@ -50,6 +50,13 @@ impl<A> Ready<A> {
         ensures spare { ready_spare self.old ≤ ready_spare self.new + 1 }
     {
         self.tasks.push_back_reserved(task);
+    }
+
+    /// Whether there is no task.
+    pub fn is_empty(&self) -> bool
+        ensures { IsTrue result ↔ (tasks_in self.now ≡ []) }
+    {
+        self.tasks.is_empty()
     }
 
     /// Takes the task in front, or None where there is none.
