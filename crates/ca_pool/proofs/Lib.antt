@@ -8,3 +8,8 @@ pub mod Ordering
 pub mod Gathers
 pub mod Joining
 pub mod Enlisting
+pub mod Gripping
+pub mod Whole
+pub mod Seeing
+pub mod Seats
+pub mod Carrying

@@ -1,5 +1,7 @@
 pub mod Seen
 pub mod Parts
+pub mod Grips
+pub mod Carrying
 pub mod Draws
 pub mod Opening
 pub mod Running

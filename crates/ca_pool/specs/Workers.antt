@@ -1,5 +1,6 @@
 -- A worker between two calls.
-use Rattle.std.specs.Prelude.{◌≡◌, ℕ, ◌+◌, ◌<◌, ◌≤◌, List, [], ◌∷◌, ◌++◌, map}
+use Rattle.std.specs.Prelude.{◌≡◌, ℕ, ◌+◌, ◌<◌, ◌≤◌, List, [], ◌∷◌, ◌++◌, map, Some, eqb}
+use Rattle.std.specs.Map.{update}
 use Rattle.ca_term.specs.Program.{ProgramView, program_view}
 use Rattle.ca_meaning.specs.Task.{TaskBody}
 use Rattle.ca_value.specs.declared.seq.Seq.{Seq}
@@ -10,9 +11,12 @@ use Rattle.ca_turns.specs.Views.{stands}
 use Rattle.ca_turns.specs.declared.rule.Turn.{Turn}
 use Rattle.ca_commit.specs.Moving.{visible}
 use Rattle.ca_pool.specs.Draws.{turn_view}
+use Rattle.ca_pool.specs.Grips.{Grips, nothing}
+use Rattle.ca_pool.specs.Parts.{away, lane_seen}
 use Rattle.ca_pool.specs.Running.{Knows}
-use Rattle.ca_pool.specs.Seen.{PartSeen}
+use Rattle.ca_pool.specs.Seen.{PartSeen, seen_lane}
 use Rattle.ca_pool.specs.declared.drawn.Drawn.{Drawn}
+use Rattle.ca_pool.specs.declared.part.Lane.{Lane}
 use Rattle.ca_pool.specs.declared.part.Part.{Part}
 use Rattle.ca_pool.specs.declared.worker.Worker.{Worker}
 
@@ -28,6 +32,10 @@ noted (t ∷ ts) = numbered t ++ noted ts
 abbrev pub AllAbove : {C : Type 0} → ℕ → List (Turn C Drawn) → Type 0
 AllAbove n [] = Unit {0}
 AllAbove n (t ∷ ts) = (n ≤ t.number) × AllAbove (t.number + 1) ts
+
+-- a worker's lane, as a part
+abbrev pub part_of_lane : {A : Type 0} → ℕ → Lane A → PartSeen A
+part_of_lane n l = record { workers = n; held = seen_lane (lane_seen l) }
 
 -- how many parts a run of n workers has
 abbrev pub part_count : ℕ → ℕ
@@ -46,6 +54,12 @@ module _ {A C : Type 0} (stands_as : ProgramView → A → TaskBody → Type 0) 
     pub opened_for : w.hand.view.hands ≡ n
     pub above : AllAbove 0 w.hand.view.turns
     pub notes : entries w.entries ≡ noted w.hand.view.turns
+
+  -- in a call it holds its lane, which was moved out
+  pub record IsSeated (n : ℕ) (w : Worker A C) (lane : Lane A) : Type 0 where
+    pub one : IsOne n w
+    pub lane_is : program_view lane.program.value ≡ program
+    pub grips : Grips w.hand (update eqb nothing w.number (Some (away n, part_of_lane n lane)))
 
   -- between two calls it holds nothing
   pub record IsReady (n : ℕ) (w : Worker A C) : Type 0 where

@@ -11,7 +11,10 @@
 
 pub mod drawn;
 pub mod gathering;
+mod holding;
+mod moving;
 pub mod opening;
 pub mod part;
 pub mod pool;
+mod seating;
 pub mod worker;
