@@ -10,7 +10,7 @@ module _ {X : Type 0} (n w : ℕ) (h : Carries X) where
   abbrev tests : Bool → Bool → Bool → Bool → ℕ → Option X
   tests a b c d j = cond a (cond (eqb w j) h.lane None) (cond b (h.banks (j - n)) (cond c (h.shards (j - (n + 16))) (cond d h.timers (h.ready (j - (n + 33))))))
 
-  below_n : (j : ℕ) → j < n → at_places n w h j ≡ cond (eqb w j) h.lane None
+  pub below_n : (j : ℕ) → j < n → at_places n w h j ≡ cond (eqb w j) h.lane None
   below_n j lt = ap (λ a. tests a (nat_lt j (n + 16)) (nat_lt j (n + 32)) (nat_lt j (n + 33)) j) (lt-ltb j n lt)
 
   from_n : (j : ℕ) → n ≤ j → at_places n w h j ≡ tests false (nat_lt j (n + 16)) (nat_lt j (n + 32)) (nat_lt j (n + 33)) j

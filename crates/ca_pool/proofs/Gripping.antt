@@ -51,7 +51,7 @@ module _ {P C E : Type 0} where
     look_at h.view.held i is x.1 f.1 ∙ ap (λ l. x.1 ∷ l) r.1 ∙ ap (λ o. add_settled o (settled g is)) (sym has.0.1),
   )
 
-among_at : (i : ℕ) (is : List ℕ) → is_among i is ≡ true → (m : ℕ) × (get_elem? is m ≡ core.some i)
+pub among_at : (i : ℕ) (is : List ℕ) → is_among i is ≡ true → (m : ℕ) × (get_elem? is m ≡ core.some i)
 among_at i [] e = absurd (let k : false ≡ true = e in cc)
 among_at i (j ∷ js) e = by (eqb j i) refl (λ e. among_at i js e) e where
   by : (b : Bool) → eqb j i ≡ b → (is_among i js ≡ true → (m : ℕ) × (get_elem? js m ≡ core.some i)) → cond b true (is_among i js) ≡ true → (m : ℕ) × (get_elem? (j ∷ js) m ≡ core.some i)

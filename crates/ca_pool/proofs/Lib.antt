@@ -13,3 +13,9 @@ pub mod Whole
 pub mod Seeing
 pub mod Seats
 pub mod Carrying
+pub mod Noted
+pub mod Carried
+pub mod Covered
+pub mod Moved
+pub mod Carriers
+pub mod Picks

@@ -16,6 +16,7 @@ use Rattle.ca_pool.specs.Parts.{away, lane_seen}
 use Rattle.ca_pool.specs.Running.{Knows}
 use Rattle.ca_pool.specs.Seen.{PartSeen, seen_lane}
 use Rattle.ca_pool.specs.declared.drawn.Drawn.{Drawn}
+use Rattle.ca_pool.specs.declared.drawn.Turned.{Turned}
 use Rattle.ca_pool.specs.declared.part.Lane.{Lane}
 use Rattle.ca_pool.specs.declared.part.Part.{Part}
 use Rattle.ca_pool.specs.declared.worker.Worker.{Worker}
@@ -23,6 +24,10 @@ use Rattle.ca_pool.specs.declared.worker.Worker.{Worker}
 -- the events of a turn that the journal shows, with its number
 abbrev pub numbered : {C : Type 0} → Turn C Drawn → List Numbered
 numbered t = map (λ e. record { number = t.number; event = e }) (visible (turn_view t.event.what))
+
+-- the entries of an event drawn with that number
+abbrev pub entries_of : ℕ → Turned → List Numbered
+entries_of k what = map (λ e. record { number = k; event = e }) (visible (turn_view what))
 
 abbrev pub noted : {C : Type 0} → List (Turn C Drawn) → List Numbered
 noted [] = []
@@ -73,6 +78,12 @@ pub record IsNew {A C : Type 0} (program : ProgramView) (n : ℕ) (id : TableId)
   pub of_program : program_view w.program.value ≡ program
   pub notes : entries w.entries ≡ []
   pub fresh : IsFresh id cs hands w.hand
+
+-- its number, its program, and of how many it is
+pub record SameWorker {A C : Type 0} (old new : Worker A C) : Type 0 where
+  pub number : new.number ≡ old.number
+  pub workers : new.workers ≡ old.workers
+  pub program : new.program ≡ old.program
 
 -- its table was opened with these parts
 abbrev pub IsOpenedWith : {A C : Type 0} → List (PartSeen A) → Worker A C → Type 0

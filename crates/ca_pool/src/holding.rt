@@ -23,7 +23,7 @@ use ca_turns::{Hand, Table};
 use std::snapshot::Snapshot;
 use std::sync::Wait;
 
-fn away<A: Agent, C: Clock + Drop>(workers: u64) -> Part<A, C>
+pub(crate) fn away<A: Agent, C: Clock + Drop>(workers: u64) -> Part<A, C>
     ensures { result ≡ away workers }
 {
     Part {

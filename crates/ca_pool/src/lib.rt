@@ -11,10 +11,13 @@
 
 pub mod drawn;
 pub mod gathering;
+mod handling;
 mod holding;
 mod moving;
+mod noting;
 pub mod opening;
 pub mod part;
 pub mod pool;
 mod seating;
+mod silent;
 pub mod worker;
