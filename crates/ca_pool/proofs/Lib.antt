@@ -19,3 +19,4 @@ pub mod Covered
 pub mod Moved
 pub mod Carriers
 pub mod Picks
+pub mod Becoming

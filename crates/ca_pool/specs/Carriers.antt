@@ -25,7 +25,6 @@ use Rattle.ca_pool.specs.declared.part.Contents.TheVariants as V
 use Rattle.ca_pool.specs.declared.part.Part.{Part}
 use Rattle.ca_pool.specs.declared.worker.Worker.{Worker}
 
-
 -- a part that is carried, as it was last settled
 abbrev pub was : {A C : Type 0} → Part A C × PartSeen A → Content (TaskAgent A)
 was x = content_of x.1

@@ -48,14 +48,7 @@ pub(crate) fn hold_at<R: Wait, A: Agent, C: Clock + Drop>(
     ensures carries { (program : ProgramView) (n : ℕ) (h : Carries (Part A C × PartSeen A)) (z : Place) → IsCarrying A.stands program table.now.id n worker.old h → IsPlace z → at ≡ number_at n worker.old.number z → IsCarrying A.stands program table.now.id n worker.new (with_at z (Some (away n, part_seen C.least C.faults C.readings (part_of n result))) h) }
 {
     let workers = worker.workers;
-    hold_out(
-        rt,
-        table,
-        &mut worker.hand,
-        &worker.program,
-        workers,
-        at,
-    )
+    hold_out(rt, table, &mut worker.hand, &worker.program, workers, at)
 }
 
 /// The tasks of a ready part, held above all that the worker holds.

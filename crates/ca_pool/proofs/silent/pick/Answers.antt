@@ -21,9 +21,15 @@ give_ready-requires g c = let r = c.requires.seated in let a = g.A.Agent in let 
 pub draw_with_ready-requires-clause-carries : goal.draw_with_ready-requires-clause-carries
 draw_with_ready-requires-clause-carries g c = let r = c.requires.seated in let a = g.A.Agent in let K = g.C.Clock in let id = c.args.table.now.id in let l = c.args.lane.value in let at = c.args.at in let w = c.hold_ready-ready.new.worker in let t = c.in-Some.task in let ready = c.pop.new.self in let lane = c.with_task-seated in
     let held = c.hold_ready-ready.ensures.carries r.0 r.1 (just_lane r.1 l) (seated_carries a.stands r.0 id r.1 c.args.worker.now l r.2) in
-    let q = task_view t ∷ tasks_in ready in let m = picked a.place a.advances a.gives a.starts K.least K.faults K.readings r.1 w.number at l q lane.result ready t c.requires.free lane.ensures.task lane.ensures.since lane.ensures.program lane.ensures.counts refl in
-    (r.0, r.1, l, q, subst (λ (q : List (ℕ × TaskAgent g.row.A.Denot)). IsCarrying a.stands r.0 id r.1 w (with_ready r.1 at q (just_lane r.1 l))) c.in-Some.ensures.some held,
-      moved_as a.place a.advances a.gives a.starts (part_seen K.least K.faults K.readings) r.1 w.number w.number r.1 w.workers (picks at) (plain w.number w.workers (picks at)) (both_back r.1 at l q lane.result ready) refl held.one.of refl m, r.3)
+    let q = task_view t ∷ tasks_in ready in let m = picked a.place a.advances a.gives a.starts K.least K.faults K.readings r.1 w.number at l q lane.result ready t c.requires.free lane.ensures.task lane.ensures.since lane.ensures.program lane.ensures.counts refl in (
+      r.0,
+      r.1,
+      l,
+      q,
+      subst (λ (q : List (ℕ × TaskAgent g.row.A.Denot)). IsCarrying a.stands r.0 id r.1 w (with_ready r.1 at q (just_lane r.1 l))) c.in-Some.ensures.some held,
+      moved_as a.place a.advances a.gives a.starts (part_seen K.least K.faults K.readings) r.1 w.number w.number r.1 w.workers (picks at) (plain w.number w.workers (picks at)) (both_back r.1 at l q lane.result ready) refl held.one.of refl m,
+      r.3,
+    )
 
 pub returns-in-None-clause-seated : goal.returns-in-None-clause-seated
 returns-in-None-clause-seated g c = λ program n s. let a = g.A.Agent in let id = c.args.table.now.id in let l = c.args.lane.value in let none = c.in-None.ensures.none in
