@@ -1,8 +1,7 @@
 -- What is carried before and after an event, kind by kind, from what its parts were and are.
-use Rattle.std.proofs.Common.{◌≡◌, ◌∙◌, ℕ, List, refl, sym, ap, Bool, cond, Option, Some, None, eqb, eq-eqb, ne_eqb}
+use Rattle.std.proofs.Common.{◌≡◌, ◌∙◌, ℕ, List, refl, sym, ap, cond, Option, Some, None, eqb, eq-eqb, ne_eqb}
 use Rattle.std.specs.Prelude.{option_map}
-use Rattle.ca_meaning.specs.Registry.{Registry}
-use Rattle.ca_commit.specs.Contents.{BankView, Content, Held, Kept, LaneView, Parked, TimersPart}
+use Rattle.ca_commit.specs.Contents.{BankView, Content, Held, LaneView, Parked, TimersPart}
 use Rattle.ca_commit.specs.Gathered.{bank_of, channels_of, lane_of, ready_of, registries_of, shard_of, sorted, timers_of}
 use Rattle.ca_commit.specs.Moves.{Becomes, Stays}
 use Rattle.ca_pool.specs.Carrying.{Carries, carried}

@@ -9,10 +9,8 @@ use Rattle.ca_term.specs.Operation.{SeedView}
 use Rattle.ca_term.specs.Program.{ProgramView, program_view}
 use Rattle.ca_meaning.specs.Body.{At}
 use Rattle.ca_meaning.specs.Task.{TaskBody}
-use Rattle.ca_turns.specs.Hands.{Held, HoldsNothing, IsHolding, IsNone, TableId}
+use Rattle.ca_turns.specs.Hands.{Held, IsHolding, IsNone, TableId}
 use Rattle.ca_turns.specs.Places.{AllIn}
-use Rattle.ca_commit.specs.Agents.{TaskAgent}
-use Rattle.ca_commit.specs.Contents.{Content}
 use Rattle.ca_commit.specs.Gathered.{Alike, Kind, bank_kind, kind_at, kind_of_part, lane_kind, ready_kind, shard_kind, timers_kind}
 use Rattle.ca_commit.specs.Touched as said
 use Rattle.ca_pool.specs.Carriers.{IsCarrying, IsMoved, LaneBox, is_now, just_lane, was}

@@ -1,9 +1,9 @@
 -- What a worker holds, by the numbers of the parts, is what the definitions of a run have.
-use Rattle.std.proofs.Common.{◌≡◌, ◌∙◌, ◌⊎◌, inl, inr, ⊎_elim, ℕ, ◌+◌, ◌-◌, ◌<◌, ◌≤◌, refl, sym, ap, subst, arith, Bool, true, false, cond, Option, Some, None, eqb, ne_eqb, eq-eqb}
+use Rattle.std.proofs.Common.{◌≡◌, ◌∙◌, ◌⊎◌, ⊎_elim, ℕ, ◌+◌, ◌-◌, ◌<◌, ◌≤◌, refl, sym, ap, subst, arith, Bool, true, false, cond, Option, Some, None, eqb, ne_eqb, eq-eqb}
 use Rattle.std.specs.Prelude.{nat_lt, option_map}
 use Rattle.std.proofs.lemmas.Bool.{cases_lt, le-ltb, lt-ltb}
-use Rattle.ca_commit.specs.Contents.{Content, Held, Parts, a_bank, a_lane, a_ready, a_shard, away, the_timers}
-use Rattle.ca_commit.specs.Gathered.{Kind, away_kind, bank_kind, bank_of, channels_of, kind_of_part, lane_kind, lane_of, parts_of, ready_kind, ready_of, registries_of, shard_kind, shard_of, sorted, timers_kind, timers_of}
+use Rattle.ca_commit.specs.Contents.{Content, Held, a_bank, a_lane, a_ready, a_shard, away, the_timers}
+use Rattle.ca_commit.specs.Gathered.{Kind, bank_kind, bank_of, channels_of, kind_of_part, lane_kind, lane_of, parts_of, ready_kind, ready_of, registries_of, shard_kind, shard_of, sorted, timers_kind, timers_of}
 use Rattle.ca_pool.specs.Carrying.{AreSorted, Carries, IsKind, at_places, carried}
 
 module _ {X : Type 0} (n w : ℕ) (h : Carries X) where

@@ -1,5 +1,5 @@
 -- A lane and a ready part that a silent event moved.
-use Rattle.std.proofs.Common.{◌≡◌, ◌≢◌, ◌∙◌, ℕ, ◌<◌, List, [], ◌∷◌, ◌++◌, refl, sym, ap, subst, Bool, true, false, cond, Option, Some, None, eqb, eq-eqb, ne_eqb, is_some}
+use Rattle.std.proofs.Common.{◌≡◌, ◌≢◌, ◌∙◌, ℕ, List, [], ◌∷◌, ◌++◌, refl, sym, ap, subst, Bool, true, false, cond, Option, Some, None, eqb, eq-eqb, ne_eqb, is_some}
 use Rattle.std.specs.Prelude.{option_map}
 use Rattle.ca_value.specs.Tree.{Tree}
 use Rattle.ca_term.specs.Operation.{SeedView}
@@ -7,23 +7,24 @@ use Rattle.ca_term.specs.Program.{ProgramView, program_view}
 use Rattle.ca_meaning.specs.Body.{At}
 use Rattle.ca_commit.specs.Agents.{TaskAgent}
 use Rattle.ca_commit.specs.Contents.{Content}
-use Rattle.ca_commit.specs.Gathered.{Alike, lane_of, ready_of, sorted}
+use Rattle.ca_commit.specs.Gathered.{Alike}
 use Rattle.ca_commit.specs.Moves.{Becomes}
-use Rattle.ca_commit.specs.SilentMoves.{MovesPick, MovesYield, SameLane, StayPut}
+use Rattle.ca_commit.specs.SilentMoves.{SameLane, StayPut}
 use Rattle.ca_commit.specs.Tasks.{agent_of, task_view, tasks_in}
-use Rattle.ca_commit.specs.Touched.{Turn, picks, stalls, yields}
+use Rattle.ca_commit.specs.Touched.{picks, stalls, yields}
 use Rattle.ca_commit.specs.declared.task.Ready.{Ready}
 use Rattle.ca_commit.specs.declared.task.Task.{Task}
 use Rattle.ca_pool.specs.Carriers.{IsMoved, LaneBox, both_back, is_now, part_of_ready, was}
 use Rattle.ca_pool.specs.Carrying.{Carries, Each, carried, each_by, lane_place, nothing_carried, ready_place, with_at}
-use Rattle.ca_pool.specs.Covering.{Covers, plain}
+use Rattle.ca_pool.specs.Covering.{plain}
 use Rattle.ca_pool.specs.Grips.{settled_one}
 use Rattle.ca_pool.specs.Parts.{counts_view, lane_seen, part_of, part_seen}
-use Rattle.ca_pool.specs.Seen.{LaneSeen, PartSeen, lane_of_seen}
+use Rattle.ca_pool.specs.Seen.{PartSeen, lane_of_seen}
 use Rattle.ca_pool.specs.Workers.{part_of_lane}
 use Rattle.ca_pool.specs.declared.part.Contents.TheVariants as V
 use Rattle.ca_pool.specs.declared.part.Lane.{Lane}
 use Rattle.ca_pool.specs.declared.part.Part.{Part}
+use Rattle.ca_pool.proofs.Becoming.{lane_becomes, ready_becomes}
 use Rattle.ca_pool.proofs.Carried.{each_by_with, each_nothing, each_with}
 
 no_stall : (r : ℕ) → picks r ≢ stalls
@@ -58,18 +59,11 @@ module _ {A C : Type 0} (place : A → At) (advances : ProgramView → A → A �
       (each_with (λ x. Alike n (was x) (now_in x)) lane_place lane_part nothing_carried (refl, refl, refl) (each_nothing (λ x. Alike n (was x) (now_in x))))
 
   lanes : Becomes (carried was w back).lane (carried now_in w back).lane w (lane_of_seen (lane_seen l)) (lane_of_seen (lane_seen lane.value))
-  lanes = record {
-    was = ap (λ b. cond b (Some (lane_of_seen (lane_seen l))) None) (eq-eqb w w refl);
-    is = ap (λ b. cond b (Some (lane_of_seen (lane_seen lane.value))) None) (eq-eqb w w refl);
-    others = λ j ne. let k = ne_eqb w j (λ e. ne (sym e)) in ap (λ b. cond b (Some (lane_of_seen (lane_seen lane.value))) None) k ∙ sym (ap (λ b. cond b (Some (lane_of_seen (lane_seen l))) None) k);
-  }
+  lanes = lane_becomes was now_in w back lane_part (lane_of_seen (lane_seen l)) (lane_of_seen (lane_seen lane.value)) refl refl refl
 
   readys : Becomes (carried was w back).ready (carried now_in w back).ready at q (tasks_in ready)
-  readys = record {
-    was = ap (λ b. sorted ready_of (option_map was (cond b (Some part_ready) None))) (eq-eqb at at refl);
-    is = ap (λ b. sorted ready_of (option_map now_in (cond b (Some part_ready) None))) (eq-eqb at at refl);
-    others = λ j ne. let k = ne_eqb at j (λ e. ne (sym e)) in ap (λ b. sorted ready_of (option_map now_in (cond b (Some part_ready) None))) k ∙ sym (ap (λ b. sorted ready_of (option_map was (cond b (Some part_ready) None))) k);
-  }
+  readys = ready_becomes was now_in w back at part_ready q (tasks_in ready) (ap (λ b. cond b (Some part_ready) None) (eq-eqb at at refl)) refl refl
+      (λ i x ne e. absurd (let none : None ≡ Some x = sym (ap (λ b. cond b (Some part_ready) None) (ne_eqb at i (λ k. ne (sym k)))) ∙ e in cc))
 
   -- once both are settled
   pub settled_back : each_by (settled_one seen) back ≡ with_at (ready_place at) (Some (part_of n (V.Ready ready), part_of_ready n (tasks_in ready))) (with_at lane_place (Some (part_of n (V.Lane lane), part_of_lane n lane.value)) nothing_carried)

@@ -4,7 +4,7 @@ ghost use lib.ListN.{get_elem?};
 ghost use Rattle.std.specs.Prelude.{◌≡◌, ℕ, ◌^◌, ◌<◌, ◌++◌, List, [], ◌∷◌, Some, None, Option, map, slice_set, eqb, length};
 ghost use Rattle.std.specs.Map.{update};
 ghost use Rattle.ca_turns.specs.declared.rule.Turn.{Turn};
-ghost use Rattle.ca_turns.specs.Hands.{IsHolding, IsNone, IsSettled};
+ghost use Rattle.ca_turns.specs.Hands.{IsHolding, IsNone};
 ghost use Rattle.ca_turns.specs.Steps.{SeesOne};
 ghost use Rattle.ca_turns.specs.Views.{turn};
 ghost use Rattle.ca_pool.specs.Grips.{Grips, HasAll, SameHand, SameTurns, settle, settled, values};

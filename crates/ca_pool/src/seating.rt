@@ -1,10 +1,6 @@
 // A worker takes its lane, and gives it back.
-ghost use Rattle.std.specs.Prelude.{◌≡◌, ℕ, Some, eqb};
-ghost use Rattle.std.specs.Map.{update};
-ghost use Rattle.ca_term.specs.Program.{ProgramView, program_view};
-ghost use Rattle.ca_turns.specs.Hands.{TableId};
-ghost use Rattle.ca_pool.specs.Grips.{nothing};
-ghost use Rattle.ca_pool.specs.Parts.{part_seen};
+ghost use Rattle.std.specs.Prelude.{ℕ};
+ghost use Rattle.ca_term.specs.Program.{ProgramView};
 ghost use Rattle.ca_pool.specs.Workers.{IsReady, IsSeated};
 
 use crate::holding::hold_out;

@@ -1,4 +1,4 @@
-use Rattle.std.proofs.Common.{◌≡◌, ◌∙◌, sym, ap, refl}
+use Rattle.std.proofs.Common.{◌∙◌, sym, ap, refl}
 use Rattle.ca_turns.proofs.Lists.{both_some}
 use Rattle.ca_pool.specs.Carrying.{lane_place}
 use Rattle.ca_pool.specs.Parts.{part_of}
