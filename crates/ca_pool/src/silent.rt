@@ -1,17 +1,21 @@
 // A worker picks a task, and lets its own stand back. No journal shows either.
-ghost use Rattle.std.specs.Prelude.{◌≡◌, ℕ, ◌+◌, ◌^◌, ◌<◌, ◌≤◌, List, [], ◌∷◌, Some, None, OnErr, OnOk, length};
-ghost use Rattle.ca_term.specs.Program.{ProgramView, program_view};
-ghost use Rattle.ca_value.specs.Seq.{spare};
+ghost use Rattle.std.specs.Prelude.{◌≡◌, ℕ, ◌+◌, ◌^◌, ◌<◌, List, [], Some, None, OnErr, OnOk, length};
+ghost use Rattle.ca_term.specs.Program.{ProgramView};
+ghost use Rattle.ca_turns.specs.Hands.{TableId};
 ghost use Rattle.ca_commit.specs.Agents.{TaskAgent};
 ghost use Rattle.ca_commit.specs.Moving.{visible};
 ghost use Rattle.ca_commit.specs.Tasks.{tasks_in};
 ghost use Rattle.ca_commit.specs.declared.task.Task.{Task};
 ghost use Rattle.ca_pool.specs.Carriers.{IsCarrying, IsMoved, both_back, just_lane, with_ready};
+ghost use Rattle.ca_pool.specs.Carrying.{Carries, each_by};
 ghost use Rattle.ca_pool.specs.Covering.{plain};
 ghost use Rattle.ca_pool.specs.Draws.{drawn_view, turn_view};
+ghost use Rattle.ca_pool.specs.Grips.{SameTurns, settled_one};
 ghost use Rattle.ca_pool.specs.Parts.{part_seen};
+ghost use Rattle.ca_pool.specs.Seen.{PartSeen};
 ghost use Rattle.ca_pool.specs.Workers.{IsSeated, SameWorker};
 ghost use Rattle.ca_pool.specs.declared.part.Lane.{Lane};
+ghost use Rattle.ca_pool.specs.declared.part.Part.{Part};
 
 use crate::drawn::{Drawn, Turned};
 use crate::handling::{draw_carried, give_at, hold_ready, put_at, take_lane};
@@ -62,6 +66,41 @@ fn give_ready<A: Agent, C: Clock + Drop>(
     give_at(table, worker, place);
 }
 
+// Draws an event that names all that it touches, which the worker carries as the event leaves it.
+fn draw_silent<A: Agent, C: Clock + Drop>(
+    alloc: Global,
+    table: &Table<Pool<A, C>>,
+    worker: &mut Worker<A, C>,
+    what: Turned,
+)
+    requires carries { (program : ProgramView) × (n : ℕ) × (h : Carries (Part A C × PartSeen A)) × IsCarrying A.stands program table.now.id n worker.old h × IsMoved A.place A.advances A.gives A.starts (part_seen C.least C.faults C.readings) n worker.old.number (plain worker.old.number n (turn_view what)) h }
+    requires hidden { visible (turn_view what) ≡ [] }
+    requires turns { length worker.old.hand.view.turns < 2 ^ 59 }
+    ensures same { SameWorker worker.old worker.new }
+    ensures carries { (program : ProgramView) (n : ℕ) (h : Carries (Part A C × PartSeen A)) → IsCarrying A.stands program table.now.id n worker.old h → IsMoved A.place A.advances A.gives A.starts (part_seen C.least C.faults C.readings) n worker.old.number (plain worker.old.number n (turn_view what)) h → IsCarrying A.stands program table.now.id n worker.new (each_by (settled_one (part_seen C.least C.faults C.readings)) h) }
+{
+    let drawn = silent(alloc, worker, what);
+    draw_carried(table, worker, drawn);
+}
+
+// Puts the lane and a ready part back as they are now.
+fn put_both<A: Agent, C: Clock + Drop>(
+    worker: &mut Worker<A, C>,
+    lane: Box<Lane<A>>,
+    ready: Ready<A>,
+    at: u64,
+)
+    requires { (program : ProgramView) × (id : TableId) × (n : ℕ) × (l : Lane A) × (q : List (ℕ × TaskAgent A)) × IsCarrying A.stands program id n worker.old (with_ready n at q (just_lane n l)) × (at < n) }
+    ensures same { SameWorker worker.old worker.new }
+    ensures turns { SameTurns worker.old.hand worker.new.hand }
+    ensures carries { (program : ProgramView) (id : TableId) (n : ℕ) (l : Lane A) (q : List (ℕ × TaskAgent A)) → IsCarrying A.stands program id n worker.old (with_ready n at q (just_lane n l)) → IsCarrying A.stands program id n worker.new (both_back n at l q lane ready) }
+{
+    let place = worker.workers + 33 + at;
+    put_at(worker, place, Contents::Ready(ready));
+    let number = worker.number;
+    put_at(worker, number, Contents::Lane(lane));
+}
+
 // Draws an event that moved the lane and a ready part, and gives the ready part back.
 fn draw_with_ready<A: Agent, C: Clock + Drop>(
     alloc: Global,
@@ -72,19 +111,16 @@ fn draw_with_ready<A: Agent, C: Clock + Drop>(
     at: u64,
     what: Turned,
 ) -> Box<Lane<A>>
-    requires carries { (program : ProgramView) × (n : ℕ) × (l : Lane A) × (q : List (ℕ × TaskAgent A)) × IsCarrying A.stands program table.now.id n worker.old (with_ready n at q (just_lane n l)) × IsMoved A.place A.advances A.gives A.starts (part_seen C.least C.faults C.readings) n worker.old.number (plain worker.old.number worker.old.workers (turn_view what)) (both_back n at l q lane ready) × (at < n) }
+    requires carries { (program : ProgramView) × (n : ℕ) × (l : Lane A) × (q : List (ℕ × TaskAgent A)) × IsCarrying A.stands program table.now.id n worker.old (with_ready n at q (just_lane n l)) × IsMoved A.place A.advances A.gives A.starts (part_seen C.least C.faults C.readings) n worker.old.number (plain worker.old.number n (turn_view what)) (both_back n at l q lane ready) × (at < n) }
     requires hidden { visible (turn_view what) ≡ [] }
     requires turns { length worker.old.hand.view.turns < 2 ^ 59 }
     ensures same { SameWorker worker.old worker.new }
     ensures lane { result ≡ lane }
-    ensures carries { (program : ProgramView) (n : ℕ) (l : Lane A) (q : List (ℕ × TaskAgent A)) → IsCarrying A.stands program table.now.id n worker.old (with_ready n at q (just_lane n l)) → IsMoved A.place A.advances A.gives A.starts (part_seen C.least C.faults C.readings) n worker.old.number (plain worker.old.number worker.old.workers (turn_view what)) (both_back n at l q lane ready) → IsCarrying A.stands program table.now.id n worker.new (just_lane n result.value) }
+    ensures carries { (program : ProgramView) (n : ℕ) (l : Lane A) (q : List (ℕ × TaskAgent A)) → IsCarrying A.stands program table.now.id n worker.old (with_ready n at q (just_lane n l)) → IsMoved A.place A.advances A.gives A.starts (part_seen C.least C.faults C.readings) n worker.old.number (plain worker.old.number n (turn_view what)) (both_back n at l q lane ready) → IsCarrying A.stands program table.now.id n worker.new (just_lane n result.value) }
 {
     let place = worker.workers + 33 + at;
-    let number = worker.number;
-    put_at(worker, place, Contents::Ready(ready));
-    put_at(worker, number, Contents::Lane(lane));
-    let drawn = silent(alloc, worker, what);
-    draw_carried(table, worker, drawn);
+    put_both(worker, lane, ready, at);
+    draw_silent(alloc, table, worker, what);
     give_at(table, worker, place);
     take_lane(worker)
 }

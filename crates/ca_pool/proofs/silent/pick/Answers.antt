@@ -1,12 +1,9 @@
-use Rattle.std.proofs.Common.{◌≡◌, ◌∙◌, ℕ, ◌+◌, List, [], ◌∷◌, Some, refl, sym, ap, arith, subst}
+use Rattle.std.proofs.Common.{◌∙◌, ℕ, List, ◌∷◌, refl, sym, ap, arith, subst}
 use Rattle.ca_term.specs.Program.{program_view}
 use Rattle.ca_commit.specs.Agents.{TaskAgent}
 use Rattle.ca_commit.specs.Tasks.{task_view, tasks_in}
-use Rattle.ca_commit.specs.Touched.{picks}
-use Rattle.ca_pool.specs.Carriers.{IsCarrying, LaneBox, both_back, just_lane, with_ready}
-use Rattle.ca_pool.specs.Covering.{plain}
-use Rattle.ca_pool.specs.Parts.{part_seen}
-use Rattle.ca_pool.proofs.Carriers.{carries_seated, lane_alone, moved_as, seated_carries}
+use Rattle.ca_pool.specs.Carriers.{IsCarrying, LaneBox, just_lane, with_ready}
+use Rattle.ca_pool.proofs.Carriers.{carries_seated, lane_alone, seated_carries}
 use Rattle.ca_pool.proofs.Picks.{picked}
 use Rattle.ca_pool.proofs.silent.pick.Goals as goal
 
@@ -27,7 +24,7 @@ draw_with_ready-requires-clause-carries g c = let r = c.requires.seated in let a
       l,
       q,
       subst (λ (q : List (ℕ × TaskAgent g.row.A.Denot)). IsCarrying a.stands r.0 id r.1 w (with_ready r.1 at q (just_lane r.1 l))) c.in-Some.ensures.some held,
-      moved_as a.place a.advances a.gives a.starts (part_seen K.least K.faults K.readings) r.1 w.number w.number r.1 w.workers (picks at) (plain w.number w.workers (picks at)) (both_back r.1 at l q lane.result ready) refl held.one.of refl m,
+      m,
       r.3,
     )
 
@@ -42,5 +39,4 @@ returns-in-Some-clause-seated g c = λ program n s. let a = g.A.Agent in let K =
     let held = c.hold_ready-ready.ensures.carries program n (just_lane n l) (seated_carries a.stands program id n c.args.worker.now l s) in
     let q = task_view t ∷ tasks_in ready in let m = picked a.place a.advances a.gives a.starts K.least K.faults K.readings n w.number at l q lane.result ready t c.requires.free lane.ensures.task lane.ensures.since lane.ensures.program lane.ensures.counts refl in
     let first = subst (λ (q : List (ℕ × TaskAgent g.row.A.Denot)). IsCarrying a.stands program id n w (with_ready n at q (just_lane n l))) c.in-Some.ensures.some held in
-    let moves = moved_as a.place a.advances a.gives a.starts (part_seen K.least K.faults K.readings) n w.number w.number n w.workers (picks at) (plain w.number w.workers (picks at)) (both_back n at l q lane.result ready) refl held.one.of refl m in
-    carries_seated a.stands program id n d.new.worker d.result.value (ap (λ (b : LaneBox g.row.A.Denot). program_view b.value.program.value) d.ensures.lane ∙ ap (λ p. program_view p.value) lane.ensures.program ∙ s.lane_is) (d.ensures.carries program n l q first moves)
+    carries_seated a.stands program id n d.new.worker d.result.value (ap (λ (b : LaneBox g.row.A.Denot). program_view b.value.program.value) d.ensures.lane ∙ ap (λ p. program_view p.value) lane.ensures.program ∙ s.lane_is) (d.ensures.carries program n l q first m)
