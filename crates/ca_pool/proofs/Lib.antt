@@ -8,3 +8,15 @@ pub mod Ordering
 pub mod Gathers
 pub mod Joining
 pub mod Enlisting
+pub mod Gripping
+pub mod Whole
+pub mod Seeing
+pub mod Seats
+pub mod Carrying
+pub mod Noted
+pub mod Carried
+pub mod Covered
+pub mod Moved
+pub mod Carriers
+pub mod Picks
+pub mod Becoming

@@ -1,7 +1,11 @@
 pub mod Seen
 pub mod Parts
+pub mod Grips
+pub mod Carrying
+pub mod Covering
 pub mod Draws
 pub mod Opening
 pub mod Running
 pub mod Members
 pub mod Workers
+pub mod Carriers

@@ -59,3 +59,10 @@ module _ {A C : Type 0} (least faults : C → ℕ) (readings : C → Option (Lis
 
   abbrev pub part_seen : Part A C → PartSeen A
   part_seen p = record { workers = p.workers; held = contents_seen p.contents }
+
+abbrev pub part_of : {A C : Type 0} → ℕ → Contents A C → Part A C
+part_of n x = record { workers = n; contents = x }
+
+-- what stands in a hand for a part that was moved out
+abbrev pub away : {A C : Type 0} → ℕ → Part A C
+away n = part_of n P.Away

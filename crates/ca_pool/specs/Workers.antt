@@ -1,5 +1,6 @@
 -- A worker between two calls.
-use Rattle.std.specs.Prelude.{◌≡◌, ℕ, ◌+◌, ◌<◌, ◌≤◌, List, [], ◌∷◌, ◌++◌, map}
+use Rattle.std.specs.Prelude.{◌≡◌, ℕ, ◌+◌, ◌<◌, ◌≤◌, List, [], ◌∷◌, ◌++◌, map, Some, eqb}
+use Rattle.std.specs.Map.{update}
 use Rattle.ca_term.specs.Program.{ProgramView, program_view}
 use Rattle.ca_meaning.specs.Task.{TaskBody}
 use Rattle.ca_value.specs.declared.seq.Seq.{Seq}
@@ -10,15 +11,23 @@ use Rattle.ca_turns.specs.Views.{stands}
 use Rattle.ca_turns.specs.declared.rule.Turn.{Turn}
 use Rattle.ca_commit.specs.Moving.{visible}
 use Rattle.ca_pool.specs.Draws.{turn_view}
+use Rattle.ca_pool.specs.Grips.{Grips, nothing}
+use Rattle.ca_pool.specs.Parts.{away, lane_seen}
 use Rattle.ca_pool.specs.Running.{Knows}
-use Rattle.ca_pool.specs.Seen.{PartSeen}
+use Rattle.ca_pool.specs.Seen.{PartSeen, seen_lane}
 use Rattle.ca_pool.specs.declared.drawn.Drawn.{Drawn}
+use Rattle.ca_pool.specs.declared.drawn.Turned.{Turned}
+use Rattle.ca_pool.specs.declared.part.Lane.{Lane}
 use Rattle.ca_pool.specs.declared.part.Part.{Part}
 use Rattle.ca_pool.specs.declared.worker.Worker.{Worker}
 
 -- the events of a turn that the journal shows, with its number
 abbrev pub numbered : {C : Type 0} → Turn C Drawn → List Numbered
 numbered t = map (λ e. record { number = t.number; event = e }) (visible (turn_view t.event.what))
+
+-- the entries of an event drawn with that number
+abbrev pub entries_of : ℕ → Turned → List Numbered
+entries_of k what = map (λ e. record { number = k; event = e }) (visible (turn_view what))
 
 abbrev pub noted : {C : Type 0} → List (Turn C Drawn) → List Numbered
 noted [] = []
@@ -28,6 +37,10 @@ noted (t ∷ ts) = numbered t ++ noted ts
 abbrev pub AllAbove : {C : Type 0} → ℕ → List (Turn C Drawn) → Type 0
 AllAbove n [] = Unit {0}
 AllAbove n (t ∷ ts) = (n ≤ t.number) × AllAbove (t.number + 1) ts
+
+-- a worker's lane, as a part
+abbrev pub part_of_lane : {A : Type 0} → ℕ → Lane A → PartSeen A
+part_of_lane n l = record { workers = n; held = seen_lane (lane_seen l) }
 
 -- how many parts a run of n workers has
 abbrev pub part_count : ℕ → ℕ
@@ -47,6 +60,12 @@ module _ {A C : Type 0} (stands_as : ProgramView → A → TaskBody → Type 0) 
     pub above : AllAbove 0 w.hand.view.turns
     pub notes : entries w.entries ≡ noted w.hand.view.turns
 
+  -- in a call it holds its lane, which was moved out
+  pub record IsSeated (n : ℕ) (w : Worker A C) (lane : Lane A) : Type 0 where
+    pub one : IsOne n w
+    pub lane_is : program_view lane.program.value ≡ program
+    pub grips : Grips w.hand (update eqb nothing w.number (Some (away n, part_of_lane n lane)))
+
   -- between two calls it holds nothing
   pub record IsReady (n : ℕ) (w : Worker A C) : Type 0 where
     pub one : IsOne n w
@@ -59,6 +78,12 @@ pub record IsNew {A C : Type 0} (program : ProgramView) (n : ℕ) (id : TableId)
   pub of_program : program_view w.program.value ≡ program
   pub notes : entries w.entries ≡ []
   pub fresh : IsFresh id cs hands w.hand
+
+-- its number, its program, and of how many it is
+pub record SameWorker {A C : Type 0} (old new : Worker A C) : Type 0 where
+  pub number : new.number ≡ old.number
+  pub workers : new.workers ≡ old.workers
+  pub program : new.program ≡ old.program
 
 -- its table was opened with these parts
 abbrev pub IsOpenedWith : {A C : Type 0} → List (PartSeen A) → Worker A C → Type 0

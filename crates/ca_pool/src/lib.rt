@@ -6,12 +6,20 @@
 //!
 //! Stands on `ca_commit`, for what a part has and what an event does to it, on `ca_turns`, for the table, and on
 //! `ca_journal`, for what was noted. Start with `part`, what a worker holds, then `drawn`, what it draws, then `pool`,
-//! which ties both to the definitions; then `opening` and `gathering`.
+//! which ties both to the definitions; then `opening` and `gathering`. What a worker does between these two: `seating`,
+//! it takes its lane and gives it back; `handling`, it holds other parts, draws an event with them and gives them back;
+//! `silent`, the events that no journal shows.
 #![tactic(auto)]
 
 pub mod drawn;
 pub mod gathering;
+mod handling;
+mod holding;
+mod moving;
+mod noting;
 pub mod opening;
 pub mod part;
 pub mod pool;
+mod seating;
+mod silent;
 pub mod worker;
