@@ -1,0 +1,2 @@
+pub mod AskerLaws
+pub mod PlanStays
