@@ -124,6 +124,17 @@ module _ {X : Type 0} where
     pub each_with : (z : Place) (x : X) (h : Carries X) → P x → Each P h → Each P (with_at z (Some x) h)
     each_with z x h p s = each_change z (Some x) h (of_one x p) s
 
+    pub each_without : (z : Place) (h : Carries X) → Each P h → Each P (with_at z None h)
+    each_without z h s = each_change z None h of_none s
+
+    -- what is carried there has it
+    pub each_there : (z : Place) (h : Carries X) (x : X) → Each P h → part_at z h ≡ Some x → P x
+    each_there lane_place h x s e = s.lane x e
+    each_there (bank_place i) h x s e = s.banks i x e
+    each_there (shard_place i) h x s e = s.shards i x e
+    each_there timers_place h x s e = s.timers x e
+    each_there (ready_place r) h x s e = s.ready r x e
+
     in_lane : (b : Bool) (o : Option X) (x : X) → (o ≡ Some x → P x) → cond b o None ≡ Some x → P x
     in_lane true o x h e = h e
     in_lane false o x h e = absurd (let k : None ≡ Some x = e in cc)
@@ -226,6 +237,21 @@ module _ {A X : Type 0} (f : X → Content A) where
     ready = λ r x e. a.ready r x e ∙ s.ready r x e;
     few_banks = s.few_banks;
     few_shards = s.few_shards;
+  }
+
+module _ {P C : Type 0} (content : P → C) (R : P × C → Type 0) (keeps : (x : P × C) → R x → R (x.0, content x.0)) where
+  settled_has : (o : Option (P × C)) → ((x : P × C) → o ≡ Some x → R x) → (y : P × C) → settled_one content o ≡ Some y → R y
+  settled_has None h y e = absurd (let z : None ≡ Some y = e in cc)
+  settled_has (Some x) h y e = subst R (some_same (x.0, content x.0) y e) (keeps x (h x refl))
+
+  -- what has it keeps it once it is settled
+  pub each_settled : (h : Carries (P × C)) → Each R h → Each R (each_by (settled_one content) h)
+  each_settled h s = record {
+    lane = settled_has h.lane s.lane;
+    banks = λ i. settled_has (h.banks i) (s.banks i);
+    shards = λ i. settled_has (h.shards i) (s.shards i);
+    timers = settled_has h.timers s.timers;
+    ready = λ r. settled_has (h.ready r) (s.ready r);
   }
 
 module _ {A P C : Type 0} (view : C → Content A) (content : P → C) where

@@ -5,6 +5,7 @@ use lib.ListN.{get_elem?}
 use Rattle.ca_term.specs.Program.{ProgramParts, ProgramView, program_view}
 use Rattle.ca_meaning.specs.Body.{new_body}
 use Rattle.ca_meaning.specs.Task.{BodyRest, TaskBody, script}
+use Rattle.ca_states.specs.Code.{CodeView}
 use Rattle.ca_turns.specs.Hands.{TableId}
 use Rattle.ca_turns.specs.Places.{total}
 use Rattle.ca_turns.proofs.Lists.{no_part}
@@ -24,8 +25,8 @@ long_replicate : {X : Type 0} (k : ℕ) (x : X) → length (replicate k x) ≡ k
 long_replicate zero x = refl
 long_replicate (suc k) x = ap suc (long_replicate k x)
 
-module _ {A C : Type 0} (stands : ProgramView → A → TaskBody → Type 0) (texts : ProgramParts) (n : ℕ) (id : TableId) (cs : List (PartSeen A)) where
-  ready : (w : Worker A C) → id.slots ≡ part_count n → n ≤ 16 → Knows stands (program_view texts) n w.hand.view → IsNew (program_view texts) n id cs n w → IsReady stands (program_view texts) id n w
+module _ {A C : Type 0} (over : CodeView → A → Type 0) (stands : ProgramView → A → TaskBody → Type 0) (texts : ProgramParts) (code : CodeView) (n : ℕ) (id : TableId) (cs : List (PartSeen A)) where
+  ready : (w : Worker A C) → id.slots ≡ part_count n → n ≤ 16 → Knows over stands (program_view texts) code n w.hand.view → IsNew (program_view texts) code n id cs n w → IsReady over stands (program_view texts) code id n w
   ready w slots few knows new = record {
     one = record {
       table = new.fresh.table;
@@ -34,6 +35,7 @@ module _ {A C : Type 0} (stands : ProgramView → A → TaskBody → Type 0) (te
       few = few;
       below = new.below;
       of_program = new.of_program;
+      of_code = new.of_code;
       knows = knows;
       opened_for = new.fresh.opened_for;
       above = subst (λ ts. AllAbove 0 ts) (sym new.fresh.turns) tt;
@@ -43,26 +45,26 @@ module _ {A C : Type 0} (stands : ProgramView → A → TaskBody → Type 0) (te
   }
 
   -- new workers of a table with the opening parts are ready
-  pub all_ready : (main : A) (body : TaskBody) (least faults : ℕ) (readings : Option (List ℕ)) → BodyRest (program_view texts) (script (new_body (program_view texts).main)) body → stands (program_view texts) main body → cs ≡ opening_list n texts main (unasked least faults readings) → 0 < n → n ≤ 16 → id.slots ≡ part_count n
-      → (ws : List (Worker A C)) → All (IsNew (program_view texts) n id cs n) ws → All (IsReady stands (program_view texts) id n) ws
-  all_ready main body least faults readings opens st is more few slots ws h k d lt = let new = h k d lt in
-      ready (slice_index_or ws k d) slots few (record { texts = texts; is_program = refl; main = main; body = body; opens = opens; stands_for = st; least = least; faults = faults; readings = readings; opening = new.fresh.opening ∙ is; some = more }) new
+  pub all_ready : (main : A) (body : TaskBody) (least faults : ℕ) (readings : Option (List ℕ)) → BodyRest (program_view texts) (script (new_body (program_view texts).main)) body → stands (program_view texts) main body → over code main → cs ≡ opening_list n code texts main (unasked least faults readings) → 0 < n → n ≤ 16 → id.slots ≡ part_count n
+      → (ws : List (Worker A C)) → All (IsNew (program_view texts) code n id cs n) ws → All (IsReady over stands (program_view texts) code id n) ws
+  all_ready main body least faults readings opens st at_code is more few slots ws h k d lt = let new = h k d lt in
+      ready (slice_index_or ws k d) slots few (record { texts = texts; is_program = refl; main = main; body = body; opens = opens; stands_for = st; is_over = at_code; least = least; faults = faults; readings = readings; opening = new.fresh.opening ∙ is; some = more }) new
 
 -- each of new workers stands for one hand
-pub one_each : {A C : Type 0} (program : ProgramView) (n : ℕ) (id : TableId) (cs : List (PartSeen A)) (hands : ℕ) (ws : List (Worker A C)) → All (IsNew program n id cs hands) ws → total stands_for ws ≡ length ws
-one_each program n id cs hands [] h = refl
-one_each program n id cs hands (w ∷ ws) h = let first = h 0 w (omega arith) in let a = first.fresh.stands_for_one in let b = one_each program n id cs hands ws (λ k d lt. h (suc k) d (omega (arith, lt))) in omega (arith, a, b)
+pub one_each : {A C : Type 0} (program : ProgramView) (code : CodeView) (n : ℕ) (id : TableId) (cs : List (PartSeen A)) (hands : ℕ) (ws : List (Worker A C)) → All (IsNew program code n id cs hands) ws → total stands_for ws ≡ length ws
+one_each program code n id cs hands [] h = refl
+one_each program code n id cs hands (w ∷ ws) h = let first = h 0 w (omega arith) in let a = first.fresh.stands_for_one in let b = one_each program code n id cs hands ws (λ k d lt. h (suc k) d (omega (arith, lt))) in omega (arith, a, b)
 
 -- so many parts
-pub long_list : {A : Type 0} (texts : ProgramParts) (n : ℕ) (main : A) (clock : TimersPart) → 0 < n → length (opening_list n texts main clock) ≡ part_count n
-long_list {A} texts n main clock more =
-    let a = long_rep n (idle_lane {A = A} n texts) (replicate 16 (empty_bank n) ++ (replicate 16 (empty_shard n) ++ after)) in
-    let b = long_rep 16 (empty_bank {A = A} n) (replicate 16 (empty_shard n) ++ after) in
-    let c = long_rep 16 (empty_shard {A = A} n) after in
-    let d = long_replicate (n - 1) (none_ready {A = A} n) in
+pub long_list : {A : Type 0} (code : CodeView) (texts : ProgramParts) (n : ℕ) (main : A) (clock : TimersPart) → 0 < n → length (opening_list n code texts main clock) ≡ part_count n
+long_list {A} code texts n main clock more =
+    let a = long_rep n (idle_lane {A = A} n code texts) (replicate 16 (empty_bank n code) ++ (replicate 16 (empty_shard n code) ++ after)) in
+    let b = long_rep 16 (empty_bank {A = A} n code) (replicate 16 (empty_shard n code) ++ after) in
+    let c = long_rep 16 (empty_shard {A = A} n code) after in
+    let d = long_replicate (n - 1) (none_ready {A = A} n code) in
     omega (arith, a, b, c, d, more) where
       after : List (PartSeen A)
-      after = part_of n (seen_timers clock) ∷ (main_ready n main ∷ replicate (n - 1) (none_ready n))
+      after = part_of n code (seen_timers clock) ∷ (main_ready n code main ∷ replicate (n - 1) (none_ready n code))
 
 -- of a list and one more
 pub all_before : {X : Type 0} (P : X → Type 0) (xs : List X) (x : X) → All P (xs ++ x ∷ []) → All P xs

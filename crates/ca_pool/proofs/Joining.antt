@@ -5,6 +5,7 @@ use lib.ListN.{get_elem?}
 use Rattle.ca_value.specs.declared.seq.Seq.{Seq}
 use Rattle.ca_term.specs.Program.{ProgramView}
 use Rattle.ca_meaning.specs.Task.{TaskBody}
+use Rattle.ca_states.specs.Code.{CodeView}
 use Rattle.ca_journal.specs.Merge.{Ascends, EachAscends, Numbered, entries, joined}
 use Rattle.ca_journal.specs.declared.entry.Entry.{Entry}
 use Rattle.ca_turns.specs.Hands.{Held, TableId}
@@ -26,11 +27,11 @@ each_more : (lists : List (Seq Entry)) (e : Seq Entry) → EachAscends (map entr
 each_more [] e up one = (one, tt)
 each_more (l ∷ lists) e up one = (up.0, each_more lists e up.1 one)
 
-module _ {A C : Type 0} (stands_as : ProgramView → A → TaskBody → Type 0) (program : ProgramView) (id : TableId) (n : ℕ) where
-  ascend : (w : Worker A C) → IsReady stands_as program id n w → Ascends (entries w.entries)
+module _ {A C : Type 0} (over : CodeView → A → Type 0) (stands_as : ProgramView → A → TaskBody → Type 0) (program : ProgramView) (code : CodeView) (id : TableId) (n : ℕ) where
+  ascend : (w : Worker A C) → IsReady over stands_as program code id n w → Ascends (entries w.entries)
   ascend w r = subst Ascends (sym r.one.notes) (noted_ascends 0 w.hand.view.turns r.one.above)
 
-  pub alone : (w : Worker A C) → IsReady stands_as program id n w → IsJoined {A = A} {C = C} stands_as program id n (stands_for w) w.hand (w.entries ∷ [])
+  pub alone : (w : Worker A C) → IsReady over stands_as program code id n w → IsJoined {A = A} {C = C} over stands_as program code id n (stands_for w) w.hand (w.entries ∷ [])
   alone w r = record {
     table = r.one.table;
     knows = r.one.knows;
@@ -41,11 +42,11 @@ module _ {A C : Type 0} (stands_as : ProgramView → A → TaskBody → Type 0) 
     counted = refl;
   }
 
-  pub joins : (count : ℕ) (hand new : Held (Part A C) (PartSeen A) Drawn) (lists : List (Seq Entry)) (w : Worker A C) → IsJoined {A = A} {C = C} stands_as program id n count hand lists → IsReady stands_as program id n w
-      → new.table ≡ hand.table → new.parts ≡ hand.parts → new.view ≡ both_views hand.view w.hand.view → IsJoined {A = A} {C = C} stands_as program id n (count + stands_for w) new (lists ++ w.entries ∷ [])
+  pub joins : (count : ℕ) (hand new : Held (Part A C) (PartSeen A) Drawn) (lists : List (Seq Entry)) (w : Worker A C) → IsJoined {A = A} {C = C} over stands_as program code id n count hand lists → IsReady over stands_as program code id n w
+      → new.table ≡ hand.table → new.parts ≡ hand.parts → new.view ≡ both_views hand.view w.hand.view → IsJoined {A = A} {C = C} over stands_as program code id n (count + stands_for w) new (lists ++ w.entries ∷ [])
   joins count hand new lists w j r table parts view = record {
     table = table ∙ j.table;
-    knows = knows_same stands_as program n hand.view new.view (ap (λ v. v.opening) view) j.knows;
+    knows = knows_same over stands_as program code n hand.view new.view (ap (λ v. v.opening) view) j.knows;
     opened_for = ap (λ v. v.hands) view ∙ j.opened_for;
     nothing = λ i x e. j.nothing i x (sym (ap (λ l. get_elem? l i) parts) ∙ e);
     notes = joined_more lists w.entries ∙ ap₂ (λ (x y : List Numbered). x ++ y) j.notes r.one.notes ∙ sym (noted_append hand.view.turns w.hand.view.turns) ∙ sym (ap (λ v. noted v.turns) view);

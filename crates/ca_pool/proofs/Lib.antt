@@ -1,6 +1,7 @@
 pub mod Finite
 pub mod Pushes
 pub mod Openings
+pub mod Codes
 pub mod Running
 pub mod Knowing
 pub mod Members
@@ -10,6 +11,7 @@ pub mod Joining
 pub mod Enlisting
 pub mod Gripping
 pub mod Whole
+pub mod HomeMembers
 pub mod Seeing
 pub mod Seats
 pub mod Carrying
@@ -18,5 +20,8 @@ pub mod Carried
 pub mod Covered
 pub mod Moved
 pub mod Carriers
-pub mod Picks
 pub mod Becoming
+pub mod Picks
+pub mod Liftings
+pub mod Loads
+pub mod Sounds

@@ -7,6 +7,7 @@ use Rattle.ca_term.specs.Program.{ProgramView}
 use Rattle.ca_meaning.specs.Task.{TaskBody}
 use Rattle.ca_journal.specs.Merge.{entries}
 use Rattle.ca_journal.specs.declared.entry.Entry.{Entry}
+use Rattle.ca_states.specs.Code.{CodeView}
 use Rattle.ca_turns.specs.Hands.{Held, TableId}
 use Rattle.ca_turns.specs.Views.{turn}
 use Rattle.ca_turns.specs.declared.rule.Turn.{Turn}
@@ -27,17 +28,18 @@ append_nothing : {X : Type 0} (xs : List X) → xs ++ [] ≡ xs
 append_nothing [] = refl
 append_nothing (x ∷ xs) = ap (λ l. x ∷ l) (append_nothing xs)
 
-pub drew_one : {A C : Type 0} (stands_as : ProgramView → A → TaskBody → Type 0) (program : ProgramView) (id : TableId) (n : ℕ) (w : Worker A C) (h : Held (Part A C) (PartSeen A) Drawn) (es : Seq Entry) (k : ℕ) (d : Drawn) (before after : List (PartSeen A))
+pub drew_one : {A C : Type 0} (over : CodeView → A → Type 0) (stands_as : ProgramView → A → TaskBody → Type 0) (program : ProgramView) (code : CodeView) (id : TableId) (n : ℕ) (w : Worker A C) (h : Held (Part A C) (PartSeen A) Drawn) (es : Seq Entry) (k : ℕ) (d : Drawn) (before after : List (PartSeen A))
     → SameHand w.hand h → h.view.turns ≡ w.hand.view.turns ++ turn k d before after ∷ [] → ((i : ℕ) (t : Turn (PartSeen A) Drawn) → get_elem? w.hand.view.turns i ≡ some t → t.number < k) → entries es ≡ entries w.entries ++ entries_of k d.what
-    → IsOne stands_as program id n w → IsOne stands_as program id n (record { number = w.number; workers = w.workers; program = w.program; hand = h; entries = es })
-drew_one stands_as program id n w h es k d before after same drew later notes one = record {
+    → IsOne over stands_as program code id n w → IsOne over stands_as program code id n (record { number = w.number; workers = w.workers; program = w.program; code = w.code; hand = h; entries = es })
+drew_one over stands_as program code id n w h es k d before after same drew later notes one = record {
   table = same.table ∙ one.table;
   slots = one.slots;
   of = one.of;
   few = one.few;
   below = one.below;
   of_program = one.of_program;
-  knows = knows_same stands_as program n w.hand.view h.view same.opening one.knows;
+  of_code = one.of_code;
+  knows = knows_same over stands_as program code n w.hand.view h.view same.opening one.knows;
   opened_for = same.hands ∙ one.opened_for;
   above = subst (λ ts. AllAbove 0 ts) (sym drew) (above_snoc 0 w.hand.view.turns k d before after (omega arith) later one.above);
   notes = notes ∙ ap (λ l. l ++ entries_of k d.what) one.notes ∙ sym (ap noted drew ∙ noted_append w.hand.view.turns (turn k d before after ∷ []) ∙ ap (λ l. noted w.hand.view.turns ++ l) (append_nothing (entries_of k d.what)));

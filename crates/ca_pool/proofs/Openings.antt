@@ -5,6 +5,7 @@ use Rattle.std.proofs.lemmas.Bool.{cases_lt, lt-ltb, le-ltb}
 use Rattle.std.specs.FinMap as map
 use Rattle.std.specs.Ordering.{nat_cmp}
 use Rattle.ca_term.specs.Program.{ProgramParts, program_view}
+use Rattle.ca_states.specs.Code.{CodeView}
 use Rattle.ca_meaning.specs.Registry.{Registry}
 use Rattle.ca_commit.specs.Agents.{TaskAgent}
 use Rattle.ca_commit.specs.Contents.{Content, Held, Kept, Parked, TimersPart, a_bank, a_ready, a_shard}
@@ -35,21 +36,21 @@ module _ {X : Type 0} where
   rep_at (suc n) zero x lt = refl
   rep_at (suc n) (suc i) x lt = rep_at n i x (omega (arith, lt))
 
-module _ {A : Type 0} (n : ℕ) (texts : ProgramParts) (main : A) (clock : TimersPart) (some : 0 < n) where
+module _ {A : Type 0} (n : ℕ) (code : CodeView) (texts : ProgramParts) (main : A) (clock : TimersPart) (some : 0 < n) where
   abbrev list : List (PartSeen A)
-  list = opening_list n texts main clock
+  list = opening_list n code texts main clock
 
   abbrev lane : PartSeen A
-  lane = idle_lane n texts
+  lane = idle_lane n code texts
 
   abbrev after_shards : List (PartSeen A)
-  after_shards = part_of n (seen_timers clock) ∷ (main_ready n main ∷ replicate (n - 1) (none_ready n))
+  after_shards = part_of n code (seen_timers clock) ∷ (main_ready n code main ∷ replicate (n - 1) (none_ready n code))
 
   abbrev after_banks : List (PartSeen A)
-  after_banks = replicate 16 (empty_shard n) ++ after_shards
+  after_banks = replicate 16 (empty_shard n code) ++ after_shards
 
   abbrev after_lanes : List (PartSeen A)
-  after_lanes = replicate 16 (empty_bank n) ++ after_banks
+  after_lanes = replicate 16 (empty_bank n code) ++ after_banks
 
   abbrev opened_at : ℕ → Kind → Held (TaskAgent A)
   opened_at i k = opened n (program_view texts) main clock i k
@@ -73,23 +74,23 @@ module _ {A : Type 0} (n : ℕ) (texts : ProgramParts) (main : A) (clock : Timer
   abbrev no_waits : Held (TaskAgent A)
   no_waits = a_shard (λ w. None)
 
-  bank_said : content_of (empty_bank n) ≡ record { workers = n; held = no_ports }
+  bank_said : content_of (empty_bank n code) ≡ record { workers = n; held = no_ports }
   bank_said = λ i. record { workers = n; held = a_bank (record { channels = λ p. map.get-empty {X = Kept} nat_cmp p i; registries = λ p. map.get-empty {X = Registry} nat_cmp p i }) }
 
-  shard_said : content_of (empty_shard n) ≡ record { workers = n; held = no_waits }
+  shard_said : content_of (empty_shard n code) ≡ record { workers = n; held = no_waits }
   shard_said = λ i. record { workers = n; held = a_shard (λ w. map.get-empty {X = Parked (TaskAgent A)} nat_cmp w i) }
 
   in_lanes : (i : ℕ) → i < n → view_of (at list i) ≡ said true i lane_kind
   in_lanes i lt = ap view_of (rep_in n i lane after_lanes lt)
 
   in_banks : (i j : ℕ) → i ≡ n + j → j < 16 → view_of (at list i) ≡ said true i bank_kind
-  in_banks i j e lt = ap view_of (rep_after n i j lane after_lanes e ∙ rep_in 16 j (empty_bank n) after_banks lt) ∙ ap Some bank_said
+  in_banks i j e lt = ap view_of (rep_after n i j lane after_lanes e ∙ rep_in 16 j (empty_bank n code) after_banks lt) ∙ ap Some bank_said
 
   in_shards : (i j : ℕ) → i ≡ n + (16 + j) → j < 16 → view_of (at list i) ≡ said true i shard_kind
-  in_shards i j e lt = ap view_of (rep_after n i (16 + j) lane after_lanes e ∙ rep_after 16 (16 + j) j (empty_bank n) after_banks refl ∙ rep_in 16 j (empty_shard n) after_shards lt) ∙ ap Some shard_said
+  in_shards i j e lt = ap view_of (rep_after n i (16 + j) lane after_lanes e ∙ rep_after 16 (16 + j) j (empty_bank n code) after_banks refl ∙ rep_in 16 j (empty_shard n code) after_shards lt) ∙ ap Some shard_said
 
   later : (i j : ℕ) → i ≡ n + (16 + (16 + j)) → at list i ≡ at after_shards j
-  later i j e = rep_after n i (16 + (16 + j)) lane after_lanes e ∙ rep_after 16 (16 + (16 + j)) (16 + j) (empty_bank n) after_banks refl ∙ rep_after 16 (16 + j) j (empty_shard n) after_shards refl
+  later i j e = rep_after n i (16 + (16 + j)) lane after_lanes e ∙ rep_after 16 (16 + (16 + j)) (16 + j) (empty_bank n code) after_banks refl ∙ rep_after 16 (16 + j) j (empty_shard n code) after_shards refl
 
   in_timers : (i : ℕ) → i ≡ n + 32 → view_of (at list i) ≡ said true i timers_kind
   in_timers i e = ap view_of (later i 0 (let k : i ≡ n + (16 + (16 + 0)) = omega (arith, e) in k))
@@ -97,17 +98,17 @@ module _ {A : Type 0} (n : ℕ) (texts : ProgramParts) (main : A) (clock : Timer
   in_first : (i : ℕ) → i ≡ n + 33 → view_of (at list i) ≡ said true i ready_kind
   in_first i e = ap view_of (later i 1 (let k : i ≡ n + (16 + (16 + 1)) = omega (arith, e) in k)) ∙ ap (λ b. Some (record { workers = n; held = a_ready (cond b ((0, main_agent main) ∷ []) []) })) (sym (ap (λ (j : ℕ). eqb j (n + 33)) e ∙ eq-eqb (n + 33) (n + 33) refl))
 
-  beyond : (r : ℕ) → at after_shards (2 + r) ≡ at (replicate (n - 1) (none_ready n)) r
+  beyond : (r : ℕ) → at after_shards (2 + r) ≡ at (replicate (n - 1) (none_ready n code)) r
   beyond r = ap (at after_shards) (let e : 2 + r ≡ suc (suc r) = omega arith in e)
 
   in_others : (i r : ℕ) → i ≡ n + (16 + (16 + (2 + r))) → r < n - 1 → view_of (at list i) ≡ said true i ready_kind
-  in_others i r e lt = ap view_of (later i (2 + r) e ∙ beyond r ∙ rep_at (n - 1) r (none_ready n) lt) ∙ ap (λ b. Some (record { workers = n; held = a_ready (cond b ((0, main_agent main) ∷ []) []) })) (sym (other (eqb i (n + 33)) refl)) where
+  in_others i r e lt = ap view_of (later i (2 + r) e ∙ beyond r ∙ rep_at (n - 1) r (none_ready n code) lt) ∙ ap (λ b. Some (record { workers = n; held = a_ready (cond b ((0, main_agent main) ∷ []) []) })) (sym (other (eqb i (n + 33)) refl)) where
     other : (b : Bool) → eqb i (n + 33) ≡ b → eqb i (n + 33) ≡ false
     other false is = is
     other true is = absurd (let k = eqb-true i (n + 33) is in omega (arith, k, e))
 
   past : (i r : ℕ) → i ≡ n + (16 + (16 + (2 + r))) → n - 1 ≤ r → view_of (at list i) ≡ None
-  past i r e le = ap view_of (later i (2 + r) e ∙ beyond r ∙ rep_past (n - 1) r (none_ready n) le)
+  past i r e le = ap view_of (later i (2 + r) e ∙ beyond r ∙ rep_past (n - 1) r (none_ready n code) le)
 
   abbrev kinds : Bool → Bool → Bool → Bool → Kind
   kinds a b c d = cond a lane_kind (cond b bank_kind (cond c shard_kind (cond d timers_kind ready_kind)))

@@ -5,6 +5,8 @@ use Rattle.ca_value.specs.Tree.{Tree}
 use Rattle.ca_term.specs.Operation.{SeedView}
 use Rattle.ca_term.specs.Program.{ProgramView, program_view}
 use Rattle.ca_meaning.specs.Body.{At}
+use Rattle.ca_states.specs.Code.{CodeView}
+use Rattle.ca_states.specs.declared.valid_code.ValidCode.{ValidCode}
 use Rattle.ca_commit.specs.Agents.{TaskAgent}
 use Rattle.ca_commit.specs.Contents.{Content}
 use Rattle.ca_commit.specs.Gathered.{Alike}
@@ -27,6 +29,12 @@ use Rattle.ca_pool.specs.declared.part.Part.{Part}
 use Rattle.ca_pool.proofs.Becoming.{lane_becomes, ready_becomes}
 use Rattle.ca_pool.proofs.Carried.{each_by_with, each_nothing, each_with}
 
+pub some_none : {X : Type 0} (o : Option X) (x : X) → o ≡ None → o ≡ Some x → ⊥
+some_none o x e f = let z : None ≡ Some x = sym e ∙ f in cc
+
+pub some_same : {X : Type 0} (x y : X) → Some x ≡ Some y → x ≡ y
+some_same x y e = cc
+
 no_stall : (r : ℕ) → picks r ≢ stalls
 no_stall r e = cc
 
@@ -37,19 +45,19 @@ named_there : {X : Type 0} (b : Bool) (x : X) → b ≡ is_some (cond b (Some x)
 named_there true x = refl
 named_there false x = refl
 
-module _ {A C : Type 0} (place : A → At) (advances : ProgramView → A → A → Type 0) (gives : A → Tree → A → Type 0) (starts : ProgramView → SeedView → A → Type 0) (least faults : C → ℕ) (readings : C → Option (List ℕ))
-    (n w at : ℕ) (l : Lane A) (q : List (ℕ × TaskAgent A)) (lane : LaneBox A) (ready : Ready A) where
+module _ {A C : Type 0} (over : CodeView → A → Type 0) (place : A → At) (advances : ProgramView → A → A → Type 0) (gives : A → Tree → A → Type 0) (starts : ProgramView → SeedView → A → Type 0) (least faults : C → ℕ) (readings : C → Option (List ℕ))
+    (code : ValidCode) (n w at : ℕ) (l : Lane A) (q : List (ℕ × TaskAgent A)) (lane : LaneBox A) (ready : Ready A) where
   abbrev seen : Part A C → PartSeen A
   seen = part_seen least faults readings
 
   abbrev back : Carries (Part A C × PartSeen A)
-  back = both_back n at l q lane ready
+  back = both_back n code at l q lane ready
 
   abbrev lane_part : Part A C × PartSeen A
-  lane_part = (part_of n (V.Lane lane), part_of_lane n l)
+  lane_part = (part_of n code (V.Lane lane), part_of_lane n code l)
 
   abbrev part_ready : Part A C × PartSeen A
-  part_ready = (part_of n (V.Ready ready), part_of_ready n q)
+  part_ready = (part_of n code (V.Ready ready), part_of_ready n code q)
 
   abbrev now_in : Part A C × PartSeen A → Content (TaskAgent A)
   now_in = is_now seen
@@ -66,7 +74,7 @@ module _ {A C : Type 0} (place : A → At) (advances : ProgramView → A → A �
       (λ i x ne e. absurd (let none : None ≡ Some x = sym (ap (λ b. cond b (Some part_ready) None) (ne_eqb at i (λ k. ne (sym k)))) ∙ e in cc))
 
   -- once both are settled
-  pub settled_back : each_by (settled_one seen) back ≡ with_at (ready_place at) (Some (part_of n (V.Ready ready), part_of_ready n (tasks_in ready))) (with_at lane_place (Some (part_of n (V.Lane lane), part_of_lane n lane.value)) nothing_carried)
+  pub settled_back : each_by (settled_one seen) back ≡ with_at (ready_place at) (Some (part_of n code (V.Ready ready), part_of_ready n code (tasks_in ready))) (with_at lane_place (Some (part_of n code (V.Lane lane), part_of_lane n code lane.value)) nothing_carried)
   settled_back = each_by_with (settled_one seen) (ready_place at) (Some part_ready) (with_at lane_place (Some lane_part) nothing_carried)
 
   put : StayPut (carried was w back) (carried now_in w back)
@@ -75,7 +83,7 @@ module _ {A C : Type 0} (place : A → At) (advances : ProgramView → A → A �
   same_lane : lane.value.program ≡ l.program → lane.value.counts ≡ l.counts → SameLane (lane_of_seen (lane_seen l)) (lane_of_seen (lane_seen lane.value))
   same_lane p k = (ap (λ p. program_view p.value) p, ap counts_view k)
 
-  pub picked : (t : Task A) → l.task ≡ None → lane.value.task ≡ Some t → lane.value.since ≡ 0 → lane.value.program ≡ l.program → lane.value.counts ≡ l.counts → q ≡ task_view t ∷ tasks_in ready → IsMoved place advances gives starts seen n w (plain w n (picks at)) back
+  pub picked : (t : Task A) → l.task ≡ None → lane.value.task ≡ Some t → lane.value.since ≡ 0 → lane.value.program ≡ l.program → lane.value.counts ≡ l.counts → q ≡ task_view t ∷ tasks_in ready → IsMoved over place advances gives starts seen code n w (plain w n (picks at)) back
   picked t free has since p k first = record {
     by = refl;
     of = refl;
@@ -96,7 +104,7 @@ module _ {A C : Type 0} (place : A → At) (advances : ProgramView → A → A �
     };
   }
 
-  pub yielded : (t : Task A) → at ≡ w → l.task ≡ Some t → lane.value.task ≡ None → lane.value.program ≡ l.program → lane.value.counts ≡ l.counts → tasks_in ready ≡ q ++ task_view t ∷ [] → IsMoved place advances gives starts seen n w (plain w n yields) back
+  pub yielded : (t : Task A) → at ≡ w → l.task ≡ Some t → lane.value.task ≡ None → lane.value.program ≡ l.program → lane.value.counts ≡ l.counts → tasks_in ready ≡ q ++ task_view t ∷ [] → IsMoved over place advances gives starts seen code n w (plain w n yields) back
   yielded t own has free p k last = record {
     by = refl;
     of = refl;

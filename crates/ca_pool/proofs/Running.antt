@@ -12,6 +12,7 @@ use Rattle.ca_meaning.specs.Body.{At}
 use Rattle.ca_meaning.specs.State.{State}
 use Rattle.ca_meaning.specs.Steps.{Steps}
 use Rattle.ca_meaning.specs.Task.{TaskBody}
+use Rattle.ca_states.specs.Code.{CodeView}
 use Rattle.ca_agent.specs.Agents.{Advanced, Answered, Started}
 use Rattle.ca_turns.specs.declared.rule.Turn.{Turn}
 use Rattle.ca_turns.specs.History.{Goes, Run}
@@ -22,13 +23,15 @@ use Rattle.ca_turns.proofs.Runs.{all_in}
 use Rattle.ca_commit.specs.Agents.{TaskAgent}
 use Rattle.ca_commit.specs.Contents.{Content}
 use Rattle.ca_commit.specs.Gathered.{pick}
-use Rattle.ca_commit.specs.Moving.{visible}
+use Rattle.ca_commit.specs.Moving.{Moves, visible}
 use Rattle.ca_commit.specs.Running.{AreAt, RunStands, or_was, written}
 use Rattle.ca_commit.proofs.Locality.{locality}
 use Rattle.ca_pool.specs.Draws.{drawn_apart, drawn_moves, drawn_touches, drawn_view, turn_view}
+use Rattle.ca_pool.specs.OneCode.{HaveCode, advances_over, gives_over, stands_over, starts_over}
 use Rattle.ca_pool.specs.Running.{TableStands, as_option, contents_at, shown_by}
 use Rattle.ca_pool.specs.Seen.{PartSeen, content_of}
 use Rattle.ca_pool.specs.declared.drawn.Drawn.{Drawn}
+use Rattle.ca_pool.proofs.Codes.{advanced_over, answered_over, drawn_has, leaves_code, started_over}
 
 length_set : {X : Type 0} (l : List X) (i : ℕ) (x : X) → length (set l i x) ≡ length l
 length_set l i x = search rules
@@ -70,23 +73,33 @@ steps_after : (program : ProgramView) (es fs : List EventView) (s s2 s3 : State)
 steps_after program [] fs s s2 s3 a b = subst (λ (z : State). Steps program z fs s3) a b
 steps_after program (e ∷ es) fs s s2 s3 a b = (a.0, a.1, steps_after program es fs a.0 s2 s3 a.2 b)
 
-module _ {A : Type 0} (place : A → At) (stands : ProgramView → A → TaskBody → Type 0) (advances : ProgramView → A → A → Type 0) (gives : A → Tree → A → Type 0) (starts : ProgramView → SeedView → A → Type 0)
-    (advance_law : Advanced stands place advances) (answer_law : Answered stands place gives) (start_law : Started stands place starts) (program : ProgramView) (n : ℕ) where
+module _ {A : Type 0} (over : CodeView → A → Type 0) (place : A → At) (stands : ProgramView → A → TaskBody → Type 0) (advances : ProgramView → A → A → Type 0) (gives : A → Tree → A → Type 0) (starts : ProgramView → SeedView → A → Type 0)
+    (advance_law : Advanced stands place advances) (answer_law : Answered stands place gives) (start_law : Started stands place starts) (program : ProgramView) (code : CodeView) (n : ℕ) where
   abbrev moves : Drawn → List (PartSeen A) → List (PartSeen A) → Type 0
-  moves = drawn_moves place advances gives starts
+  moves = drawn_moves over place advances gives starts
+
+  -- the parts stand for the state, with each agent over the code
+  abbrev Stand : List (PartSeen A) → State → Type 0
+  Stand = TableStands place (stands_over over code stands) program n
 
   -- a turn of the table is a step of the run
-  turn_leads : (now : List (PartSeen A)) (s : State) (t : Turn (PartSeen A) Drawn) → TableStands place stands program n now s → Goes drawn_touches moves now t
-      → (s2 : State) × Steps program s (visible (turn_view t.event.what)) s2 × TableStands place stands program n (write now (drawn_touches t.event) t.after) s2
-  turn_leads now s t run g =
-      let z = locality place stands advances gives starts advance_law answer_law start_law program n (drawn_view t.event) (contents_at now) (map content_of t.before) (map content_of t.after) s run (reads_at now (drawn_touches t.event) t.before g.0) g.1 in
-      (z.0, z.1, subst (λ (f : ℕ → Option (Content (TaskAgent A))). RunStands place stands program n f z.0) (sym whole) z.2) where
+  turn_leads : (now : List (PartSeen A)) (s : State) (t : Turn (PartSeen A) Drawn) → HaveCode code now → Stand now s → Goes drawn_touches moves now t
+      → (s2 : State) × Steps program s (visible (turn_view t.event.what)) s2 × Stand (write now (drawn_touches t.event) t.after) s2
+  turn_leads now s t have run g =
+      let z = locality place (stands_over over code stands) (advances_over over code advances) (gives_over over code gives) (starts_over over code starts)
+      (advanced_over over code place stands advances advance_law) (answered_over over code place stands gives answer_law) (started_over over code place stands starts start_law)
+      program n (drawn_view t.event) (contents_at now) (map content_of t.before) (map content_of t.after) s run (reads_at now (drawn_touches t.event) t.before g.0) moved in
+      (z.0, z.1, subst (λ (f : ℕ → Option (Content (TaskAgent A))). RunStands place (stands_over over code stands) program n f z.0) (sym whole) z.2) where
         whole : contents_at (write now (drawn_touches t.event) t.after) ≡ written (contents_at now) (drawn_touches t.event) (map content_of t.after)
         whole = λ i k. written_at now (drawn_touches t.event) t.after (in_places now (drawn_touches t.event) t.before g.0) (drawn_apart t.event) k i
 
+        moved : Moves place (advances_over over code advances) (gives_over over code gives) (starts_over over code starts) (drawn_view t.event) (map content_of t.before) (map content_of t.after)
+        moved = subst (λ K. Moves place (advances_over over K advances) (gives_over over K gives) (starts_over over K starts) (drawn_view t.event) (map content_of t.before) (map content_of t.after)) (drawn_has over place advances gives starts code now t have g) g.1.1
+
   -- so the journal of a history leads to the state that the parts then stand for
-  pub runs_on : (log : List (Turn (PartSeen A) Drawn)) (now last : List (PartSeen A)) (s : State) → TableStands place stands program n now s → Run drawn_touches moves now log last
-      → (s2 : State) × Steps program s (shown_by log) s2 × TableStands place stands program n last s2
-  runs_on [] now last s run r = (s, refl, subst (λ (l : List (PartSeen A)). TableStands place stands program n l s) r run)
-  runs_on (t ∷ ts) now last s run r = let a = turn_leads now s t run r.0 in let b = runs_on ts (write now (drawn_touches t.event) t.after) last a.0 a.2 r.1 in
+  pub runs_on : (log : List (Turn (PartSeen A) Drawn)) (now last : List (PartSeen A)) (s : State) → HaveCode code now → Stand now s → Run drawn_touches moves now log last
+      → (s2 : State) × Steps program s (shown_by log) s2 × Stand last s2
+  runs_on [] now last s have run r = (s, refl, subst (λ (l : List (PartSeen A)). Stand l s) r run)
+  runs_on (t ∷ ts) now last s have run r = let a = turn_leads now s t have run r.0 in
+      let b = runs_on ts (write now (drawn_touches t.event) t.after) last a.0 (leaves_code over place advances gives starts code now t have r.0) a.2 r.1 in
       (b.0, steps_after program (visible (turn_view t.event.what)) (shown_by ts) s a.0 b.0 a.1 b.1, b.2)

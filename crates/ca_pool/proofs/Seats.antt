@@ -2,6 +2,7 @@
 use Rattle.std.proofs.Common.{◌∙◌, ℕ, sym, ap, subst}
 use Rattle.ca_term.specs.Program.{ProgramView}
 use Rattle.ca_meaning.specs.Task.{TaskBody}
+use Rattle.ca_states.specs.Code.{CodeView}
 use Rattle.ca_turns.specs.Hands.{Held, TableId}
 use Rattle.ca_pool.specs.Grips.{SameTurns}
 use Rattle.ca_pool.specs.Seen.{PartSeen}
@@ -12,17 +13,18 @@ use Rattle.ca_pool.specs.declared.worker.Worker.{Worker}
 use Rattle.ca_pool.proofs.Knowing.{knows_same}
 
 abbrev pub with_hand : {A C : Type 0} → Worker A C → Held (Part A C) (PartSeen A) Drawn → Worker A C
-with_hand w h = record { number = w.number; workers = w.workers; program = w.program; hand = h; entries = w.entries }
+with_hand w h = record { number = w.number; workers = w.workers; program = w.program; code = w.code; hand = h; entries = w.entries }
 
-pub same_one : {A C : Type 0} (stands_as : ProgramView → A → TaskBody → Type 0) (program : ProgramView) (id : TableId) (n : ℕ) (w : Worker A C) (h : Held (Part A C) (PartSeen A) Drawn) → SameTurns w.hand h → IsOne stands_as program id n w → IsOne stands_as program id n (with_hand w h)
-same_one stands_as program id n w h same one = record {
+pub same_one : {A C : Type 0} (over : CodeView → A → Type 0) (stands_as : ProgramView → A → TaskBody → Type 0) (program : ProgramView) (code : CodeView) (id : TableId) (n : ℕ) (w : Worker A C) (h : Held (Part A C) (PartSeen A) Drawn) → SameTurns w.hand h → IsOne over stands_as program code id n w → IsOne over stands_as program code id n (with_hand w h)
+same_one over stands_as program code id n w h same one = record {
   table = same.same.table ∙ one.table;
   slots = one.slots;
   of = one.of;
   few = one.few;
   below = one.below;
   of_program = one.of_program;
-  knows = knows_same stands_as program n w.hand.view h.view same.same.opening one.knows;
+  of_code = one.of_code;
+  knows = knows_same over stands_as program code n w.hand.view h.view same.same.opening one.knows;
   opened_for = same.same.hands ∙ one.opened_for;
   above = subst (λ ts. AllAbove 0 ts) (sym same.turns) one.above;
   notes = one.notes ∙ sym (ap noted same.turns);

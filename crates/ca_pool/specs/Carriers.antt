@@ -7,6 +7,9 @@ use Rattle.ca_term.specs.Operation.{SeedView}
 use Rattle.ca_term.specs.Program.{ProgramView}
 use Rattle.ca_meaning.specs.Body.{At}
 use Rattle.ca_meaning.specs.Task.{TaskBody}
+use Rattle.ca_states.specs.Code.{CodeView}
+use Rattle.ca_states.specs.ValidCode.{valid_code}
+use Rattle.ca_states.specs.declared.valid_code.ValidCode.{ValidCode}
 use Rattle.ca_turns.specs.Hands.{TableId}
 use Rattle.ca_commit.specs.Agents.{TaskAgent}
 use Rattle.ca_commit.specs.Contents.{Content}
@@ -17,6 +20,7 @@ use Rattle.ca_commit.specs.declared.task.Ready.{Ready}
 use Rattle.ca_pool.specs.Carrying.{AreSorted, Carries, Each, at_places, carried, lane_place, nothing_carried, ready_place, with_at}
 use Rattle.ca_pool.specs.Covering.{Covers}
 use Rattle.ca_pool.specs.Grips.{Grips}
+use Rattle.ca_pool.specs.OneCode.{advances_over, gives_over, starts_over}
 use Rattle.ca_pool.specs.Parts.{away, part_of}
 use Rattle.ca_pool.specs.Seen.{PartSeen, content_of, seen_ready}
 use Rattle.ca_pool.specs.Workers.{IsOne, part_of_lane}
@@ -37,34 +41,40 @@ abbrev pub LaneBox : Type 0 → Type 0
 LaneBox A = Box (Lane A) Global
 
 -- a ready part with these tasks
-abbrev pub part_of_ready : {A : Type 0} → ℕ → List (ℕ × TaskAgent A) → PartSeen A
-part_of_ready n q = record { workers = n; held = seen_ready q }
+abbrev pub part_of_ready : {A : Type 0} → ℕ → ValidCode → List (ℕ × TaskAgent A) → PartSeen A
+part_of_ready n code q = record { workers = n; code = valid_code code; held = seen_ready q }
 
-module _ {A C : Type 0} (n : ℕ) where
+-- a part that is carried, and what was settled of it, has the code
+abbrev pub HasCode : {A C : Type 0} → CodeView → Part A C × PartSeen A → Type 0
+HasCode code x = (valid_code x.0.code.value ≡ code) × (x.1.code ≡ code)
+
+module _ {A C : Type 0} (n : ℕ) (code : ValidCode) where
   -- the lane alone, moved out
   abbrev pub just_lane : Lane A → Carries (Part A C × PartSeen A)
-  just_lane l = with_at lane_place (Some (away n, part_of_lane n l)) nothing_carried
+  just_lane l = with_at lane_place (Some (away n code, part_of_lane n code l)) nothing_carried
 
   -- and the ready part r with these tasks, moved out too
   abbrev pub with_ready : ℕ → List (ℕ × TaskAgent A) → Carries (Part A C × PartSeen A) → Carries (Part A C × PartSeen A)
-  with_ready r q h = with_at (ready_place r) (Some (away n, part_of_ready n q)) h
+  with_ready r q h = with_at (ready_place r) (Some (away n code, part_of_ready n code q)) h
 
   -- both put back as they are now
   abbrev pub both_back : ℕ → Lane A → List (ℕ × TaskAgent A) → LaneBox A → Ready A → Carries (Part A C × PartSeen A)
-  both_back r l q lane ready = with_at (ready_place r) (Some (part_of n (V.Ready ready), part_of_ready n q)) (with_at lane_place (Some (part_of n (V.Lane lane), part_of_lane n l)) nothing_carried)
+  both_back r l q lane ready = with_at (ready_place r) (Some (part_of n code (V.Ready ready), part_of_ready n code q)) (with_at lane_place (Some (part_of n code (V.Lane lane), part_of_lane n code l)) nothing_carried)
 
-module _ {A C : Type 0} (stands_as : ProgramView → A → TaskBody → Type 0) (program : ProgramView) (id : TableId) where
-  -- it is one of n, and its hand has these parts and no other
+module _ {A C : Type 0} (over : CodeView → A → Type 0) (stands_as : ProgramView → A → TaskBody → Type 0) (program : ProgramView) (code : ValidCode) (id : TableId) where
+  -- it is one of n, its hand has these parts and no other, and each has the code
   pub record IsCarrying (n : ℕ) (w : Worker A C) (h : Carries (Part A C × PartSeen A)) : Type 0 where
-    pub one : IsOne stands_as program id n w
+    pub one : IsOne over stands_as program (valid_code code) id n w
     pub grips : Grips w.hand (at_places n w.number h)
     pub sorted : AreSorted was h
+    pub coded : Each (HasCode (valid_code code)) h
 
-module _ {A C : Type 0} (place : A → At) (advances : ProgramView → A → A → Type 0) (gives : A → Tree → A → Type 0) (starts : ProgramView → SeedView → A → Type 0) (seen : Part A C → PartSeen A) where
-  -- worker w of n draws the event, which touches just these parts and moves them from what they were to what they are
+module _ {A C : Type 0} (over : CodeView → A → Type 0) (place : A → At) (advances : ProgramView → A → A → Type 0) (gives : A → Tree → A → Type 0) (starts : ProgramView → SeedView → A → Type 0) (seen : Part A C → PartSeen A) (code : ValidCode) where
+  -- worker w of n draws the event, which touches just these parts and moves them from what they were to what they are,
+  -- with the agents over the code
   pub record IsMoved (n w : ℕ) (d : said.Drawn) (h : Carries (Part A C × PartSeen A)) : Type 0 where
     pub by : d.worker ≡ w
     pub of : d.workers ≡ n
     pub covers : Covers d h
     pub alike : Each (λ x. Alike d.workers (was x) (is_now seen x)) h
-    pub moves : MovesTurn place advances gives starts d.worker d.workers d.what (carried was d.worker h) (carried (is_now seen) d.worker h)
+    pub moves : MovesTurn place (advances_over over (valid_code code) advances) (gives_over over (valid_code code) gives) (starts_over over (valid_code code) starts) d.worker d.workers d.what (carried was d.worker h) (carried (is_now seen) d.worker h)

@@ -5,10 +5,14 @@ use Rattle.ca_term.specs.Event.{event_view, settled, ticked}
 use Rattle.ca_term.specs.Operation.{SeedView}
 use Rattle.ca_term.specs.Program.{ProgramView}
 use Rattle.ca_meaning.specs.Body.{At}
+use Rattle.ca_states.specs.Code.{CodeView}
+use Rattle.ca_states.specs.ValidCode.{valid_code}
 use Rattle.ca_turns.specs.Places as places
 use Rattle.ca_commit.specs.Moving.{Moves}
 use Rattle.ca_commit.specs.Touched as said
 use Rattle.ca_commit.proofs.Apart.{touches_distinct}
+use Rattle.ca_pool.specs.Homes.{members}
+use Rattle.ca_pool.specs.OneCode.{AllCoded, advances_over, gives_over, starts_over}
 use Rattle.ca_pool.specs.Seen.{PartSeen, content_of}
 use Rattle.ca_pool.specs.declared.drawn.Drawn.{Drawn}
 use Rattle.ca_pool.specs.declared.drawn.Turned.{Turned}
@@ -26,13 +30,18 @@ turn_view T.Halt = said.halts
 turn_view T.Stall = said.stalls
 
 abbrev pub drawn_view : Drawn → said.Drawn
-drawn_view d = record { worker = d.worker; workers = d.workers; what = turn_view d.what; ports = d.ports.value.items; looked = d.looked.value.items }
+drawn_view d = record { worker = d.worker; workers = d.workers; what = turn_view d.what; ports = members d.ports.value; looked = members d.looked.value }
 
 abbrev pub drawn_touches : Drawn → List ℕ
 drawn_touches d = said.touches (drawn_view d)
 
-abbrev pub drawn_moves : {A : Type 0} → (A → At) → (ProgramView → A → A → Type 0) → (A → Tree → A → Type 0) → (ProgramView → SeedView → A → Type 0) → Drawn → List (PartSeen A) → List (PartSeen A) → Type 0
-drawn_moves place advances gives starts d before after = Moves place advances gives starts (drawn_view d) (map content_of before) (map content_of after)
+abbrev pub drawn_code : Drawn → CodeView
+drawn_code d = valid_code d.code.value
+
+-- as its event moves them, with the agents over the code that it and its parts have
+abbrev pub drawn_moves : {A : Type 0} → (CodeView → A → Type 0) → (A → At) → (ProgramView → A → A → Type 0) → (A → Tree → A → Type 0) → (ProgramView → SeedView → A → Type 0) → Drawn → List (PartSeen A) → List (PartSeen A) → Type 0
+drawn_moves over place advances gives starts d before after = AllCoded (drawn_code d) before after
+    × Moves place (advances_over over (drawn_code d) advances) (gives_over over (drawn_code d) gives) (starts_over over (drawn_code d) starts) (drawn_view d) (map content_of before) (map content_of after)
 
 -- a shard, or the worker's own ready part
 abbrev pub IsAside : ℕ → ℕ → ℕ → Type 0

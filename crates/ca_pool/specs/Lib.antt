@@ -1,11 +1,15 @@
 pub mod Seen
+pub mod Homes
 pub mod Parts
 pub mod Grips
 pub mod Carrying
 pub mod Covering
+pub mod OneCode
 pub mod Draws
 pub mod Opening
 pub mod Running
 pub mod Members
 pub mod Workers
 pub mod Carriers
+pub mod Lifting
+pub mod Sound

@@ -2,6 +2,7 @@
 use Rattle.std.specs.Prelude.{ℕ, ◌-◌, List, [], ◌∷◌, ◌++◌, None, replicate}
 use Rattle.std.specs.FinMap as map
 use Rattle.ca_term.specs.Program.{ProgramParts}
+use Rattle.ca_states.specs.Code.{CodeView}
 use Rattle.ca_commit.specs.Contents.{TimersPart}
 use Rattle.ca_commit.specs.Opening.{main_agent}
 use Rattle.ca_pool.specs.Seen.{BankSeen, HeldSeen, PartSeen, seen_bank, seen_lane, seen_ready, seen_shard, seen_timers}
@@ -9,9 +10,9 @@ use Rattle.ca_pool.specs.Seen.{BankSeen, HeldSeen, PartSeen, seen_bank, seen_lan
 abbrev pub no_channel : BankSeen
 no_channel = record { channels = map.empty; registries = map.empty }
 
-module _ {A : Type 0} (n : ℕ) where
+module _ {A : Type 0} (n : ℕ) (code : CodeView) where
   abbrev pub part_of : HeldSeen A → PartSeen A
-  part_of x = record { workers = n; held = x }
+  part_of x = record { workers = n; code = code; held = x }
 
   abbrev pub idle_lane : ProgramParts → PartSeen A
   idle_lane program = part_of (seen_lane (record { program = program; task = None; since = 0; counts = record { tasks = 0; ports = 0; waits = 0 } }))

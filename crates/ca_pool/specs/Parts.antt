@@ -3,6 +3,8 @@ use Rattle.std.specs.Prelude.{ℕ, List, Option, map as each, option_map}
 use Rattle.std.specs.FinMap as map
 use Rattle.std.specs.Ordering.{nat_cmp}
 use Rattle.indexmap.specs.IndexMap.{IndexMap}
+use Rattle.ca_states.specs.ValidCode.{valid_code}
+use Rattle.ca_states.specs.declared.valid_code.ValidCode.{ValidCode}
 use Rattle.ca_bank.specs.Registry.{registry_view}
 use Rattle.ca_bank.specs.Room.{kept_view}
 use Rattle.ca_bank.specs.declared.bank.Bank.{Bank}
@@ -51,18 +53,19 @@ clockwork_seen least faults readings t = record { deadlines = t.timers.deadlines
 module _ {A C : Type 0} (least faults : C → ℕ) (readings : C → Option (List ℕ)) where
   abbrev pub contents_seen : Contents A C → HeldSeen A
   contents_seen (P.Lane l) = seen_lane (lane_seen l.value)
-  contents_seen (P.Bank b) = seen_bank (bank_seen b)
-  contents_seen (P.Shard s) = seen_shard (shard_seen s)
+  contents_seen (P.Bank b) = seen_bank (bank_seen b.bank)
+  contents_seen (P.Shard s) = seen_shard (shard_seen s.shard)
   contents_seen (P.Timers t) = seen_timers (clockwork_seen least faults readings t.value)
   contents_seen (P.Ready r) = seen_ready (tasks_in r)
   contents_seen P.Away = seen_away
 
   abbrev pub part_seen : Part A C → PartSeen A
-  part_seen p = record { workers = p.workers; held = contents_seen p.contents }
+  part_seen p = record { workers = p.workers; code = valid_code p.code.value; held = contents_seen p.contents }
 
-abbrev pub part_of : {A C : Type 0} → ℕ → Contents A C → Part A C
-part_of n x = record { workers = n; contents = x }
+-- a part of a run of n workers over that code
+abbrev pub part_of : {A C : Type 0} → ℕ → ValidCode → Contents A C → Part A C
+part_of n code x = record { workers = n; code = record { marker = record {}; value = code }; contents = x }
 
 -- what stands in a hand for a part that was moved out
-abbrev pub away : {A C : Type 0} → ℕ → Part A C
-away n = part_of n P.Away
+abbrev pub away : {A C : Type 0} → ℕ → ValidCode → Part A C
+away n code = part_of n code P.Away

@@ -7,6 +7,7 @@ use Rattle.ca_term.specs.Program.{ProgramParts, ProgramView, program_view}
 use Rattle.ca_meaning.specs.Body.{At, new_body}
 use Rattle.ca_meaning.specs.State.{State}
 use Rattle.ca_meaning.specs.Task.{BodyRest, TaskBody, script}
+use Rattle.ca_states.specs.Code.{CodeView}
 use Rattle.ca_turns.specs.declared.rule.Turn.{Turn}
 use Rattle.ca_turns.specs.declared.rule.View.{View}
 use Rattle.ca_commit.specs.Agents.{TaskAgent}
@@ -41,16 +42,17 @@ module _ {A : Type 0} (place : A → At) (stands : ProgramView → A → TaskBod
   abbrev pub TableStands : List (PartSeen A) → State → Type 0
   TableStands now s = RunStands place stands program n (contents_at now) s
 
--- a hand of a table that was opened for a run of the program by n workers
-pub record Knows {A : Type 0} (stands : ProgramView → A → TaskBody → Type 0) (program : ProgramView) (n : ℕ) (v : View (PartSeen A) Drawn) : Type 0 where
+-- a hand of a table that was opened for a run of the program over the code, by n workers
+pub record Knows {A : Type 0} (over : CodeView → A → Type 0) (stands : ProgramView → A → TaskBody → Type 0) (program : ProgramView) (code : CodeView) (n : ℕ) (v : View (PartSeen A) Drawn) : Type 0 where
   pub texts : ProgramParts
   pub is_program : program_view texts ≡ program
   pub main : A
   pub body : TaskBody
   pub opens : BodyRest program (script (new_body program.main)) body
   pub stands_for : stands program main body
+  pub is_over : over code main
   pub least : ℕ
   pub faults : ℕ
   pub readings : Option (List ℕ)
-  pub opening : v.opening ≡ opening_list n texts main (unasked least faults readings)
+  pub opening : v.opening ≡ opening_list n code texts main (unasked least faults readings)
   pub some : 0 < n

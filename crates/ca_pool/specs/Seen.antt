@@ -1,9 +1,10 @@
 -- What a table's contracts see of a part: the same as what the definitions of a run say of it, in a form that has a
 -- code. Maps are finite ones.
-use Rattle.std.specs.Prelude.{ℕ, List, Option}
+use Rattle.std.specs.Prelude.{ℕ, List, [], Option}
 use Rattle.std.specs.FinMap as map
 use Rattle.std.specs.Ordering.{nat_cmp}
 use Rattle.ca_term.specs.Program.{ProgramParts, program_view}
+use Rattle.ca_states.specs.Code.{CodeView}
 use Rattle.ca_meaning.specs.Registry.{Registry}
 use Rattle.ca_commit.specs.Agents.{TaskAgent}
 use Rattle.ca_commit.specs.Contents.{Content, Counts, Held, Kept, LaneView, Parked, TimersPart, a_bank, a_lane, a_ready, a_shard, away, the_timers}
@@ -26,8 +27,10 @@ pub data HeldSeen (A : Type 0) : Type 0 where
   seen_ready : List (ℕ × TaskAgent A) → HeldSeen A
   seen_away : HeldSeen A
 
+-- with the code of the run that it is of
 pub record PartSeen (A : Type 0) : Type 0 where
   pub workers : ℕ
+  pub code : CodeView
   pub held : HeldSeen A
 
 abbrev pub lane_of_seen : {A : Type 0} → LaneSeen A → LaneView (TaskAgent A)
@@ -45,6 +48,9 @@ held_of seen_away = away
 abbrev pub content_of : {A : Type 0} → PartSeen A → Content (TaskAgent A)
 content_of p = record { workers = p.workers; held = held_of p.held }
 
+abbrev pub no_code : CodeView
+no_code = record { blocks = []; main = 0; bodies = []; functions = []; width = 0 }
+
 -- stands where no value is made
 abbrev pub nothing_seen : {A : Type 0} → PartSeen A
-nothing_seen = record { workers = 0; held = seen_away }
+nothing_seen = record { workers = 0; code = no_code; held = seen_away }

@@ -1,3 +1,5 @@
+use crate::homes::Homes;
+use ca_states::valid_code::ValidCode;
 use ca_term::event::{Event, Side, WaitId};
 use ca_value::value::PortId;
 use std::snapshot::Snapshot;
@@ -24,13 +26,14 @@ pub enum Turned {
     Stall,
 }
 
-/// A drawn event: which worker of how many draws it. The ports that its operation names beside those of the event, and
-/// the waits that were looked at, are there for the proofs, with no bytes.
+/// A drawn event: which worker of how many draws it. The banks of the ports that its operation names beside those of
+/// the event, the shards of the waits that were looked at, and the code of the run are there for the proofs, with no bytes.
 #[derive(Drop)]
 pub struct Drawn {
     pub worker: u64,
     pub workers: u64,
     pub what: Turned,
-    pub ports: Snapshot<Vec<u64>>,
-    pub looked: Snapshot<Vec<u64>>,
+    pub ports: Snapshot<Homes>,
+    pub looked: Snapshot<Homes>,
+    pub code: Snapshot<ValidCode>,
 }

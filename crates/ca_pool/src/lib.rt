@@ -5,16 +5,17 @@
 //! workers draw is one history, and each such history is a run of the script's text.
 //!
 //! Stands on `ca_commit`, for what a part has and what an event does to it, on `ca_turns`, for the table, and on
-//! `ca_journal`, for what was noted. Start with `part`, what a worker holds, then `drawn`, what it draws, then `pool`,
-//! which ties both to the definitions; then `opening` and `gathering`. What a worker does between these two: `seating`,
-//! it takes its lane and gives it back; `handling`, it holds other parts, draws an event with them and gives them back;
-//! `silent`, the events that no journal shows.
+//! `ca_journal`, for what was noted. All agents of a run are over one code, which each part and each drawn event carries
+//! for the proofs. Start with `part`, what a worker holds, then `drawn`, what it draws, then `pool`, which ties both to the
+//! definitions; then `opening` and `gathering`.
 #![tactic(auto)]
 
 pub mod drawn;
 pub mod gathering;
 mod handling;
 mod holding;
+pub mod homes;
+mod lifting;
 mod moving;
 mod noting;
 pub mod opening;
@@ -22,4 +23,5 @@ pub mod part;
 pub mod pool;
 mod seating;
 mod silent;
+mod waiting;
 pub mod worker;

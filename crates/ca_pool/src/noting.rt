@@ -2,6 +2,7 @@
 ghost use Rattle.std.specs.Prelude.{◌≡◌, ℕ, ◌+◌, ◌^◌, ◌<◌, ◌≤◌, ◌++◌, List, [], ◌∷◌, Option, OnOk, length, map, true};
 ghost use Rattle.ca_term.specs.Program.{ProgramView};
 ghost use Rattle.ca_value.specs.Seq.{list, spare};
+ghost use Rattle.ca_states.specs.Code.{CodeView};
 ghost use Rattle.ca_journal.specs.Merge.{entries};
 ghost use Rattle.ca_turns.specs.Hands.{IsHolding, IsNone};
 ghost use Rattle.ca_turns.specs.Views.{turn};
@@ -62,12 +63,12 @@ pub(crate) fn draw_event<A: Agent, C: Clock + Drop>(
     worker: &mut Worker<A, C>,
     drawn: Drawn,
 )
-    requires one { (program : ProgramView) × (n : ℕ) × IsOne A.stands program table.now.id n worker.old }
+    requires one { (program : ProgramView) × (code : CodeView) × (n : ℕ) × IsOne A.over A.stands program code table.now.id n worker.old }
     requires room { length (visible (turn_view drawn.what)) ≤ spare worker.old.entries }
     requires turns { length worker.old.hand.view.turns < 2 ^ 59 }
     requires allows { (i : ℕ) → IsHolding worker.old.hand i → IsNone (drawn_touches drawn) i → drawn_allows drawn i }
-    requires moved { (g : ℕ → Option (Part A C × PartSeen A)) × Grips worker.old.hand g × HasAll g (drawn_touches drawn) × drawn_moves A.place A.advances A.gives A.starts drawn (settled g (drawn_touches drawn)) (map (part_seen C.least C.faults C.readings) (values g (drawn_touches drawn))) }
-    ensures one { (program : ProgramView) (n : ℕ) → IsOne A.stands program table.now.id n worker.old → IsOne A.stands program table.now.id n worker.new }
+    requires moved { (g : ℕ → Option (Part A C × PartSeen A)) × Grips worker.old.hand g × HasAll g (drawn_touches drawn) × drawn_moves A.over A.place A.advances A.gives A.starts drawn (settled g (drawn_touches drawn)) (map (part_seen C.least C.faults C.readings) (values g (drawn_touches drawn))) }
+    ensures one { (program : ProgramView) (code : CodeView) (n : ℕ) → IsOne A.over A.stands program code table.now.id n worker.old → IsOne A.over A.stands program code table.now.id n worker.new }
     ensures grips { (g : ℕ → Option (Part A C × PartSeen A)) → Grips worker.old.hand g → Grips worker.new.hand (settle (part_seen C.least C.faults C.readings) (drawn_touches drawn) g) }
     ensures drew { (k : ℕ) × (before : List (PartSeen A)) × (after : List (PartSeen A)) × (worker.new.hand.view.turns ≡ worker.old.hand.view.turns ++ turn k drawn before after ∷ []) }
     ensures same { SameWorker worker.old worker.new }

@@ -1,6 +1,6 @@
-use ca_bank::bank::Bank;
-use ca_bank::shard::Shard;
+use ca_commit::held::{HeldBank, HeldShard};
 use ca_commit::task::{Ready, Task};
+use ca_states::valid_code::ValidCode;
 use ca_term::program::Program;
 use ca_timers::timers::Timers;
 use std::snapshot::Snapshot;
@@ -46,8 +46,8 @@ pub struct Clockwork<C> {
 #[derive(Drop)]
 pub enum Contents<A, C> {
     Lane(Box<Lane<A>>),
-    Bank(Bank),
-    Shard(Shard<Task<A>>),
+    Bank(HeldBank),
+    Shard(HeldShard<A>),
     Timers(Box<Clockwork<C>>),
     Ready(Ready<A>),
     /// It was moved out of the hand that holds it.
@@ -55,9 +55,11 @@ pub enum Contents<A, C> {
 }
 
 /// A part of a run of so many workers. They are numbered in this order: a lane for each worker, 16 banks, 16 shards,
-/// the timers, and a ready part for each worker. Port or wait n is in bank or shard n modulo 16.
+/// the timers, and a ready part for each worker. Port or wait n is in bank or shard n modulo 16. The code, which is that
+/// of the run, is there for the proofs, with no bytes.
 #[derive(Drop)]
 pub struct Part<A, C> {
     pub workers: u64,
+    pub code: Snapshot<ValidCode>,
     pub contents: Contents<A, C>,
 }

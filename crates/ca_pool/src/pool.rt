@@ -43,7 +43,7 @@ impl<A: Agent, C: Clock + Drop> Object for Pool<A, C> {
 
     ghost touches = { drawn_touches };
 
-    ghost moves = { drawn_moves A.place A.advances A.gives A.starts };
+    ghost moves = { drawn_moves A.over A.place A.advances A.gives A.starts };
 
     ghost allows = { drawn_allows };
 

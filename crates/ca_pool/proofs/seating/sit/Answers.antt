@@ -1,6 +1,7 @@
 use Rattle.std.proofs.Common.{ℕ, Some, refl, subst, eqb}
 use Rattle.std.specs.Map.{update}
 use Rattle.std.proofs.lemmas.Map.{update_here}
+use Rattle.ca_states.specs.ValidCode.{valid_code}
 use Rattle.ca_pool.specs.Grips.{Grips, nothing}
 use Rattle.ca_pool.specs.Parts.{away, lane_seen, part_of, part_seen}
 use Rattle.ca_pool.specs.Workers.{part_of_lane}
@@ -15,12 +16,12 @@ pub returns : goal.returns
 returns g c = λ program n r. let a = g.A.Agent in let m = g.met.A.Agent in let K = g.C.Clock in let w = c.args.worker.now in let lane = c.in-Lane.lane.value in let h = c.hold_out.ensures in let hand = c.hold_out.new.hand in
     let seen = part_seen K.least K.faults K.readings in
     let held = h.grips nothing (grips_nothing w.hand r.nothing) in
-    let here = subst (λ (x : Contents g.row.A.Denot g.row.C.Denot). Grips hand (update eqb nothing w.number (Some (away w.workers, seen (part_of w.workers x))))) c.in-Lane.is held in
-    let gripped = subst (λ (k : ℕ). Grips hand (update eqb nothing w.number (Some (away k, part_of_lane k lane)))) r.one.of here in
-    let at = fit hand (update eqb nothing w.number (Some (away n, part_of_lane n lane))) w.number (away n, part_of_lane n lane) gripped (update_here nothing w.number (Some (away n, part_of_lane n lane))) in
-    let k = knows_same a.stands program n w.hand.view hand.view h.same.same.opening r.one.knows in
+    let here = subst (λ (x : Contents g.row.A.Denot g.row.C.Denot). Grips hand (update eqb nothing w.number (Some (away w.workers c.args.code.now, seen (part_of w.workers c.args.code.now x))))) c.in-Lane.is held in
+    let gripped = subst (λ (k : ℕ). Grips hand (update eqb nothing w.number (Some (away k c.args.code.now, part_of_lane k c.args.code.now lane)))) r.one.of here in
+    let at = fit hand (update eqb nothing w.number (Some (away n c.args.code.now, part_of_lane n c.args.code.now lane))) w.number (away n c.args.code.now, part_of_lane n c.args.code.now lane) gripped (update_here nothing w.number (Some (away n c.args.code.now, part_of_lane n c.args.code.now lane))) in
+    let k = knows_same a.over a.stands program (valid_code c.args.code.now) n w.hand.view hand.view h.same.same.opening r.one.knows in
     record {
-      one = same_one a.stands program c.args.table.now.id n w hand h.same r.one;
-      lane_is = program_is a.place a.stands a.advances a.gives a.starts m.advanced m.answered m.started program n hand.view k h.history w.number (part_of_lane n lane) at.1 (lane_seen lane) refl;
+      one = same_one a.over a.stands program (valid_code c.args.code.now) c.args.table.now.id n w hand h.same r.one;
+      lane_is = program_is a.over a.place a.stands a.advances a.gives a.starts m.advanced m.answered m.started program (valid_code c.args.code.now) n hand.view k h.history w.number (part_of_lane n c.args.code.now lane) at.1 (lane_seen lane) refl;
       grips = gripped;
     }
