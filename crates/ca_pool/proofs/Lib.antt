@@ -25,3 +25,16 @@ pub mod Picks
 pub mod Liftings
 pub mod Loads
 pub mod Sounds
+pub mod Needing
+pub mod Bearing
+pub mod Applied
+pub mod Committed
+pub mod Halted
+pub mod Settled
+pub mod MadeOf
+pub mod Staying
+pub mod Loaded
+pub mod Lifted
+pub mod PlanCovered
+pub mod HaltMoved
+pub mod SettleMoved

@@ -13,3 +13,8 @@ pub mod Workers
 pub mod Carriers
 pub mod Lifting
 pub mod Sound
+pub mod Needing
+pub mod Bearing
+pub mod Committing
+pub mod Halting
+pub mod DrawnEvents

@@ -7,7 +7,9 @@
 //! Stands on `ca_commit`, for what a part has and what an event does to it, on `ca_turns`, for the table, and on
 //! `ca_journal`, for what was noted. All agents of a run are over one code, which each part and each drawn event carries
 //! for the proofs. Start with `part`, what a worker holds, then `drawn`, what it draws, then `pool`, which ties both to the
-//! definitions; then `opening` and `gathering`.
+//! definitions; then `opening` and `gathering`. What a worker does between these two: `seating`, it takes its lane and
+//! gives it back; `handling` and `lifting`, it holds other parts, draws an event with them and gives them back; `silent`,
+//! the events that no journal shows; `laws`, what it may draw.
 #![tactic(auto)]
 
 pub mod drawn;
@@ -15,6 +17,7 @@ pub mod gathering;
 mod handling;
 mod holding;
 pub mod homes;
+pub mod laws;
 mod lifting;
 mod moving;
 mod noting;
