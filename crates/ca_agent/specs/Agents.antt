@@ -1,10 +1,11 @@
--- What an agent owes: it stands for a body, also after it went on and after it got an answer.
+-- What an agent owes: it stands for a body, also after it went on and after it got an answer, and stays over its code.
 use Rattle.std.specs.Prelude.{◌≡◌}
 use Rattle.ca_value.specs.Tree.{Tree}
 use Rattle.ca_term.specs.Program.{ProgramView}
 use Rattle.ca_term.specs.Operation.{WantView, SeedView}
 use Rattle.ca_meaning.specs.Body.{At, at_op, ended, faulted}
 use Rattle.ca_meaning.specs.Task.{TaskBody, body_at, body_fill, BodyRest, new_task}
+use Rattle.ca_states.specs.Code.{CodeView}
 use Rattle.ca_agent.specs.declared.agent.Pause.{Pause}
 use Rattle.ca_agent.specs.declared.agent.Pause.TheVariants.{AtOp, Ended, Faulted}
 
@@ -26,3 +27,7 @@ module _ {A : Type 0} (stands : ProgramView → A → TaskBody → Type 0) (plac
   -- a new agent stands for the new task's body
   abbrev pub Started : (ProgramView → SeedView → A → Type 0) → Type 0
   Started starts = (program : ProgramView) (seed : SeedView) (a : A) → starts program seed a → (b : TaskBody) × BodyRest program (new_task program seed) b × stands program a b
+
+-- with its answer an agent is over the code that it was over
+abbrev pub Stays : {A : Type 0} → (CodeView → A → Type 0) → (A → Tree → A → Type 0) → Type 0
+Stays {A} over gives = (code : CodeView) (a c : A) (v : Tree) → gives a v c → over code a → over code c

@@ -9,7 +9,7 @@ ghost use Rattle.ca_meaning.specs.Task.{TaskBody};
 ghost use Rattle.ca_states.specs.Code.{CodeView};
 ghost use Rattle.ca_states.specs.ValidCode.{valid_code};
 ghost use Rattle.ca_lower.specs.Lowered.{Lowered};
-ghost use Rattle.ca_agent.specs.Agents.{Advanced, Answered, PausesAt, Started};
+ghost use Rattle.ca_agent.specs.Agents.{Advanced, Answered, PausesAt, Started, Stays};
 
 use ca_states::valid_code::ValidCode;
 use ca_term::fault::Fault;
@@ -64,8 +64,7 @@ pub trait Agent: Drop {
     /// The answer to the operation that it is paused at. It takes no memory.
     fn give(&mut self, outcome: Outcome)
         requires { is_at_op (place self.old) ≡ true }
-        ensures gives { gives self.old (view outcome.value) self.new }
-        ensures over { (code : CodeView) → over code self.old → over code self.new };
+        ensures gives { gives self.old (view outcome.value) self.new };
 
     /// Goes on to the next operation, the end or a fault, over the code that it was made over; where it is paused
     /// already, it stays there. After `OutOfMemory` it is only dropped.
@@ -78,6 +77,8 @@ pub trait Agent: Drop {
     ghost advanced: { Advanced stands place advances };
 
     ghost answered: { Answered stands place gives };
+
+    ghost stays: { Stays over gives };
 
     ghost started: { Started stands place starts };
 }

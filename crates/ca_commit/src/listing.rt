@@ -48,6 +48,7 @@ impl<T: Numbered> Listing<T> {
         ensures some { IfSome result (λ x. parts self.old ≡ parts self.new ++ x ∷ []) }
         ensures none { IfNone result ((parts self.old ≡ []) × (parts self.new ≡ [])) }
         ensures spare { spare self.old ≤ spare self.new }
+        ensures room { IfSome result (λ x. spare self.old + 1 ≤ spare self.new) }
     {
         self.items.pop()
     }

@@ -87,5 +87,7 @@ impl Agent for Asker {
 
     ghost answered = { λ program a c b w v st. absurd st };
 
+    ghost stays = { λ code a c v g o. tt };
+
     ghost started = { λ program seed a st. absurd st };
 }

@@ -2,6 +2,7 @@ pub mod Alike
 pub mod BuilderLaws
 pub mod Contexts
 pub mod Goes
+pub mod Gos
 pub mod GreaterLaws
 pub mod Heads
 pub mod Knows

@@ -64,7 +64,7 @@ module _ (C : CodeView) (known : Known) (there : (f k : ℕ) → Takes known.fun
       choose more here zero lt = here
       choose more here (suc n) lt = more n (omega (arith, lt))
 
-length_entries : (ts : List ProcedureView) (B : Builder) → length (entries ts B) ≡ length ts
+pub length_entries : (ts : List ProcedureView) (B : Builder) → length (entries ts B) ≡ length ts
 length_entries [] B = refl
 length_entries (t ∷ ts) B = ap suc (length_entries ts (emit_text t B))
 

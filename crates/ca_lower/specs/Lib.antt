@@ -1,4 +1,5 @@
 pub mod Emit
+pub mod Gos
 pub mod Implements
 pub mod InOrder
 pub mod Layouts

@@ -8,10 +8,11 @@ use Rattle.ca_meaning.specs.Rest.{Rest, LocalSteps}
 use Rattle.ca_meaning.specs.Task.{TaskBody, script, system_task, body_at, body_fill, BodyRest, new_task}
 use Rattle.ca_agent.specs.Seeds.{go_body}
 use Rattle.ca_meaning.proofs.Rests.{one_rest, rests}
+use Rattle.ca_states.specs.Code.{CodeView}
 use Rattle.ca_states.specs.Machine.{Move, resumed}
 use Rattle.ca_lower.specs.Lowered.{After, StandsFor}
 use Rattle.ca_lower.proofs.Lowers.{comes}
-use Rattle.ca_machine.specs.Machines.{MachineView, GoesAs, StandsAs, HaltsIn, Runs, AdvancesFrom, Advances, Gives, Begins, Starts}
+use Rattle.ca_machine.specs.Machines.{MachineView, GoesAs, StandsAs, HaltsIn, Runs, AdvancesFrom, Advances, Gives, Begins, Starts, IsOver}
 
 -- anywhere but at a local step
 abbrev IsOff : At → Type 0
@@ -85,3 +86,14 @@ started P (go n values result place) m s =
     let d = rests P (go_body P n values result) in
     (script d.0, (d.0, d.1, refl), begun P m (go_body P n values result) d.0 s d.1)
 started P (system kind values place) m s = absurd s
+
+IsSomewhere : At → Type 0
+IsSomewhere local = Unit {0}
+IsSomewhere (at_op w) = Unit {0}
+IsSomewhere (ended v) = Unit {0}
+IsSomewhere (faulted f p) = Unit {0}
+IsSomewhere nowhere = ⊥
+
+-- one that got its answer is over the same code, and goes on
+pub stays_over : (C : CodeView) (m n : MachineView) (v : Tree) → Gives m v n → IsOver C m → IsOver C n
+stays_over C m n v (same, goes, new) (is, some) = (same ∙ is, λ e. subst IsSomewhere (sym new ∙ e) tt)

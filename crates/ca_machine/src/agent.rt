@@ -6,7 +6,7 @@ ghost use Rattle.ca_agent.specs.Agents.{PausesAt};
 ghost use Rattle.ca_machine.specs.Machines.{StandsAs, Runs, Advances, Gives, Starts, IsOver};
 ghost use Rattle.ca_machine.specs.Stages.{halted_at};
 ghost use Rattle.ca_machine.specs.View.{machine_view};
-ghost use Rattle.ca_machine.specs.MachineLaws.{advanced, answered, started};
+ghost use Rattle.ca_machine.specs.MachineLaws.{advanced, answered, started, stays_over};
 
 use crate::machine::Machine;
 use crate::stage::Stage;
@@ -87,6 +87,8 @@ impl Agent for Machine {
     ghost advanced = { λ program m n b. advanced program (machine_view m) (machine_view n) b };
 
     ghost answered = { λ program m n b w v st _. answered program (machine_view m) (machine_view n) b w v st };
+
+    ghost stays = { λ code m n v. stays_over code (machine_view m) (machine_view n) v };
 
     ghost started = { λ program seed m. started program seed (machine_view m) };
 }

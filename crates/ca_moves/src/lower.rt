@@ -4,6 +4,7 @@ ghost use Rattle.ca_term.specs.Program.{program_view};
 ghost use Rattle.ca_states.specs.Code.{code_view};
 ghost use Rattle.ca_states.specs.Valid.{is_valid};
 ghost use Rattle.ca_states.specs.ValidCode.{valid_code};
+ghost use Rattle.ca_lower.specs.Gos.{SameGos};
 ghost use Rattle.ca_lower.specs.Lowered.{Lowered};
 
 use crate::moves::moves;
@@ -19,6 +20,7 @@ use std::alloc::Global;
 fn laid_out(alloc: Global, program: &Program) -> Result<Code, OutOfMemory>
     ensures valid { IfOk result (λ c. is_valid (code_view c) ≡ true) }
     ensures lowered { IfOk result (λ c. Lowered (program_view program.now) (code_view c)) }
+    ensures gos { IfOk result (λ c. SameGos (program_view program.now) (code_view c)) }
 {
     // Its clause says that the program is a checked one.
     let _main = program.main();
@@ -28,6 +30,7 @@ fn laid_out(alloc: Global, program: &Program) -> Result<Code, OutOfMemory>
 /// The code of the program, as `lower` gives it, but that a value is moved where it is read for the last time.
 pub fn lower_moving(alloc: Global, program: &Program) -> Result<ValidCode, OutOfMemory>
     ensures lowered { IfOk result (λ c. Lowered (program_view program.now) (valid_code c)) }
+    ensures gos { IfOk result (λ c. SameGos (program_view program.now) (valid_code c)) }
 {
     match moves(alloc, laid_out(alloc, program)?)? {
         Some(code) => Ok(code),

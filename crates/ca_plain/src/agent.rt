@@ -74,7 +74,7 @@ impl<'p> Agent for PlainTask<'p> {
 
     ghost advances = { λ program t u. Advances (plain_view t) (plain_view u) };
 
-    ghost gives = { λ t v u. Gives (plain_view t) v (plain_view u) };
+    ghost gives = { λ t v u. Gives (plain_view t) v (plain_view u) × (IsBodyOf (program_view t.program.now) (kernel t.body.term) → IsBodyOf (program_view u.program.now) (kernel u.body.term)) };
 
     ghost starts = { λ program seed t. Starts program seed (plain_view t) };
 
@@ -102,7 +102,9 @@ impl<'p> Agent for PlainTask<'p> {
 
     ghost advanced = { λ program t u b. advanced program (plain_view t) (plain_view u) b };
 
-    ghost answered = { λ program t u b w v st _. answered program (plain_view t) (plain_view u) b w v st };
+    ghost answered = { λ program t u b w v st _ is g. answered program (plain_view t) (plain_view u) b w v st is g.0 };
+
+    ghost stays = { λ code t u v g. g.1 };
 
     ghost started = { λ program seed t. started program seed (plain_view t) };
 }

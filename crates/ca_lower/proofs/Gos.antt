@@ -1,0 +1,33 @@
+-- The code that is laid out for a program has the go bodies of the program alone.
+use Rattle.std.proofs.Common.{◌≡◌, ◌∙◌, ℕ, zero, suc, ◌<◌, List, [], ◌∷◌, length, get_or, refl, sym, ap, subst, arith, Result, Ok, Err, IfOk, nat_lt, ◌==◌}
+use Rattle.std.proofs.lemmas.Bool.{and_parts, eqb-true, ltb-true}
+use Rattle.ca_value.specs.declared.memory.OutOfMemory.{OutOfMemory}
+use Rattle.ca_term.specs.Program.{ProcedureView, ProgramView, arity}
+use Rattle.ca_meaning.specs.Started.{procedure_at}
+use Rattle.ca_states.specs.declared.code.Code.{Code}
+use Rattle.ca_states.specs.declared.runner.Start.TheVariants.{Go}
+use Rattle.ca_states.specs.Code.{code_view, no_entry}
+use Rattle.ca_states.specs.Standing.{IsStart}
+use Rattle.ca_lower.specs.Emit.{Builder, code_of, emit_text, emit_texts, entries, nothing_built}
+use Rattle.ca_lower.specs.Gos.{SameGos}
+use Rattle.ca_lower.proofs.Texts.{length_entries}
+
+values_at : (ts : List ProcedureView) (B : Builder) (n : ℕ) → n < length ts → (get_or (entries ts B) n no_entry).values ≡ arity (procedure_at ts n)
+values_at [] B n lt = absurd (omega (arith, lt))
+values_at (t ∷ ts) B zero lt = refl
+values_at (t ∷ ts) B (suc n) lt = values_at ts (emit_text t B) n (omega (arith, lt))
+
+one_of : (P : ProgramView) (n count : ℕ) → IsStart (code_of P) (Go n) count → (n < length P.bodies) × (count ≡ arity (procedure_at P.bodies n))
+one_of P n count start =
+    let F = emit_texts P.functions nothing_built in
+    let es = entries P.bodies F in
+    let both = and_parts (nat_lt n (length es)) ((get_or es n no_entry).values == count) start in
+    let there : n < length P.bodies = subst (λ (k : ℕ). n < k) (length_entries P.bodies F) (ltb-true n (length es) both.0) in
+    (there, sym (eqb-true (get_or es n no_entry).values count both.1) ∙ values_at P.bodies F n there)
+
+pub same_gos : (P : ProgramView) → SameGos P (code_of P)
+same_gos P = record { each = one_of P }
+
+pub made_gos : (P : ProgramView) (r : Result Code OutOfMemory) → IfOk r (λ c. code_view c ≡ code_of P) → IfOk r (λ c. SameGos P (code_view c))
+made_gos P (Ok c) e = subst (SameGos P) (sym e) (same_gos P)
+made_gos P (Err x) e = tt

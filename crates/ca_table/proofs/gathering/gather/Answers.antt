@@ -1,0 +1,52 @@
+use Rattle.std.proofs.Common.{◌∙◌, ◌++◌, length, sym, ap, subst, arith, Some}
+use Rattle.std.proofs.lemmas.List.Elements.{All-pop}
+use Rattle.std.specs.Prelude.{option_to_list}
+use Rattle.ca_term.specs.Program.{program_view}
+use Rattle.ca_states.specs.ValidCode.{valid_code}
+use Rattle.ca_journal.specs.Merge.{events_of, in_order}
+use Rattle.ca_meaning.specs.Legal.{Reaches}
+use Rattle.ca_turns.specs.Places.{total}
+use Rattle.ca_turns.proofs.Lists.{total-snoc}
+use Rattle.ca_table.specs.Workers.{IsReady, stands_for}
+use Rattle.ca_table.proofs.Gathers.{gathered}
+use Rattle.ca_table.proofs.Knowing.{reaches}
+use Rattle.ca_table.proofs.gathering.gather.Goals as goal
+
+pub join_all-hand-requires-clause-ready : goal.join_all-hand-requires-clause-ready
+join_all-hand-requires-clause-ready g c = let xs = c.args.workers.items in let ys = c.pop.new.self.items in let first = c.in-Some.first in let P = program_view c.args.program.now in let K = valid_code c.args.code.now in let n = length xs in
+    let popped = c.pop.ensures.items ∙ ap (λ o. ys ++ option_to_list o) c.in-Some.is in
+    let both = All-pop (IsReady g.A.Agent.over g.A.Agent.stands P K c.args.table.id n) xs ys (Some first) popped c.requires.ready in
+    (n, both.1, both.0)
+
+pub merge-requires : goal.merge-requires
+merge-requires g c = let xs = c.args.workers.items in let ys = c.pop.new.self.items in let first = c.in-Some.first in let P = program_view c.args.program.now in let K = valid_code c.args.code.now in let n = length xs in
+    let popped = c.pop.ensures.items ∙ ap (λ o. ys ++ option_to_list o) c.in-Some.is in
+    let both = All-pop (IsReady g.A.Agent.over g.A.Agent.stands P K c.args.table.id n) xs ys (Some first) popped c.requires.ready in
+    let j = c.join_all-hand.ensures n both.1 both.0 in j.ascends
+
+pub close-closed-requires-clause-table : goal.close-closed-requires-clause-table
+close-closed-requires-clause-table g c = let xs = c.args.workers.items in let ys = c.pop.new.self.items in let first = c.in-Some.first in let P = program_view c.args.program.now in let K = valid_code c.args.code.now in let n = length xs in
+    let popped = c.pop.ensures.items ∙ ap (λ o. ys ++ option_to_list o) c.in-Some.is in
+    let both = All-pop (IsReady g.A.Agent.over g.A.Agent.stands P K c.args.table.id n) xs ys (Some first) popped c.requires.ready in
+    let j = c.join_all-hand.ensures n both.1 both.0 in j.table
+
+pub close-closed-requires-clause-all : goal.close-closed-requires-clause-all
+close-closed-requires-clause-all g c = let xs = c.args.workers.items in let ys = c.pop.new.self.items in let first = c.in-Some.first in let P = program_view c.args.program.now in let K = valid_code c.args.code.now in let n = length xs in
+    let popped = c.pop.ensures.items ∙ ap (λ o. ys ++ option_to_list o) c.in-Some.is in
+    let both = All-pop (IsReady g.A.Agent.over g.A.Agent.stands P K c.args.table.id n) xs ys (Some first) popped c.requires.ready in
+    let j = c.join_all-hand.ensures n both.1 both.0 in let less = ap (total stands_for) popped ∙ total-snoc stands_for ys first in let all = c.requires.all in let count = j.counted in let hands = j.opened_for in omega (arith, less, all, count, hands)
+
+pub close-closed-requires-clause-nothing : goal.close-closed-requires-clause-nothing
+close-closed-requires-clause-nothing g c = let xs = c.args.workers.items in let ys = c.pop.new.self.items in let first = c.in-Some.first in let P = program_view c.args.program.now in let K = valid_code c.args.code.now in let n = length xs in
+    let popped = c.pop.ensures.items ∙ ap (λ o. ys ++ option_to_list o) c.in-Some.is in
+    let both = All-pop (IsReady g.A.Agent.over g.A.Agent.stands P K c.args.table.id n) xs ys (Some first) popped c.requires.ready in
+    let j = c.join_all-hand.ensures n both.1 both.0 in j.nothing
+
+pub returns : goal.returns
+returns g c = let xs = c.args.workers.items in let ys = c.pop.new.self.items in let first = c.in-Some.first in let P = program_view c.args.program.now in let K = valid_code c.args.code.now in let n = length xs in
+    let popped = c.pop.ensures.items ∙ ap (λ o. ys ++ option_to_list o) c.in-Some.is in
+    let both = All-pop (IsReady g.A.Agent.over g.A.Agent.stands P K c.args.table.id n) xs ys (Some first) popped c.requires.ready in
+    let j = c.join_all-hand.ensures n both.1 both.0 in let a = g.A.Agent in let m = g.met.A.Agent in let h = c.close-closed.ensures.history in let hand = c.join_all-hand.result in
+    let r = reaches a.over a.place a.stands a.advances a.gives a.starts m.advanced m.answered m.started P K n hand.view j.knows h.0 _ h.1 in
+    let same = c.in_ok-journal.ensures ∙ ap (λ es. events_of (in_order es)) j.notes ∙ gathered hand.view h.0 h.1.numbered h.2 in
+    record { run = (r.0, subst (λ es. Reaches P es r.0) (sym same) r.1, r.2) }

@@ -1,0 +1,48 @@
+use Rattle.std.proofs.Common.{◌≡◌, ◌∙◌, ℕ, ◌+◌, List, [], ◌∷◌, ◌++◌, length, refl, sym, ap, subst, arith, length-append, Some}
+use Rattle.std.proofs.lemmas.List.Elements.{All-pop}
+use Rattle.std.specs.Prelude.{option_to_list}
+use Rattle.ca_value.specs.declared.seq.Seq.{Seq}
+use Rattle.ca_term.specs.Program.{program_view}
+use Rattle.ca_states.specs.ValidCode.{valid_code}
+use Rattle.ca_journal.specs.declared.entry.Entry.{Entry}
+use Rattle.ca_turns.specs.Places.{total}
+use Rattle.ca_turns.proofs.Lists.{total-snoc}
+use Rattle.ca_table.specs.Workers.{IsJoined, IsReady, stands_for}
+use Rattle.ca_table.proofs.Joining.{alone, joins, no_total}
+use Rattle.ca_table.proofs.gathering.join_all.Goals as goal
+
+pub loop-other-init : goal.loop-other-init
+loop-other-init g c = let p = c.push_reserved.ensures in let room = c.requires.room in let first = c.args.first in let P = program_view c.args.program.now in let K = valid_code c.args.code.now in let id = c.args.table.now.id in (
+  (let a = p.len in let b = p.capacity in omega (arith, a, b, room)),
+  λ n r all. (stands_for first, subst (λ (ls : List (Seq Entry)). IsJoined {A = g.row.A.Denot} {C = g.row.C.Denot} g.A.Agent.over g.A.Agent.stands P K id n (stands_for first) first.hand ls) (sym (p.items ∙ ap (λ l. l ++ first.entries ∷ []) c.requires.none)) (alone g.A.Agent.over g.A.Agent.stands P K id n first r), all, refl),
+)
+
+pub join_hands-requires-clause-table : goal.join_hands-requires-clause-table
+join_hands-requires-clause-table g c = let q = c.requires.ready in let j = c.loop-other.invariant.1 q.0 q.1 q.2 in let other = c.in-Some.other in
+    let popped = c.pop.ensures.items ∙ ap (λ o. c.pop.new.self.items ++ option_to_list o) c.in-Some.is in
+    let both = All-pop (IsReady g.A.Agent.over g.A.Agent.stands (program_view c.args.program.now) (valid_code c.args.code.now) c.args.table.now.id q.0) c.loop-other.others.items c.pop.new.self.items (Some other) popped j.2 in (j.1.table, both.1.one.table)
+
+pub join_hands-requires-clause-nothing : goal.join_hands-requires-clause-nothing
+join_hands-requires-clause-nothing g c = let q = c.requires.ready in let j = c.loop-other.invariant.1 q.0 q.1 q.2 in let other = c.in-Some.other in
+    let popped = c.pop.ensures.items ∙ ap (λ o. c.pop.new.self.items ++ option_to_list o) c.in-Some.is in
+    let both = All-pop (IsReady g.A.Agent.over g.A.Agent.stands (program_view c.args.program.now) (valid_code c.args.code.now) c.args.table.now.id q.0) c.loop-other.others.items c.pop.new.self.items (Some other) popped j.2 in both.1.nothing
+
+pub loop-other-preserved : goal.loop-other-preserved
+loop-other-preserved g c = let i = c.loop-other.invariant in let other = c.in-Some.other in let xs = c.loop-other.others.items in let ys = c.pop.new.self.items in let P = program_view c.args.program.now in let K = valid_code c.args.code.now in let id = c.args.table.now.id in
+    let popped : xs ≡ ys ++ other ∷ [] = c.pop.ensures.items ∙ ap (λ o. ys ++ option_to_list o) c.in-Some.is in
+    let shorter : length xs ≡ length ys + 1 = ap length popped ∙ length-append ys (other ∷ []) in
+    let less : total stands_for xs ≡ total stands_for ys + stands_for other = ap (total stands_for) popped ∙ total-snoc stands_for ys other in
+    let p = c.push_reserved-in-Some.ensures in let h = c.join_hands.ensures in (
+      (let a = p.len in let b = p.capacity in let room = i.0 in omega (arith, a, b, room, shorter)),
+      λ n r all. let j = i.1 n r all in let both = All-pop (IsReady g.A.Agent.over g.A.Agent.stands P K id n) xs ys (Some other) popped j.2 in (
+        j.0 + stands_for other,
+        subst (λ (ls : List (Seq Entry)). IsJoined {A = g.row.A.Denot} {C = g.row.C.Denot} g.A.Agent.over g.A.Agent.stands P K id n (j.0 + stands_for other) c.join_hands.new.into ls) (sym p.items) (joins g.A.Agent.over g.A.Agent.stands P K id n j.0 c.loop-other.hand c.join_hands.new.into c.loop-other.lists.items other j.1 both.1 h.table h.parts h.view),
+        both.0,
+        (let sum = j.3 in omega (arith, less, sum)),
+      ),
+    )
+
+pub returns : goal.returns
+returns g c = λ n r all. let j = c.loop-other.invariant.1 n r all in
+    let zero = no_total (stands_for {A = g.row.A.Denot} {C = g.row.C.Denot}) c.loop-other.others.items (let none = c.in_default.ensures.cases.0 in let long = c.loop-other.others.ok.0 in omega (arith, none, long)) in
+    subst (λ (k : ℕ). IsJoined {A = g.row.A.Denot} {C = g.row.C.Denot} g.A.Agent.over g.A.Agent.stands (program_view c.args.program.now) (valid_code c.args.code.now) c.args.table.now.id n k c.loop-other.hand c.loop-other.lists.items) (let sum = j.3 in omega (arith, zero, sum)) j.1

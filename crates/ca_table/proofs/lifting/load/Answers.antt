@@ -1,0 +1,46 @@
+use Rattle.std.proofs.Common.{◌≡◌, ◌∙◌, ℕ, ◌+◌, ◌<◌, ◌≤◌, sym, ap, subst, arith}
+use Rattle.ca_commit.specs.Listings.{parts, spare}
+use Rattle.ca_commit.specs.declared.listing.Listing.{Listing}
+use Rattle.ca_table.specs.Homes.{has_home}
+use Rattle.ca_table.specs.Lifting.{first_of, lifted, with_all}
+use Rattle.ca_table.specs.Parts.{part_seen}
+use Rattle.ca_table.specs.declared.worker.Worker.{Worker}
+use Rattle.ca_table.proofs.HomeMembers.{own}
+use Rattle.ca_table.proofs.Loads.{IsLoading, none_loaded, not_wanted, one_loaded}
+use Rattle.ca_table.proofs.lifting.load.Goals as goal
+use Rattle.ca_table.proofs.lifting.load.Goals.{else-has, then-has}
+
+pub loop-number-init : goal.loop-number-init
+loop-number-init g c = let a = g.A.Agent in let K = g.C.Clock in (
+  (let r = c.requires.room in omega (arith, r)),
+  none_loaded a.over a.stands c.args.code.now c.args.table.now.id (part_seen K.least K.faults K.readings) g.T.Sixteen.group g.T.Sixteen.as_contents g.T.Numbered.number (has_home c.args.homes.now) c.args.worker.now (parts c.args.list.now) c.requires.empty c.requires.ascending,
+)
+
+pub load_one-requires-clause-carries : goal.load_one-requires-clause-carries
+load_one-requires-clause-carries g c = let K = g.C.Clock in let r = c.requires.carries in let l = c.loop-number.invariant.1 in
+    (r.0, r.1, with_all g.T.Sixteen.group (lifted r.1 c.args.code.now g.T.Sixteen.as_contents (part_seen K.least K.faults K.readings) g.T.Numbered.number (parts c.loop-number.list)) r.2, l.carries r.0 r.1 r.2 r.4 r.3)
+
+pub load_one-requires-clause-ascending : goal.load_one-requires-clause-ascending
+load_one-requires-clause-ascending g c = let l = c.loop-number.invariant.1 in λ i h. let lt = l.below i h in let e = ap (first_of g.T.Sixteen.group) l.same.workers in omega (arith, lt, e)
+
+pub loop-number-preserved : goal.loop-number-preserved
+loop-number-preserved g c = let a = g.A.Agent in let K = g.C.Clock in let seen = part_seen K.least K.faults K.readings in let code = c.args.code.now in let id = c.args.table.now.id in let group = g.T.Sixteen.group in let contents = g.T.Sixteen.as_contents in let number = g.T.Numbered.number in
+    let has = has_home c.args.homes.now in let w0 = c.args.worker.now in let w = c.loop-number.worker in let k = c.loop-number.number in let lt : k < 16 = omega (arith, c.loop-number-test.true) in
+    let known = sym (ap has (own k lt)) ∙ sym c.has.ensures in let l = c.loop-number.invariant in
+    elim c.if-has.branch [
+      | then-has b ↦ let q = b.load_one.ensures in let room = l.0 in let kept = q.room in (
+        subst (λ (ls : Listing g.row.T.Denot). 16 ≤ spare ls + (k + 1)) (sym b.list-is) (omega (arith, room, kept)),
+        subst (λ (v : Worker g.row.A.Denot g.row.C.Denot). IsLoading a.over a.stands code id seen group contents number has w0 v (parts c.if-has.list) (k + 1)) (sym b.worker-is)
+            (subst (λ (ls : Listing g.row.T.Denot). IsLoading a.over a.stands code id seen group contents number has w0 b.load_one.new.worker (parts ls) (k + 1)) (sym b.list-is)
+            (one_loaded a.over a.stands code id seen group contents number has w0 w (parts c.loop-number.list) k l.1 b.load_one.new.worker (parts b.load_one.new.list) q.list.0 (known ∙ b.if-has.true) q.same q.turns q.entries q.list.1 q.list.2 q.ascending q.carries)),
+      )
+      | else-has b ↦ let room = l.0 in (
+        subst (λ (ls : Listing g.row.T.Denot). 16 ≤ spare ls + (k + 1)) (sym b.list-is) (omega (arith, room)),
+        subst (λ (v : Worker g.row.A.Denot g.row.C.Denot). IsLoading a.over a.stands code id seen group contents number has w0 v (parts c.if-has.list) (k + 1)) (sym b.worker-is)
+            (subst (λ (ls : Listing g.row.T.Denot). IsLoading a.over a.stands code id seen group contents number has w0 w (parts ls) (k + 1)) (sym b.list-is)
+            (not_wanted a.over a.stands code id seen group contents number has w0 w (parts c.loop-number.list) k l.1 (known ∙ b.if-has.false))),
+      )
+    ]
+
+pub returns-clause-ascending : goal.returns-clause-ascending
+returns-clause-ascending g c = let e : c.loop-number.number ≡ 16 = omega (arith, c.loop-number-test.false, c.loop-number.auto.number-end) in λ i h. let lt = c.loop-number.invariant.1.below i h in omega (arith, e, lt)

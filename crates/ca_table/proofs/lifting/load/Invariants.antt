@@ -1,0 +1,10 @@
+use Rattle.std.proofs.Common.{◌+◌, ◌≤◌}
+use Rattle.ca_commit.specs.Listings.{parts, spare}
+use Rattle.ca_table.specs.Homes.{has_home}
+use Rattle.ca_table.specs.Parts.{part_seen}
+use Rattle.ca_table.proofs.Loads.{IsLoading}
+use Rattle.ca_table.proofs.lifting.load.Given as goal
+
+abbrev pub invariant-loop-number : goal.invariant-loop-number
+invariant-loop-number g l = (16 ≤ spare l.list + l.number)
+    × IsLoading g.A.Agent.over g.A.Agent.stands l.code l.table.id (part_seen g.C.Clock.least g.C.Clock.faults g.C.Clock.readings) g.T.Sixteen.group g.T.Sixteen.as_contents g.T.Numbered.number (has_home l.homes) l.fn.worker l.worker (parts l.list) l.number

@@ -1,0 +1,9 @@
+use Rattle.std.proofs.Common.{◌∙◌, ap}
+use Rattle.ca_table.specs.Draws.{turn_view}
+use Rattle.ca_table.specs.Homes.{members}
+use Rattle.ca_table.proofs.HomeMembers.{no_members}
+use Rattle.ca_table.proofs.silent.silent.Goals as goal
+
+pub returns-clause-view : goal.returns-clause-view
+returns-clause-view g c = let none = no_members c.none-none.result c.none-none.ensures in
+    λ t. record { worker = c.args.worker.now.number; workers = c.args.worker.now.workers; what = turn_view c.args.what; ports = (ap members c.of.ensures ∙ none) t; looked = (ap members c.of-2.ensures ∙ none) t }

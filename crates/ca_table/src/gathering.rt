@@ -1,0 +1,100 @@
+// The end of a run: all hands are joined into one, and the table closes.
+ghost use Rattle.std.specs.Prelude.{◌≡◌, ℕ, ◌+◌, ◌<◌, [], All, length, map, IfOk};
+ghost use Rattle.std.specs.Vec.{vec_len, vec_capacity};
+ghost use Rattle.ca_term.specs.Program.{program_view};
+ghost use Rattle.ca_meaning.specs.Legal.{Reaches};
+ghost use Rattle.ca_meaning.specs.State.{State};
+ghost use Rattle.ca_states.specs.ValidCode.{valid_code};
+ghost use Rattle.ca_journal.specs.Events.{events};
+ghost use Rattle.ca_turns.specs.Places.{total};
+ghost use Rattle.ca_turns.specs.Views.{stands};
+ghost use Rattle.ca_table.specs.OneCode.{stands_over};
+ghost use Rattle.ca_table.specs.Parts.{part_seen};
+ghost use Rattle.ca_table.specs.Running.{TableStands};
+ghost use Rattle.ca_table.specs.Workers.{IsJoined, IsReady, stands_for};
+
+use crate::part::Part;
+use crate::pool::Pool;
+use crate::worker::Worker;
+use ca_agent::agent::Agent;
+use ca_journal::entry::{Entries, Journal};
+use ca_journal::merge::merge;
+use ca_states::valid_code::ValidCode;
+use ca_term::program::Program;
+use ca_timers::clock::Clock;
+use ca_turns::{Hand, Table};
+use ca_value::memory::OutOfMemory;
+use std::alloc::Global;
+
+/// What a run was: the events that its workers drew and the journal shows, in order, and the parts as they left them.
+#[derive(Drop)]
+pub struct Gathered<A, C> {
+    pub journal: Journal,
+    pub parts: Vec<Part<A, C>>,
+}
+
+// Joins the hands of the other workers into this one's, and lists what they all noted.
+fn join_all<A: Agent, C: Clock + Drop>(
+    table: &Table<Pool<A, C>>,
+    first: Worker<A, C>,
+    mut others: Vec<Worker<A, C>>,
+    lists: &mut Vec<Entries>,
+    program: &Program,
+    code: &ValidCode,
+) -> Hand<Pool<A, C>>
+    requires room { vec_len lists.old + length others.items < vec_capacity lists.old }
+    requires none { lists.old.items ≡ [] }
+    requires ready { (n : ℕ) × IsReady A.over A.stands (program_view program.now) (valid_code code.now) table.now.id n first × All (IsReady A.over A.stands (program_view program.now) (valid_code code.now) table.now.id n) others.items }
+    ensures { (n : ℕ) → IsReady A.over A.stands (program_view program.now) (valid_code code.now) table.now.id n first → All (IsReady A.over A.stands (program_view program.now) (valid_code code.now) table.now.id n) others.items → IsJoined A.over A.stands (program_view program.now) (valid_code code.now) table.now.id n (stands_for first + total stands_for others.items) result lists.new.items }
+{
+    let Worker {
+        number: _,
+        workers: _,
+        program: _,
+        code: _,
+        mut hand,
+        entries,
+    } = first;
+    lists.push_reserved(entries);
+    while let Some(other) = others.pop() {
+        let Worker {
+            number: _,
+            workers: _,
+            program: _,
+            code: _,
+            hand: other_hand,
+            entries: more,
+        } = other;
+        table.join_hands(&mut hand, other_hand);
+        lists.push_reserved(more);
+    }
+    hand
+}
+
+/// Closes the table of these workers, who are all that it was opened with and hold nothing. The journal is what they
+/// drew, in order of number: it is a run of the program, and the parts stand for the state that it leads to,
+/// with each agent over the code.
+pub fn gather<A: Agent, C: Clock + Drop>(
+    alloc: Global,
+    table: Table<Pool<A, C>>,
+    mut workers: Vec<Worker<A, C>>,
+    program: &Program,
+    code: &ValidCode,
+) -> Result<Gathered<A, C>, OutOfMemory>
+    requires ready { All (IsReady A.over A.stands (program_view program.now) (valid_code code.now) table.id (length workers.items)) workers.items }
+    requires all { total stands_for workers.items ≡ length workers.items }
+    requires some { 0 < length workers.items }
+    ensures run { IfOk result (λ g. (s : State) × Reaches (program_view program.now) (events g.journal) s × TableStands A.place (stands_over A.over (valid_code code.now) A.stands) (program_view program.now) (length workers.items) (map (part_seen C.least C.faults C.readings) g.parts.items) s) }
+{
+    let mut lists = Vec::with_capacity(alloc, workers.len())?;
+    let Some(first) = workers.pop() else {
+        unreachable!()
+    };
+    let hand = join_all(&table, first, workers, &mut lists, program, code);
+    let journal = merge(alloc, lists)?;
+    let closed = table.close(hand);
+    Ok(Gathered {
+        journal,
+        parts: closed.parts,
+    })
+}

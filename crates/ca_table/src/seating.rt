@@ -1,0 +1,58 @@
+// A worker takes its lane, and gives it back.
+ghost use Rattle.std.specs.Prelude.{ℕ};
+ghost use Rattle.ca_term.specs.Program.{ProgramView};
+ghost use Rattle.ca_states.specs.ValidCode.{valid_code};
+ghost use Rattle.ca_table.specs.Workers.{IsReady, IsSeated};
+
+use crate::holding::{hold_out, part_with};
+use crate::moving::{give, take_part};
+use crate::part::{Contents, Lane};
+use crate::pool::Pool;
+use crate::worker::Worker;
+use ca_agent::agent::Agent;
+use ca_states::valid_code::ValidCode;
+use ca_timers::clock::Clock;
+use ca_turns::Table;
+use std::sync::Wait;
+
+/// The worker's own lane, which stays with it until it rises.
+pub(crate) fn sit<R: Wait, A: Agent, C: Clock + Drop>(
+    rt: &R,
+    table: &Table<Pool<A, C>>,
+    code: &ValidCode,
+    worker: &mut Worker<A, C>,
+) -> Box<Lane<A>>
+    requires ready { (program : ProgramView) × (n : ℕ) × IsReady A.over A.stands program (valid_code code.now) table.now.id n worker.old }
+    ensures { (program : ProgramView) (n : ℕ) → IsReady A.over A.stands program (valid_code code.now) table.now.id n worker.old → IsSeated A.over A.stands program code.now table.now.id n worker.new result.value }
+{
+    let number = worker.number;
+    let workers = worker.workers;
+    match hold_out(
+        rt,
+        table,
+        &mut worker.hand,
+        &worker.program,
+        code,
+        workers,
+        number,
+    ) {
+        Contents::Lane(lane) => lane,
+        _ => unreachable!(),
+    }
+}
+
+/// Gives the lane back, as it was last drawn.
+pub(crate) fn rise<A: Agent, C: Clock + Drop>(
+    table: &Table<Pool<A, C>>,
+    code: &ValidCode,
+    worker: &mut Worker<A, C>,
+    lane: Box<Lane<A>>,
+)
+    requires seated { (program : ProgramView) × (n : ℕ) × IsSeated A.over A.stands program code.now table.now.id n worker.old lane.value }
+    ensures { (program : ProgramView) (n : ℕ) → IsSeated A.over A.stands program code.now table.now.id n worker.old lane.value → IsReady A.over A.stands program (valid_code code.now) table.now.id n worker.new }
+{
+    let part = part_with(code, worker.workers, Contents::Lane(lane));
+    let number = worker.number;
+    let _away = take_part::<Pool<A, C>>(&mut worker.hand, number, part);
+    give(table, &mut worker.hand, number);
+}
