@@ -42,13 +42,13 @@ module _ {A : Type 0} (over : CodeView → A → Type 0) (place : A → At) (sta
   abbrev both : ProgramView → A → TaskBody → Type 0
   both = stands_over over code stands
 
-  opening_is : TableStands place both program n v.opening (opening_state k.body)
+  pub opening_is : TableStands place both program n v.opening (opening_state k.body)
   opening_is = subst (λ (cs : List (PartSeen A)). TableStands place both program n cs (opening_state k.body)) (sym k.opening)
       (subst (λ (f : ℕ → Option (Content (TaskAgent A))). RunStands place both program n f (opening_state k.body)) (sym (opens n code k.texts k.main (unasked k.least k.faults k.readings) k.some))
       (subst (λ (p : ProgramView). RunStands place both program n (Rattle.ca_commit.specs.Opening.opening_parts n p k.main (unasked k.least k.faults k.readings)) (opening_state k.body)) (sym k.is_program)
       (opening_stands place both n program k.main k.body (unasked k.least k.faults k.readings) k.some (k.stands_for, k.is_over) refl refl)))
 
-  opening_codes : HaveCode code v.opening
+  pub opening_codes : HaveCode code v.opening
   opening_codes = subst (HaveCode code) (sym k.opening) (opening_has code n k.texts k.main (unasked k.least k.faults k.readings))
 
   -- all parts that it sees have the code

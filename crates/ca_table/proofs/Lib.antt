@@ -9,6 +9,10 @@ pub mod Ordering
 pub mod Gathers
 pub mod Joining
 pub mod Enlisting
+pub mod Having
+pub mod Spending
+pub mod Marks
+pub mod Endings
 pub mod Gripping
 pub mod Whole
 pub mod HomeMembers

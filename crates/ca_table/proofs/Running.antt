@@ -40,13 +40,13 @@ module _ {A : Type 0} where
   abbrev as_content : core.Option (PartSeen A) → Option (Content (TaskAgent A))
   as_content o = option_map content_of (as_option o)
 
-  reads_at : (now : List (PartSeen A)) (is : List ℕ) (cs : List (PartSeen A)) → Reads now is cs → AreAt (contents_at now) is (map content_of cs)
+  pub reads_at : (now : List (PartSeen A)) (is : List ℕ) (cs : List (PartSeen A)) → Reads now is cs → AreAt (contents_at now) is (map content_of cs)
   reads_at now [] [] r = tt
   reads_at now [] (c ∷ cs) r = r
   reads_at now (i ∷ is) [] r = r
   reads_at now (i ∷ is) (c ∷ cs) r = (ap as_content r.0, reads_at now is cs r.1)
 
-  in_places : (now : List (PartSeen A)) (is : List ℕ) (cs : List (PartSeen A)) → Reads now is cs → AllIn (λ i. i < length now) is
+  pub in_places : (now : List (PartSeen A)) (is : List ℕ) (cs : List (PartSeen A)) → Reads now is cs → AllIn (λ i. i < length now) is
   in_places now [] cs r = tt
   in_places now (i ∷ is) [] r = absurd r
   in_places now (i ∷ is) (c ∷ cs) r = (in_range now i c r.0, in_places now is cs r.1)
@@ -59,7 +59,7 @@ module _ {A : Type 0} where
     by true e rest = absurd (h.0 (sym (eqb-true j i e)))
     by false e rest = rest
 
-  written_at : (now : List (PartSeen A)) (is : List ℕ) (cs : List (PartSeen A)) → AllIn (λ i. i < length now) is → IsDistinct is → (k : ℕ) → contents_at (write now is cs) k ≡ written (contents_at now) is (map content_of cs) k
+  pub written_at : (now : List (PartSeen A)) (is : List ℕ) (cs : List (PartSeen A)) → AllIn (λ i. i < length now) is → IsDistinct is → (k : ℕ) → contents_at (write now is cs) k ≡ written (contents_at now) is (map content_of cs) k
   written_at now [] cs r d k = refl
   written_at now (i ∷ is) [] r d k = refl
   written_at now (i ∷ is) (c ∷ cs) r d k = written_at (set now i c) is cs (all_in (λ j. j < length now) (λ j. j < length (set now i c)) (λ j lt. subst (λ (m : ℕ). j < m) (sym (length_set now i c)) lt) is r.1) d.1 k ∙ by (eqb i k) refl where
@@ -69,7 +69,7 @@ module _ {A : Type 0} where
         ∙ ap as_content (subst (λ (j : ℕ). get_elem? (set now i c) j ≡ core.some c) same (set_here now i c r.0))
     by false e = ap (λ o. or_was (pick is (map content_of cs) k) (as_content o)) (set_else now i k c (λ is. eqb-false i k e (sym is)))
 
-steps_after : (program : ProgramView) (es fs : List EventView) (s s2 s3 : State) → Steps program s es s2 → Steps program s2 fs s3 → Steps program s (es ++ fs) s3
+pub steps_after : (program : ProgramView) (es fs : List EventView) (s s2 s3 : State) → Steps program s es s2 → Steps program s2 fs s3 → Steps program s (es ++ fs) s3
 steps_after program [] fs s s2 s3 a b = subst (λ (z : State). Steps program z fs s3) a b
 steps_after program (e ∷ es) fs s s2 s3 a b = (a.0, a.1, steps_after program es fs a.0 s2 s3 a.2 b)
 
@@ -83,7 +83,7 @@ module _ {A : Type 0} (over : CodeView → A → Type 0) (place : A → At) (sta
   Stand = TableStands place (stands_over over code stands) program n
 
   -- a turn of the table is a step of the run
-  turn_leads : (now : List (PartSeen A)) (s : State) (t : Turn (PartSeen A) Drawn) → HaveCode code now → Stand now s → Goes drawn_touches moves now t
+  pub turn_leads : (now : List (PartSeen A)) (s : State) (t : Turn (PartSeen A) Drawn) → HaveCode code now → Stand now s → Goes drawn_touches moves now t
       → (s2 : State) × Steps program s (visible (turn_view t.event.what)) s2 × Stand (write now (drawn_touches t.event) t.after) s2
   turn_leads now s t have run g =
       let z = locality place (stands_over over code stands) (advances_over over code advances) (gives_over over code gives) (starts_over over code starts)

@@ -10,6 +10,7 @@ pub mod Opening
 pub mod Running
 pub mod Members
 pub mod Workers
+pub mod Worked
 pub mod Carriers
 pub mod Lifting
 pub mod Sound

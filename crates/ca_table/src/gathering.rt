@@ -1,17 +1,22 @@
 // The end of a run: all hands are joined into one, and the table closes.
-ghost use Rattle.std.specs.Prelude.{◌≡◌, ℕ, ◌+◌, ◌<◌, [], All, length, map, IfOk};
+ghost use Rattle.std.specs.Prelude.{◌≡◌, ℕ, ◌+◌, ◌<◌, ◌||◌, [], All, Bool, true, false, length, map, IfOk};
 ghost use Rattle.std.specs.Vec.{vec_len, vec_capacity};
 ghost use Rattle.ca_term.specs.Program.{program_view};
+ghost use Rattle.ca_meaning.specs.Cost.{cost};
+ghost use Rattle.ca_meaning.specs.EndsLaw.{IsQuiet};
 ghost use Rattle.ca_meaning.specs.Legal.{Reaches};
 ghost use Rattle.ca_meaning.specs.State.{State};
 ghost use Rattle.ca_states.specs.ValidCode.{valid_code};
 ghost use Rattle.ca_journal.specs.Events.{events};
+ghost use Rattle.ca_journal.specs.Merge.{entries, events_of, joined};
 ghost use Rattle.ca_turns.specs.Places.{total};
 ghost use Rattle.ca_turns.specs.Views.{stands};
+ghost use Rattle.ca_commit.specs.Touched.{Turn};
 ghost use Rattle.ca_table.specs.OneCode.{stands_over};
 ghost use Rattle.ca_table.specs.Parts.{part_seen};
 ghost use Rattle.ca_table.specs.Running.{TableStands};
 ghost use Rattle.ca_table.specs.Workers.{IsJoined, IsReady, stands_for};
+ghost use Rattle.ca_table.specs.Worked.{HasMainEnd, any_drew, ends_main, gives_up, has, has_drawn, obeys_mark, spent, stays_stuck};
 
 use crate::part::Part;
 use crate::pool::Pool;
@@ -45,7 +50,9 @@ fn join_all<A: Agent, C: Clock + Drop>(
     requires room { vec_len lists.old + length others.items < vec_capacity lists.old }
     requires none { lists.old.items ≡ [] }
     requires ready { (n : ℕ) × IsReady A.over A.stands (program_view program.now) (valid_code code.now) table.now.id n first × All (IsReady A.over A.stands (program_view program.now) (valid_code code.now) table.now.id n) others.items }
-    ensures { (n : ℕ) → IsReady A.over A.stands (program_view program.now) (valid_code code.now) table.now.id n first → All (IsReady A.over A.stands (program_view program.now) (valid_code code.now) table.now.id n) others.items → IsJoined A.over A.stands (program_view program.now) (valid_code code.now) table.now.id n (stands_for first + total stands_for others.items) result lists.new.items }
+    ensures joined { (n : ℕ) → IsReady A.over A.stands (program_view program.now) (valid_code code.now) table.now.id n first → All (IsReady A.over A.stands (program_view program.now) (valid_code code.now) table.now.id n) others.items → IsJoined A.over A.stands (program_view program.now) (valid_code code.now) table.now.id n (stands_for first + total stands_for others.items) result lists.new.items }
+    ensures turns { (such : Turn → Bool) → has such result.view.turns ≡ (has_drawn such first || any_drew such others.items) }
+    ensures spent { cost (events_of (joined (map entries lists.new.items))) ≡ spent first + total spent others.items }
 {
     let Worker {
         number: _,
@@ -54,6 +61,7 @@ fn join_all<A: Agent, C: Clock + Drop>(
         code: _,
         mut hand,
         entries,
+        answer: _,
     } = first;
     lists.push_reserved(entries);
     while let Some(other) = others.pop() {
@@ -64,6 +72,7 @@ fn join_all<A: Agent, C: Clock + Drop>(
             code: _,
             hand: other_hand,
             entries: more,
+            answer: _,
         } = other;
         table.join_hands(&mut hand, other_hand);
         lists.push_reserved(more);
@@ -73,7 +82,8 @@ fn join_all<A: Agent, C: Clock + Drop>(
 
 /// Closes the table of these workers, who are all that it was opened with and hold nothing. The journal is what they
 /// drew, in order of number: it is a run of the program, and the parts stand for the state that it leads to,
-/// with each agent over the code.
+/// with each agent over the code. That state is quiet where some worker found that nothing can go on. Where one obeyed
+/// a mark and none gave up, the main text has ended.
 pub fn gather<A: Agent, C: Clock + Drop>(
     alloc: Global,
     table: Table<Pool<A, C>>,
@@ -84,7 +94,10 @@ pub fn gather<A: Agent, C: Clock + Drop>(
     requires ready { All (IsReady A.over A.stands (program_view program.now) (valid_code code.now) table.id (length workers.items)) workers.items }
     requires all { total stands_for workers.items ≡ length workers.items }
     requires some { 0 < length workers.items }
-    ensures run { IfOk result (λ g. (s : State) × Reaches (program_view program.now) (events g.journal) s × TableStands A.place (stands_over A.over (valid_code code.now) A.stands) (program_view program.now) (length workers.items) (map (part_seen C.least C.faults C.readings) g.parts.items) s) }
+    ensures run { IfOk result (λ g. (s : State) × Reaches (program_view program.now) (events g.journal) s × TableStands A.place (stands_over A.over (valid_code code.now) A.stands) (program_view program.now) (length workers.items) (map (part_seen C.least C.faults C.readings) g.parts.items) s × (any_drew stays_stuck workers.items ≡ true → IsQuiet s)) }
+    ensures main { IfOk result (λ g. any_drew ends_main workers.items ≡ true → HasMainEnd (events g.journal)) }
+    ensures marked { IfOk result (λ g. any_drew gives_up workers.items ≡ false → any_drew obeys_mark workers.items ≡ true → HasMainEnd (events g.journal)) }
+    ensures spent { IfOk result (λ g. cost (events g.journal) ≡ total spent workers.items) }
 {
     let mut lists = Vec::with_capacity(alloc, workers.len())?;
     let Some(first) = workers.pop() else {

@@ -36,7 +36,7 @@ use ca_turns::Table;
 use std::sync::Wait;
 
 /// Holds a part above all that the worker holds, once it is free, and moves it out of the hand.
-pub(crate) fn hold_at<R: Wait, A: Agent, C: Clock + Drop>(
+pub fn hold_at<R: Wait, A: Agent, C: Clock + Drop>(
     rt: &R,
     table: &Table<Pool<A, C>>,
     code: &ValidCode,
@@ -65,7 +65,7 @@ pub(crate) fn hold_at<R: Wait, A: Agent, C: Clock + Drop>(
 }
 
 /// The tasks of a ready part, held above all that the worker holds.
-pub(crate) fn hold_ready<R: Wait, A: Agent, C: Clock + Drop>(
+pub fn hold_ready<R: Wait, A: Agent, C: Clock + Drop>(
     rt: &R,
     table: &Table<Pool<A, C>>,
     code: &ValidCode,
@@ -88,7 +88,7 @@ pub(crate) fn hold_ready<R: Wait, A: Agent, C: Clock + Drop>(
 }
 
 /// Puts a part back into the hand, as it is now.
-pub(crate) fn put_at<A: Agent, C: Clock + Drop>(
+pub fn put_at<A: Agent, C: Clock + Drop>(
     code: &ValidCode,
     worker: &mut Worker<A, C>,
     at: u64,
@@ -105,7 +105,7 @@ pub(crate) fn put_at<A: Agent, C: Clock + Drop>(
 }
 
 /// Moves a part out of the hand again.
-pub(crate) fn take_at<A: Agent, C: Clock + Drop>(
+pub fn take_at<A: Agent, C: Clock + Drop>(
     code: &ValidCode,
     worker: &mut Worker<A, C>,
     at: u64,
@@ -123,7 +123,7 @@ pub(crate) fn take_at<A: Agent, C: Clock + Drop>(
 }
 
 /// The worker's own lane, moved out of the hand again.
-pub(crate) fn take_lane<A: Agent, C: Clock + Drop>(
+pub fn take_lane<A: Agent, C: Clock + Drop>(
     code: &ValidCode,
     worker: &mut Worker<A, C>,
 ) -> Box<Lane<A>>
@@ -141,7 +141,7 @@ pub(crate) fn take_lane<A: Agent, C: Clock + Drop>(
 }
 
 /// Gives back a part that is settled.
-pub(crate) fn give_at<A: Agent, C: Clock + Drop>(
+pub fn give_at<A: Agent, C: Clock + Drop>(
     table: &Table<Pool<A, C>>,
     worker: &mut Worker<A, C>,
     at: u64,
@@ -156,7 +156,7 @@ pub(crate) fn give_at<A: Agent, C: Clock + Drop>(
 }
 
 /// Draws the event, whose parts the worker carries as the event leaves them, and no other.
-pub(crate) fn draw_carried<A: Agent, C: Clock + Drop>(
+pub fn draw_carried<A: Agent, C: Clock + Drop>(
     table: &Table<Pool<A, C>>,
     worker: &mut Worker<A, C>,
     drawn: Drawn,

@@ -27,7 +27,7 @@ use std::snapshot::Snapshot;
 use std::sync::Wait;
 
 /// A part of a run of so many workers over that code.
-pub(crate) fn part_with<A: Agent, C: Clock + Drop>(
+pub fn part_with<A: Agent, C: Clock + Drop>(
     code: &ValidCode,
     workers: u64,
     contents: Contents<A, C>,
@@ -42,7 +42,7 @@ pub(crate) fn part_with<A: Agent, C: Clock + Drop>(
 }
 
 /// Holds a part once it is free, and moves what it is out of the hand.
-pub(crate) fn hold_out<R: Wait, A: Agent, C: Clock + Drop>(
+pub fn hold_out<R: Wait, A: Agent, C: Clock + Drop>(
     rt: &R,
     table: &Table<Pool<A, C>>,
     hand: &mut Hand<Pool<A, C>>,

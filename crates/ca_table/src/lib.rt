@@ -1,4 +1,4 @@
-//! The workers of a run: the table that they share, how it is opened, and what they drew once it closes.
+//! The table of a run: its parts, how it is opened, what a worker holds and draws, and what was drawn once it closes.
 //!
 //! The one model: the parts of a run are those of `ca_commit`'s definitions, in a table of `ca_turns`, and what is drawn
 //! on it is one of `ca_commit`'s events, with `ca_commit`'s moves as the table's condition. So whatever any number of
@@ -12,19 +12,20 @@
 //! the events that no journal shows; `laws`, what it may draw.
 #![tactic(auto)]
 
+pub mod answer;
 pub mod drawn;
 pub mod gathering;
-mod handling;
+pub mod handling;
 mod holding;
 pub mod homes;
 pub mod laws;
-mod lifting;
+pub mod lifting;
 mod moving;
-mod noting;
+pub mod noting;
 pub mod opening;
 pub mod part;
 pub mod pool;
-mod seating;
-mod silent;
-mod waiting;
+pub mod seating;
+pub mod silent;
+pub mod waiting;
 pub mod worker;

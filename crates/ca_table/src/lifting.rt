@@ -33,7 +33,7 @@ use std::sync::Wait;
 const ALL: u64 = 16;
 
 /// Parts of one kind, of which there are sixteen.
-pub(crate) trait Sixteen<A, C>: Numbered {
+pub trait Sixteen<A, C>: Numbered {
     ghost use Rattle.ca_table.specs.Lifting.{Row};
     ghost use Rattle.ca_table.specs.declared.part.Contents.{Contents};
 
@@ -118,7 +118,7 @@ impl<A: Agent, C: Clock + Drop> Sixteen<A, C> for HeldShard<A> {
 }
 
 /// Holds the part of that number, above all that the worker holds, once it is free, and moves it out into the list.
-pub(crate) fn load_one<R: Wait, A: Agent, C: Clock + Drop, T: Sixteen<A, C>>(
+pub fn load_one<R: Wait, A: Agent, C: Clock + Drop, T: Sixteen<A, C>>(
     rt: &R,
     table: &Table<Pool<A, C>>,
     code: &ValidCode,
@@ -148,7 +148,7 @@ pub(crate) fn load_one<R: Wait, A: Agent, C: Clock + Drop, T: Sixteen<A, C>>(
 }
 
 /// Holds these banks or shards, one after another as they are free, and moves them out into the list.
-pub(crate) fn load<R: Wait, A: Agent, C: Clock + Drop, T: Sixteen<A, C>>(
+pub fn load<R: Wait, A: Agent, C: Clock + Drop, T: Sixteen<A, C>>(
     rt: &R,
     table: &Table<Pool<A, C>>,
     code: &ValidCode,
@@ -176,7 +176,7 @@ pub(crate) fn load<R: Wait, A: Agent, C: Clock + Drop, T: Sixteen<A, C>>(
 }
 
 /// Puts the parts of the list back into the hand as they are now, and tells which they are.
-pub(crate) fn unload<A: Agent, C: Clock + Drop, T: Sixteen<A, C>>(
+pub fn unload<A: Agent, C: Clock + Drop, T: Sixteen<A, C>>(
     code: &ValidCode,
     worker: &mut Worker<A, C>,
     list: &mut Listing<T>,
@@ -200,7 +200,7 @@ pub(crate) fn unload<A: Agent, C: Clock + Drop, T: Sixteen<A, C>>(
 }
 
 /// Gives these banks or shards back, all settled as they are. They begin at that number.
-pub(crate) fn give_all<A: Agent, C: Clock + Drop>(
+pub fn give_all<A: Agent, C: Clock + Drop>(
     table: &Table<Pool<A, C>>,
     worker: &mut Worker<A, C>,
     first: u64,

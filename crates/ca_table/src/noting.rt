@@ -27,7 +27,7 @@ use ca_value::memory::OutOfMemory;
 const MOST_TURNS: u64 = 576_460_752_303_423_488;
 
 /// Makes room for one more entry, and changes nothing else.
-pub(crate) fn make_room<A: Agent, C: Clock + Drop>(
+pub fn make_room<A: Agent, C: Clock + Drop>(
     worker: &mut Worker<A, C>,
 ) -> Result<(), OutOfMemory>
     ensures room { OnOk result (0 < spare worker.new.entries) }
@@ -40,7 +40,7 @@ pub(crate) fn make_room<A: Agent, C: Clock + Drop>(
 }
 
 /// Whether the worker's list of events has a place for one more.
-pub(crate) fn can_draw<A: Agent, C: Clock + Drop>(worker: &Worker<A, C>) -> bool
+pub fn can_draw<A: Agent, C: Clock + Drop>(worker: &Worker<A, C>) -> bool
     ensures { result ≡ true → length worker.now.hand.view.turns < 2 ^ 59 }
 {
     worker.hand.drawn() < MOST_TURNS
@@ -58,7 +58,7 @@ fn note(into: &mut Entries, number: u64, what: Turned)
 }
 
 /// Draws the event, whose parts the worker holds as the event leaves them, and notes it where the journal shows it.
-pub(crate) fn draw_event<A: Agent, C: Clock + Drop>(
+pub fn draw_event<A: Agent, C: Clock + Drop>(
     table: &Table<Pool<A, C>>,
     worker: &mut Worker<A, C>,
     drawn: Drawn,

@@ -11,10 +11,12 @@ ghost use Rattle.ca_table.specs.Opening.{empty_bank, empty_shard, idle_lane, mai
 ghost use Rattle.ca_table.specs.Parts.{part_seen};
 ghost use Rattle.ca_table.specs.Seen.{PartSeen, seen_timers};
 ghost use Rattle.ca_table.specs.Workers.{IsNew, IsOpenedWith, IsReady, stands_for};
+ghost use Rattle.ca_table.specs.Worked.{HasDrawnNothing};
 
 use crate::part::{Clockwork, Contents, Counts, Lane, Mark, Part};
 use crate::pool::Pool;
 use crate::worker::Worker;
+use crate::answer::WorkEnd;
 use ca_agent::agent::Agent;
 use ca_bank::bank::Bank;
 use ca_bank::shard::Shard;
@@ -211,7 +213,7 @@ fn push_readys<A: Agent, C: Clock + Drop>(
 }
 
 /// The parts of a run of 1 or more workers, with the main text as the one task that can run.
-pub(crate) fn opening_parts<A: Agent, C: Clock + Drop>(
+pub fn opening_parts<A: Agent, C: Clock + Drop>(
     alloc: Global,
     program: &Program,
     code: &ValidCode,
@@ -251,6 +253,7 @@ pub fn open_pool<A: Agent, C: Clock + Drop>(
     ensures workers { IfOk result (λ t. length t.1.items ≡ workers) }
     ensures ready { IfOk result (λ t. All (IsReady A.over A.stands (program_view program.now) (valid_code code.now) t.0.id workers) t.1.items) }
     ensures all { IfOk result (λ t. total stands_for t.1.items ≡ workers) }
+    ensures idle { IfOk result (λ t. All HasDrawnNothing t.1.items) }
     ensures opening { IfOk result (λ t. All (IsOpenedWith (opening_list workers (valid_code code.now) program.now main (unasked (C.least clock) (C.faults clock) (C.readings clock)))) t.1.items) }
 {
     let parts = opening_parts(alloc, program, code, main, workers, clock)?;
@@ -282,6 +285,7 @@ fn enlist<A: Agent, C: Clock + Drop>(
             code: Snapshot::of(code),
             hand,
             entries: Entries::new(alloc),
+            answer: Ok(WorkEnd::Spent),
         })?;
     }
     Ok(all)

@@ -16,7 +16,7 @@ use ca_turns::Table;
 use std::sync::Wait;
 
 /// The worker's own lane, which stays with it until it rises.
-pub(crate) fn sit<R: Wait, A: Agent, C: Clock + Drop>(
+pub fn sit<R: Wait, A: Agent, C: Clock + Drop>(
     rt: &R,
     table: &Table<Pool<A, C>>,
     code: &ValidCode,
@@ -42,7 +42,7 @@ pub(crate) fn sit<R: Wait, A: Agent, C: Clock + Drop>(
 }
 
 /// Gives the lane back, as it was last drawn.
-pub(crate) fn rise<A: Agent, C: Clock + Drop>(
+pub fn rise<A: Agent, C: Clock + Drop>(
     table: &Table<Pool<A, C>>,
     code: &ValidCode,
     worker: &mut Worker<A, C>,

@@ -34,7 +34,7 @@ use std::snapshot::Snapshot;
 use std::sync::Wait;
 
 /// An event of the worker that names all that it touches.
-pub(crate) fn silent<A: Agent, C: Clock + Drop>(
+pub fn silent<A: Agent, C: Clock + Drop>(
     code: &ValidCode,
     worker: &Worker<A, C>,
     what: Turned,
@@ -156,7 +156,7 @@ fn without_task<A: Agent>(mut lane: Box<Lane<A>>) -> (Box<Lane<A>>, Task<A>)
 }
 
 /// Puts the first task of that ready part into the worker's empty lane, if there is one.
-pub(crate) fn pick<R: Wait, A: Agent, C: Clock + Drop>(
+pub fn pick<R: Wait, A: Agent, C: Clock + Drop>(
     rt: &R,
     table: &Table<Pool<A, C>>,
     code: &ValidCode,
@@ -185,7 +185,7 @@ pub(crate) fn pick<R: Wait, A: Agent, C: Clock + Drop>(
 }
 
 /// Puts the lane's task last into the worker's own ready part. Where there is no memory for that nothing changes.
-pub(crate) fn yield_task<R: Wait, A: Agent, C: Clock + Drop>(
+pub fn yield_task<R: Wait, A: Agent, C: Clock + Drop>(
     rt: &R,
     table: &Table<Pool<A, C>>,
     code: &ValidCode,

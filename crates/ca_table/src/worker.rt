@@ -1,4 +1,5 @@
 use crate::pool::Pool;
+use crate::answer::{PoolStop, WorkEnd};
 use ca_agent::agent::Agent;
 use ca_journal::entry::Entries;
 use ca_states::valid_code::ValidCode;
@@ -7,14 +8,15 @@ use ca_timers::clock::Clock;
 use ca_turns::Hand;
 use std::snapshot::Snapshot;
 
-/// One of a pool's workers: its number from 0 on, of how many, its hand of the table, and the events of the journal
-/// that it drew, with their numbers. The program and its code are there for the proofs, with no bytes.
+/// One of a pool's workers: its number from 0 on, of how many, its hand of the table, the events of the journal
+/// that it drew, with their numbers, and how its last call ended. The program and its code are there for the proofs, with no bytes.
 #[derive(Drop)]
 pub struct Worker<A: Agent, C: Clock + Drop> {
-    pub(crate) number: u64,
-    pub(crate) workers: u64,
-    pub(crate) program: Snapshot<Program>,
-    pub(crate) code: Snapshot<ValidCode>,
-    pub(crate) hand: Hand<Pool<A, C>>,
-    pub(crate) entries: Entries,
+    pub number: u64,
+    pub workers: u64,
+    pub program: Snapshot<Program>,
+    pub code: Snapshot<ValidCode>,
+    pub hand: Hand<Pool<A, C>>,
+    pub entries: Entries,
+    pub answer: Result<WorkEnd, PoolStop>,
 }

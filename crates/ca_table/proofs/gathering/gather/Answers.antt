@@ -8,8 +8,11 @@ use Rattle.ca_meaning.specs.Legal.{Reaches}
 use Rattle.ca_turns.specs.Places.{total}
 use Rattle.ca_turns.proofs.Lists.{total-snoc}
 use Rattle.ca_table.specs.Workers.{IsReady, stands_for}
+use Rattle.ca_table.specs.Worked.{HasMainEnd, ends_main, gives_up, obeys_mark, stays_stuck}
 use Rattle.ca_table.proofs.Gathers.{gathered}
-use Rattle.ca_table.proofs.Knowing.{reaches}
+use Rattle.ca_table.proofs.Endings.{ends_whole, main_whole, marked_whole}
+use Rattle.ca_table.proofs.Having.{of_all}
+use Rattle.ca_table.proofs.Spending.{spent_all}
 use Rattle.ca_table.proofs.gathering.gather.Goals as goal
 
 pub join_all-hand-requires-clause-ready : goal.join_all-hand-requires-clause-ready
@@ -22,31 +25,56 @@ pub merge-requires : goal.merge-requires
 merge-requires g c = let xs = c.args.workers.items in let ys = c.pop.new.self.items in let first = c.in-Some.first in let P = program_view c.args.program.now in let K = valid_code c.args.code.now in let n = length xs in
     let popped = c.pop.ensures.items ∙ ap (λ o. ys ++ option_to_list o) c.in-Some.is in
     let both = All-pop (IsReady g.A.Agent.over g.A.Agent.stands P K c.args.table.id n) xs ys (Some first) popped c.requires.ready in
-    let j = c.join_all-hand.ensures n both.1 both.0 in j.ascends
+    let j = c.join_all-hand.ensures.joined n both.1 both.0 in j.ascends
 
 pub close-closed-requires-clause-table : goal.close-closed-requires-clause-table
 close-closed-requires-clause-table g c = let xs = c.args.workers.items in let ys = c.pop.new.self.items in let first = c.in-Some.first in let P = program_view c.args.program.now in let K = valid_code c.args.code.now in let n = length xs in
     let popped = c.pop.ensures.items ∙ ap (λ o. ys ++ option_to_list o) c.in-Some.is in
     let both = All-pop (IsReady g.A.Agent.over g.A.Agent.stands P K c.args.table.id n) xs ys (Some first) popped c.requires.ready in
-    let j = c.join_all-hand.ensures n both.1 both.0 in j.table
+    let j = c.join_all-hand.ensures.joined n both.1 both.0 in j.table
 
 pub close-closed-requires-clause-all : goal.close-closed-requires-clause-all
 close-closed-requires-clause-all g c = let xs = c.args.workers.items in let ys = c.pop.new.self.items in let first = c.in-Some.first in let P = program_view c.args.program.now in let K = valid_code c.args.code.now in let n = length xs in
     let popped = c.pop.ensures.items ∙ ap (λ o. ys ++ option_to_list o) c.in-Some.is in
     let both = All-pop (IsReady g.A.Agent.over g.A.Agent.stands P K c.args.table.id n) xs ys (Some first) popped c.requires.ready in
-    let j = c.join_all-hand.ensures n both.1 both.0 in let less = ap (total stands_for) popped ∙ total-snoc stands_for ys first in let all = c.requires.all in let count = j.counted in let hands = j.opened_for in omega (arith, less, all, count, hands)
+    let j = c.join_all-hand.ensures.joined n both.1 both.0 in let less = ap (total stands_for) popped ∙ total-snoc stands_for ys first in let all = c.requires.all in let count = j.counted in let hands = j.opened_for in omega (arith, less, all, count, hands)
 
 pub close-closed-requires-clause-nothing : goal.close-closed-requires-clause-nothing
 close-closed-requires-clause-nothing g c = let xs = c.args.workers.items in let ys = c.pop.new.self.items in let first = c.in-Some.first in let P = program_view c.args.program.now in let K = valid_code c.args.code.now in let n = length xs in
     let popped = c.pop.ensures.items ∙ ap (λ o. ys ++ option_to_list o) c.in-Some.is in
     let both = All-pop (IsReady g.A.Agent.over g.A.Agent.stands P K c.args.table.id n) xs ys (Some first) popped c.requires.ready in
-    let j = c.join_all-hand.ensures n both.1 both.0 in j.nothing
+    let j = c.join_all-hand.ensures.joined n both.1 both.0 in j.nothing
 
-pub returns : goal.returns
-returns g c = let xs = c.args.workers.items in let ys = c.pop.new.self.items in let first = c.in-Some.first in let P = program_view c.args.program.now in let K = valid_code c.args.code.now in let n = length xs in
+pub returns-clause-run : goal.returns-clause-run
+returns-clause-run g c = let xs = c.args.workers.items in let ys = c.pop.new.self.items in let first = c.in-Some.first in let P = program_view c.args.program.now in let K = valid_code c.args.code.now in let n = length xs in
     let popped = c.pop.ensures.items ∙ ap (λ o. ys ++ option_to_list o) c.in-Some.is in
     let both = All-pop (IsReady g.A.Agent.over g.A.Agent.stands P K c.args.table.id n) xs ys (Some first) popped c.requires.ready in
-    let j = c.join_all-hand.ensures n both.1 both.0 in let a = g.A.Agent in let m = g.met.A.Agent in let h = c.close-closed.ensures.history in let hand = c.join_all-hand.result in
-    let r = reaches a.over a.place a.stands a.advances a.gives a.starts m.advanced m.answered m.started P K n hand.view j.knows h.0 _ h.1 in
+    let j = c.join_all-hand.ensures.joined n both.1 both.0 in let a = g.A.Agent in let m = g.met.A.Agent in let h = c.close-closed.ensures.history in let hand = c.join_all-hand.result in
     let same = c.in_ok-journal.ensures ∙ ap (λ es. events_of (in_order es)) j.notes ∙ gathered hand.view h.0 h.1.numbered h.2 in
-    record { run = (r.0, subst (λ es. Reaches P es r.0) (sym same) r.1, r.2) }
+    let r = ends_whole a.over a.place a.stands a.advances a.gives a.starts m.advanced m.answered m.started P K n hand.view j.knows h.0 _ h.1 in
+    let drawn = of_all stays_stuck hand.view.turns ys first xs popped (c.join_all-hand.ensures.turns stays_stuck) in
+    (r.0, subst (λ es. Reaches P es r.0) (sym same) r.1, r.2, λ e. r.3 (sym drawn ∙ e))
+
+pub returns-clause-main : goal.returns-clause-main
+returns-clause-main g c = let xs = c.args.workers.items in let ys = c.pop.new.self.items in let first = c.in-Some.first in let P = program_view c.args.program.now in let K = valid_code c.args.code.now in let n = length xs in
+    let popped = c.pop.ensures.items ∙ ap (λ o. ys ++ option_to_list o) c.in-Some.is in
+    let both = All-pop (IsReady g.A.Agent.over g.A.Agent.stands P K c.args.table.id n) xs ys (Some first) popped c.requires.ready in
+    let j = c.join_all-hand.ensures.joined n both.1 both.0 in let a = g.A.Agent in let m = g.met.A.Agent in let h = c.close-closed.ensures.history in let hand = c.join_all-hand.result in
+    let same = c.in_ok-journal.ensures ∙ ap (λ es. events_of (in_order es)) j.notes ∙ gathered hand.view h.0 h.1.numbered h.2 in
+    let drawn = of_all ends_main hand.view.turns ys first xs popped (c.join_all-hand.ensures.turns ends_main) in
+    λ e. subst HasMainEnd (sym same) (main_whole a.over a.place a.stands a.advances a.gives a.starts m.advanced m.answered m.started P K n hand.view j.knows h.0 _ h.1 (sym drawn ∙ e))
+
+pub returns-clause-marked : goal.returns-clause-marked
+returns-clause-marked g c = let xs = c.args.workers.items in let ys = c.pop.new.self.items in let first = c.in-Some.first in let P = program_view c.args.program.now in let K = valid_code c.args.code.now in let n = length xs in
+    let popped = c.pop.ensures.items ∙ ap (λ o. ys ++ option_to_list o) c.in-Some.is in
+    let both = All-pop (IsReady g.A.Agent.over g.A.Agent.stands P K c.args.table.id n) xs ys (Some first) popped c.requires.ready in
+    let j = c.join_all-hand.ensures.joined n both.1 both.0 in let a = g.A.Agent in let m = g.met.A.Agent in let h = c.close-closed.ensures.history in let hand = c.join_all-hand.result in
+    let same = c.in_ok-journal.ensures ∙ ap (λ es. events_of (in_order es)) j.notes ∙ gathered hand.view h.0 h.1.numbered h.2 in
+    let halted = of_all obeys_mark hand.view.turns ys first xs popped (c.join_all-hand.ensures.turns obeys_mark) in
+    let stopped = of_all gives_up hand.view.turns ys first xs popped (c.join_all-hand.ensures.turns gives_up) in
+    λ none e. subst HasMainEnd (sym same) (marked_whole a.over a.place a.stands a.advances a.gives a.starts m.advanced m.answered m.started P K n hand.view j.knows h.0 _ h.1 h.2 (sym stopped ∙ none) (sym halted ∙ e))
+
+pub returns-clause-spent : goal.returns-clause-spent
+returns-clause-spent g c = let xs = c.args.workers.items in let ys = c.pop.new.self.items in let first = c.in-Some.first in
+    let popped = c.pop.ensures.items ∙ ap (λ o. ys ++ option_to_list o) c.in-Some.is in
+    spent_all c.join_all-hand.new.lists.items ys first xs c.in_ok-journal.ensures popped c.join_all-hand.ensures.spent

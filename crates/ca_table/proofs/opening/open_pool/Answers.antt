@@ -19,3 +19,7 @@ returns-clause-all g c = let K = g.C.Clock in let seen = part_seen K.least K.fau
 pub returns-clause-opening : goal.returns-clause-opening
 returns-clause-opening g c = let K = g.C.Clock in let seen = part_seen K.least K.faults K.readings in let n = c.args.workers in let parts = c.in_ok-parts.parts.items in let id = c.in-Ok.table.id in
     λ k d lt. (c.in_ok-enlist.ensures.new id (map seen parts) n c.in-Ok.ensures.fresh k d lt).fresh.opening ∙ c.in_ok-parts.ensures
+
+pub returns-clause-idle : goal.returns-clause-idle
+returns-clause-idle g c = let K = g.C.Clock in let seen = part_seen K.least K.faults K.readings in let n = c.args.workers in let parts = c.in_ok-parts.parts.items in let id = c.in-Ok.table.id in
+    λ k d lt. (c.in_ok-enlist.ensures.new id (map seen parts) n c.in-Ok.ensures.fresh k d lt).fresh.turns

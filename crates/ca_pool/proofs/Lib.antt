@@ -1,0 +1,4 @@
+pub mod Rounding
+pub mod CutRuns
+pub mod Stopping
+pub mod Lightness

@@ -1,0 +1,103 @@
+// A whole run.
+ghost use Rattle.std.specs.Prelude.{◌≡◌, ◌<◌, ◌≤◌, IfOk, None};
+ghost use Rattle.ca_term.specs.Program.{program_view};
+ghost use Rattle.ca_meaning.specs.Body.{new_body};
+ghost use Rattle.ca_meaning.specs.Ends.{HasEnd};
+ghost use Rattle.ca_meaning.specs.EndsLaw.{IsQuiet};
+ghost use Rattle.ca_meaning.specs.Legal.{Legal, Reaches};
+ghost use Rattle.ca_meaning.specs.State.{State};
+ghost use Rattle.ca_meaning.specs.Task.{BodyRest, TaskBody, script};
+ghost use Rattle.ca_states.specs.ValidCode.{valid_code};
+ghost use Rattle.ca_lower.specs.Gos.{SameGos};
+ghost use Rattle.ca_lower.specs.Lowered.{Lowered};
+ghost use Rattle.ca_journal.specs.Cut.{end_in};
+ghost use Rattle.ca_journal.specs.Events.{events};
+ghost use Rattle.ca_pool.specs.PoolEnds.{end_view};
+
+use crate::fitting::all_fit;
+use crate::gate::Gate;
+use ca_table::gathering::{Gathered, gather};
+use ca_table::opening::open_pool;
+use crate::rounds::round;
+use crate::run_end::{PoolRun, end_run};
+use crate::starting::Starting;
+use ca_table::waiting::wait_for_good;
+use ca_table::answer::PoolStop;
+use ca_journal::entry::Journal;
+use ca_states::valid_code::ValidCode;
+use ca_term::program::Program;
+use ca_timers::clock::Clock;
+use std::alloc::Global;
+use std::sync::Wait;
+use std::thread::Threads;
+
+// The whole journal of workers whose allowances are the budget together.
+fn work_through<
+    R: Threads + Wait + Sync,
+    A: Starting + Send + Sync,
+    C: Clock + Drop + Send + Sync,
+    G: Gate + Sync,
+>(
+    rt: &R,
+    alloc: Global,
+    program: &Program,
+    code: &ValidCode,
+    main: A,
+    workers: u64,
+    budget: u64,
+    clock: C,
+    gate: &G,
+) -> Result<Journal, PoolStop>
+    requires workers { (0 < workers) × (workers ≤ 16) }
+    requires budget { 0 < budget }
+    requires main { (body : TaskBody) × BodyRest (program_view program.now) (script (new_body (program_view program.now).main)) body × A.stands (program_view program.now) main body }
+    requires over { A.over (valid_code code.now) main }
+    requires lowered { Lowered (program_view program.now) (valid_code code.now) }
+    requires gos { SameGos (program_view program.now) (valid_code code.now) }
+    ensures { IfOk result (λ j. (s : State) × Reaches (program_view program.now) (events j) s × (end_in budget (events j) ≡ None → IsQuiet s)) }
+{
+    let opened = open_pool(alloc, program, code, main, workers, clock)?;
+    let (table, mut hands) = opened;
+    let allowance = (budget - 1) / workers + 1;
+    let end = round(rt, alloc, &table, hands.as_mut_slice(), allowance, program, code, gate)?;
+    let gathered = gather(alloc, table, hands, program, code)?;
+    let Gathered { journal, parts: _ } = gathered;
+    Ok(journal)
+}
+
+/// Runs the program with 1 to 16 workers, until an end. `main` is the agent of the program's main text, over the code
+/// that the program was lowered to. The journal is a run of the program, and has the end for the budget. Where a
+/// worker wants memory that there isn't, or the clock fails, the run is given up.
+pub fn run_pool<
+    R: Threads + Wait + Sync,
+    A: Starting + Send + Sync,
+    C: Clock + Drop + Send + Sync,
+    G: Gate + Sync,
+>(
+    rt: &R,
+    alloc: Global,
+    program: &Program,
+    code: &ValidCode,
+    main: A,
+    workers: u64,
+    budget: u64,
+    clock: C,
+    gate: &G,
+) -> Result<PoolRun, PoolStop>
+    requires workers { (0 < workers) × (workers ≤ 16) }
+    requires budget { 0 < budget }
+    requires main { (body : TaskBody) × BodyRest (program_view program.now) (script (new_body (program_view program.now).main)) body × A.stands (program_view program.now) main body }
+    requires over { A.over (valid_code code.now) main }
+    requires lowered { Lowered (program_view program.now) (valid_code code.now) }
+    requires gos { SameGos (program_view program.now) (valid_code code.now) }
+    ensures legal { IfOk result (λ run. Legal (program_view program.now) (events run.journal)) }
+    ensures end { IfOk result (λ run. HasEnd (program_view program.now) budget (events run.journal) (end_view run.end)) }
+{
+    let journal = work_through(rt, alloc, program, code, main, workers, budget, clock, gate)?;
+    if all_fit(&journal) {
+        Ok(end_run(journal, budget))
+    } else {
+        wait_for_good(rt);
+        Err(PoolStop::OutOfMemory)
+    }
+}

@@ -1,0 +1,132 @@
+-- Which kinds of turns stand in lists of turns, and among those of several workers.
+use Rattle.std.proofs.Common.{◌≡◌, ◌∙◌, ◌⊎◌, inl, inr, ⊎_elim, List, [], ◌∷◌, ◌++◌, length, refl, sym, ap, subst, arith, Bool, true, false}
+use Rattle.std.specs.Prelude.{◌||◌}
+use Rattle.ca_term.specs.Event.{EventView}
+use Rattle.ca_meaning.specs.Legal.{is_end_of_main}
+use Rattle.ca_turns.specs.declared.rule.Turn.{Turn}
+use Rattle.ca_commit.specs.Moving.{visible}
+use Rattle.ca_commit.specs.Touched as said
+use Rattle.ca_table.specs.Draws.{turn_view}
+use Rattle.ca_table.specs.Members.{In}
+use Rattle.ca_table.specs.Running.{shown_by}
+use Rattle.ca_table.specs.Seen.{PartSeen}
+use Rattle.ca_table.specs.Worked.{HasMainEnd, any_drew, ends_main, has, has_drawn, obeys_mark, stays_stuck}
+use Rattle.ca_table.specs.declared.drawn.Drawn.{Drawn}
+use Rattle.ca_table.specs.declared.worker.Worker.{Worker}
+use Rattle.ca_table.proofs.Members.{in_first, in_second}
+
+pub either_true : (a b : Bool) → (a || b) ≡ true → (a ≡ true) ⊎ (b ≡ true)
+either_true true b e = inl refl
+either_true false b e = inr e
+
+pub both_false : (a b : Bool) → (a || b) ≡ false → (a ≡ false) × (b ≡ false)
+both_false true b e = absurd (let z : true ≡ false = e in cc)
+both_false false b e = (refl, e)
+
+pub first_true : (a b : Bool) → a ≡ true → (a || b) ≡ true
+first_true a b e = ap (λ x. x || b) e
+
+pub second_true : (a b : Bool) → b ≡ true → (a || b) ≡ true
+second_true true b e = refl
+second_true false b e = e
+
+pub or_grouped : (a b c : Bool) → ((a || b) || c) ≡ (a || (b || c))
+or_grouped true b c = refl
+or_grouped false b c = refl
+
+pub or_turned : (a b : Bool) → (a || b) ≡ (b || a)
+or_turned true true = refl
+or_turned true false = refl
+or_turned false true = refl
+or_turned false false = refl
+
+not_false : {G : Type 0} (b : Bool) → b ≡ false → b ≡ true → G
+not_false b f t = absurd (let z : false ≡ true = sym f ∙ t in cc)
+
+pub false_unless : (b : Bool) → (b ≡ true → ⊥) → b ≡ false
+false_unless true never = absurd (never refl)
+false_unless false never = refl
+
+module _ {C : Type 0} (such : said.Turn → Bool) where
+  pub has_append : (ts us : List (Turn C Drawn)) → has such (ts ++ us) ≡ (has such ts || has such us)
+  has_append [] us = refl
+  has_append (t ∷ ts) us = ap (λ b. such (turn_view t.event.what) || b) (has_append ts us) ∙ sym (or_grouped (such (turn_view t.event.what)) (has such ts) (has such us))
+
+  has_one : (ts : List (Turn C Drawn)) → has such ts ≡ true → (t : Turn C Drawn) × In t ts × (such (turn_view t.event.what) ≡ true)
+  has_one [] e = absurd (let z : false ≡ true = e in cc)
+  has_one (t ∷ ts) e = ⊎_elim (λ k. (t, inl refl, k)) (λ k. let r = has_one ts k in (r.0, inr r.1, r.2)) (either_true (such (turn_view t.event.what)) (has such ts) e)
+
+  one_has : (ts : List (Turn C Drawn)) (t : Turn C Drawn) → In t ts → such (turn_view t.event.what) ≡ true → has such ts ≡ true
+  one_has [] t i e = absurd i
+  one_has (u ∷ ts) t i e = ⊎_elim (λ is. first_true (such (turn_view u.event.what)) (has such ts) (subst (λ (x : Turn C Drawn). such (turn_view x.event.what) ≡ true) is e)) (λ k. second_true (such (turn_view u.event.what)) (has such ts) (one_has ts t k e)) i
+
+  -- all turns of the one list stand in the other
+  pub has_within : (ts us : List (Turn C Drawn)) → ((t : Turn C Drawn) → In t ts → In t us) → has such ts ≡ true → has such us ≡ true
+  has_within ts us all e = let k = has_one ts e in one_has us k.0 (all k.0 k.1) k.2
+
+  pub none_within : (ts us : List (Turn C Drawn)) → ((t : Turn C Drawn) → In t ts → In t us) → has such us ≡ false → has such ts ≡ false
+  none_within ts us all e = false_unless (has such ts) (λ h. not_false (has such us) e (has_within ts us all h))
+
+module _ {A C : Type 0} (such : said.Turn → Bool) where
+  pub any_more : (ws : List (Worker A C)) (w : Worker A C) → any_drew such (ws ++ w ∷ []) ≡ (has_drawn such w || any_drew such ws)
+  any_more [] w = refl
+  any_more (x ∷ ws) w = ap (λ b. has_drawn such x || b) (any_more ws w)
+      ∙ sym (or_grouped (has_drawn such x) (has_drawn such w) (any_drew such ws))
+      ∙ ap (λ b. b || any_drew such ws) (or_turned (has_drawn such x) (has_drawn such w))
+      ∙ or_grouped (has_drawn such w) (has_drawn such x) (any_drew such ws)
+
+module _ {A C : Type 0} (such : said.Turn → Bool) where
+  -- the turns of one worker join those of others
+  pub turns_join : {new : List (Turn (PartSeen A) Drawn)} (mine : List (Turn (PartSeen A) Drawn)) (w : Worker A C) (xs ys : List (Worker A C)) (b : Bool) → new ≡ mine ++ w.hand.view.turns → xs ≡ ys ++ w ∷ [] → (has such mine || any_drew such xs) ≡ b → (has such new || any_drew such ys) ≡ b
+  turns_join {new} mine w xs ys b turns popped all = ap (λ c. c || any_drew such ys) (ap (has such) turns ∙ has_append such mine w.hand.view.turns)
+      ∙ or_grouped (has such mine) (has_drawn such w) (any_drew such ys)
+      ∙ ap (λ c. has such mine || c) (sym (any_more such ys w) ∙ ap (any_drew such) (sym popped)) ∙ all
+
+  none_left : (xs : List (Worker A C)) → length xs ≡ 0 → any_drew such xs ≡ false
+  none_left [] e = refl
+  none_left (x ∷ xs) e = absurd (omega (arith, e))
+
+  pub turns_joined : (mine : List (Turn (PartSeen A) Drawn)) (xs : List (Worker A C)) (b : Bool) → length xs ≡ 0 → (has such mine || any_drew such xs) ≡ b → has such mine ≡ b
+  turns_joined mine xs b none all = or_turned false (has such mine) ∙ ap (λ c. has such mine || c) (sym (none_left xs none)) ∙ all
+
+  -- all turns of the workers are those that were joined
+  pub of_all : (turns : List (Turn (PartSeen A) Drawn)) (ys : List (Worker A C)) (first : Worker A C) (xs : List (Worker A C)) → xs ≡ ys ++ first ∷ [] → has such turns ≡ (has_drawn such first || any_drew such ys) → any_drew such xs ≡ has such turns
+  of_all turns ys first xs popped all = ap (any_drew such) popped ∙ any_more such ys first ∙ sym all
+
+pub is_stall : (what : said.Turn) → stays_stuck what ≡ true → what ≡ said.stalls
+is_stall said.stalls e = refl
+is_stall (said.shown x) e = absurd (let z : false ≡ true = e in cc)
+is_stall (said.picks r) e = absurd (let z : false ≡ true = e in cc)
+is_stall said.yields e = absurd (let z : false ≡ true = e in cc)
+is_stall (said.prunes side p w) e = absurd (let z : false ≡ true = e in cc)
+is_stall said.asks_clock e = absurd (let z : false ≡ true = e in cc)
+is_stall said.fails e = absurd (let z : false ≡ true = e in cc)
+is_stall said.stops e = absurd (let z : false ≡ true = e in cc)
+is_stall said.halts e = absurd (let z : false ≡ true = e in cc)
+
+pub is_halt : (what : said.Turn) → obeys_mark what ≡ true → what ≡ said.halts
+is_halt said.halts e = refl
+is_halt (said.shown x) e = absurd (let z : false ≡ true = e in cc)
+is_halt (said.picks r) e = absurd (let z : false ≡ true = e in cc)
+is_halt said.yields e = absurd (let z : false ≡ true = e in cc)
+is_halt (said.prunes side p w) e = absurd (let z : false ≡ true = e in cc)
+is_halt said.asks_clock e = absurd (let z : false ≡ true = e in cc)
+is_halt said.fails e = absurd (let z : false ≡ true = e in cc)
+is_halt said.stops e = absurd (let z : false ≡ true = e in cc)
+is_halt said.stalls e = absurd (let z : false ≡ true = e in cc)
+
+main_visible : (what : said.Turn) → ends_main what ≡ true → HasMainEnd (visible what)
+main_visible (said.shown x) e = (x, inl refl, e)
+main_visible (said.picks r) e = absurd (let z : false ≡ true = e in cc)
+main_visible said.yields e = absurd (let z : false ≡ true = e in cc)
+main_visible (said.prunes side p w) e = absurd (let z : false ≡ true = e in cc)
+main_visible said.asks_clock e = absurd (let z : false ≡ true = e in cc)
+main_visible said.fails e = absurd (let z : false ≡ true = e in cc)
+main_visible said.stops e = absurd (let z : false ≡ true = e in cc)
+main_visible said.halts e = absurd (let z : false ≡ true = e in cc)
+main_visible said.stalls e = absurd (let z : false ≡ true = e in cc)
+
+-- the end of the main text is shown
+pub main_shown : {C : Type 0} (ts : List (Turn C Drawn)) → has ends_main ts ≡ true → HasMainEnd (shown_by ts)
+main_shown [] e = absurd (let z : false ≡ true = e in cc)
+main_shown (t ∷ ts) e = let what = turn_view t.event.what in ⊎_elim (λ h. let k = main_visible what h in (k.0, in_first k.0 (visible what) (shown_by ts) k.1, k.2)) (λ h. let k = main_shown ts h in (k.0, in_second k.0 (visible what) (shown_by ts) k.1, k.2)) (either_true (ends_main what) (has ends_main ts) e)

@@ -1,0 +1,75 @@
+-- What calls of `work` did to workers: which kinds of turns stand among those that were drawn, and what these cost.
+use Rattle.std.specs.Prelude.{◌≡◌, ℕ, List, [], ◌∷◌, ◌++◌, Bool, true, false, ◌||◌}
+use Rattle.ca_term.specs.Event.{EventView}
+use Rattle.ca_journal.specs.Merge.{entries, events_of}
+use Rattle.ca_meaning.specs.Cost.{cost}
+use Rattle.ca_meaning.specs.Legal.{is_end_of_main}
+use Rattle.ca_turns.specs.declared.rule.Turn.{Turn}
+use Rattle.ca_turns.specs.Views.{stands}
+use Rattle.ca_commit.specs.Touched as said
+use Rattle.ca_table.specs.Draws.{turn_view}
+use Rattle.ca_table.specs.Members.{In}
+use Rattle.ca_table.specs.Seen.{PartSeen}
+use Rattle.ca_table.specs.declared.drawn.Drawn.{Drawn}
+use Rattle.ca_table.specs.declared.worker.Worker.{Worker}
+
+-- the run is given up
+abbrev pub gives_up : said.Turn → Bool
+gives_up said.fails = true
+gives_up said.stops = true
+gives_up other = false
+
+-- the worker leaves because nothing can go on
+abbrev pub stays_stuck : said.Turn → Bool
+stays_stuck said.stalls = true
+stays_stuck other = false
+
+-- it leaves because the run is marked
+abbrev pub obeys_mark : said.Turn → Bool
+obeys_mark said.halts = true
+obeys_mark other = false
+
+-- the main text ends, by its value or by a fault
+abbrev pub ends_main : said.Turn → Bool
+ends_main (said.shown e) = is_end_of_main e
+ends_main other = false
+
+-- the worker finds the end of the run
+abbrev pub leaves : said.Turn → Bool
+leaves turn = stays_stuck turn || (obeys_mark turn || ends_main turn)
+
+-- some turn is such
+abbrev pub has : {C : Type 0} → (said.Turn → Bool) → List (Turn C Drawn) → Bool
+has such [] = false
+has such (t ∷ ts) = such (turn_view t.event.what) || has such ts
+
+-- some event of the journal is the end of the main text
+abbrev pub HasMainEnd : List EventView → Type 0
+HasMainEnd journal = (e : EventView) × In e journal × (is_end_of_main e ≡ true)
+
+module _ {A C : Type 0} where
+  -- some turn that the worker drew is such
+  abbrev pub has_drawn : (said.Turn → Bool) → Worker A C → Bool
+  has_drawn such w = has such w.hand.view.turns
+
+  -- some turn of these workers is such
+  abbrev pub any_drew : (said.Turn → Bool) → List (Worker A C) → Bool
+  any_drew such [] = false
+  any_drew such (w ∷ ws) = has_drawn such w || any_drew such ws
+
+  -- what the events that it noted cost
+  abbrev pub spent : Worker A C → ℕ
+  spent w = cost (events_of (entries w.entries))
+
+  -- the same worker of the same table, which may have drawn more
+  pub record HasWorked (old new : Worker A C) : Type 0 where
+    pub number : new.number ≡ old.number
+    pub table : new.hand.table ≡ old.hand.table
+    pub opening : new.hand.view.opening ≡ old.hand.view.opening
+    pub stays_for : stands new.hand.view ≡ stands old.hand.view
+    pub more : List (Turn (PartSeen A) Drawn)
+    pub drew : new.hand.view.turns ≡ old.hand.view.turns ++ more
+
+  -- before its first call
+  abbrev pub HasDrawnNothing : Worker A C → Type 0
+  HasDrawnNothing w = w.hand.view.turns ≡ []
