@@ -1,3 +1,5 @@
 pub mod Answers
 pub mod PoolEnds
 pub mod Fitting
+pub mod Desk
+pub mod Leaving

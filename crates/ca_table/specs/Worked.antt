@@ -8,8 +8,11 @@ use Rattle.ca_turns.specs.declared.rule.Turn.{Turn}
 use Rattle.ca_turns.specs.Views.{stands}
 use Rattle.ca_commit.specs.Touched as said
 use Rattle.ca_table.specs.Draws.{turn_view}
+use Rattle.ca_table.specs.Grips.{SameHand}
 use Rattle.ca_table.specs.Members.{In}
+use Rattle.ca_table.specs.Running.{shown_by}
 use Rattle.ca_table.specs.Seen.{PartSeen}
+use Rattle.ca_table.specs.Workers.{SameWorker}
 use Rattle.ca_table.specs.declared.drawn.Drawn.{Drawn}
 use Rattle.ca_table.specs.declared.worker.Worker.{Worker}
 
@@ -73,3 +76,14 @@ module _ {A C : Type 0} where
   -- before its first call
   abbrev pub HasDrawnNothing : Worker A C → Type 0
   HasDrawnNothing w = w.hand.view.turns ≡ []
+
+  -- It drew turns that cost so much together, and none that gives the run up. Where that is said, one of them finds the
+  -- run's end.
+  pub record Drew (spends : ℕ) (found : Bool) (old new : Worker A C) : Type 0 where
+    pub same : SameWorker old new
+    pub hand : SameHand old.hand new.hand
+    pub more : List (Turn (PartSeen A) Drawn)
+    pub turns : new.hand.view.turns ≡ old.hand.view.turns ++ more
+    pub costs : cost (shown_by more) ≡ spends
+    pub going : has gives_up more ≡ false
+    pub finds : found ≡ true → has leaves more ≡ true

@@ -2,18 +2,19 @@
 // and gives them back. Each call says what it does to all that the worker carries.
 ghost use mathlib.Core.Option.{some};
 ghost use lib.ListN.{get_elem?};
-ghost use Rattle.std.specs.Prelude.{◌≡◌, ℕ, ◌+◌, ◌^◌, ◌<◌, ◌≤◌, Option, Some, None, length};
+ghost use Rattle.std.specs.Prelude.{◌≡◌, ℕ, ◌+◌, ◌^◌, ◌<◌, ◌≤◌, ◌++◌, ◌∷◌, List, [], Option, Some, None, length};
 ghost use Rattle.ca_term.specs.Program.{ProgramView};
 ghost use Rattle.ca_states.specs.ValidCode.{valid_code};
 ghost use Rattle.ca_value.specs.Seq.{spare};
 ghost use Rattle.ca_turns.specs.Hands.{IsHolding, TableId};
+ghost use Rattle.ca_turns.specs.Views.{turn};
 ghost use Rattle.ca_commit.specs.Moving.{visible};
 ghost use Rattle.ca_commit.specs.Gathered.{kind_at, kind_of_part};
 ghost use Rattle.ca_commit.specs.Tasks.{tasks_in};
 ghost use Rattle.ca_table.specs.Carriers.{IsCarrying, IsMoved, LaneBox, with_ready};
 ghost use Rattle.ca_table.specs.Carrying.{Carries, IsPlace, Place, each_by, lane_place, number_at, part_at, with_at};
 ghost use Rattle.ca_table.specs.Draws.{drawn_code, drawn_view, turn_view};
-ghost use Rattle.ca_table.specs.Grips.{SameTurns, settled_one};
+ghost use Rattle.ca_table.specs.Grips.{SameHand, SameTurns, settled_one};
 ghost use Rattle.ca_table.specs.Parts.{away, contents_seen, part_of, part_seen};
 ghost use Rattle.ca_table.specs.Seen.{PartSeen, held_of};
 ghost use Rattle.ca_table.specs.Sound.{AllOver, IsSound};
@@ -167,6 +168,8 @@ pub fn draw_carried<A: Agent, C: Clock + Drop>(
     requires turns { length worker.old.hand.view.turns < 2 ^ 59 }
     ensures same { SameWorker worker.old worker.new }
     ensures spare { spare worker.old.entries ≤ spare worker.new.entries + length (visible (turn_view drawn.what)) }
+    ensures hand { SameHand worker.old.hand worker.new.hand }
+    ensures drew { (k : ℕ) × (before : List (PartSeen A)) × (after : List (PartSeen A)) × (worker.new.hand.view.turns ≡ worker.old.hand.view.turns ++ turn k drawn before after ∷ []) }
     ensures carries { (program : ProgramView) (code : ValidCode) (n : ℕ) (h : Carries (Part A C × PartSeen A)) → IsCarrying A.over A.stands program code table.now.id n worker.old h → IsMoved A.over A.place A.advances A.gives A.starts (part_seen C.least C.faults C.readings) code n worker.old.number (drawn_view drawn) h → IsCarrying A.over A.stands program code table.now.id n worker.new (each_by (settled_one (part_seen C.least C.faults C.readings)) h) }
 {
     draw_event(table, worker, drawn);

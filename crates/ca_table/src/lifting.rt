@@ -1,5 +1,5 @@
 // All banks, or all shards, that an event needs: a worker moves them out of its hand at once, and back.
-ghost use Rattle.std.specs.Prelude.{◌≡◌, ◌+◌, ◌<◌, ◌≤◌, ◌++◌, ◌∷◌, [], ℕ, Option, Some, None, is_some};
+ghost use Rattle.std.specs.Prelude.{◌≡◌, ◌+◌, ◌<◌, ◌≤◌, ◌++◌, ◌∷◌, [], ℕ, Option, Some, None, is_some, length};
 ghost use Rattle.ca_term.specs.Program.{ProgramView};
 ghost use Rattle.ca_turns.specs.Hands.{IsHolding, TableId};
 ghost use Rattle.ca_commit.specs.Gathered.{bank_kind, shard_kind};
@@ -10,8 +10,10 @@ ghost use Rattle.ca_table.specs.Carrying.{Carries};
 ghost use Rattle.ca_table.specs.Grips.{SameTurns};
 ghost use Rattle.ca_table.specs.Homes.{has_home};
 ghost use Rattle.ca_table.specs.Lifting.{HasNone, Row, SettledIf, bank_row, contents_kind, first_of, kind_of_row, laid_back, lifted, shard_row, with_all};
-ghost use Rattle.ca_table.specs.Parts.{part_seen};
-ghost use Rattle.ca_table.specs.Seen.{PartSeen};
+ghost use Rattle.ca_table.specs.Parts.{contents_seen, part_seen};
+ghost use Rattle.ca_states.specs.ValidCode.{valid_code};
+ghost use Rattle.ca_table.specs.Seen.{PartSeen, held_of};
+ghost use Rattle.ca_table.specs.Sound.{IsSound};
 ghost use Rattle.ca_table.specs.Workers.{SameWorker};
 ghost use Rattle.ca_table.specs.declared.part.Part.{Part};
 ghost use Rattle.ca_table.specs.declared.part.Contents.TheVariants.{Bank, Shard};
@@ -133,7 +135,7 @@ pub fn load_one<R: Wait, A: Agent, C: Clock + Drop, T: Sixteen<A, C>>(
     ensures same { SameWorker worker.old worker.new }
     ensures turns { SameTurns worker.old.hand worker.new.hand }
     ensures entries { worker.new.entries ≡ worker.old.entries }
-    ensures list { (x : T) × (parts list.new ≡ parts list.old ++ x ∷ []) × (T.number x ≡ number) }
+    ensures list { (x : T) × (parts list.new ≡ parts list.old ++ x ∷ []) × (T.number x ≡ number) × IsSound A.over A.place (valid_code code.now) worker.old.workers (first_of T.group worker.old.workers + number) (held_of (contents_seen C.least C.faults C.readings (T.as_contents x))) }
     ensures room { spare list.old ≤ spare list.new + 1 }
     ensures ascending { (i : ℕ) → IsHolding worker.new.hand i → i < first_of T.group worker.old.workers + number + 1 }
     ensures carries { (program : ProgramView) (n : ℕ) (h : Carries (Part A C × PartSeen A)) → listed T.number (parts list.old) number ≡ None → IsCarrying A.over A.stands program code.now table.now.id n worker.old (with_all T.group (lifted n code.now T.as_contents (part_seen C.least C.faults C.readings) T.number (parts list.old)) h) → IsCarrying A.over A.stands program code.now table.now.id n worker.new (with_all T.group (lifted n code.now T.as_contents (part_seen C.least C.faults C.readings) T.number (parts list.new)) h) }
@@ -165,6 +167,8 @@ pub fn load<R: Wait, A: Agent, C: Clock + Drop, T: Sixteen<A, C>>(
     ensures entries { worker.new.entries ≡ worker.old.entries }
     ensures homes { (i : ℕ) → i < 16 → is_some (listed T.number (parts list.new) i) ≡ has_home homes.now i }
     ensures none { (i : ℕ) → 16 ≤ i → listed T.number (parts list.new) i ≡ None }
+    ensures sound { (i : ℕ) (x : T) → listed T.number (parts list.new) i ≡ Some x → IsSound A.over A.place (valid_code code.now) worker.old.workers (first_of T.group worker.old.workers + i) (held_of (contents_seen C.least C.faults C.readings (T.as_contents x))) }
+    ensures room { spare list.old ≤ spare list.new + length (parts list.new) }
     ensures ascending { (i : ℕ) → IsHolding worker.new.hand i → i < first_of T.group worker.old.workers + 16 }
     ensures carries { (program : ProgramView) (n : ℕ) (h : Carries (Part A C × PartSeen A)) → HasNone T.group h → IsCarrying A.over A.stands program code.now table.now.id n worker.old h → IsCarrying A.over A.stands program code.now table.now.id n worker.new (with_all T.group (lifted n code.now T.as_contents (part_seen C.least C.faults C.readings) T.number (parts list.new)) h) }
 {
@@ -186,6 +190,7 @@ pub fn unload<A: Agent, C: Clock + Drop, T: Sixteen<A, C>>(
     ensures turns { SameTurns worker.old.hand worker.new.hand }
     ensures entries { worker.new.entries ≡ worker.old.entries }
     ensures empty { parts list.new ≡ [] }
+    ensures room { spare list.old + length (parts list.old) ≤ spare list.new }
     ensures homes { (i : ℕ) → i < 16 → has_home result i ≡ is_some (listed T.number (parts list.old) i) }
     ensures carries { (program : ProgramView) (id : TableId) (n : ℕ) (h : Carries (Part A C × PartSeen A)) (was : ℕ → Option (PartSeen A)) → ((i : ℕ) → is_some (was i) ≡ is_some (listed T.number (parts list.old) i)) → IsCarrying A.over A.stands program code.now id n worker.old (with_all T.group (λ i. laid_back n code.now T.as_contents None (was i)) h) → IsCarrying A.over A.stands program code.now id n worker.new (with_all T.group (λ i. laid_back n code.now T.as_contents (listed T.number (parts list.old) i) (was i)) h) }
 {

@@ -8,7 +8,7 @@ ghost use Rattle.ca_turns.specs.Hands.{IsHolding, IsNone};
 ghost use Rattle.ca_turns.specs.Views.{turn};
 ghost use Rattle.ca_commit.specs.Moving.{visible};
 ghost use Rattle.ca_table.specs.Draws.{drawn_allows, drawn_moves, drawn_touches, turn_view};
-ghost use Rattle.ca_table.specs.Grips.{Grips, HasAll, settle, settled, values};
+ghost use Rattle.ca_table.specs.Grips.{Grips, HasAll, SameHand, settle, settled, values};
 ghost use Rattle.ca_table.specs.Parts.{part_seen};
 ghost use Rattle.ca_table.specs.Seen.{PartSeen};
 ghost use Rattle.ca_table.specs.Workers.{IsOne, SameWorker, entries_of};
@@ -70,6 +70,7 @@ pub fn draw_event<A: Agent, C: Clock + Drop>(
     requires moved { (g : ℕ → Option (Part A C × PartSeen A)) × Grips worker.old.hand g × HasAll g (drawn_touches drawn) × drawn_moves A.over A.place A.advances A.gives A.starts drawn (settled g (drawn_touches drawn)) (map (part_seen C.least C.faults C.readings) (values g (drawn_touches drawn))) }
     ensures one { (program : ProgramView) (code : CodeView) (n : ℕ) → IsOne A.over A.stands program code table.now.id n worker.old → IsOne A.over A.stands program code table.now.id n worker.new }
     ensures grips { (g : ℕ → Option (Part A C × PartSeen A)) → Grips worker.old.hand g → Grips worker.new.hand (settle (part_seen C.least C.faults C.readings) (drawn_touches drawn) g) }
+    ensures hand { SameHand worker.old.hand worker.new.hand }
     ensures drew { (k : ℕ) × (before : List (PartSeen A)) × (after : List (PartSeen A)) × (worker.new.hand.view.turns ≡ worker.old.hand.view.turns ++ turn k drawn before after ∷ []) }
     ensures same { SameWorker worker.old worker.new }
     ensures spare { spare worker.old.entries ≤ spare worker.new.entries + length (visible (turn_view drawn.what)) }

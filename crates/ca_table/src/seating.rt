@@ -1,8 +1,10 @@
 // A worker takes its lane, and gives it back.
-ghost use Rattle.std.specs.Prelude.{ℕ};
+ghost use Rattle.std.specs.Prelude.{◌≡◌, ℕ, Some, false};
 ghost use Rattle.ca_term.specs.Program.{ProgramView};
 ghost use Rattle.ca_states.specs.ValidCode.{valid_code};
+ghost use Rattle.ca_table.specs.Worked.{Drew};
 ghost use Rattle.ca_table.specs.Workers.{IsReady, IsSeated};
+ghost use Rattle.ca_commit.specs.declared.task.Task.{Task};
 
 use crate::holding::{hold_out, part_with};
 use crate::moving::{give, take_part};
@@ -23,7 +25,9 @@ pub fn sit<R: Wait, A: Agent, C: Clock + Drop>(
     worker: &mut Worker<A, C>,
 ) -> Box<Lane<A>>
     requires ready { (program : ProgramView) × (n : ℕ) × IsReady A.over A.stands program (valid_code code.now) table.now.id n worker.old }
-    ensures { (program : ProgramView) (n : ℕ) → IsReady A.over A.stands program (valid_code code.now) table.now.id n worker.old → IsSeated A.over A.stands program code.now table.now.id n worker.new result.value }
+    ensures drew { Drew 0 false worker.old worker.new }
+    ensures over { (t : Task A) → result.value.task ≡ Some t → A.over (valid_code code.now) t.agent }
+    ensures seated { (program : ProgramView) (n : ℕ) → IsReady A.over A.stands program (valid_code code.now) table.now.id n worker.old → IsSeated A.over A.stands program code.now table.now.id n worker.new result.value }
 {
     let number = worker.number;
     let workers = worker.workers;
@@ -49,7 +53,8 @@ pub fn rise<A: Agent, C: Clock + Drop>(
     lane: Box<Lane<A>>,
 )
     requires seated { (program : ProgramView) × (n : ℕ) × IsSeated A.over A.stands program code.now table.now.id n worker.old lane.value }
-    ensures { (program : ProgramView) (n : ℕ) → IsSeated A.over A.stands program code.now table.now.id n worker.old lane.value → IsReady A.over A.stands program (valid_code code.now) table.now.id n worker.new }
+    ensures drew { Drew 0 false worker.old worker.new }
+    ensures ready { (program : ProgramView) (n : ℕ) → IsSeated A.over A.stands program code.now table.now.id n worker.old lane.value → IsReady A.over A.stands program (valid_code code.now) table.now.id n worker.new }
 {
     let part = part_with(code, worker.workers, Contents::Lane(lane));
     let number = worker.number;

@@ -1,5 +1,5 @@
 // A worker picks a task, and lets its own stand back. No journal shows either.
-ghost use Rattle.std.specs.Prelude.{◌≡◌, ℕ, ◌+◌, ◌^◌, ◌<◌, List, [], Some, None, OnErr, OnOk, length};
+ghost use Rattle.std.specs.Prelude.{◌≡◌, ℕ, ◌+◌, ◌^◌, ◌<◌, List, [], Some, None, OnErr, OnOk, length, false};
 ghost use Rattle.ca_term.specs.Program.{ProgramView};
 ghost use Rattle.ca_states.specs.ValidCode.{valid_code};
 ghost use Rattle.ca_turns.specs.Hands.{TableId};
@@ -14,6 +14,7 @@ ghost use Rattle.ca_table.specs.Draws.{drawn_view, turn_view};
 ghost use Rattle.ca_table.specs.Grips.{SameTurns, settled_one};
 ghost use Rattle.ca_table.specs.Parts.{part_seen};
 ghost use Rattle.ca_table.specs.Seen.{PartSeen};
+ghost use Rattle.ca_table.specs.Worked.{Drew, gives_up, leaves};
 ghost use Rattle.ca_table.specs.Workers.{IsSeated, SameWorker};
 ghost use Rattle.ca_table.specs.declared.part.Lane.{Lane};
 ghost use Rattle.ca_table.specs.declared.part.Part.{Part};
@@ -64,6 +65,7 @@ fn give_ready<A: Agent, C: Clock + Drop>(
 )
     requires carries { (program : ProgramView) × (n : ℕ) × (l : Lane A) × IsCarrying A.over A.stands program code.now table.now.id n worker.old (with_ready n code.now at (tasks_in ready) (just_lane n code.now l)) × (at < n) }
     ensures same { SameWorker worker.old worker.new }
+    ensures turns { SameTurns worker.old.hand worker.new.hand }
     ensures carries { (program : ProgramView) (n : ℕ) (l : Lane A) → IsCarrying A.over A.stands program code.now table.now.id n worker.old (with_ready n code.now at (tasks_in ready) (just_lane n code.now l)) → IsCarrying A.over A.stands program code.now table.now.id n worker.new (just_lane n code.now l) }
 {
     let place = worker.workers + 33 + at;
@@ -82,6 +84,7 @@ fn draw_silent<A: Agent, C: Clock + Drop>(
     requires hidden { visible (turn_view what) ≡ [] }
     requires turns { length worker.old.hand.view.turns < 2 ^ 59 }
     ensures same { SameWorker worker.old worker.new }
+    ensures drew { gives_up (turn_view what) ≡ false → Drew 0 (leaves (turn_view what)) worker.old worker.new }
     ensures carries { (program : ProgramView) (n : ℕ) (h : Carries (Part A C × PartSeen A)) → IsCarrying A.over A.stands program code.now table.now.id n worker.old h → IsMoved A.over A.place A.advances A.gives A.starts (part_seen C.least C.faults C.readings) code.now n worker.old.number (plain worker.old.number n (turn_view what)) h → IsCarrying A.over A.stands program code.now table.now.id n worker.new (each_by (settled_one (part_seen C.least C.faults C.readings)) h) }
 {
     let drawn = silent(code, worker, what);
@@ -122,6 +125,7 @@ fn draw_with_ready<A: Agent, C: Clock + Drop>(
     requires turns { length worker.old.hand.view.turns < 2 ^ 59 }
     ensures same { SameWorker worker.old worker.new }
     ensures lane { result ≡ lane }
+    ensures drew { gives_up (turn_view what) ≡ false → Drew 0 (leaves (turn_view what)) worker.old worker.new }
     ensures carries { (program : ProgramView) (n : ℕ) (l : Lane A) (q : List (ℕ × TaskAgent A)) → IsCarrying A.over A.stands program code.now table.now.id n worker.old (with_ready n code.now at q (just_lane n code.now l)) → IsMoved A.over A.place A.advances A.gives A.starts (part_seen C.least C.faults C.readings) code.now n worker.old.number (plain worker.old.number n (turn_view what)) (both_back n code.now at l q lane ready) → IsCarrying A.over A.stands program code.now table.now.id n worker.new (just_lane n code.now result.value) }
 {
     let place = worker.workers + 33 + at;
@@ -168,6 +172,7 @@ pub fn pick<R: Wait, A: Agent, C: Clock + Drop>(
     requires free { lane.value.task ≡ None }
     requires turns { length worker.old.hand.view.turns < 2 ^ 59 }
     ensures same { SameWorker worker.old worker.new }
+    ensures drew { Drew 0 false worker.old worker.new }
     ensures over { (t : Task A) → result.value.task ≡ Some t → A.over (valid_code code.now) t.agent }
     ensures seated { (program : ProgramView) (n : ℕ) → IsSeated A.over A.stands program code.now table.now.id n worker.old lane.value → IsSeated A.over A.stands program code.now table.now.id n worker.new result.value }
 {
@@ -196,6 +201,7 @@ pub fn yield_task<R: Wait, A: Agent, C: Clock + Drop>(
     requires busy { (t : Task A) × (lane.value.task ≡ Some t) }
     requires turns { length worker.old.hand.view.turns < 2 ^ 59 }
     ensures same { SameWorker worker.old worker.new }
+    ensures drew { Drew 0 false worker.old worker.new }
     ensures seated { (program : ProgramView) (n : ℕ) → IsSeated A.over A.stands program code.now table.now.id n worker.old lane.value → IsSeated A.over A.stands program code.now table.now.id n worker.new result.0.value }
     ensures free { OnOk result.1 (result.0.value.task ≡ None) }
     ensures refused { OnErr result.1 (result.0 ≡ lane) }
