@@ -54,3 +54,26 @@ pub trait Clock {
         ensures readings { IfOk result (λ m. Tells (readings self.old) (readings self.new) m) }
         ensures silent { OnErr result (StaysTold (readings self.old) (readings self.new)) };
 }
+
+/// A clock that is lent is a clock.
+impl<C: Clock> Clock for &mut C {
+    ghost least = { λ c. C.least c.now };
+
+    ghost spare = { λ c. C.spare c.now };
+
+    ghost faults = { λ c. C.faults c.now };
+
+    ghost readings = { λ c. C.readings c.now };
+
+    fn reserve(&mut self) -> Result<(), OutOfMemory> {
+        (**self).reserve()
+    }
+
+    fn now(&mut self) -> u64 {
+        (**self).now()
+    }
+
+    fn wait_until(&mut self, ask: u64) -> Result<u64, Failed> {
+        (**self).wait_until(ask)
+    }
+}
