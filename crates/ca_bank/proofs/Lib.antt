@@ -6,3 +6,4 @@ pub mod Topics
 pub mod Holding
 pub mod Counts
 pub mod AfterCalls
+pub mod Places

@@ -1,5 +1,5 @@
 -- What a bank shows: its channels, by number, and the room that each has.
-use Rattle.std.specs.Prelude.{◌≡◌, ℕ, ◌≤◌, Option, Some, None, option_map, is_some, true, false, nat_eq, eqb, []}
+use Rattle.std.specs.Prelude.{◌≡◌, ℕ, ◌≤◌, Option, Some, None, option_map, is_some, true, false, nat_eq, eqb, [], slice_get}
 use Rattle.indexmap.specs.IndexMap.{get, spare}
 use Rattle.ca_bank.specs.Kept.{Kept, Spares, unattended}
 use Rattle.ca_bank.specs.Room.{kept_view, spares_view, channel_with}
@@ -15,6 +15,10 @@ use Rattle.ca_bank.specs.declared.bank.PortKind.TheVariants.{Channel, Mult, Mix,
 
 abbrev pub kept_at : Bank → ℕ → Option Kept
 kept_at b p = option_map kept_view (get nat_eq b.rooms p)
+
+-- the number of the channel at a place of the bank's own order
+abbrev pub channel_at : Bank → ℕ → Option ℕ
+channel_at b i = option_map (λ e. e.0) (slice_get b.rooms.entries i)
 
 abbrev pub spares_at : Bank → ℕ → Option Spares
 spares_at b p = option_map spares_view (get nat_eq b.rooms p)

@@ -3,6 +3,7 @@ ghost use Rattle.std.specs.Map.{update};
 ghost use Rattle.indexmap.specs.IndexMap.{get};
 ghost use Rattle.ca_value.specs.Seq.{list};
 ghost use Rattle.ca_value.specs.View.{view, trees};
+ghost use Rattle.ca_term.specs.Event.{port_number};
 ghost use Rattle.ca_bank.specs.Kept.{at, unattended, enqueued, pruned, closed, added, removed, queue_at, is_closed_at, buffer_at, takes_one_more, dropped_at, given_at, queue_spare, buffer_spare, spare_put_on, one_less, spare_in_buffer};
 ghost use Rattle.ca_bank.specs.Registries.{answered, IsCause, members_added};
 ghost use Rattle.ca_bank.specs.Mixes.{TogglesApart};
@@ -58,7 +59,7 @@ pub struct Bank {
 
 impl Bank {
     ghost use Rattle.ca_bank.specs.Shard.{belongs};
-    ghost use Rattle.ca_bank.specs.Bank.{kept_at, spares_at, registry_at, members_spare_at, bank_number, bank_count, channels_spare, registries_spare, SameBank, SameChannels, SameRegistries, ArePlaced, kind_at, kind_of, with_made, kept_made, registry_made};
+    ghost use Rattle.ca_bank.specs.Bank.{kept_at, channel_at, spares_at, registry_at, members_spare_at, bank_number, bank_count, channels_spare, registries_spare, SameBank, SameChannels, SameRegistries, ArePlaced, kind_at, kind_of, with_made, kept_made, registry_made};
 
     /// The bank of that number, of so many: it has no port, and takes no memory.
     pub fn new(alloc: Global, number: u64, count: u64) -> Bank
@@ -91,6 +92,17 @@ impl Bank {
         match self.rooms.get(&port.n) {
             Some(_) => Some(PortKind::Channel),
             None => self.registry_kind(port),
+        }
+    }
+
+    /// The channel at that place, from 0 on, in no order that tells anything; None exactly where the place is past the
+    /// last one.
+    pub fn channel_at(&self, place: usize) -> Option<PortId>
+        ensures { option_map port_number result ≡ channel_at self.now place }
+    {
+        match self.rooms.get_index(place) {
+            Some((number, _)) => Some(PortId { n: *number }),
+            None => None,
         }
     }
 

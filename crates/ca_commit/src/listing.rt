@@ -1,4 +1,4 @@
-ghost use Rattle.std.specs.Prelude.{◌≡◌, ℕ, ◌+◌, ◌<◌, ◌≤◌, [], ◌∷◌, ◌++◌, length, IfOk, IfSome, IfNone, None, option_map};
+ghost use Rattle.std.specs.Prelude.{◌≡◌, ℕ, ◌+◌, ◌<◌, ◌≤◌, [], ◌∷◌, ◌++◌, length, IfOk, IfSome, IfNone, OnOk, None, option_map};
 ghost use Rattle.ca_commit.specs.Listing.{listed, NoneBefore, IsFirst};
 
 use ca_value::memory::OutOfMemory;
@@ -32,6 +32,16 @@ impl<T: Numbered> Listing<T> {
         Ok(Listing {
             items: Vec::with_capacity(alloc, count as usize)?,
         })
+    }
+
+    /// Makes room for so many parts more. No memory is taken where it is there.
+    pub fn reserve(&mut self, count: u64) -> Result<(), OutOfMemory>
+        requires { count ≤ 16 }
+        ensures parts { parts self.new ≡ parts self.old }
+        ensures room { OnOk result (count ≤ spare self.new) }
+    {
+        self.items.reserve(count as usize)?;
+        Ok(())
     }
 
     /// Adds the part last. It takes no memory.
