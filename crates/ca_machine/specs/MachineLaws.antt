@@ -87,7 +87,7 @@ started P (go n values result place) m s =
     (script d.0, (d.0, d.1, refl), begun P m (go_body P n values result) d.0 s d.1)
 started P (system kind values place) m s = absurd s
 
-IsSomewhere : At → Type 0
+abbrev IsSomewhere : At → Type 0
 IsSomewhere local = Unit {0}
 IsSomewhere (at_op w) = Unit {0}
 IsSomewhere (ended v) = Unit {0}
