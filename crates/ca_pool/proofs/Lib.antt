@@ -1,4 +1,0 @@
-pub mod Rounding
-pub mod CutRuns
-pub mod Stopping
-pub mod Lightness

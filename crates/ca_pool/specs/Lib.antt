@@ -1,5 +1,0 @@
-pub mod Answers
-pub mod PoolEnds
-pub mod Fitting
-pub mod Desk
-pub mod Leaving
