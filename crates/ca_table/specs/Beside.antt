@@ -1,5 +1,5 @@
 -- What a worker carries beside its lane.
-use Rattle.std.specs.Prelude.{Option, None}
+use Rattle.std.specs.Prelude.{None}
 use Rattle.ca_table.specs.Carrying.{Carries, each_by, lane_place, with_at}
 use Rattle.ca_table.specs.Grips.{settled_one}
 

@@ -84,14 +84,7 @@ pub fn try_hold_at<A: Agent, C: Clock + Drop>(
     ensures busy { IfNone result ((program : ProgramView) (n : ℕ) (h : Carries (Part A C × PartSeen A)) → IsCarrying A.over A.stands program code.now table.now.id n worker.old h → IsCarrying A.over A.stands program code.now table.now.id n worker.new h) }
 {
     let workers = worker.workers;
-    try_out(
-        table,
-        &mut worker.hand,
-        &worker.program,
-        code,
-        workers,
-        at,
-    )
+    try_out(table, &mut worker.hand, &worker.program, code, workers, at)
 }
 
 /// The part that the worker holds there, as it is now.

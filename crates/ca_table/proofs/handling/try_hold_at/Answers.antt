@@ -1,4 +1,4 @@
-use Rattle.std.proofs.Common.{◌≡◌, ◌∙◌, ℕ, ◌<◌, sym, ap, subst}
+use Rattle.std.proofs.Common.{◌∙◌, ℕ, ◌<◌, sym, ap, subst}
 use Rattle.ca_term.specs.Program.{ProgramView, program_view}
 use Rattle.ca_states.specs.ValidCode.{valid_code}
 use Rattle.ca_table.specs.Running.{Knows}

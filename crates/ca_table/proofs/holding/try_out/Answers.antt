@@ -1,7 +1,6 @@
 use Rattle.ca_term.specs.Program.{program_view}
 use Rattle.ca_states.specs.ValidCode.{valid_code}
 use Rattle.ca_table.proofs.Knowing.{knows_same}
-use Rattle.ca_table.proofs.Seats.{then_same}
 use Rattle.ca_table.proofs.holding.try_out.Goals as goal
 
 pub move_out-requires-clause-knows : goal.move_out-requires-clause-knows
