@@ -1,7 +1,9 @@
-ghost use Rattle.std.specs.Prelude.{IfOk, IfSome};
+ghost use Rattle.std.specs.Prelude.{◌≡◌, IfOk, IfSome, true};
 ghost use Rattle.ca_term.specs.Program.{program_view};
 ghost use Rattle.ca_term.specs.View.{kernel};
+ghost use Rattle.ca_meaning.specs.BodyViews.{is_at_op};
 ghost use Rattle.ca_meaning.specs.IsBody.{IsBodyOf};
+ghost use Rattle.ca_states.specs.Code.{CodeView};
 ghost use Rattle.ca_states.specs.ValidCode.{valid_code};
 ghost use Rattle.ca_machine.specs.Machines.{IsOver};
 ghost use Rattle.ca_machine.specs.View.{machine_view};
@@ -138,14 +140,8 @@ impl Comparison {
                 return Ok(());
             }
             let value = self.answer_to(alloc, one.want())?;
-            one.give(Outcome {
-                value: value.copy(alloc)?,
-                branch: None,
-            });
-            other.give(Outcome {
-                value,
-                branch: None,
-            });
+            give(&mut one, value.copy(alloc)?);
+            give(&mut other, value);
         }
         Ok(())
     }
@@ -214,4 +210,15 @@ fn plain_of<'p>(
     } else {
         Ok(None)
     }
+}
+
+// The agent gets the answer, and stays over its code.
+fn give<A: Agent>(agent: &mut A, value: Value)
+    requires at { is_at_op (A.place agent.old) ≡ true }
+    ensures over { (code : CodeView) → A.over code agent.old → A.over code agent.new }
+{
+    agent.give(Outcome {
+        value,
+        branch: None,
+    });
 }
