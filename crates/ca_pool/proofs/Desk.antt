@@ -25,7 +25,7 @@ use Rattle.ca_commit.specs.declared.task.Ready.{Ready}
 use Rattle.ca_states.specs.Code.{CodeView}
 use Rattle.ca_states.specs.ValidCode.{valid_code}
 use Rattle.ca_states.specs.declared.valid_code.ValidCode.{ValidCode}
-use Rattle.ca_table.specs.Bearing.{ShowSame, bank_content, lane_content, ready_content, shard_content, timers_content}
+use Rattle.ca_table.specs.Bearing.{ShowSame, bank_content, ready_content, shard_content, timers_content}
 use Rattle.ca_table.specs.Beside.{settled_beside}
 use Rattle.ca_table.specs.Carriers.{IsCarrying, IsMoved, LaneBox, is_now, just_lane, was}
 use Rattle.ca_table.specs.Carrying.{Carries, at_places, each_by, lane_place, ready_place, with_at}

@@ -1,14 +1,10 @@
 // A worker draws an event over what it moved out of its hand: it lays that back, draws, and gives it back.
-ghost use Rattle.std.specs.Prelude.{◌≡◌, ℕ, ◌+◌, ◌^◌, ◌<◌, ◌≤◌, ◌++◌, ◌∷◌, [], Option, Some, None, false, is_some, length};
+ghost use Rattle.std.specs.Prelude.{◌≡◌, ℕ, ◌+◌, ◌^◌, ◌<◌, ◌≤◌, ◌++◌, ◌∷◌, [], Option, None, false, length};
 ghost use Rattle.ca_term.specs.Program.{ProgramView};
 ghost use Rattle.ca_value.specs.Seq.{spare};
-ghost use Rattle.ca_states.specs.ValidCode.{valid_code};
 ghost use Rattle.ca_meaning.specs.Cost.{cost};
 ghost use Rattle.ca_turns.specs.declared.rule.Turn.{Turn};
-ghost use Rattle.ca_commit.specs.Listing.{listed};
-ghost use Rattle.ca_commit.specs.Listings.{parts};
 ghost use Rattle.ca_commit.specs.Moving.{visible};
-ghost use Rattle.ca_commit.specs.Numbers.{number_of_bank, number_of_shard};
 ghost use Rattle.ca_table.specs.Beside.{beside_lane, settled_beside};
 ghost use Rattle.ca_table.specs.Carriers.{IsCarrying, just_lane};
 ghost use Rattle.ca_table.specs.Carrying.{Carries, each_by};

@@ -1,14 +1,13 @@
-use Rattle.std.proofs.Common.{◌∙◌, ℕ, ◌++◌, ◌∷◌, [], List, Some, refl, sym, ap, subst, is_some}
+use Rattle.std.proofs.Common.{◌∙◌, ℕ, ◌++◌, ◌∷◌, [], List, refl, sym, ap, subst, is_some}
 use Rattle.ca_turns.specs.declared.rule.Turn.{Turn}
-use Rattle.ca_table.specs.Carriers.{IsCarrying, IsMoved, LaneBox}
-use Rattle.ca_table.specs.Carrying.{Carries, lane_place, nothing_carried, with_at}
+use Rattle.ca_table.specs.Carriers.{IsCarrying}
+use Rattle.ca_table.specs.Carrying.{Carries, lane_place, nothing_carried}
 use Rattle.ca_table.specs.Draws.{turn_view}
 use Rattle.ca_table.specs.Grips.{settled_one}
-use Rattle.ca_table.specs.Parts.{away, part_of, part_seen}
+use Rattle.ca_table.specs.Parts.{away, part_seen}
 use Rattle.ca_table.specs.Seen.{PartSeen}
 use Rattle.ca_table.specs.Workers.{part_of_lane}
 use Rattle.ca_table.specs.declared.drawn.Drawn.{Drawn}
-use Rattle.ca_table.specs.declared.part.Contents.TheVariants.{Lane}
 use Rattle.ca_table.specs.declared.part.Part.{Part}
 use Rattle.ca_table.proofs.Carriers.{is_held}
 use Rattle.ca_table.proofs.Drawing.{drew_what}
@@ -40,7 +39,7 @@ give_back-requires g c = let a = g.A.Agent in let K = g.C.Clock in let seen = pa
     let same = put.ensures.same.number ∙ lay.ensures.same.number in
     let moved = moved_told a.over a.place a.advances a.gives a.starts seen code n put.new.worker.number w.number lay.result (is_some clock) held (turn_view c.args.what) all same lay.ensures.tells r.7 in
     let drew = subst (λ (h : Carries (Part g.row.A.Denot g.row.C.Denot × PartSeen g.row.A.Denot)). IsCarrying a.over a.stands P code id n d.new.worker h) (each_desk seen n code w.number l all.lane h.banks h.shards h.timers (ready_laid seen n code w.number l held0 held))
-        (d.ensures.carries P n all back moved) in
+    (d.ensures.carries P n all back moved) in
     let after = desk_after seen n code w.number l clock0 clock held0 held (settled_one seen all.lane) in
     let own = subst (λ (k : ℕ). IsCarrying a.over a.stands P code id n d.new.worker (desk_after seen n code w.number l clock0 clock held0 held (settled_one seen all.lane) k)) (sym (d.ensures.same.number ∙ same)) drew in
     record { carries = (P, code, n, settled_one seen all.lane, (after w.number).banks, (after w.number).shards, (after w.number).timers, settled_one seen (ready_laid seen n code w.number l held0 held), laid_after seen n code w.number l lay.result clock0 clock held0 held r.6 lay.ensures.tells, own) }
@@ -53,7 +52,7 @@ take_lane-requires g c = let a = g.A.Agent in let K = g.C.Clock in let seen = pa
     let same = put.ensures.same.number ∙ lay.ensures.same.number in
     let moved = moved_told a.over a.place a.advances a.gives a.starts seen code n put.new.worker.number w.number lay.result (is_some clock) held (turn_view c.args.what) all same lay.ensures.tells r.7 in
     let drew = subst (λ (h : Carries (Part g.row.A.Denot g.row.C.Denot × PartSeen g.row.A.Denot)). IsCarrying a.over a.stands P code id n d.new.worker h) (each_desk seen n code w.number l all.lane h.banks h.shards h.timers (ready_laid seen n code w.number l held0 held))
-        (d.ensures.carries P n all back moved) in
+    (d.ensures.carries P n all back moved) in
     let after = desk_after seen n code w.number l clock0 clock held0 held (settled_one seen all.lane) in
     let own = subst (λ (k : ℕ). IsCarrying a.over a.stands P code id n d.new.worker (desk_after seen n code w.number l clock0 clock held0 held (settled_one seen all.lane) k)) (sym (d.ensures.same.number ∙ same)) drew in
     let gave = c.give_back.ensures.carries P code n (settled_one seen all.lane) (after w.number).banks (after w.number).shards (after w.number).timers (settled_one seen (ready_laid seen n code w.number l held0 held)) (laid_after seen n code w.number l lay.result clock0 clock held0 held r.6 lay.ensures.tells) own in
@@ -72,8 +71,8 @@ returns-clause-drew g c = λ kept. let t = c.draw_laid.ensures.drew in let w = c
     let hand2 = then_hand w.hand put.new.worker.hand d.new.worker.hand hand1 d.ensures.hand in
     let hand3 = then_hand w.hand d.new.worker.hand give.new.worker.hand hand2 give.ensures.turns.same in
     drew_what {o = w} {n = take.new.worker} t.0.number t.0.event t.0.before t.0.after c.args.what
-        (then_worker w give.new.worker take.new.worker worker3 take.ensures.same) (then_hand w.hand give.new.worker.hand take.new.worker.hand hand3 take.ensures.turns.same)
-        (take.ensures.turns.turns ∙ give.ensures.turns.turns ∙ t.1 ∙ ap (λ (ts : List (Turn (PartSeen g.row.A.Denot) Drawn)). ts ++ t.0 ∷ []) (put.ensures.turns.turns ∙ lay.ensures.turns.turns)) t.2 kept
+    (then_worker w give.new.worker take.new.worker worker3 take.ensures.same) (then_hand w.hand give.new.worker.hand take.new.worker.hand hand3 take.ensures.turns.same)
+    (take.ensures.turns.turns ∙ give.ensures.turns.turns ∙ t.1 ∙ ap (λ (ts : List (Turn (PartSeen g.row.A.Denot) Drawn)). ts ++ t.0 ∷ []) (put.ensures.turns.turns ∙ lay.ensures.turns.turns)) t.2 kept
 
 pub returns-clause-lane : goal.returns-clause-lane
 returns-clause-lane g c = let a = g.A.Agent in let K = g.C.Clock in let seen = part_seen K.least K.faults K.readings in let code = c.args.code.now in let w = c.args.worker.now in let clock = c.args.clock in let held = c.args.held.now in let lay = c.lay_back-laid in let put = c.put_at in let d = c.draw_laid in let id = c.args.table.now.id in let lane = c.args.lane in
@@ -83,7 +82,7 @@ returns-clause-lane g c = let a = g.A.Agent in let K = g.C.Clock in let seen = p
     let same = put.ensures.same.number ∙ lay.ensures.same.number in
     let moved = moved_told a.over a.place a.advances a.gives a.starts seen code n put.new.worker.number w.number lay.result (is_some clock) held (turn_view c.args.what) all same lay.ensures.tells r.7 in
     let drew = subst (λ (h : Carries (Part g.row.A.Denot g.row.C.Denot × PartSeen g.row.A.Denot)). IsCarrying a.over a.stands P code id n d.new.worker h) (each_desk seen n code w.number l all.lane h.banks h.shards h.timers (ready_laid seen n code w.number l held0 held))
-        (d.ensures.carries P n all back moved) in
+    (d.ensures.carries P n all back moved) in
     let after = desk_after seen n code w.number l clock0 clock held0 held (settled_one seen all.lane) in
     let own = subst (λ (k : ℕ). IsCarrying a.over a.stands P code id n d.new.worker (desk_after seen n code w.number l clock0 clock held0 held (settled_one seen all.lane) k)) (sym (d.ensures.same.number ∙ same)) drew in
     let gave = c.give_back.ensures.carries P code n (settled_one seen all.lane) (after w.number).banks (after w.number).shards (after w.number).timers (settled_one seen (ready_laid seen n code w.number l held0 held)) (laid_after seen n code w.number l lay.result clock0 clock held0 held r.6 lay.ensures.tells) own in
@@ -96,7 +95,7 @@ returns-clause-carries g c = λ P n l clock0 held0 s agree m. let a = g.A.Agent 
     let same = put.ensures.same.number ∙ lay.ensures.same.number in
     let moved = moved_told a.over a.place a.advances a.gives a.starts seen code n put.new.worker.number w.number lay.result (is_some clock) held (turn_view c.args.what) all same lay.ensures.tells m in
     let drew = subst (λ (h : Carries (Part g.row.A.Denot g.row.C.Denot × PartSeen g.row.A.Denot)). IsCarrying a.over a.stands P code id n d.new.worker h) (each_desk seen n code w.number l all.lane h.banks h.shards h.timers (ready_laid seen n code w.number l held0 held))
-        (d.ensures.carries P n all back moved) in
+    (d.ensures.carries P n all back moved) in
     let after = desk_after seen n code w.number l clock0 clock held0 held (settled_one seen all.lane) in
     let own = subst (λ (k : ℕ). IsCarrying a.over a.stands P code id n d.new.worker (desk_after seen n code w.number l clock0 clock held0 held (settled_one seen all.lane) k)) (sym (d.ensures.same.number ∙ same)) drew in
     let gave = c.give_back.ensures.carries P code n (settled_one seen all.lane) (after w.number).banks (after w.number).shards (after w.number).timers (settled_one seen (ready_laid seen n code w.number l held0 held)) (laid_after seen n code w.number l lay.result clock0 clock held0 held agree lay.ensures.tells) own in

@@ -1,8 +1,6 @@
-use Rattle.std.proofs.Common.{◌∙◌, ℕ, ◌+◌, None, ap, refl}
-use Rattle.ca_table.specs.Carrying.{Carries, lane_place, nothing_carried, ready_place, timers_place, with_at}
+use Rattle.std.proofs.Common.{ℕ, ◌+◌, None, ap, refl}
+use Rattle.ca_table.specs.Carrying.{lane_place, nothing_carried, ready_place, timers_place, with_at}
 use Rattle.ca_table.specs.Lifting.{bank_row, shard_row}
-use Rattle.ca_table.specs.Seen.{PartSeen}
-use Rattle.ca_table.specs.declared.part.Part.{Part}
 use Rattle.ca_pool.specs.Desk.{desk}
 use Rattle.ca_pool.proofs.laying.give_back.Goals as goal
 

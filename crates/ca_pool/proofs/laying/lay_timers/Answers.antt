@@ -22,7 +22,7 @@ returns-in-Some-clause-carries g c = λ program id n h was agree s. let a = g.A.
     let lies = subst (λ (o : Option (PartSeen g.row.A.Denot)). IsCarrying a.over a.stands program code id n w (with_at timers_place (laid_back n code V.Timers None o) h)) there.1 s in
     let back = c.put_at.ensures.carries program id n h timers_place (away n code) there.0 lies tt (ap (λ (k : ℕ). k + 32) s.one.of) in
     subst (λ (z : Option (ClockBox g.row.C.Denot)). IsCarrying a.over a.stands program code id n c.put_at.new.worker (with_at timers_place (laid_back n code V.Timers z was) h)) (sym c.in-Some.is)
-        (subst (λ (o : Option (PartSeen g.row.A.Denot)). IsCarrying a.over a.stands program code id n c.put_at.new.worker (with_at timers_place (laid_back n code V.Timers (Some c.in-Some.clockwork) o) h)) (sym there.1) back)
+    (subst (λ (o : Option (PartSeen g.row.A.Denot)). IsCarrying a.over a.stands program code id n c.put_at.new.worker (with_at timers_place (laid_back n code V.Timers (Some c.in-Some.clockwork) o) h)) (sym there.1) back)
 
 pub returns-in-None-clause-carries : goal.returns-in-None-clause-carries
 returns-in-None-clause-carries g c = λ program id n h was agree s. let a = g.A.Agent in let w = c.args.worker.now in let code = c.args.code.now in

@@ -1,5 +1,4 @@
-use Rattle.std.proofs.Common.{◌∙◌, ℕ, ◌+◌, Some, None, arith, refl, subst, sym, ap}
-use Rattle.ca_commit.specs.Gathered.{kind_at, timers_kind}
+use Rattle.std.proofs.Common.{ℕ, ◌+◌, Some, None, arith, refl, subst, ap}
 use Rattle.ca_table.specs.Carriers.{IsCarrying}
 use Rattle.ca_table.specs.Carrying.{timers_place, with_at}
 use Rattle.ca_table.specs.Parts.{away, clockwork_seen, contents_seen, part_of, part_seen}
@@ -22,4 +21,4 @@ returns-clause-timely g c = let K = g.C.Clock in c.hold_at.ensures.sound.timely 
 pub returns-clause-carries : goal.returns-clause-carries
 returns-clause-carries g c = λ P n l s. let a = g.A.Agent in let K = g.C.Clock in let seen = part_seen K.least K.faults K.readings in let code = c.args.code.now in let w = c.args.worker.now in let held = c.args.held.now in
     subst (λ (x : Contents g.row.A.Denot g.row.C.Denot). IsCarrying a.over a.stands P code c.args.table.now.id n c.hold_at.new.worker (with_at timers_place (Some (away n code, seen (part_of n code x))) (taken seen n code w.number l None held))) c.in-Timers.is
-        (c.hold_at.ensures.carries P n (taken seen n code w.number l None held) timers_place s tt (ap (λ (k : ℕ). k + 32) s.one.of))
+    (c.hold_at.ensures.carries P n (taken seen n code w.number l None held) timers_place s tt (ap (λ (k : ℕ). k + 32) s.one.of))

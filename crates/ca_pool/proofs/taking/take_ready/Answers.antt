@@ -1,4 +1,4 @@
-use Rattle.std.proofs.Common.{◌∙◌, ℕ, ◌+◌, Option, Some, None, arith, refl, subst, sym, ap}
+use Rattle.std.proofs.Common.{◌+◌, arith, subst}
 use Rattle.ca_table.specs.Carriers.{IsCarrying}
 use Rattle.ca_table.specs.Carrying.{Carries}
 use Rattle.ca_table.specs.Parts.{part_seen}
@@ -18,5 +18,5 @@ hold_ready-requires-clause-ascending g c = let a = g.A.Agent in let K = g.C.Cloc
 pub returns-clause-carries : goal.returns-clause-carries
 returns-clause-carries g c = λ P n l clock s. let a = g.A.Agent in let K = g.C.Clock in let seen = part_seen K.least K.faults K.readings in let code = c.args.code.now in let w = c.args.worker.now in let held = c.args.held.now in
     subst (λ (h : Carries (Part g.row.A.Denot g.row.C.Denot × PartSeen g.row.A.Denot)). IsCarrying a.over a.stands P code c.args.table.now.id n c.hold_ready.new.worker h)
-        (with_own seen n code w.number l clock held c.hold_ready.result c.requires.ready)
-        (c.hold_ready.ensures.carries P n (taken seen n code w.number l clock held) s)
+    (with_own seen n code w.number l clock held c.hold_ready.result c.requires.ready)
+    (c.hold_ready.ensures.carries P n (taken seen n code w.number l clock held) s)

@@ -41,4 +41,4 @@ pub returns-clause-carries : goal.returns-clause-carries
 returns-clause-carries g c = λ P n l s. let a = g.A.Agent in let K = g.C.Clock in let seen = part_seen K.least K.faults K.readings in let code = c.args.code.now in let w = c.args.worker.now in let held = c.args.held.now in let k = c.args.number in
     let none = ap (λ (xs : List (HeldShard g.row.A.Denot)). listed number_of_shard xs k) c.reserve.ensures.parts ∙ c.requires.above k (omega arith) in
     c.load_one.ensures.carries P n (taken seen n code w.number l None held) none
-        (subst (λ (xs : List (HeldShard g.row.A.Denot)). IsCarrying a.over a.stands P code c.args.table.now.id n w (with_all shard_row (lifted n code Shard seen number_of_shard xs) (taken seen n code w.number l None held))) (sym c.reserve.ensures.parts) s)
+    (subst (λ (xs : List (HeldShard g.row.A.Denot)). IsCarrying a.over a.stands P code c.args.table.now.id n w (with_all shard_row (lifted n code Shard seen number_of_shard xs) (taken seen n code w.number l None held))) (sym c.reserve.ensures.parts) s)

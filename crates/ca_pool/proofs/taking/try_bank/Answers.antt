@@ -15,7 +15,6 @@ use Rattle.ca_table.specs.declared.part.Contents.TheVariants.{Bank}
 use Rattle.ca_table.proofs.Liftings.{kind_at_row, kind_of_held, listed_else, listed_last}
 use Rattle.ca_table.proofs.Loads.{lifted_there}
 use Rattle.ca_table.proofs.MadeOf.{some_same}
-
 use Rattle.ca_pool.proofs.taking.try_bank.Goals as goal
 
 pub try_hold_at-requires : goal.try_hold_at-requires
@@ -42,9 +41,9 @@ pub returns-else-number-clause-sound : goal.returns-else-number-clause-sound
 returns-else-number-clause-sound g c = λ y there. let a = g.A.Agent in let K = g.C.Clock in let k = c.args.number in let w = c.args.worker.now in let x = c.bank_of-bank.result in let is : number_of_bank x ≡ k = (let m = c.number.ensures in let f = c.if-number.false in omega (arith, m, f)) in
     let last = ap (λ (xs : List HeldBank). listed number_of_bank xs k) c.push.ensures.parts ∙ listed_last number_of_bank (parts c.args.banks.now) x k is c.requires.none in
     subst (λ (z : Contents g.row.A.Denot g.row.C.Denot). IsSound a.over a.place (valid_code c.args.code.now) w.workers (w.workers + k) (held_of (contents_seen K.least K.faults K.readings z)))
-        (sym c.bank_of-bank.ensures ∙ ap (λ (z : HeldBank). Bank z) (some_same x y (sym last ∙ there))) c.in-Some.ensures.sound
+    (sym c.bank_of-bank.ensures ∙ ap (λ (z : HeldBank). Bank z) (some_same x y (sym last ∙ there))) c.in-Some.ensures.sound
 
 pub returns-else-number-clause-carries : goal.returns-else-number-clause-carries
 returns-else-number-clause-carries g c = λ P n h s. let a = g.A.Agent in let K = g.C.Clock in let seen = part_seen K.least K.faults K.readings in let code = c.args.code.now in let w = c.args.worker.now in let k = c.args.number in let x = c.bank_of-bank.result in let is : number_of_bank x ≡ k = (let m = c.number.ensures in let f = c.if-number.false in omega (arith, m, f)) in
     lifted_there a.over a.stands code c.args.table.now.id seen bank_row Bank number_of_bank P n c.try_hold_at.new.worker h (parts c.args.banks.now) (parts c.push.new.self) k x c.in-Some.contents c.bank_of-bank.ensures is c.push.ensures.parts c.requires.none
-        (c.in-Some.ensures.carries P n (with_all bank_row (lifted n code Bank seen number_of_bank (parts c.args.banks.now)) h) (bank_place k) s c.requires.number (ap (λ (m : ℕ). m + k) s.one.of))
+    (c.in-Some.ensures.carries P n (with_all bank_row (lifted n code Bank seen number_of_bank (parts c.args.banks.now)) h) (bank_place k) s c.requires.number (ap (λ (m : ℕ). m + k) s.one.of))
