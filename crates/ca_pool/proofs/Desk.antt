@@ -143,6 +143,10 @@ module _ {A C : Type 0} (seen : Part A C → PartSeen A) (n : ℕ) (code : Valid
   abbrev pub ready_were : Held A → Option (PartSeen A)
   ready_were held = option_map (λ q. settled_as seen n code (V.Ready q)) held.ready
 
+  -- a part that was moved out as it was settled
+  abbrev pub away_as : Contents A C → Part A C × PartSeen A
+  away_as x = (away n code, settled_as seen n code x)
+
   abbrev pub ready_laid : Held A → Held A → Option (Part A C × PartSeen A)
   ready_laid held0 held = laid_back n code V.Ready held.ready (ready_were held0)
 
@@ -194,13 +198,13 @@ module _ {A C : Type 0} (seen : Part A C → PartSeen A) (n : ℕ) (code : Valid
   pub bare_taken : (held : Held A) → IsBare held → taken seen n code w l None held ≡ just_lane n code l
   bare_taken held b = λ t. record {
     lane = lane_away;
-    banks = λ i. ap (λ (xs : List HeldBank). option_map (λ x. (away n code, settled_as seen n code (V.Bank x))) (listed number_of_bank xs i)) b.banks t;
-    shards = λ i. ap (λ (xs : List (HeldShard A)). option_map (λ x. (away n code, settled_as seen n code (V.Shard x))) (listed number_of_shard xs i)) b.shards t;
+    banks = λ i. ap (λ (xs : List HeldBank). option_map (λ x. away_as (V.Bank x)) (listed number_of_bank xs i)) b.banks t;
+    shards = λ i. ap (λ (xs : List (HeldShard A)). option_map (λ x. away_as (V.Shard x)) (listed number_of_shard xs i)) b.shards t;
     timers = None;
     ready = λ r. none_ready r t;
   } where
-    none_ready : (r : ℕ) → cond (eqb w r) (option_map (λ q. (away n code, settled_as seen n code (V.Ready q))) held.ready) None ≡ None
-    none_ready r = none_own (eqb w r) (option_map (λ q. (away n code, settled_as seen n code (V.Ready q))) held.ready) (ap (option_map (λ q. (away n code, settled_as seen n code (V.Ready q)))) b.ready)
+    none_ready : (r : ℕ) → cond (eqb w r) (option_map (λ q. away_as (V.Ready q)) held.ready) None ≡ None
+    none_ready r = none_own (eqb w r) (option_map (λ q. away_as (V.Ready q)) held.ready) (ap (option_map (λ q. away_as (V.Ready q))) b.ready)
 
   -- none of a kind
   pub no_banks : (held : Held A) → parts held.banks ≡ [] → (i : ℕ) → lifted n code V.Bank seen number_of_bank (parts held.banks) i ≡ None
@@ -210,10 +214,10 @@ module _ {A C : Type 0} (seen : Part A C → PartSeen A) (n : ℕ) (code : Valid
   no_shards held e i = ap (λ (xs : List (HeldShard A)). lifted n code V.Shard seen number_of_shard xs i) e
 
   pub no_shard : (held : Held A) (i : ℕ) → listed number_of_shard (parts held.shards) i ≡ None → lifted n code V.Shard seen number_of_shard (parts held.shards) i ≡ None
-  no_shard held i e = ap (option_map (λ s. (away n code, settled_as seen n code (V.Shard s)))) e
+  no_shard held i e = ap (option_map (λ s. away_as (V.Shard s))) e
 
   pub no_ready : (held : Held A) (clock : Option (ClockBox C)) → held.ready ≡ None → (r : ℕ) → (taken seen n code w l clock held).ready r ≡ None
-  no_ready held clock e r = none_own (eqb w r) (option_map (λ q. (away n code, settled_as seen n code (V.Ready q))) held.ready) (ap (option_map (λ q. (away n code, settled_as seen n code (V.Ready q)))) e)
+  no_ready held clock e r = none_own (eqb w r) (option_map (λ q. away_as (V.Ready q)) held.ready) (ap (option_map (λ q. away_as (V.Ready q))) e)
 
   -- the same parts are taken where the room beside them changed
   pub taken_by : (clock : Option (ClockBox C)) (old new : Held A) → parts new.banks ≡ parts old.banks → parts new.shards ≡ parts old.shards → new.ready ≡ old.ready → taken seen n code w l clock old ≡ taken seen n code w l clock new
@@ -221,17 +225,17 @@ module _ {A C : Type 0} (seen : Part A C → PartSeen A) (n : ℕ) (code : Valid
     lane = lane_away;
     banks = λ i. lifted n code V.Bank seen number_of_bank (sym banks t) i;
     shards = λ i. lifted n code V.Shard seen number_of_shard (sym shards t) i;
-    timers = option_map (λ t. (away n code, settled_as seen n code (V.Timers t))) clock;
-    ready = λ r. cond (eqb w r) (option_map (λ q. (away n code, settled_as seen n code (V.Ready q))) (sym ready t)) None;
+    timers = option_map (λ t. away_as (V.Timers t)) clock;
+    ready = λ r. cond (eqb w r) (option_map (λ q. away_as (V.Ready q)) (sym ready t)) None;
   }
 
   -- with a ready part more
   abbrev pub ready_too : Option (ClockBox C) → Held A → Ready A → Carries (Part A C × PartSeen A)
-  ready_too clock held q = let h = taken seen n code w l clock held in desk w h.lane h.banks h.shards h.timers (Some (away n code, settled_as seen n code (V.Ready q)))
+  ready_too clock held q = let h = taken seen n code w l clock held in desk w h.lane h.banks h.shards h.timers (Some (away_as (V.Ready q)))
 
-  pub with_own : (clock : Option (ClockBox C)) (held : Held A) (q : Ready A) → held.ready ≡ None → with_at (ready_place w) (Some (away n code, settled_as seen n code (V.Ready q))) (taken seen n code w l clock held) ≡ ready_too clock held q
+  pub with_own : (clock : Option (ClockBox C)) (held : Held A) (q : Ready A) → held.ready ≡ None → with_at (ready_place w) (Some (away_as (V.Ready q))) (taken seen n code w l clock held) ≡ ready_too clock held q
   with_own clock held q none = λ t. let h = taken seen n code w l clock held in record { lane = h.lane; banks = h.banks; shards = h.shards; timers = h.timers; ready = λ r. own (eqb w r) (h.ready r) (no_ready held clock none r) t } where
-    own : (b : Bool) (o : Option (Part A C × PartSeen A)) → o ≡ None → cond b (Some (away n code, settled_as seen n code (V.Ready q))) o ≡ cond b (Some (away n code, settled_as seen n code (V.Ready q))) None
+    own : (b : Bool) (o : Option (Part A C × PartSeen A)) → o ≡ None → cond b (Some (away_as (V.Ready q))) o ≡ cond b (Some (away_as (V.Ready q))) None
     own true o e = refl
     own false o e = e
 
@@ -262,7 +266,7 @@ module _ {A C : Type 0} (seen : Part A C → PartSeen A) (n : ℕ) (code : Valid
   laid_after told clock0 clock held0 held same tells = record {
     banks = λ i lt. settled_after seen n code V.Bank (has_home told.banks i) (listed number_of_bank (parts held0.banks) i) (listed number_of_bank (parts held.banks) i) (tells.banks i lt) (same.banks i);
     shards = λ i lt. settled_after seen n code V.Shard (has_home told.shards i) (listed number_of_shard (parts held0.shards) i) (listed number_of_shard (parts held.shards) i) (tells.shards i lt) (same.shards i);
-    timers = settled_after seen n code V.Timers told.timers clock0 clock tells.timers same.clock;
+    timers = settled_after seen n code V.Timers told.timers clock0 clock tells.timers same.timers;
     ready = settled_after seen n code V.Ready told.ready held0.ready held.ready tells.ready same.ready;
   }
 
@@ -274,7 +278,7 @@ module _ {A C : Type 0} (seen : Part A C → PartSeen A) (n : ℕ) (code : Valid
   shards_there clock0 clock held0 held same i = some_map (λ s. settled_as seen n code (V.Shard s)) (listed number_of_shard (parts held0.shards) i) ∙ sym (same.shards i)
 
   pub timers_there : (clock0 clock : Option (ClockBox C)) (held0 held : Held A) → SameHeld clock0 clock held0 held → is_some (timers_were clock0) ≡ is_some clock
-  timers_there clock0 clock held0 held same = some_map (λ t. settled_as seen n code (V.Timers t)) clock0 ∙ sym same.clock
+  timers_there clock0 clock held0 held same = some_map (λ t. settled_as seen n code (V.Timers t)) clock0 ∙ sym same.timers
 
   pub ready_there : (clock0 clock : Option (ClockBox C)) (held0 held : Held A) → SameHeld clock0 clock held0 held → is_some (ready_were held0) ≡ is_some held.ready
   ready_there clock0 clock held0 held same = some_map (λ q. settled_as seen n code (V.Ready q)) held0.ready ∙ sym same.ready
@@ -286,10 +290,10 @@ module _ {A C : Type 0} (seen : Part A C → PartSeen A) (n : ℕ) (code : Valid
   brings_laid clock0 clock held0 held lane ports looked with_timers with_ready same banks shards timers ready = record {
     banks = λ i lt. banks i lt ∙ sym (lies_there seen n code V.Bank (listed number_of_bank (parts held0.banks) i) (listed number_of_bank (parts held.banks) i) (same.banks i));
     shards = λ i lt. shards i lt ∙ sym (lies_there seen n code V.Shard (listed number_of_shard (parts held0.shards) i) (listed number_of_shard (parts held.shards) i) (same.shards i));
-    timers = timers ∙ sym (lies_there seen n code V.Timers clock0 clock same.clock);
+    timers = timers ∙ sym (lies_there seen n code V.Timers clock0 clock same.timers);
     ready = λ r. own (eqb w r) r refl with_ready (ready ∙ sym (lies_there seen n code V.Ready held0.ready held.ready same.ready));
   } where
-    own : (b : Bool) (r : ℕ) → eqb w r ≡ b → (e : Bool) → e ≡ is_some (laid_back n code V.Ready held.ready (ready_were held0)) → is_named (own_if e w) r ≡ is_some (cond b (laid_back n code V.Ready held.ready (ready_were held0)) None)
+    own : (b : Bool) (r : ℕ) → eqb w r ≡ b → (e : Bool) → e ≡ is_some (ready_laid held0 held) → is_named (own_if e w) r ≡ is_some (cond b (ready_laid held0 held) None)
     own true r is true e = is ∙ e
     own true r is false e = e
     own false r is true e = is
@@ -317,6 +321,14 @@ bank_same x y c r = λ t. record {
 
 shard_same : {A : Type 0} (x y : HeldShard A) → shard_in y ≡ shard_in x → shard_seen x.shard ≡ shard_seen y.shard
 shard_same x y e = same_finite parked_view x.shard.waits y.shard.waits (λ p. ap (λ f. f p) (sym e))
+
+-- what a clockwork shows
+abbrev pub clock_seen : {C : Type 0} → (least faults : C → ℕ) → (readings : C → Option (List ℕ)) → Option (ClockBox C) → Option TimersPart
+clock_seen least faults readings clock = option_map (λ c. clockwork_seen least faults readings c.value) clock
+
+own_part : {X Y : Type 0} (f : X → Y) (b : Bool) (o : Option X) → option_map f (cond b o None) ≡ cond b (option_map f o) None
+own_part f true o = refl
+own_part f false o = refl
 
 module _ {A C : Type 0} (least faults : C → ℕ) (readings : C → Option (List ℕ)) (n : ℕ) (code : ValidCode) where
   abbrev shows : Part A C → PartSeen A
@@ -353,13 +365,6 @@ module _ {A C : Type 0} (least faults : C → ℕ) (readings : C → Option (Lis
     ready = λ r. cond (eqb w r) (same_ready old.ready new.ready same.ready t) None;
   }
 
-  abbrev pub clock_seen : Option (ClockBox C) → Option TimersPart
-  clock_seen clock = option_map (λ c. clockwork_seen least faults readings c.value) clock
-
-  own_part : {X Y : Type 0} (f : X → Y) (b : Bool) (o : Option X) → option_map f (cond b o None) ≡ cond b (option_map f o) None
-  own_part f true o = refl
-  own_part f false o = refl
-
   module _ (w : ℕ) (l : Lane A) (clock0 clock : Option (ClockBox C)) (held0 held : Held A) (same : SameHeld clock0 clock held0 held) where
     abbrev banks_was : (i : ℕ) → option_map was ((laid shows n code w l clock0 held0 clock held).banks i) ≡ option_map (bank_content n) (listed number_of_bank (parts held0.banks) i)
     banks_was i = lies_was shows n code V.Bank (bank_content n) (bank_is A n) (listed number_of_bank (parts held0.banks) i) (listed number_of_bank (parts held.banks) i) (same.banks i)
@@ -376,11 +381,11 @@ module _ {A C : Type 0} (least faults : C → ℕ) (readings : C → Option (Lis
     abbrev clock_content : ClockBox C → Content (TaskAgent A)
     clock_content c = timers_content n (clockwork_seen least faults readings c.value)
 
-    timers_was : option_map was (laid shows n code w l clock0 held0 clock held).timers ≡ option_map (timers_content n) (clock_seen clock0)
-    timers_was = lies_was shows n code V.Timers clock_content (λ c. refl) clock0 clock same.clock ∙ map_twice (λ c. clockwork_seen least faults readings c.value) (timers_content n) clock0
+    timers_was : option_map was (laid shows n code w l clock0 held0 clock held).timers ≡ option_map (timers_content n) (clock_seen least faults readings clock0)
+    timers_was = lies_was shows n code V.Timers clock_content (λ c. refl) clock0 clock same.timers ∙ map_twice (λ c. clockwork_seen least faults readings c.value) (timers_content n) clock0
 
-    timers_now : option_map (is_now shows) (laid shows n code w l clock0 held0 clock held).timers ≡ option_map (timers_content n) (clock_seen clock)
-    timers_now = lies_now shows n code V.Timers clock_content (λ c. refl) clock0 clock same.clock ∙ map_twice (λ c. clockwork_seen least faults readings c.value) (timers_content n) clock
+    timers_now : option_map (is_now shows) (laid shows n code w l clock0 held0 clock held).timers ≡ option_map (timers_content n) (clock_seen least faults readings clock)
+    timers_now = lies_now shows n code V.Timers clock_content (λ c. refl) clock0 clock same.timers ∙ map_twice (λ c. clockwork_seen least faults readings c.value) (timers_content n) clock
 
     ready_was : (r : ℕ) → option_map was ((laid shows n code w l clock0 held0 clock held).ready r) ≡ cond (eqb w r) (option_map (ready_content n) held0.ready) None
     ready_was r = own_part was (eqb w r) (laid_back n code V.Ready held.ready (ready_were shows n code w l held0)) ∙ ap (λ o. cond (eqb w r) o None) (lies_was shows n code V.Ready (ready_content n) (λ q. refl) held0.ready held.ready same.ready)
@@ -389,14 +394,14 @@ module _ {A C : Type 0} (least faults : C → ℕ) (readings : C → Option (Lis
     ready_now r = own_part (is_now shows) (eqb w r) (laid_back n code V.Ready held.ready (ready_were shows n code w l held0)) ∙ ap (λ o. cond (eqb w r) o None) (lies_now shows n code V.Ready (ready_content n) (λ q. refl) held0.ready held.ready same.ready)
 
     -- what lies in the hand for an event beside the lane
-    pub aside_turned : IsTurned shows w n (laid_aside shows n code w l clock0 held0 clock held) None None (clock_seen clock0) (clock_seen clock) held0 held
+    pub aside_turned : IsTurned shows w n (laid_aside shows n code w l clock0 held0 clock held) None None (clock_seen least faults readings clock0) (clock_seen least faults readings clock) held0 held
     aside_turned = record {
       before = record { lane_part = refl; bank_parts = banks_was; shard_parts = shards_was; timers_part = timers_was; ready_parts = ready_was };
       after = record { lane_part = refl; bank_parts = banks_now; shard_parts = shards_now; timers_part = timers_now; ready_parts = ready_now };
     }
 
     -- and for one of the lane's task
-    pub all_turned : (lane : LaneBox A) → IsTurned shows w n (all_laid shows n code w l lane clock0 held0 clock held) (Some (lane_of_seen (lane_seen l))) (Some (lane_of_seen (lane_seen lane.value))) (clock_seen clock0) (clock_seen clock) held0 held
+    pub all_turned : (lane : LaneBox A) → IsTurned shows w n (all_laid shows n code w l lane clock0 held0 clock held) (Some (lane_of_seen (lane_seen l))) (Some (lane_of_seen (lane_seen lane.value))) (clock_seen least faults readings clock0) (clock_seen least faults readings clock) held0 held
     all_turned lane = record {
       before = record { lane_part = refl; bank_parts = banks_was; shard_parts = shards_was; timers_part = timers_was; ready_parts = ready_was };
       after = record { lane_part = refl; bank_parts = banks_now; shard_parts = shards_now; timers_part = timers_now; ready_parts = ready_now };

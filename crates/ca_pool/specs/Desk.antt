@@ -89,7 +89,7 @@ pub record SameHeld {A C : Type 0} (clock clock2 : Option (ClockBox C)) (held he
   pub banks : (i : ℕ) → is_some (listed number_of_bank (parts held2.banks) i) ≡ is_some (listed number_of_bank (parts held.banks) i)
   pub shards : (i : ℕ) → is_some (listed number_of_shard (parts held2.shards) i) ≡ is_some (listed number_of_shard (parts held.shards) i)
   pub ready : is_some held2.ready ≡ is_some held.ready
-  pub clock : is_some clock2 ≡ is_some clock
+  pub timers : is_some clock2 ≡ is_some clock
 
 -- the numbers that an event may give, and the clock's answer
 pub record SameNumbers {A : Type 0} (old new : Held A) : Type 0 where
@@ -125,15 +125,15 @@ module _ {X : Type 0} where
   desk w lane banks shards timers ready = record { lane = lane; banks = banks; shards = shards; timers = timers; ready = λ r. cond (eqb w r) ready None }
 
 -- those that are told are there, each settled as it is, and no other
-pub record AreLaid {A C : Type 0} (seen : Part A C → PartSeen A) (laid : Laid) (banks shards : ℕ → Option (Part A C × PartSeen A)) (timers ready : Option (Part A C × PartSeen A)) : Type 0 where
-  pub banks : (i : ℕ) → i < 16 → SettledIf seen (has_home laid.banks i) (banks i)
-  pub shards : (i : ℕ) → i < 16 → SettledIf seen (has_home laid.shards i) (shards i)
-  pub timers : SettledIf seen laid.timers timers
-  pub ready : SettledIf seen laid.ready ready
+pub record AreLaid {A C : Type 0} (seen : Part A C → PartSeen A) (told : Laid) (bs ss : ℕ → Option (Part A C × PartSeen A)) (t r : Option (Part A C × PartSeen A)) : Type 0 where
+  pub banks : (i : ℕ) → i < 16 → SettledIf seen (has_home told.banks i) (bs i)
+  pub shards : (i : ℕ) → i < 16 → SettledIf seen (has_home told.shards i) (ss i)
+  pub timers : SettledIf seen told.timers t
+  pub ready : SettledIf seen told.ready r
 
 -- the banks and shards that are told are these
-pub record TellsOf {A : Type 0} (laid : Laid) (clocked : Bool) (held : Held A) : Type 0 where
-  pub banks : (i : ℕ) → i < 16 → has_home laid.banks i ≡ is_some (listed number_of_bank (parts held.banks) i)
-  pub shards : (i : ℕ) → i < 16 → has_home laid.shards i ≡ is_some (listed number_of_shard (parts held.shards) i)
-  pub timers : laid.timers ≡ clocked
-  pub ready : laid.ready ≡ is_some held.ready
+pub record TellsOf {A : Type 0} (told : Laid) (clocked : Bool) (held : Held A) : Type 0 where
+  pub banks : (i : ℕ) → i < 16 → has_home told.banks i ≡ is_some (listed number_of_bank (parts held.banks) i)
+  pub shards : (i : ℕ) → i < 16 → has_home told.shards i ≡ is_some (listed number_of_shard (parts held.shards) i)
+  pub timers : told.timers ≡ clocked
+  pub ready : told.ready ≡ is_some held.ready

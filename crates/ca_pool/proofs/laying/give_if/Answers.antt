@@ -13,10 +13,10 @@ give_at-requires g c = let a = g.A.Agent in let K = g.C.Clock in let seen = part
     let x = subst (λ (b : Bool). SettledIf seen b r.5) c.if-there.true r.6 in
     record { settled = (r.0, r.1, r.2, r.3, r.4, x.0, subst (λ (o : Option (Part g.row.A.Denot g.row.C.Denot × PartSeen g.row.A.Denot)). IsCarrying a.over a.stands r.0 r.1 c.args.table.now.id r.2 c.args.worker.now (with_at r.4 o r.3)) x.1 r.7, r.8, r.9) }
 
-pub returns-in-then-clause-carries : goal.returns-in-then-clause-carries
-returns-in-then-clause-carries g c = λ P code n h z o settled none s is e. c.give_at.ensures.carries P code n h z o none s is e
+pub returns-then-there-clause-carries : goal.returns-then-there-clause-carries
+returns-then-there-clause-carries g c = λ P code n h z o settled none s is e. c.give_at.ensures.carries P code n h z o none s is e
 
-pub returns-in-else-clause-carries : goal.returns-in-else-clause-carries
-returns-in-else-clause-carries g c = λ P code n h z o settled none s is e. let a = g.A.Agent in let K = g.C.Clock in let seen = part_seen K.least K.faults K.readings in
+pub returns-else-there-clause-carries : goal.returns-else-there-clause-carries
+returns-else-there-clause-carries g c = λ P code n h z o settled none s is e. let a = g.A.Agent in let K = g.C.Clock in let seen = part_seen K.least K.faults K.readings in
     let gone = subst (λ (b : Bool). SettledIf seen b o) c.if-there.false settled in
     subst (λ (k : Carries (Part g.row.A.Denot g.row.C.Denot × PartSeen g.row.A.Denot)). IsCarrying a.over a.stands P code c.args.table.now.id n c.args.worker.now k) (ap (λ (o : Option (Part g.row.A.Denot g.row.C.Denot × PartSeen g.row.A.Denot)). with_at z o h) gone ∙ with_none z h none) s

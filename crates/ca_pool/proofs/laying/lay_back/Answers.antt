@@ -1,4 +1,5 @@
-use Rattle.std.proofs.Common.{◌∙◌, ℕ, sym, subst, None}
+use Rattle.std.proofs.Common.{◌∙◌, ℕ, Option, ap, sym, subst, None, is_some}
+use Rattle.ca_commit.specs.declared.task.Ready.{Ready}
 use Rattle.ca_table.specs.Carriers.{IsCarrying}
 use Rattle.ca_table.specs.Carrying.{Carries, ready_place, with_at}
 use Rattle.ca_table.specs.Lifting.{laid_back}
@@ -29,7 +30,7 @@ lay_ready-ready-requires g c = let a = g.A.Agent in let K = g.C.Clock in let see
     let banks = c.unload-banks.ensures.carries P id n (nothing_back seen n code w.number l clock0 clock held0 held) (banks_were seen n code w.number l held0) (banks_there seen n code w.number l clock0 clock held0 held same) s in
     let shards = c.unload-shards.ensures.carries P id n (banks_back seen n code w.number l clock0 clock held0 held) (shards_were seen n code w.number l held0) (shards_there seen n code w.number l clock0 clock held0 held same) banks in
     let v = c.unload-shards.new.worker in let number = c.unload-shards.ensures.same.number ∙ c.unload-banks.ensures.same.number in
-    record { carries = (P, id, n, shards_back seen n code w.number l clock0 clock held0 held, ready_were seen n code w.number l held0, ready_there seen n code w.number l clock0 clock held0 held same,
+    record { carries = (P, id, n, shards_back seen n code w.number l clock0 clock held0 held, ready_were seen n code w.number l held0, ready_there seen n code w.number l clock0 clock held0 held same ∙ ap is_some (sym c.take.ensures.value),
         subst (λ (k : ℕ). IsCarrying a.over a.stands P code id n v (with_at (ready_place k) (laid_back n code V.Ready None (ready_were seen n code w.number l held0)) (shards_back seen n code w.number l clock0 clock held0 held))) (sym number) shards) }
 
 pub lay_timers-timers-requires : goal.lay_timers-timers-requires
@@ -41,8 +42,9 @@ lay_timers-timers-requires g c = let a = g.A.Agent in let K = g.C.Clock in let s
     let v = c.unload-shards.new.worker in let number = c.unload-shards.ensures.same.number ∙ c.unload-banks.ensures.same.number in
     let apart = subst (λ (k : ℕ). IsCarrying a.over a.stands P code id n v (with_at (ready_place k) (laid_back n code V.Ready None (ready_were seen n code w.number l held0)) (shards_back seen n code w.number l clock0 clock held0 held))) (sym number) shards in
     let u = c.lay_ready-ready.new.worker in
-    let ready = subst (λ (k : ℕ). IsCarrying a.over a.stands P code id n u (with_at (ready_place k) (laid_back n code V.Ready held.ready (ready_were seen n code w.number l held0)) (shards_back seen n code w.number l clock0 clock held0 held))) number
-        (c.lay_ready-ready.ensures.carries P id n (shards_back seen n code w.number l clock0 clock held0 held) (ready_were seen n code w.number l held0) (ready_there seen n code w.number l clock0 clock held0 held same) apart) in
+    let ready = subst (λ (o : Option (Ready g.row.A.Denot)). IsCarrying a.over a.stands P code id n u (with_at (ready_place w.number) (laid_back n code V.Ready o (ready_were seen n code w.number l held0)) (shards_back seen n code w.number l clock0 clock held0 held))) c.take.ensures.value
+        (subst (λ (k : ℕ). IsCarrying a.over a.stands P code id n u (with_at (ready_place k) (laid_back n code V.Ready c.take.result (ready_were seen n code w.number l held0)) (shards_back seen n code w.number l clock0 clock held0 held))) number
+        (c.lay_ready-ready.ensures.carries P id n (shards_back seen n code w.number l clock0 clock held0 held) (ready_were seen n code w.number l held0) (ready_there seen n code w.number l clock0 clock held0 held same ∙ ap is_some (sym c.take.ensures.value)) apart)) in
     record { carries = (P, id, n, ready_back seen n code w.number l clock0 clock held0 held, timers_were seen n code w.number l clock0, timers_there seen n code w.number l clock0 clock held0 held same, ready) }
 
 pub returns-clause-carries : goal.returns-clause-carries
@@ -53,6 +55,7 @@ returns-clause-carries g c = λ P id n l clock0 held0 same s0. let a = g.A.Agent
     let v = c.unload-shards.new.worker in let number = c.unload-shards.ensures.same.number ∙ c.unload-banks.ensures.same.number in
     let apart = subst (λ (k : ℕ). IsCarrying a.over a.stands P code id n v (with_at (ready_place k) (laid_back n code V.Ready None (ready_were seen n code w.number l held0)) (shards_back seen n code w.number l clock0 clock held0 held))) (sym number) shards in
     let u = c.lay_ready-ready.new.worker in
-    let ready = subst (λ (k : ℕ). IsCarrying a.over a.stands P code id n u (with_at (ready_place k) (laid_back n code V.Ready held.ready (ready_were seen n code w.number l held0)) (shards_back seen n code w.number l clock0 clock held0 held))) number
-        (c.lay_ready-ready.ensures.carries P id n (shards_back seen n code w.number l clock0 clock held0 held) (ready_were seen n code w.number l held0) (ready_there seen n code w.number l clock0 clock held0 held same) apart) in
+    let ready = subst (λ (o : Option (Ready g.row.A.Denot)). IsCarrying a.over a.stands P code id n u (with_at (ready_place w.number) (laid_back n code V.Ready o (ready_were seen n code w.number l held0)) (shards_back seen n code w.number l clock0 clock held0 held))) c.take.ensures.value
+        (subst (λ (k : ℕ). IsCarrying a.over a.stands P code id n u (with_at (ready_place k) (laid_back n code V.Ready c.take.result (ready_were seen n code w.number l held0)) (shards_back seen n code w.number l clock0 clock held0 held))) number
+        (c.lay_ready-ready.ensures.carries P id n (shards_back seen n code w.number l clock0 clock held0 held) (ready_were seen n code w.number l held0) (ready_there seen n code w.number l clock0 clock held0 held same ∙ ap is_some (sym c.take.ensures.value)) apart)) in
     c.lay_timers-timers.ensures.carries P id n (ready_back seen n code w.number l clock0 clock held0 held) (timers_were seen n code w.number l clock0) (timers_there seen n code w.number l clock0 clock held0 held same) ready
