@@ -2,3 +2,5 @@ pub mod Rounding
 pub mod CutRuns
 pub mod Stopping
 pub mod Lightness
+pub mod Desk
+pub mod Placing

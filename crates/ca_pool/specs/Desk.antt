@@ -1,15 +1,24 @@
 -- A worker that has moved its lane and the parts of an event out of its hand, and that laid them back.
-use Rattle.std.specs.Prelude.{◌≡◌, ℕ, ◌+◌, ◌≤◌, [], Option, Some, None, option_map, cond, eqb, is_some, length}
+use Rattle.std.specs.Prelude.{◌≡◌, ℕ, ◌<◌, List, [], Option, Some, None, Bool, option_map, cond, eqb, is_some}
 use Rattle.std.specs.declared.boxed.Box.{Box}
 use Rattle.std.specs.declared.alloc.Global.{Global}
+use Rattle.ca_value.specs.Tree.{Tree}
+use Rattle.ca_term.specs.Operation.{SeedView}
+use Rattle.ca_term.specs.Program.{ProgramView}
+use Rattle.ca_meaning.specs.Body.{At}
+use Rattle.ca_states.specs.Code.{CodeView}
 use Rattle.ca_commit.specs.Listing.{listed}
-use Rattle.ca_commit.specs.Listings.{parts, spare}
+use Rattle.ca_commit.specs.Listings.{parts}
 use Rattle.ca_commit.specs.Numbers.{number_of_bank, number_of_shard}
+use Rattle.ca_commit.specs.Touched as said
 use Rattle.ca_commit.specs.declared.held.Held.{Held}
+use Rattle.ca_pool.specs.declared.laying.Laid.{Laid}
 use Rattle.ca_states.specs.declared.valid_code.ValidCode.{ValidCode}
-use Rattle.ca_table.specs.Carriers.{LaneBox}
+use Rattle.ca_table.specs.Carriers.{IsMoved, LaneBox}
 use Rattle.ca_table.specs.Carrying.{Carries, lane_place, with_at}
-use Rattle.ca_table.specs.Lifting.{laid_back, lifted}
+use Rattle.ca_table.specs.Homes.{has_home}
+use Rattle.ca_table.specs.Lifting.{SettledIf, laid_back, lifted}
+use Rattle.ca_table.specs.Needing.{drawn_with}
 use Rattle.ca_table.specs.Parts.{away, part_of}
 use Rattle.ca_table.specs.Seen.{PartSeen}
 use Rattle.ca_table.specs.Workers.{part_of_lane}
@@ -56,23 +65,75 @@ module _ {A C : Type 0} (seen : Part A C → PartSeen A) (n : ℕ) (code : Valid
   abbrev pub all_laid : ℕ → Lane A → LaneBox A → Option (ClockBox C) → Held A → Option (ClockBox C) → Held A → Carries (Part A C × PartSeen A)
   all_laid w l lane clock held clock2 held2 = with_at lane_place (Some (part_of n code (V.Lane lane), part_of_lane n code l)) (laid w l clock held clock2 held2)
 
--- nothing is held, and there is room for sixteen banks and shards
+-- which banks are held, and which shards, by their numbers
+abbrev pub holds_banks : {A : Type 0} → Held A → ℕ → Bool
+holds_banks held i = is_some (listed number_of_bank (parts held.banks) i)
+
+abbrev pub holds_shards : {A : Type 0} → Held A → ℕ → Bool
+holds_shards held i = is_some (listed number_of_shard (parts held.shards) i)
+
+-- whichever ports and waits have these banks and shards, the event moves what worker w of n carries
+abbrev pub IsMovedWith : {A C : Type 0} → (CodeView → A → Type 0) → (A → At) → (ProgramView → A → A → Type 0) → (A → Tree → A → Type 0) → (ProgramView → SeedView → A → Type 0) → (Part A C → PartSeen A) → ValidCode → (n w : ℕ) → (banks shards : ℕ → Bool) → said.Turn → Carries (Part A C × PartSeen A) → Type 0
+IsMovedWith over place advances gives starts seen code n w banks shards what h = (ports looked : List ℕ) → ((i : ℕ) → i < 16 → said.homes ports i ≡ banks i) → ((i : ℕ) → i < 16 → said.homes looked i ≡ shards i)
+    → IsMoved over place advances gives starts seen code n w (drawn_with w n what ports looked) h
+
+-- nothing is held
 pub record IsBare {A : Type 0} (held : Held A) : Type 0 where
   pub banks : parts held.banks ≡ []
   pub shards : parts held.shards ≡ []
   pub ready : held.ready ≡ None
   pub timers : held.timers ≡ None
-  pub bank_room : 16 ≤ spare held.banks
-  pub shard_room : 16 ≤ spare held.shards
 
 -- the same parts are held, by their numbers
 pub record SameHeld {A C : Type 0} (clock clock2 : Option (ClockBox C)) (held held2 : Held A) : Type 0 where
   pub banks : (i : ℕ) → is_some (listed number_of_bank (parts held2.banks) i) ≡ is_some (listed number_of_bank (parts held.banks) i)
   pub shards : (i : ℕ) → is_some (listed number_of_shard (parts held2.shards) i) ≡ is_some (listed number_of_shard (parts held.shards) i)
   pub ready : is_some held2.ready ≡ is_some held.ready
-  pub clock : is_some clock2 ≡ is_some clock
+  pub timers : is_some clock2 ≡ is_some clock
 
--- with what is held there is room for sixteen banks and shards
-pub record HasRoom {A : Type 0} (held : Held A) : Type 0 where
-  pub banks : 16 ≤ spare held.banks + length (parts held.banks)
-  pub shards : 16 ≤ spare held.shards + length (parts held.shards)
+-- the numbers that an event may give, and the clock's answer
+pub record SameNumbers {A : Type 0} (old new : Held A) : Type 0 where
+  pub task : new.new_task ≡ old.new_task
+  pub port : new.new_port ≡ old.new_port
+  pub wait : new.new_wait ≡ old.new_wait
+  pub moment : new.moment ≡ old.moment
+
+-- all is as before but the banks
+pub record ButBanks {A : Type 0} (old new : Held A) : Type 0 where
+  pub shards : new.shards ≡ old.shards
+  pub ready : new.ready ≡ old.ready
+  pub timers : new.timers ≡ old.timers
+  pub numbers : SameNumbers old new
+
+-- but the shards
+pub record ButShards {A : Type 0} (old new : Held A) : Type 0 where
+  pub banks : new.banks ≡ old.banks
+  pub ready : new.ready ≡ old.ready
+  pub timers : new.timers ≡ old.timers
+  pub numbers : SameNumbers old new
+
+-- but the ready part
+pub record ButReady {A : Type 0} (old new : Held A) : Type 0 where
+  pub banks : new.banks ≡ old.banks
+  pub shards : new.shards ≡ old.shards
+  pub timers : new.timers ≡ old.timers
+  pub numbers : SameNumbers old new
+
+module _ {X : Type 0} where
+  -- a lane, banks, shards, the timers, and worker w's own ready part
+  abbrev pub desk : ℕ → Option X → (ℕ → Option X) → (ℕ → Option X) → Option X → Option X → Carries X
+  desk w lane banks shards timers ready = record { lane = lane; banks = banks; shards = shards; timers = timers; ready = λ r. cond (eqb w r) ready None }
+
+-- those that are told are there, each settled as it is, and no other
+pub record AreLaid {A C : Type 0} (seen : Part A C → PartSeen A) (told : Laid) (bs ss : ℕ → Option (Part A C × PartSeen A)) (t r : Option (Part A C × PartSeen A)) : Type 0 where
+  pub banks : (i : ℕ) → i < 16 → SettledIf seen (has_home told.banks i) (bs i)
+  pub shards : (i : ℕ) → i < 16 → SettledIf seen (has_home told.shards i) (ss i)
+  pub timers : SettledIf seen told.timers t
+  pub ready : SettledIf seen told.ready r
+
+-- the banks and shards that are told are these
+pub record TellsOf {A : Type 0} (told : Laid) (clocked : Bool) (held : Held A) : Type 0 where
+  pub banks : (i : ℕ) → i < 16 → has_home told.banks i ≡ is_some (listed number_of_bank (parts held.banks) i)
+  pub shards : (i : ℕ) → i < 16 → has_home told.shards i ≡ is_some (listed number_of_shard (parts held.shards) i)
+  pub timers : told.timers ≡ clocked
+  pub ready : told.ready ≡ is_some held.ready

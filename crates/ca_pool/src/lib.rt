@@ -4,10 +4,13 @@
 //! operation becomes. Start with `pool_run`, a whole run; then `rounds`, all workers at once, and `working`, one of them.
 #![tactic(auto)]
 
+mod drawing;
 mod fitting;
 pub mod gate;
+mod laying;
 pub mod pool_run;
 pub mod rounds;
 pub mod run_end;
 pub mod starting;
+mod taking;
 pub mod working;
