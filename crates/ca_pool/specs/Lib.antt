@@ -3,3 +3,9 @@ pub mod PoolEnds
 pub mod Fitting
 pub mod Desk
 pub mod Leaving
+pub mod AtEvent
+pub mod Named
+pub mod Preparing
+pub mod Resolving
+pub mod Prepared
+pub mod Endings

@@ -4,11 +4,19 @@
 //! operation becomes. Start with `pool_run`, a whole run; then `rounds`, all workers at once, and `working`, one of them.
 #![tactic(auto)]
 
+mod committing;
 mod drawing;
+mod ending;
 mod fitting;
 pub mod gate;
 mod laying;
+mod limits;
+mod named;
+mod operation;
 pub mod pool_run;
+mod preparing;
+mod pruning;
+mod resolving;
 pub mod rounds;
 pub mod run_end;
 pub mod starting;
