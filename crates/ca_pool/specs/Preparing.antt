@@ -16,15 +16,15 @@ use Rattle.ca_commit.specs.declared.task.Task.{Task}
 use Rattle.ca_pool.specs.Desk.{ClockBox, SameNumbers}
 use Rattle.ca_table.specs.Parts.{clockwork_seen}
 
+-- the same with these timers in place of its own
+abbrev pub in_place : TimersPart → Option TimersView → TimersPart
+in_place c None = c
+in_place c (Some t) = record { deadlines = t.deadlines; now = t.moment; least = c.least; faults = c.faults; readings = c.readings; mark = c.mark }
+
 module _ {C : Type 0} (least faults : C → ℕ) (readings : C → Option (List ℕ)) where
   -- what a clockwork shows
   abbrev pub clock_seen : Option (ClockBox C) → Option TimersPart
   clock_seen o = option_map (λ t. clockwork_seen least faults readings t.value) o
-
-  -- the same with these timers in place of its own
-  abbrev pub in_place : TimersPart → Option TimersView → TimersPart
-  in_place c None = c
-  in_place c (Some t) = record { deadlines = t.deadlines; now = t.moment; least = c.least; faults = c.faults; readings = c.readings; mark = c.mark }
 
   -- what a clockwork shows whose timers are held
   abbrev pub clock_with : Option (ClockBox C) → Option TimersView → Option TimersPart

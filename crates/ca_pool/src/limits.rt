@@ -1,6 +1,6 @@
 // What comes in no run, and no contract says so: so many events that their numbers pass 2^59, a new port that its bank
 // has, a name that an operation brings twice. There a worker waits for good.
-ghost use Rattle.std.specs.Prelude.{◌≡◌, ◌+◌, ◌*◌, ◌^◌, ◌<◌, IfSome, IsTrue, None, length};
+ghost use Rattle.std.specs.Prelude.{◌≡◌, ◌+◌, ◌*◌, ◌^◌, ◌<◌, IfSome, IsFalse, IsTrue, None, length};
 ghost use Rattle.ca_value.specs.Seq.{list};
 ghost use Rattle.ca_value.specs.View.{trees};
 ghost use Rattle.ca_term.specs.Operation.{op_view};
@@ -20,7 +20,7 @@ ghost use Rattle.ca_pool.specs.Desk.{IsBare};
 use ca_agent::agent::Agent;
 use ca_bank::apart::{places_itself, toggles_apart};
 use ca_bank::bank::Bank;
-use ca_commit::held::Held;
+use ca_commit::held::{Banks, Held};
 use ca_commit::task::Task;
 use ca_table::noting::can_draw;
 use ca_table::part::Counts;
@@ -66,10 +66,24 @@ pub(crate) fn check_alts<R: Wait, A: Agent>(rt: &R, task: &Task<A>)
 }
 
 fn has_port(bank: &Bank, port: PortId) -> bool
-    ensures channel { IsTrue result ⊎ (kept_at bank.now port.n ≡ None) }
-    ensures registry { IsTrue result ⊎ (registry_at bank.now port.n ≡ None) }
+    ensures channel { IsFalse result → kept_at bank.now port.n ≡ None }
+    ensures registry { IsFalse result → registry_at bank.now port.n ≡ None }
 {
-    bank.kind(port).is_some()
+    match bank.kind(port) {
+        Some(_) => true,
+        None => false,
+    }
+}
+
+// Whether no bank that is held has the port.
+fn is_new(banks: &Banks, port: PortId) -> bool
+    ensures channel { IsTrue result → whole (channels_held banks.now) port.n ≡ None }
+    ensures registry { IsTrue result → whole (registries_held banks.now) port.n ≡ None }
+{
+    match banks.get(port.n % 16) {
+        Some(bank) => !has_port(bank.bank(), port),
+        None => true,
+    }
 }
 
 /// The number of the next port is new.
@@ -78,22 +92,24 @@ pub(crate) fn check_new<R: Wait, A: Agent>(rt: &R, held: &Held<A>)
     ensures registry { whole (registries_held held.now.banks) held.now.new_port ≡ None }
 {
     let port = PortId { n: held.new_port };
-    if let Some(bank) = held.banks.get(port.n % 16) {
-        if has_port(bank.bank(), port) {
-            wait_for_good(rt);
-            unreachable!()
-        }
+    if !is_new(&held.banks, port) {
+        wait_for_good(rt);
+        unreachable!()
     }
 }
 
-fn are_apart(name: RegisterName, args: &[Value]) -> bool
-    ensures toggles { IsTrue result → TogglesApart name (rest_of (trees args.now)) }
-    ensures places { IsTrue result → PlacesItself name (rest_of (trees args.now)) }
+// All operands but the first.
+fn rest(args: &[Value]) -> &[Value]
+    ensures { trees result.now ≡ rest_of (trees args.now) }
 {
-    match args {
-        [] => toggles_apart(name, args) && places_itself(name, args),
-        [_, rest @ ..] => toggles_apart(name, rest) && places_itself(name, rest),
-    }
+    if args.is_empty() { args } else { &args[1..] }
+}
+
+fn are_apart(name: RegisterName, args: &[Value]) -> bool
+    ensures toggles { IsTrue result → TogglesApart name (trees args.now) }
+    ensures places { IsTrue result → PlacesItself name (trees args.now) }
+{
+    toggles_apart(name, args) && places_itself(name, args)
 }
 
 /// The names that the operation brings are apart.
@@ -101,7 +117,7 @@ pub(crate) fn check_apart<R: Wait>(rt: &R, op: &Op)
     ensures { (s : State) → AreApart s (op_view op.now) }
 {
     if let Op::Register(name, args) = op {
-        if !are_apart(*name, args.as_slice()) {
+        if !are_apart(*name, rest(args.as_slice())) {
             wait_for_good(rt);
             unreachable!()
         }

@@ -4,7 +4,7 @@ ghost use Rattle.std.specs.Prelude.{◌≡◌, ℕ, ◌≤◌, ◌<◌, Option, 
 ghost use Rattle.ca_value.specs.Seq.{list, spare};
 ghost use Rattle.ca_timers.specs.Timers.{TimersView};
 ghost use Rattle.ca_term.specs.Event.{port_number};
-ghost use Rattle.ca_term.specs.Operation.{seed_view};
+ghost use Rattle.ca_term.specs.Operation.{seed_view, what_view};
 ghost use Rattle.ca_term.specs.Program.{ProgramView, program_view};
 ghost use Rattle.ca_meaning.specs.BodyViews.{is_at_op};
 ghost use Rattle.ca_meaning.specs.TaskSteps.{result_of};
@@ -19,7 +19,7 @@ ghost use Rattle.ca_commit.specs.Waking.{IsPaused};
 ghost use Rattle.ca_commit.specs.declared.task.Task.{Task};
 ghost use Rattle.ca_table.specs.Bearing.{ShowSame};
 ghost use Rattle.ca_table.specs.Grips.{SameTurns};
-ghost use Rattle.ca_table.specs.Needing.{needs_ready, needs_timers};
+ghost use Rattle.ca_table.specs.Needing.{is_timeout, needs_ready, needs_timers};
 ghost use Rattle.ca_table.specs.Parts.{part_seen};
 ghost use Rattle.ca_table.specs.Workers.{SameWorker};
 ghost use Rattle.ca_table.specs.declared.part.Lane.{Lane};
@@ -50,13 +50,26 @@ use std::alloc::Global;
 use std::mem;
 use std::sync::Wait;
 
+fn is_timeout(what: &What) -> bool
+    ensures { result ≡ is_timeout (what_view what.now) }
+{
+    match what {
+        What::Timeout(_) => true,
+        What::Unbuffered | What::Fixed(_) | What::Dropping(_) | What::Sliding(_) => false,
+        What::Promise | What::Mult(_) | What::Mix(_, _) | What::Pub(_) => false,
+    }
+}
+
 // Whether the event is a timeout, for which the clock is asked.
 fn asks_clock(plan: &Plan) -> bool
     ensures { result ≡ needs_timers (plan_view plan.now) }
 {
     match plan {
-        Plan::Make(What::Timeout(_)) => true,
-        _ => false,
+        Plan::Make(what) => is_timeout(what),
+        Plan::Done(_) | Plan::Meet(_, _, _) | Plan::Park(_) | Plan::Post(_) => false,
+        Plan::Default(_) | Plan::Spawn(_, _) | Plan::Close(_) => false,
+        Plan::Register(_, _, _) | Plan::Print(_) => false,
+        Plan::Look(_) | Plan::Prune(_, _, _) | Plan::Refused(_) => false,
     }
 }
 
@@ -66,7 +79,9 @@ fn wakes(plan: &Plan) -> bool
 {
     match plan {
         Plan::Meet(_, _, _) | Plan::Spawn(_, _) => true,
-        _ => false,
+        Plan::Done(_) | Plan::Park(_) | Plan::Post(_) | Plan::Default(_) => false,
+        Plan::Make(_) | Plan::Close(_) | Plan::Register(_, _, _) | Plan::Print(_) => false,
+        Plan::Look(_) | Plan::Prune(_, _, _) | Plan::Refused(_) => false,
     }
 }
 
@@ -194,9 +209,13 @@ pub(crate) fn put_times<A: Agent, C: Clock + Drop>(
     ensures seen { clock_seen C.least C.faults C.readings result ≡ clock_with C.least C.faults C.readings clock held.old.timers }
     ensures others { ButTimers held.old held.new }
 {
-    match (clock, held.timers.take()) {
-        (Some(clock), Some(timers)) => Some(with_times(clock, timers)),
-        (clock, _) => clock,
+    let timers = held.timers.take();
+    match clock {
+        None => None,
+        Some(clock) => match timers {
+            Some(timers) => Some(with_times(clock, timers)),
+            None => Some(clock),
+        },
     }
 }
 
@@ -294,8 +313,30 @@ fn spawned<R: Wait, A: Starting>(
                 unreachable!()
             }
         },
-        _ => Ok(None),
+        Plan::Done(_) | Plan::Meet(_, _, _) | Plan::Park(_) | Plan::Post(_) => Ok(None),
+        Plan::Default(_) | Plan::Make(_) | Plan::Close(_) => Ok(None),
+        Plan::Register(_, _, _) | Plan::Print(_) => Ok(None),
+        Plan::Look(_) | Plan::Prune(_, _, _) | Plan::Refused(_) => Ok(None),
     }
+}
+
+// What is made for the event among what is held.
+fn reserve_parts<A: Agent, C: Clock + Drop>(
+    alloc: Global,
+    held: &mut Held<A>,
+    plan: &Plan,
+    clock: &Option<Box<Clockwork<C>>>,
+) -> Result<(), OutOfMemory>
+    requires paused { (w : ℕ) → IsPaused A.place (whole (waits_held held.old.shards) w) }
+    requires parts { HasParts held.old (plan_view plan.now) }
+    requires apart { KeepsApart (plan_view plan.now) }
+    ensures shown { ShowSame held.old held.new }
+    ensures next { SameNext held.old held.new }
+    ensures timers { clock_with C.least C.faults C.readings clock.now held.new.timers ≡ clock_with C.least C.faults C.readings clock.now held.old.timers }
+    ensures some { is_some held.new.timers ≡ is_some held.old.timers }
+    ensures made { OnOk result (IsMade A.place held.new plan.now) }
+{
+    reserve(alloc, held, plan)
 }
 
 // All memory that the event takes: its entry, the new task, and what is made for it.
@@ -307,6 +348,7 @@ fn make_parts<R: Wait, A: Starting, C: Clock + Drop>(
     held: &mut Held<A>,
     task: &Task<A>,
     plan: &Plan,
+    clock: &Option<Box<Clockwork<C>>>,
 ) -> Result<Option<Task<A>>, OutOfMemory>
     requires at { is_at_op (A.place task.now.agent) ≡ true }
     requires paused { (w : ℕ) → IsPaused A.place (whole (waits_held held.old.shards) w) }
@@ -318,7 +360,7 @@ fn make_parts<R: Wait, A: Starting, C: Clock + Drop>(
     ensures room { OnOk result (0 < spare worker.new.entries) }
     ensures shown { ShowSame held.old held.new }
     ensures next { SameNext held.old held.new }
-    ensures timers { (clock : Option (ClockBox C)) → clock_with C.least C.faults C.readings clock held.new.timers ≡ clock_with C.least C.faults C.readings clock held.old.timers }
+    ensures timers { clock_with C.least C.faults C.readings clock.now held.new.timers ≡ clock_with C.least C.faults C.readings clock.now held.old.timers }
     ensures some { is_some held.new.timers ≡ is_some held.old.timers }
     ensures made { OnOk result (IsMade A.place held.new plan.now) }
     ensures there { IfOk result (λ o. HasSpawned o (plan_view plan.now)) }
@@ -328,7 +370,7 @@ fn make_parts<R: Wait, A: Starting, C: Clock + Drop>(
 {
     make_room(worker)?;
     let started = spawned(rt, alloc, code, task, plan, held.new_task)?;
-    reserve(alloc, held, plan)?;
+    reserve_parts(alloc, held, plan, clock)?;
     Ok(started)
 }
 
@@ -369,7 +411,7 @@ pub(crate) fn prepare<R: Wait, A: Starting, C: Clock + Drop>(
     ensures over { IfOk result.1 (λ o. IfSome o (λ s. A.over (valid_code code.now) s.agent)) }
 {
     let clock = take_times(alloc, held, clock);
-    match make_parts(rt, alloc, code, worker, held, task, plan) {
+    match make_parts(rt, alloc, code, worker, held, task, plan, &clock) {
         Err(OutOfMemory) => (put_times(held, clock), Err(OutOfMemory)),
         Ok(started) => {
             let asked = ask_moment(clock);

@@ -253,7 +253,10 @@ fn lacking(plan: &Plan, new_wait: u64, shards: &Homes) -> Option<u64>
                 Some(new_wait)
             }
         }
-        _ => None,
+        Plan::Done(_) | Plan::Meet(_, _, _) | Plan::Default(_) => None,
+        Plan::Make(_) | Plan::Spawn(_, _) | Plan::Close(_) => None,
+        Plan::Register(_, _, _) | Plan::Print(_) => None,
+        Plan::Prune(_, _, _) | Plan::Refused(_) => None,
     }
 }
 
