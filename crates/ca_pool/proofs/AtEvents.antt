@@ -84,11 +84,11 @@ module _ {A C : Type 0} (over : CodeView → A → Type 0) (stands_as : ProgramV
   abbrev clock_part : TimersPart → Part A C × PartSeen A
   clock_part t = (away n code, record { workers = n; code = valid_code code; held = seen_timers t })
 
-  clock_parts : (clock : Option (ClockBox C)) → option_map (λ c. clock_part (clockwork_seen least faults readings c.value)) clock ≡ option_map clock_part (clock_seen least faults readings n code clock)
+  clock_parts : (clock : Option (ClockBox C)) → option_map (λ c. clock_part (clockwork_seen least faults readings c.value)) clock ≡ option_map clock_part (clock_seen least faults readings clock)
   clock_parts None = refl
   clock_parts (Some c) = refl
 
-  pub clock_shown : (w : Worker A C) (clock clock2 : Option (ClockBox C)) (held : Held A) → clock_seen least faults readings n code clock2 ≡ clock_seen least faults readings n code clock → HasTaken over stands_as code id program n l shows clock held w → HasTaken over stands_as code id program n l shows clock2 held w
+  pub clock_shown : (w : Worker A C) (clock clock2 : Option (ClockBox C)) (held : Held A) → clock_seen least faults readings clock2 ≡ clock_seen least faults readings clock → HasTaken over stands_as code id program n l shows clock held w → HasTaken over stands_as code id program n l shows clock2 held w
   clock_shown w clock clock2 held e s = subst (λ (h : Carries (Part A C × PartSeen A)). IsCarrying over stands_as program code id n w h) same s where
     same : taken shows n code w.number l clock held ≡ taken shows n code w.number l clock2 held
     same = λ t. record {

@@ -79,13 +79,13 @@ module _ {A C : Type 0} (over : CodeView → A → Type 0) (stands_as : ProgramV
   shows = part_seen least faults readings
 
   pub ending_same : SameHeld clock clock2 held0 held
-  ending_same = record { banks = e.same.banks; shards = e.same.shards; ready = e.same.ready; clock = map_there (as_seen least faults readings) (λ c. with_mark main_over (as_seen least faults readings c)) clock2 clock marks }
+  ending_same = record { banks = e.same.banks; shards = e.same.shards; ready = e.same.ready; timers = map_there (as_seen least faults readings) (λ c. with_mark main_over (as_seen least faults readings c)) clock2 clock marks }
 
   pub ending_moved : IsMovedWith over place advances gives starts shows code n w.number (holds_banks held) (holds_shards held) (shown (over_event task.number ending)) (all_laid shows n code w.number l lane2 clock held0 clock2 held)
-  ending_moved = λ ports looked banks shards. e.may.2 w.number n (all_laid shows n code w.number l lane2 clock held0 clock2 held) (lane_of_seen (lane_seen l)) (lane_of_seen (lane_seen lane2.value)) (clock_seen least faults readings n code clock) (clock_seen least faults readings n code clock2) ports looked (record {
+  ending_moved = λ ports looked banks shards. e.may.2 w.number n (all_laid shows n code w.number l lane2 clock held0 clock2 held) (lane_of_seen (lane_seen l)) (lane_of_seen (lane_seen lane2.value)) (clock_seen least faults readings clock) (clock_seen least faults readings clock2) ports looked (record {
     turned = all_turned least faults readings n code w.number l clock clock2 held0 held ending_same lane2;
     leaves = leaves_lane over place advances program code l lane lane2.value task e.gone empty since its_program counts e.may.0 e.may.1;
-    marks = marks_end least faults readings (eqb task.number 0) clock (clock_seen least faults readings n code clock2) there marks;
+    marks = marks_end least faults readings (eqb task.number 0) clock (clock_seen least faults readings clock2) there marks;
     keep = e.keep;
-    brings = all_brings least faults readings n code w.number l clock clock2 held0 held ending_same ports looked (eqb task.number 0) false banks shards (sym there ∙ sym ending_same.clock) (sym (ap is_some no_ready)) lane2;
+    brings = all_brings least faults readings n code w.number l clock clock2 held0 held ending_same ports looked (eqb task.number 0) false banks shards (sym there ∙ sym ending_same.timers) (sym (ap is_some no_ready)) lane2;
   })

@@ -5,3 +5,10 @@ pub mod Lightness
 pub mod Desk
 pub mod Placing
 pub mod HomesNamed
+pub mod AtEvents
+pub mod BanksHeld
+pub mod StaleHandlers
+pub mod EndsMoved
+pub mod Preparations
+pub mod Resolutions
+pub mod ShardsAbove

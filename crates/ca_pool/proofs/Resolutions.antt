@@ -48,7 +48,7 @@ module _ {A : Type 0} where
 module _ {A C : Type 0} (over : CodeView → A → Type 0) (stands_as : ProgramView → A → TaskBody → Type 0) (place : A → At) (seen : Part A C → PartSeen A) (code : ValidCode) (id : TableId) (from before : ProgramView → ℕ → Lane A → Type 0) (leads : (program : ProgramView) (n : ℕ) (l : Lane A) → before program n l → from program n l) where
   -- from what the worker carried before
   pub took_from : (banks shards : Homes) (held : Held A) (w : Worker A C) → Took over stands_as place seen code id from banks shards held w → Took over stands_as place seen code id before banks shards held w
-  took_from banks shards held w t = record { held = t.held; these = t.these; carries = λ program n l b. t.carries program n l (leads program n l b) }
+  took_from banks shards held w t = record { holds = t.holds; these = t.these; carries = λ program n l b. t.carries program n l (leads program n l b) }
 
   pub left_from : (held : Held A) (w : Worker A C) → LeftOff over stands_as code id from held w → LeftOff over stands_as code id before held w
   left_from held w t = record { bare = t.bare; carries = λ program n l b. t.carries program n l (leads program n l b) }

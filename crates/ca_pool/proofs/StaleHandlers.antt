@@ -41,7 +41,7 @@ module _ {A : Type 0} (held held2 : Held A) (others : KeepsOthers held held2) wh
     banks = λ i. sym (shows_there bank_in (listed number_of_bank (parts held2.banks) i)) ∙ banks i ∙ shows_there bank_in (listed number_of_bank (parts held.banks) i);
     shards = λ i. ap (λ s. is_some (listed number_of_shard (parts s) i)) others.0;
     ready = ap is_some others.2;
-    clock = there;
+    timers = there;
   }
 
 module _ {A C : Type 0} (over : CodeView → A → Type 0) (place : A → At) (advances : ProgramView → A → A → Type 0) (gives : A → Tree → A → Type 0) (starts : ProgramView → SeedView → A → Type 0) (least faults : C → ℕ) (readings : C → Option (List ℕ)) (code : ValidCode)

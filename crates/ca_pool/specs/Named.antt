@@ -4,7 +4,7 @@ use Rattle.ca_value.specs.Tree.{Tree, TreePairs, Trees, empty, item, none, pair,
 use Rattle.ca_term.specs.declared.head.RegisterName.{RegisterName}
 use Rattle.ca_term.specs.declared.head.RegisterName.TheVariants.{Toggle}
 use Rattle.ca_term.specs.Operation.{OpView, SeedView, choosing, closing, go, making, posting, printing, putting, registering, spawning, system, taking}
-use Rattle.ca_meaning.specs.Operands.{first_of, second_of}
+use Rattle.ca_meaning.specs.Operands.{first_of, rest_of}
 use Rattle.ca_meaning.specs.Refusal.{operands_to_make}
 use Rattle.ca_meaning.specs.Registry.{pairs_in}
 use Rattle.ca_commit.specs.Contents.{home}
@@ -51,7 +51,7 @@ with_keys (pair k v ps) i was = with_keys ps i (with_value k i was)
 
 -- of the map that a toggle has behind its mix
 abbrev pub with_toggle : RegisterName → Trees → ℕ → Bool → Bool
-with_toggle Toggle args i was = with_keys (pairs_in (second_of args)) i was
+with_toggle Toggle args i was = with_keys (pairs_in (first_of (rest_of args))) i was
 with_toggle other args i was = was
 
 -- of a go block its result port, and of another task the ports among its values

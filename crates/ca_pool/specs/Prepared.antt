@@ -53,8 +53,8 @@ pub record IsReadied {A : Type 0} (place : A → At) (counts : Counts) (w n : �
 -- of the new task, if there is one: its number, and how it starts
 pub record IsStarted {A : Type 0} (place : A → At) (starts : ProgramView → SeedView → A → Type 0) (over : CodeView → A → Type 0) (program : ProgramView) (code : CodeView) (u : ℕ) (task : Task A) (spawned : Option (Task A)) : Type 0 where
   pub number : (s : Task A) → spawned ≡ Some s → s.number ≡ u
-  pub starts : (s : Task A) → spawned ≡ Some s → StartsFor place starts program task s
-  pub over : (s : Task A) → spawned ≡ Some s → over code s.agent
+  pub begins : (s : Task A) → spawned ≡ Some s → StartsFor place starts program task s
+  pub within : (s : Task A) → spawned ≡ Some s → over code s.agent
 
 -- the clockwork was settled as the first, and has answered for a timeout; the timers are held
 pub record IsAsked {A C : Type 0} (least faults : C → ℕ) (readings : C → Option (List ℕ)) (q : Planned) (clock0 clock : Option (ClockBox C)) (held : Held A) : Type 0 where

@@ -51,9 +51,9 @@ module _ {A : Type 0} (place : A → At) where
   HoldsNamed held task = (want : WantView) → place task.agent ≡ at_op want → HasBanks held (λ p. is_among p (ports_to_hold want.op held.new_port) ≡ true)
 
 -- these banks and shards are held, and no others
-pub record HoldsThese {A : Type 0} (banks shards : Homes) (held : Held A) : Type 0 where
-  pub banks : (i : ℕ) → i < 16 → holds_banks held i ≡ has_home banks i
-  pub shards : (i : ℕ) → i < 16 → holds_shards held i ≡ has_home shards i
+pub record HoldsThese {A : Type 0} (bs ss : Homes) (held : Held A) : Type 0 where
+  pub banks : (i : ℕ) → i < 16 → holds_banks held i ≡ has_home bs i
+  pub shards : (i : ℕ) → i < 16 → holds_shards held i ≡ has_home ss i
 
 -- among these banks are those of the ports that the task's operation needs, where p is the number of a new one
 abbrev pub Wants : {A : Type 0} → (A → At) → Homes → (p : ℕ) → Task A → Type 0
@@ -62,7 +62,7 @@ Wants place banks p task = (want : WantView) → place task.agent ≡ at_op want
 -- What a call comes to that holds parts, where from says what the worker carried before it: these are held, and nothing
 -- else but the lane.
 pub record Took {A C : Type 0} (over : CodeView → A → Type 0) (stands_as : ProgramView → A → TaskBody → Type 0) (place : A → At) (seen : Part A C → PartSeen A) (code : ValidCode) (id : TableId) (from : ProgramView → ℕ → Lane A → Type 0) (banks shards : Homes) (held : Held A) (w : Worker A C) : Type 0 where
-  pub held : IsHeld place held
+  pub holds : IsHeld place held
   pub these : HoldsThese banks shards held
   pub carries : (program : ProgramView) (n : ℕ) (l : Lane A) → from program n l → HasTaken over stands_as code id program n l seen None held w
 

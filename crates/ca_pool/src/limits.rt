@@ -4,7 +4,6 @@ ghost use Rattle.std.specs.Prelude.{◌≡◌, ◌+◌, ◌*◌, ◌^◌, ◌<�
 ghost use Rattle.ca_value.specs.Seq.{list};
 ghost use Rattle.ca_value.specs.View.{trees};
 ghost use Rattle.ca_term.specs.Operation.{op_view};
-ghost use Rattle.ca_meaning.specs.Operands.{rest_of};
 ghost use Rattle.ca_meaning.specs.State.{State};
 ghost use Rattle.ca_bank.specs.Bank.{kept_at, registry_at};
 ghost use Rattle.ca_bank.specs.Mixes.{TogglesApart};
@@ -17,6 +16,7 @@ ghost use Rattle.ca_table.specs.Parts.{counts_view};
 ghost use Rattle.ca_pool.specs.AtEvent.{HasNumbers};
 ghost use Rattle.ca_pool.specs.Desk.{IsBare};
 
+use crate::named::rest;
 use ca_agent::agent::Agent;
 use ca_bank::apart::{places_itself, toggles_apart};
 use ca_bank::bank::Bank;
@@ -96,13 +96,6 @@ pub(crate) fn check_new<R: Wait, A: Agent>(rt: &R, held: &Held<A>)
         wait_for_good(rt);
         unreachable!()
     }
-}
-
-// All operands but the first.
-fn rest(args: &[Value]) -> &[Value]
-    ensures { trees result.now ≡ rest_of (trees args.now) }
-{
-    if args.is_empty() { args } else { &args[1..] }
 }
 
 fn are_apart(name: RegisterName, args: &[Value]) -> bool

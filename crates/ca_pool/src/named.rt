@@ -3,7 +3,7 @@ ghost use Rattle.std.specs.Prelude.{◌≡◌, ℕ};
 ghost use Rattle.ca_value.specs.Seq.{list};
 ghost use Rattle.ca_value.specs.View.{tree_pairs, trees, view};
 ghost use Rattle.ca_term.specs.Operation.{op_view, seed_view, what_view};
-ghost use Rattle.ca_meaning.specs.Operands.{first_of};
+ghost use Rattle.ca_meaning.specs.Operands.{first_of, rest_of};
 ghost use Rattle.ca_meaning.specs.Refusal.{operands_to_make};
 ghost use Rattle.ca_meaning.specs.Registry.{pairs_in};
 ghost use Rattle.ca_commit.specs.Touched.{homes};
@@ -75,14 +75,28 @@ fn add_map(into: &mut Homes, value: &Value)
     }
 }
 
+// The keys of the map that stands first.
+fn add_first_map(into: &mut Homes, args: &[Value])
+    ensures { (i : ℕ) → has_home into.new i ≡ with_keys (pairs_in (first_of (trees args.now))) i (has_home into.old i) }
+{
+    if let Some(value) = args.first() {
+        add_map(into, value);
+    }
+}
+
+/// All operands but the first.
+pub(crate) fn rest(args: &[Value]) -> &[Value]
+    ensures { trees result.now ≡ rest_of (trees args.now) }
+{
+    if args.is_empty() { args } else { &args[1..] }
+}
+
 // What a toggle names beside its operands.
 fn add_toggle(into: &mut Homes, name: RegisterName, args: &[Value])
     ensures { (i : ℕ) → has_home into.new i ≡ with_toggle name (trees args.now) i (has_home into.old i) }
 {
     if let RegisterName::Toggle = name {
-        if let Some(toggle) = args.get(1) {
-            add_map(into, toggle);
-        }
+        add_first_map(into, rest(args));
     }
 }
 

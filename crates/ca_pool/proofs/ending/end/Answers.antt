@@ -18,7 +18,7 @@ finish-requires-clause-ending g c = let a = g.A.Agent in let K = g.C.Clock in le
     (r.0, r.1, r.2, held, record {
       carries = c.take_last-clock.ensures.carries r.0 r.1 r.2 s;
       gone = record { left = r.4; program_is = r.5 };
-      same = record { banks = λ i. refl; shards = λ i. refl; ready = refl; clock = refl };
+      same = record { banks = λ i. refl; shards = λ i. refl; ready = refl; timers = refl };
       keep = record { registries = λ i. refl; waits = λ i. refl; ready = refl };
       may = (ended e.0, e.1, λ w n h lane lane2 timers timers2 ports looked ends. ends_draw a.over a.place a.advances a.gives a.starts (part_seen K.least K.faults K.readings) code w n h e.0 lane lane2 timers timers2 held held task ports looked ends (λ i. refl));
     })
@@ -35,7 +35,7 @@ returns-clause-stepped g c = λ program n l lane left its. let a = g.A.Agent in 
     c.finish.ensures.stepped program n l held (record {
       carries = c.take_last-clock.ensures.carries program n l s;
       gone = record { left = left; program_is = its };
-      same = record { banks = λ i. refl; shards = λ i. refl; ready = refl; clock = refl };
+      same = record { banks = λ i. refl; shards = λ i. refl; ready = refl; timers = refl };
       keep = record { registries = λ i. refl; waits = λ i. refl; ready = refl };
       may = (ended e.0, e.1, λ w n h lane lane2 timers timers2 ports looked ends. ends_draw a.over a.place a.advances a.gives a.starts (part_seen K.least K.faults K.readings) code w n h e.0 lane lane2 timers timers2 held held task ports looked ends (λ i. refl));
     })

@@ -11,7 +11,7 @@ pub returns-then-has_bank-clause-drew : goal.returns-then-has_bank-clause-drew
 returns-then-has_bank-clause-drew g c = drew_none (record { number = refl; workers = refl; program = refl; code = refl }) (record { same = record { table = refl; opening = refl; hands = refl; stands_for = refl }; turns = refl })
 
 pub returns-then-has_bank-clause-took : goal.returns-then-has_bank-clause-took
-returns-then-has_bank-clause-took g c = record { held = c.requires.held; these = c.requires.these; carries = λ program n l s. s }
+returns-then-has_bank-clause-took g c = record { holds = c.requires.held; these = c.requires.these; carries = λ program n l s. s }
 
 pub returns-then-has_bank-clause-resolved : goal.returns-then-has_bank-clause-resolved
 returns-then-has_bank-clause-resolved g c = let wanted = c.args.wanted.now in let held = c.args.held.now in let task = c.args.task.now in record {

@@ -31,7 +31,7 @@ pub returns-in-Ok-clause-took : goal.returns-in-Ok-clause-took
 returns-in-Ok-clause-took g c = let a = g.A.Agent in let K = g.C.Clock in let t = c.take_shard in let o = t.ensures.others in let wanted = c.args.wanted.now in let k = c.args.number in
     let own : home k ≡ k = mod-eq_of_lt c.requires.number in
     record {
-      held = record { placed = subst (λ x. Placed (channels_held x)) (sym o.banks) c.requires.held.placed; paused = t.ensures.paused; ready = o.ready ∙ c.requires.held.ready; timers = o.timers ∙ c.requires.held.timers };
+      holds = record { placed = subst (λ x. Placed (channels_held x)) (sym o.banks) c.requires.held.placed; paused = t.ensures.paused; ready = o.ready ∙ c.requires.held.ready; timers = o.timers ∙ c.requires.held.timers };
       these = more_held wanted.banks wanted.shards c.add.new.self k c.args.held.now t.new.held c.requires.number c.requires.these o.banks c.in-Ok.ensures.there t.ensures.kept c.add.ensures own;
       carries = λ program n l s. own_number a.over a.stands c.args.code.now c.args.table.now.id program n l K.least K.faults K.readings c.args.worker.now t.new.worker None t.new.held t.ensures.same.number (t.ensures.carries program n l s);
     }

@@ -54,7 +54,7 @@ returns-in-Ok-clause-numbers g c = numbers_both c.args.held.now c.take_banks.new
 pub returns-in-Ok-clause-took : goal.returns-in-Ok-clause-took
 returns-in-Ok-clause-took g c = let a = g.A.Agent in let K = g.C.Clock in let code = c.args.code.now in let id = c.args.table.now.id in let b = c.take_banks in let s = c.take_shards in let o = s.ensures.others in
     record {
-      held = record {
+      holds = record {
         placed = subst (λ x. Placed (channels_held x)) (sym o.banks) c.in_ok-take_banks.ensures.placed;
         paused = s.ensures.paused;
         ready = o.ready ∙ b.ensures.others.ready ∙ c.requires.bare.ready;
