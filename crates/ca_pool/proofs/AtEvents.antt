@@ -1,5 +1,5 @@
 -- What a worker has between two events and at one, whoever says it.
-use Rattle.std.proofs.Common.{◌≡◌, ◌∙◌, ℕ, List, map as each, ◌<◌, refl, sym, ap, subst, Option, Some, None, is_some}
+use Rattle.std.proofs.Common.{◌≡◌, ◌∙◌, ℕ, List, map as each, ◌<◌, refl, sym, ap, subst, Option, Some, None, false, is_some}
 use Rattle.std.specs.Prelude.{option_map}
 use Rattle.ca_value.specs.Seq.{list}
 use Rattle.ca_term.specs.Program.{ProgramView, program_view}
@@ -18,11 +18,13 @@ use Rattle.ca_table.specs.Carrying.{Carries, at_places}
 use Rattle.ca_table.specs.Grips.{Grips, SameTurns}
 use Rattle.ca_table.specs.Parts.{away, clockwork_seen, part_seen}
 use Rattle.ca_table.specs.Seen.{PartSeen, seen_timers}
+use Rattle.ca_table.specs.Worked.{Drew}
 use Rattle.ca_table.specs.Workers.{AllAbove, IsOne, SameWorker, noted}
 use Rattle.ca_table.specs.declared.drawn.Drawn.{Drawn}
 use Rattle.ca_table.specs.declared.part.Lane.{Lane}
 use Rattle.ca_table.specs.declared.part.Part.{Part}
 use Rattle.ca_table.specs.declared.worker.Worker.{Worker}
+use Rattle.ca_table.proofs.Drawing.{drew_none}
 use Rattle.ca_table.proofs.Knowing.{knows_same}
 use Rattle.ca_pool.specs.AtEvent.{HasLane, HasTaken}
 use Rattle.ca_pool.specs.Desk.{ClockBox, IsBare, taken}
@@ -34,6 +36,13 @@ same_turns h g e = record {
   same = record { table = ap (λ x. x.table) e; opening = ap (λ x. x.view.opening) e; hands = ap (λ x. x.view.hands) e; stands_for = ap (λ x. x.view.stands_for) e };
   turns = ap (λ x. x.view.turns) e;
 }
+
+-- nothing was drawn where nothing was done
+pub drew_nothing : {A C : Type 0} (w : Worker A C) → Drew 0 false w w
+drew_nothing w = drew_none (record { number = refl; workers = refl; program = refl; code = refl }) (same_turns w.hand w.hand refl)
+
+abbrev map_entries : List Entry → List Numbered
+map_entries es = each entry_view es
 
 module _ {A C : Type 0} (over : CodeView → A → Type 0) (stands_as : ProgramView → A → TaskBody → Type 0) (code : ValidCode) (id : TableId) (program : ProgramView) (n : ℕ) (w v : Worker A C) where
   -- the same worker with the same hand, and the same entries
@@ -49,10 +58,8 @@ module _ {A C : Type 0} (over : CodeView → A → Type 0) (stands_as : ProgramV
     knows = knows_same over stands_as program (valid_code code) n w.hand.view v.hand.view (ap (λ h. h.view.opening) hand) one.knows;
     opened_for = ap (λ h. h.view.hands) hand ∙ one.opened_for;
     above = subst (λ ts. AllAbove 0 ts) (sym (ap (λ h. h.view.turns) hand)) one.above;
-    notes = ap (λ (es : List Entry). map_entries es) entries_are ∙ one.notes ∙ sym (ap (λ h. noted h.view.turns) hand);
-  } where
-    abbrev map_entries : List Entry → List Numbered
-    map_entries es = each entry_view es
+    notes = ap map_entries entries_are ∙ one.notes ∙ sym (ap (λ h. noted h.view.turns) hand);
+  }
 
   pub kept_carrying : (h : Carries (Part A C × PartSeen A)) → SameWorker w v → v.hand ≡ w.hand → list v.entries ≡ list w.entries → IsCarrying over stands_as program code id n w h → IsCarrying over stands_as program code id n v h
   kept_carrying h same hand entries_are s = record {

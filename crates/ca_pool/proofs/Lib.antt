@@ -12,3 +12,5 @@ pub mod EndsMoved
 pub mod Preparations
 pub mod Resolutions
 pub mod ShardsAbove
+pub mod PlansDrawn
+pub mod PlansReadied

@@ -1,6 +1,7 @@
 -- What is made and asked for a plan's event leaves what is held as it was, as far as others see it.
-use Rattle.std.proofs.Common.{◌≡◌, ◌∙◌, ℕ, List, refl, sym, ap, subst, Bool, true, false, Option, Some, None, is_some}
+use Rattle.std.proofs.Common.{◌≡◌, ◌∙◌, ℕ, ◌<◌, ◌≤◌, ◌^◌, List, ◌∷◌, ◌++◌, [], refl, sym, ap, subst, Bool, true, false, Option, Some, None, is_some}
 use Rattle.std.specs.Prelude.{IsSome, option_map}
+use Rattle.ca_timers.specs.Readings.{Tells}
 use Rattle.ca_timers.specs.Timers.{TimersView}
 use Rattle.ca_term.specs.Operation.{SeedView, WantView, WhatView, dropping, fixed, mix, mult, promise, publication, sliding, spawning, timeout, unbuffered}
 use Rattle.ca_term.specs.Program.{ProgramView}
@@ -11,6 +12,7 @@ use Rattle.ca_commit.specs.Contents.{TimersPart, home}
 use Rattle.ca_commit.specs.NewPort.{HasTimers, Times, times_in, times_of}
 use Rattle.ca_commit.specs.Planning.{Planned, to_close, to_default, to_do, to_look, to_make, to_meet, to_park, to_post, to_print, to_prune, to_refuse, to_register, to_spawn}
 use Rattle.ca_commit.specs.Showing.{channels_held, registries_held, waits_held}
+use Rattle.ca_commit.specs.TaskMoves.{GoOnBy}
 use Rattle.ca_commit.specs.Tasks.{agent_of}
 use Rattle.ca_commit.specs.Waking.{ready_in}
 use Rattle.ca_commit.specs.declared.held.Held.{Held}
@@ -19,10 +21,21 @@ use Rattle.ca_commit.specs.declared.planned.Plan.TheVariants as P
 use Rattle.ca_commit.specs.declared.task.Task.{Task}
 use Rattle.ca_table.specs.Bearing.{ShowSame}
 use Rattle.ca_table.specs.Needing.{is_timeout, needs_ready, needs_timers}
-use Rattle.ca_table.specs.Parts.{clockwork_seen}
+use Rattle.ca_table.specs.Parts.{clockwork_seen, mark_view}
 use Rattle.ca_pool.specs.AtEvent.{SameNext}
 use Rattle.ca_pool.specs.Desk.{ClockBox, SameNumbers}
-use Rattle.ca_pool.specs.Preparing.{ButTimers, HasRest, StartsFor, clock_with, in_place}
+use Rattle.ca_pool.specs.Preparing.{ButTimers, HasRest, IsAnswered, StartsFor, clock_with, in_place}
+
+-- a clock that tells its answers goes on by one
+pub tells_on : (old new : Option (List ℕ)) (m : ℕ) → Tells old new m → GoOnBy m old new
+tells_on None new m t = tt
+tells_on (Some told) None m t = absurd t
+tells_on (Some told) (Some now) m t = ap Some t
+
+-- with other timers in place of its own
+pub answered_in : (m : ℕ) (c c2 : TimersPart) (o : Option TimersView) → IsAnswered m c c2 → IsAnswered m (in_place c o) (in_place c2 o)
+answered_in m c c2 None a = a
+answered_in m c c2 (Some t) a = record { deadlines = refl; now = refl; later = a.later; bound = a.bound; least = a.least; faults = a.faults; readings = a.readings; mark = a.mark }
 
 module _ {A : Type 0} where
   pub shown_itself : (h : Held A) → ShowSame h h
@@ -120,3 +133,28 @@ same_seed x y e = cc
 -- the task of the seed that the operation starts
 pub starts_for : {A : Type 0} (place : A → At) (starts : ProgramView → SeedView → A → Type 0) (program : ProgramView) (task s : Task A) (w : WantView) (seed : SeedView) → place task.agent ≡ at_op w → w.op ≡ spawning seed → starts_of starts program seed (agent_of s) → StartsFor place starts program task s
 starts_for place starts program task s w seed at op st = λ want is other e. subst (λ (x : SeedView). starts_of starts program x (agent_of s)) (same_seed seed other (sym op ∙ ap (λ (x : WantView). x.op) (same_want w want (sym at ∙ is)) ∙ e)) st
+
+module _ {C : Type 0} (least faults : C → ℕ) (readings : C → Option (List ℕ)) where
+  abbrev works : ClockBox C → TimersPart
+  works c = clockwork_seen least faults readings c.value
+
+  -- the timers stand beside the clockwork, or in it
+  pub seen_parted : (c0 c : ClockBox C) (t : TimersView) → t ≡ c0.value.timers → c.value.clock ≡ c0.value.clock → c.value.mark ≡ c0.value.mark → in_place (works c) (Some t) ≡ works c0
+  seen_parted c0 c t times clock mark = λ i. record { deadlines = (times i).deadlines; now = (times i).moment; least = least (clock i); faults = faults (clock i); readings = readings (clock i); mark = mark_view (mark i) }
+
+  -- the clock was asked, and the rest stayed
+  pub seen_asked : (m : ℕ) (c c2 : ClockBox C) → c2.value.timers ≡ c.value.timers → c2.value.mark ≡ c.value.mark → least c.value.clock ≤ m → m < 2 ^ 62 → least c2.value.clock ≡ m → faults c2.value.clock ≡ faults c.value.clock → Tells (readings c.value.clock) (readings c2.value.clock) m → IsAnswered m (works c) (works c2)
+  seen_asked m c c2 times mark later bound now fault tells = record {
+    deadlines = ap (λ t. t.deadlines) times;
+    now = ap (λ t. t.moment) times;
+    later = later;
+    bound = bound;
+    least = now;
+    faults = fault;
+    readings = tells_on (readings c.value.clock) (readings c2.value.clock) m tells;
+    mark = ap mark_view mark;
+  }
+
+  -- it was not asked
+  pub seen_still : (c c2 : ClockBox C) (o : Option TimersView) → c2.value.timers ≡ c.value.timers → c2.value.mark ≡ c.value.mark → least c2.value.clock ≡ least c.value.clock → faults c2.value.clock ≡ faults c.value.clock → readings c2.value.clock ≡ readings c.value.clock → Some (in_place (works c2) o) ≡ Some (in_place (works c) o)
+  seen_still c c2 o times mark l f r = ap (λ z. Some (in_place z o)) (λ i. record { deadlines = (times i).deadlines; now = (times i).moment; least = l i; faults = f i; readings = r i; mark = mark_view (mark i) })

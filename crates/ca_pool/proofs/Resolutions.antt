@@ -1,6 +1,6 @@
 -- What calls that hold parts for an operation come to, one after another.
 use Rattle.std.proofs.Common.{◌≡◌, ◌∙◌, ℕ, ◌<◌, ◌≤◌, refl, sym, ap, subst, rules, Bool, true, false, cond, Option, Some, None, Result, Ok, Err, eqb, is_some}
-use Rattle.std.specs.Prelude.{OnErr, OnOk, option_map}
+use Rattle.std.specs.Prelude.{IfOk, OnErr, OnOk, option_map}
 use Rattle.ca_value.specs.declared.value.PortId.{PortId}
 use Rattle.ca_term.specs.declared.event.Side.{Side}
 use Rattle.ca_term.specs.declared.fault.Fault.{Fault}
@@ -12,6 +12,7 @@ use Rattle.ca_meaning.specs.Wait.{is_among}
 use Rattle.ca_states.specs.Code.{CodeView}
 use Rattle.ca_states.specs.declared.valid_code.ValidCode.{ValidCode}
 use Rattle.ca_turns.specs.Hands.{TableId}
+use Rattle.ca_commit.specs.Applying.{IsEvent}
 use Rattle.ca_commit.specs.Contents.{home}
 use Rattle.ca_commit.specs.Planning.{Planned, to_close, to_default, to_do, to_look, to_make, to_meet, to_park, to_post, to_print, to_prune, to_refuse, to_register, to_spawn}
 use Rattle.ca_commit.specs.Plans.{plan_view}
@@ -24,6 +25,7 @@ use Rattle.ca_commit.specs.declared.task.Task.{Task}
 use Rattle.ca_commit.proofs.Holdings.{home_below}
 use Rattle.ca_table.specs.Homes.{has_home}
 use Rattle.ca_table.specs.Seen.{PartSeen}
+use Rattle.ca_table.specs.Workers.{SameWorker}
 use Rattle.ca_table.specs.declared.homes.Homes.{Homes}
 use Rattle.ca_table.specs.declared.part.Lane.{Lane}
 use Rattle.ca_table.specs.declared.part.Part.{Part}
@@ -40,6 +42,41 @@ ok_map (Err e) f p = p
 pub err_map : {X E P Q : Type 0} (r : Result X E) → (P → Q) → OnErr r P → OnErr r Q
 err_map (Ok x) f p = p
 err_map (Err e) f p = f p
+
+pub ok_is : {X E P : Type 0} (r : Result X E) (x : X) → OnOk r P → r ≡ Ok x → P
+ok_is (Ok y) x p e = p
+ok_is (Err f) x p e = absurd cc
+
+pub err_is : {X E P : Type 0} (r : Result X E) (f : E) → OnErr r P → r ≡ Err f → P
+err_is (Ok y) f p e = absurd cc
+err_is (Err h) f p e = p
+
+pub if_ok_is : {X E : Type 0} (P : X → Type 0) (r : Result X E) (x : X) → IfOk r P → r ≡ Ok x → P x
+if_ok_is P (Ok y) x p e = subst P (let k : y ≡ x = cc in k) p
+if_ok_is P (Err f) x p e = absurd cc
+
+pub if_ok_map : {X E : Type 0} {P Q : X → Type 0} (r : Result X E) → ((x : X) → P x → Q x) → IfOk r P → IfOk r Q
+if_ok_map (Ok x) f p = f x p
+if_ok_map (Err e) f p = p
+
+pub same_both : {A C : Type 0} (o m n : Worker A C) → SameWorker o m → SameWorker m n → SameWorker o n
+same_both o m n p q = record { number = q.number ∙ p.number; workers = q.workers ∙ p.workers; program = q.program ∙ p.program; code = q.code ∙ p.code }
+
+-- a plan that is decided is one of an event, or a refusal
+pub event_else : (p : Plan) → IsDecided (plan_view p) → ((f : Fault) → p ≡ P.Refused f → ⊥) → IsEvent (plan_view p)
+event_else (P.Refused f) d refuses = refuses f refl
+event_else (P.Look w) d refuses = d
+event_else (P.Prune port side place) d refuses = d
+event_else (P.Done c) d refuses = tt
+event_else (P.Meet c w o) d refuses = tt
+event_else (P.Park j) d refuses = tt
+event_else (P.Post j) d refuses = tt
+event_else (P.Default x) d refuses = tt
+event_else (P.Make what) d refuses = tt
+event_else (P.Spawn kind r) d refuses = tt
+event_else (P.Close port) d refuses = tt
+event_else (P.Register name args again) d refuses = tt
+event_else (P.Print line) d refuses = tt
 
 module _ {A : Type 0} where
   pub numbers_both : (x y z : Held A) → SameNumbers x y → SameNumbers y z → SameNumbers x z

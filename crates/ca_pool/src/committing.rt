@@ -230,14 +230,14 @@ pub(crate) fn commit<R: Wait, A: Starting, C: Clock + Drop>(
     check_new(rt, held);
     check_alts(rt, &task);
     check_counts(rt, lane.counts, lane.since);
-    let (clock, prepared) = prepare(rt, alloc, code, worker, held, &task, &plan, clock);
-    match prepared {
+    let prepared = prepare(rt, alloc, code, worker, held, &task, &plan, clock);
+    match prepared.1 {
         Err(OutOfMemory) => {
-            put_off(table, code, worker, held, clock);
+            put_off(table, code, worker, held, prepared.0);
             Err(OutOfMemory)
         }
         Ok(spawned) => Ok(draw_plan(
-            rt, alloc, table, code, worker, held, clock, lane, task, plan, spawned,
+            rt, alloc, table, code, worker, held, prepared.0, lane, task, plan, spawned,
         )),
     }
 }

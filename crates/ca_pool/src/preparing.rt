@@ -20,12 +20,12 @@ ghost use Rattle.ca_commit.specs.declared.task.Task.{Task};
 ghost use Rattle.ca_table.specs.Bearing.{ShowSame};
 ghost use Rattle.ca_table.specs.Grips.{SameTurns};
 ghost use Rattle.ca_table.specs.Needing.{is_timeout, needs_ready, needs_timers};
-ghost use Rattle.ca_table.specs.Parts.{part_seen};
+ghost use Rattle.ca_table.specs.Parts.{clockwork_seen, part_seen};
 ghost use Rattle.ca_table.specs.Workers.{SameWorker};
 ghost use Rattle.ca_table.specs.declared.part.Lane.{Lane};
 ghost use Rattle.ca_pool.specs.AtEvent.{HasTaken, SameNext};
 ghost use Rattle.ca_pool.specs.Desk.{ButReady, ClockBox};
-ghost use Rattle.ca_pool.specs.Preparing.{AskedFor, ButTimers, HasRest, IsTimely, StartsFor, clock_seen, clock_with};
+ghost use Rattle.ca_pool.specs.Preparing.{AskedFor, ButTimers, HasRest, IsTimely, StartsFor, clock_seen, clock_with, in_place};
 
 use crate::starting::Starting;
 use crate::taking::{take_clock, take_ready};
@@ -199,6 +199,16 @@ fn with_times<C: Clock + Drop>(mut clock: Box<Clockwork<C>>, timers: Timers) -> 
     clock
 }
 
+// The same, with its own where there are none.
+fn joined<C: Clock + Drop>(clock: Box<Clockwork<C>>, timers: Option<Timers>) -> Box<Clockwork<C>>
+    ensures { clockwork_seen C.least C.faults C.readings result.value ≡ in_place (clockwork_seen C.least C.faults C.readings clock.value) timers }
+{
+    match timers {
+        Some(timers) => with_times(clock, timers),
+        None => clock,
+    }
+}
+
 /// The timers that are held, if they are, go back into the clockwork.
 pub(crate) fn put_times<A: Agent, C: Clock + Drop>(
     held: &mut Held<A>,
@@ -212,10 +222,7 @@ pub(crate) fn put_times<A: Agent, C: Clock + Drop>(
     let timers = held.timers.take();
     match clock {
         None => None,
-        Some(clock) => match timers {
-            Some(timers) => Some(with_times(clock, timers)),
-            None => Some(clock),
-        },
+        Some(clock) => Some(joined(clock, timers)),
     }
 }
 
