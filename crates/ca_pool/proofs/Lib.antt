@@ -4,3 +4,4 @@ pub mod Stopping
 pub mod Lightness
 pub mod Desk
 pub mod Placing
+pub mod Trying
