@@ -14,3 +14,4 @@ pub mod Resolutions
 pub mod ShardsAbove
 pub mod PlansDrawn
 pub mod PlansReadied
+pub mod Trying

@@ -1,8 +1,9 @@
 // Parts that a worker moves out of its hand for an event.
-ghost use Rattle.std.specs.Prelude.{◌≡◌, ◌≢◌, ℕ, ◌+◌, ◌<◌, ◌≤◌, ◌++◌, ◌∷◌, [], Ok, Option, Some, None, IsSome, OnErr, OnOk, OnTrue, IfSome, is_some, true};
-ghost use Rattle.std.specs.Bool.{OnFalse};
+ghost use Rattle.std.specs.Prelude.{◌≡◌, ◌≢◌, ℕ, ◌+◌, ◌<◌, ◌≤◌, [], Option, Some, None, IsSome, OnErr, OnOk, IfOk, IfSome, is_some, true};
+ghost use Rattle.std.specs.Bool.{OnTrue};
 ghost use Rattle.ca_term.specs.Program.{ProgramView};
 ghost use Rattle.ca_commit.specs.Contents.{whole};
+ghost use Rattle.ca_commit.specs.Gathered.{bank_kind};
 ghost use Rattle.ca_commit.specs.Listing.{listed};
 ghost use Rattle.ca_commit.specs.Listings.{parts, spare};
 ghost use Rattle.ca_commit.specs.Numbers.{number_of_bank, number_of_shard};
@@ -15,7 +16,7 @@ ghost use Rattle.ca_table.specs.Carriers.{IsCarrying};
 ghost use Rattle.ca_table.specs.Carrying.{Carries};
 ghost use Rattle.ca_table.specs.Grips.{SameTurns};
 ghost use Rattle.ca_table.specs.Homes.{has_home};
-ghost use Rattle.ca_table.specs.Lifting.{bank_row, lifted, with_all};
+ghost use Rattle.ca_table.specs.Lifting.{HasNone, bank_row, contents_kind, lifted, with_all};
 ghost use Rattle.ca_table.specs.Parts.{contents_seen, part_seen};
 ghost use Rattle.ca_table.specs.Seen.{PartSeen, held_of};
 ghost use Rattle.ca_table.specs.Sound.{IsSound};
@@ -31,7 +32,7 @@ use ca_commit::listing::Numbered;
 use ca_states::valid_code::ValidCode;
 use ca_table::handling::{hold_at, hold_ready, try_hold_at};
 use ca_table::homes::Homes;
-use ca_table::lifting::{Sixteen, load, load_one};
+use ca_table::lifting::{load, load_one};
 use ca_table::part::{Clockwork, Contents};
 use ca_table::pool::Pool;
 use ca_table::waiting::wait_for_good;
@@ -192,7 +193,7 @@ pub(crate) fn try_clock<A: Agent, C: Clock + Drop>(
     }
 }
 
-// Holds one bank where it is free, and moves it out into the list.
+// Holds one bank where it is free, and moves it out into the list; false where it isn't.
 fn try_bank<R: Wait, A: Agent, C: Clock + Drop>(
     rt: &R,
     table: &Table<Pool<A, C>>,
@@ -201,23 +202,26 @@ fn try_bank<R: Wait, A: Agent, C: Clock + Drop>(
     number: u64,
     banks: &mut Banks,
 ) -> bool
-    requires carries { (program : ProgramView) × (n : ℕ) × (h : Carries (Part A C × PartSeen A)) × (h.banks number ≡ None) × IsCarrying A.over A.stands program code.now table.now.id n worker.old h }
+    requires carries { (program : ProgramView) × (n : ℕ) × (h : Carries (Part A C × PartSeen A)) × IsCarrying A.over A.stands program code.now table.now.id n worker.old (with_all bank_row (lifted n code.now Bank (part_seen C.least C.faults C.readings) number_of_bank (parts banks.old)) h) }
     requires number { number < 16 }
+    requires none { listed number_of_bank (parts banks.old) number ≡ None }
     requires room { 0 < spare banks.old }
     ensures same { SameWorker worker.old worker.new }
     ensures turns { SameTurns worker.old.hand worker.new.hand }
     ensures entries { worker.new.entries ≡ worker.old.entries }
-    ensures busy { OnFalse result (parts banks.new ≡ parts banks.old) }
-    ensures held { OnTrue result ((x : HeldBank) × (parts banks.new ≡ parts banks.old ++ x ∷ []) × (number_of_bank x ≡ number) × IsSound A.over A.place (valid_code code.now) worker.old.workers (worker.old.workers + number) (held_of (contents_seen C.least C.faults C.readings (Bank x)))) }
+    ensures told { OnTrue result (is_some (listed number_of_bank (parts banks.new) number) ≡ true) }
+    ensures kept { (i : ℕ) → i ≢ number → listed number_of_bank (parts banks.new) i ≡ listed number_of_bank (parts banks.old) i }
+    ensures sound { (x : HeldBank) → listed number_of_bank (parts banks.new) number ≡ Some x → IsSound A.over A.place (valid_code code.now) worker.old.workers (worker.old.workers + number) (held_of (contents_seen C.least C.faults C.readings (Bank x))) }
     ensures room { spare banks.old ≤ spare banks.new + 1 }
-    ensures carries { (program : ProgramView) (n : ℕ) (h : Carries (Part A C × PartSeen A)) → listed number_of_bank (parts banks.old) number ≡ None → IsCarrying A.over A.stands program code.now table.now.id n worker.old (with_all bank_row (lifted n code.now Bank (part_seen C.least C.faults C.readings) number_of_bank (parts banks.old)) h) → IsCarrying A.over A.stands program code.now table.now.id n worker.new (with_all bank_row (lifted n code.now Bank (part_seen C.least C.faults C.readings) number_of_bank (parts banks.new)) h) }
+    ensures carries { (program : ProgramView) (n : ℕ) (h : Carries (Part A C × PartSeen A)) → IsCarrying A.over A.stands program code.now table.now.id n worker.old (with_all bank_row (lifted n code.now Bank (part_seen C.least C.faults C.readings) number_of_bank (parts banks.old)) h) → IsCarrying A.over A.stands program code.now table.now.id n worker.new (with_all bank_row (lifted n code.now Bank (part_seen C.least C.faults C.readings) number_of_bank (parts banks.new)) h) }
 {
     let place = worker.workers + number;
     match try_hold_at(table, code, worker, place) {
         None => false,
         Some(contents) => {
-            let bank = HeldBank::from_contents(contents);
+            let bank = bank_of(contents);
             if bank.number() != number {
+                // A bank stands at its own number in every run.
                 wait_for_good(rt);
                 unreachable!()
             }
@@ -225,6 +229,76 @@ fn try_bank<R: Wait, A: Agent, C: Clock + Drop>(
             true
         }
     }
+}
+
+// The same, where it is wanted.
+fn try_wanted<R: Wait, A: Agent, C: Clock + Drop>(
+    rt: &R,
+    table: &Table<Pool<A, C>>,
+    code: &ValidCode,
+    worker: &mut Worker<A, C>,
+    wanted: bool,
+    number: u64,
+    banks: &mut Banks,
+) -> bool
+    requires carries { (program : ProgramView) × (n : ℕ) × (h : Carries (Part A C × PartSeen A)) × IsCarrying A.over A.stands program code.now table.now.id n worker.old (with_all bank_row (lifted n code.now Bank (part_seen C.least C.faults C.readings) number_of_bank (parts banks.old)) h) }
+    requires number { number < 16 }
+    requires none { listed number_of_bank (parts banks.old) number ≡ None }
+    requires room { 0 < spare banks.old }
+    ensures same { SameWorker worker.old worker.new }
+    ensures turns { SameTurns worker.old.hand worker.new.hand }
+    ensures entries { worker.new.entries ≡ worker.old.entries }
+    ensures told { OnTrue result (is_some (listed number_of_bank (parts banks.new) number) ≡ wanted) }
+    ensures kept { (i : ℕ) → i ≢ number → listed number_of_bank (parts banks.new) i ≡ listed number_of_bank (parts banks.old) i }
+    ensures sound { (x : HeldBank) → listed number_of_bank (parts banks.new) number ≡ Some x → IsSound A.over A.place (valid_code code.now) worker.old.workers (worker.old.workers + number) (held_of (contents_seen C.least C.faults C.readings (Bank x))) }
+    ensures room { spare banks.old ≤ spare banks.new + 1 }
+    ensures carries { (program : ProgramView) (n : ℕ) (h : Carries (Part A C × PartSeen A)) → IsCarrying A.over A.stands program code.now table.now.id n worker.old (with_all bank_row (lifted n code.now Bank (part_seen C.least C.faults C.readings) number_of_bank (parts banks.old)) h) → IsCarrying A.over A.stands program code.now table.now.id n worker.new (with_all bank_row (lifted n code.now Bank (part_seen C.least C.faults C.readings) number_of_bank (parts banks.new)) h) }
+{
+    if wanted {
+        try_bank(rt, table, code, worker, number, banks)
+    } else {
+        true
+    }
+}
+
+// The bank that a part is.
+fn bank_of<A: Agent, C: Clock + Drop>(contents: Contents<A, C>) -> HeldBank
+    requires { contents_kind contents ≡ bank_kind }
+    ensures { Bank result ≡ contents }
+{
+    match contents {
+        Contents::Bank(bank) => bank,
+        _ => unreachable!(),
+    }
+}
+
+// Holds these banks, one after another, where they are free, and moves them out into the list; false at the first that
+// isn't.
+fn try_load<R: Wait, A: Agent, C: Clock + Drop>(
+    rt: &R,
+    table: &Table<Pool<A, C>>,
+    code: &ValidCode,
+    worker: &mut Worker<A, C>,
+    homes: &Homes,
+    banks: &mut Banks,
+) -> bool
+    requires carries { (program : ProgramView) × (n : ℕ) × (h : Carries (Part A C × PartSeen A)) × HasNone bank_row h × IsCarrying A.over A.stands program code.now table.now.id n worker.old h }
+    requires empty { parts banks.old ≡ [] }
+    requires room { 16 ≤ spare banks.old }
+    ensures same { SameWorker worker.old worker.new }
+    ensures turns { SameTurns worker.old.hand worker.new.hand }
+    ensures entries { worker.new.entries ≡ worker.old.entries }
+    ensures homes { OnTrue result ((i : ℕ) → i < 16 → is_some (listed number_of_bank (parts banks.new) i) ≡ has_home homes.now i) }
+    ensures sound { (i : ℕ) (x : HeldBank) → listed number_of_bank (parts banks.new) i ≡ Some x → IsSound A.over A.place (valid_code code.now) worker.old.workers (worker.old.workers + i) (held_of (contents_seen C.least C.faults C.readings (Bank x))) }
+    ensures carries { (program : ProgramView) (n : ℕ) (h : Carries (Part A C × PartSeen A)) → HasNone bank_row h → IsCarrying A.over A.stands program code.now table.now.id n worker.old h → IsCarrying A.over A.stands program code.now table.now.id n worker.new (with_all bank_row (lifted n code.now Bank (part_seen C.least C.faults C.readings) number_of_bank (parts banks.new)) h) }
+{
+    for number in 0..ALL {
+        let free = try_wanted(rt, table, code, worker, homes.has(number), number, banks);
+        if !free {
+            return false;
+        }
+    }
+    true
 }
 
 /// Holds these banks where they are free, and moves them out into what is held. Where one isn't, those before it are
@@ -242,16 +316,11 @@ pub(crate) fn try_banks<R: Wait, A: Agent, C: Clock + Drop>(
     ensures same { SameWorker worker.old worker.new }
     ensures turns { SameTurns worker.old.hand worker.new.hand }
     ensures entries { worker.new.entries ≡ worker.old.entries }
-    ensures banks { result ≡ Ok true → (i : ℕ) → i < 16 → is_some (listed number_of_bank (parts held.new.banks) i) ≡ has_home homes.now i }
+    ensures banks { IfOk result (λ b. b ≡ true → (i : ℕ) → i < 16 → is_some (listed number_of_bank (parts held.new.banks) i) ≡ has_home homes.now i) }
     ensures placed { Placed (channels_held held.new.banks) }
     ensures others { ButBanks held.old held.new }
     ensures carries { (program : ProgramView) (n : ℕ) (l : Lane A) (clock : Option (ClockBox C)) → IsCarrying A.over A.stands program code.now table.now.id n worker.old (taken (part_seen C.least C.faults C.readings) n code.now worker.old.number l clock held.old) → IsCarrying A.over A.stands program code.now table.now.id n worker.new (taken (part_seen C.least C.faults C.readings) n code.now worker.old.number l clock held.new) }
 {
     held.banks.reserve(ALL)?;
-    for number in 0..ALL {
-        if homes.has(number) && !try_bank(rt, table, code, worker, number, &mut held.banks) {
-            return Ok(false);
-        }
-    }
-    Ok(true)
+    Ok(try_load(rt, table, code, worker, homes, &mut held.banks))
 }
