@@ -37,6 +37,12 @@ same_turns h g e = record {
   turns = ap (λ x. x.view.turns) e;
 }
 
+pub turns_both : {P C E : Type 0} (x y z : HandHeld P C E) → SameTurns x y → SameTurns y z → SameTurns x z
+turns_both x y z a b = record {
+  same = record { table = b.same.table ∙ a.same.table; opening = b.same.opening ∙ a.same.opening; hands = b.same.hands ∙ a.same.hands; stands_for = b.same.stands_for ∙ a.same.stands_for };
+  turns = b.turns ∙ a.turns;
+}
+
 -- nothing was drawn where nothing was done
 pub drew_nothing : {A C : Type 0} (w : Worker A C) → Drew 0 false w w
 drew_nothing w = drew_none (record { number = refl; workers = refl; program = refl; code = refl }) (same_turns w.hand w.hand refl)

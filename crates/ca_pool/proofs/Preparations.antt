@@ -37,6 +37,17 @@ pub answered_in : (m : ℕ) (c c2 : TimersPart) (o : Option TimersView) → IsAn
 answered_in m c c2 None a = a
 answered_in m c c2 (Some t) a = record { deadlines = refl; now = refl; later = a.later; bound = a.bound; least = a.least; faults = a.faults; readings = a.readings; mark = a.mark }
 
+has_timers : (what : WhatView) (o : Option TimersView) → is_some o ≡ is_timeout what → HasTimers what o
+has_timers (timeout n) o e = e
+has_timers unbuffered o e = tt
+has_timers (fixed n) o e = tt
+has_timers (dropping n) o e = tt
+has_timers (sliding n) o e = tt
+has_timers promise o e = tt
+has_timers (mult s) o e = tt
+has_timers (mix a b) o e = tt
+has_timers (publication s) o e = tt
+
 module _ {A : Type 0} where
   pub shown_itself : (h : Held A) → ShowSame h h
   shown_itself h = record { channels = λ i. refl; registries = λ i. refl; waits = λ i. refl; ready = refl }
@@ -55,17 +66,6 @@ module _ {A : Type 0} where
 
   pub next_of : (x y : Held A) → SameNumbers x y → SameNext x y
   next_of x y n = record { task = n.task; port = n.port; wait = n.wait }
-
-  has_timers : (what : WhatView) (o : Option TimersView) → is_some o ≡ is_timeout what → HasTimers what o
-  has_timers (timeout n) o e = e
-  has_timers unbuffered o e = tt
-  has_timers (fixed n) o e = tt
-  has_timers (dropping n) o e = tt
-  has_timers (sliding n) o e = tt
-  has_timers promise o e = tt
-  has_timers (mult s) o e = tt
-  has_timers (mix a b) o e = tt
-  has_timers (publication s) o e = tt
 
   -- all that the event needs is held
   pub all_parts : (q : Planned) (old new : Held A) → HasRest old q → ((i : ℕ) → is_some (channels_held new.banks i) ≡ is_some (channels_held old.banks i)) → ((i : ℕ) → is_some (waits_held new.shards i) ≡ is_some (waits_held old.shards i)) → SameNext old new
@@ -116,7 +116,7 @@ place_same c (Some t) (Some u) e = ap (of_times c) (some_times (times_of u) (tim
 -- what reserving leaves of the timers is what the clockwork shows
 pub times_same : {C : Type 0} (least faults : C → ℕ) (readings : C → Option (List ℕ)) (clock : Option (ClockBox C)) (o z : Option TimersView) → times_in z ≡ times_in o → clock_with least faults readings clock z ≡ clock_with least faults readings clock o
 times_same least faults readings None o z e = refl
-times_same least faults readings (Some c) o z e = place_same (clockwork_seen least faults readings c.value) o z e
+times_same least faults readings (Some c) o z e = ap Some (place_same (clockwork_seen least faults readings c.value) o z e)
 
 pub times_there : (o z : Option TimersView) → times_in z ≡ times_in o → is_some z ≡ is_some o
 times_there None None e = refl

@@ -55,6 +55,10 @@ pub if_ok_is : {X E : Type 0} (P : X → Type 0) (r : Result X E) (x : X) → If
 if_ok_is P (Ok y) x p e = subst P (let k : y ≡ x = cc in k) p
 if_ok_is P (Err f) x p e = absurd cc
 
+pub err_any : {X E P : Type 0} (r : Result X E) → P → OnErr r P
+err_any (Ok x) p = tt
+err_any (Err e) p = p
+
 pub if_ok_map : {X E : Type 0} {P Q : X → Type 0} (r : Result X E) → ((x : X) → P x → Q x) → IfOk r P → IfOk r Q
 if_ok_map (Ok x) f p = f x p
 if_ok_map (Err e) f p = p

@@ -1,5 +1,5 @@
 // The event of a plan: all that it needs is taken and made, then it is applied and drawn.
-ghost use Rattle.std.specs.Prelude.{◌≡◌, ℕ, ◌+◌, ◌<◌, ◌^◌, List, Option, None, OnErr, IfOk, false};
+ghost use Rattle.std.specs.Prelude.{◌≡◌, ℕ, ◌+◌, ◌<◌, ◌^◌, List, Option, None, OnErr, IfOk, false, true};
 ghost use Rattle.ca_value.specs.Seq.{spare};
 ghost use Rattle.ca_timers.specs.Timers.{TimersView};
 ghost use Rattle.ca_term.specs.Event.{event_view};
@@ -230,14 +230,14 @@ pub(crate) fn commit<R: Wait, A: Starting, C: Clock + Drop>(
     check_new(rt, held);
     check_alts(rt, &task);
     check_counts(rt, lane.counts, lane.since);
-    let prepared = prepare(rt, alloc, code, worker, held, &task, &plan, clock);
-    match prepared.1 {
+    let (clock, prepared) = prepare(rt, alloc, code, worker, held, &task, &plan, clock);
+    match prepared {
         Err(OutOfMemory) => {
-            put_off(table, code, worker, held, prepared.0);
+            put_off(table, code, worker, held, clock);
             Err(OutOfMemory)
         }
         Ok(spawned) => Ok(draw_plan(
-            rt, alloc, table, code, worker, held, prepared.0, lane, task, plan, spawned,
+            rt, alloc, table, code, worker, held, clock, lane, task, plan, spawned,
         )),
     }
 }

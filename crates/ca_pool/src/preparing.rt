@@ -259,13 +259,16 @@ fn ask_moment<C: Clock + Drop>(
     }
 }
 
-// The port of the result of a seed's task.
-fn result_of(seed: &Seed) -> Option<PortId>
+// The port of the result of a seed's task. No run starts a system task yet: a machine has none.
+fn result_of<R: Wait>(rt: &R, seed: &Seed) -> Option<PortId>
     ensures { option_map port_number result ≡ result_of (seed_view seed.now) }
 {
     match seed {
         Seed::Go(seed) => Some(seed.result),
-        Seed::System(_) => None,
+        Seed::System(_) => {
+            wait_for_good(rt);
+            unreachable!()
+        }
     }
 }
 
@@ -286,7 +289,7 @@ fn start_task<R: Wait, A: Starting>(
     match A::start(alloc, code, seed)? {
         Some(agent) => Ok(Task {
             number,
-            result: result_of(seed),
+            result: result_of(rt, seed),
             alts: 0,
             agent,
         }),
@@ -381,6 +384,34 @@ fn make_parts<R: Wait, A: Starting, C: Clock + Drop>(
     Ok(started)
 }
 
+// The clock is asked, once all else is there.
+fn prepare_moment<A: Agent, C: Clock + Drop>(
+    held: &mut Held<A>,
+    plan: &Plan,
+    clock: Option<Box<Clockwork<C>>>,
+    started: Option<Task<A>>,
+) -> (Option<Box<Clockwork<C>>>, Result<Option<Task<A>>, OutOfMemory>)
+    requires made { IsMade A.place held.old plan.now }
+    ensures shown { ShowSame held.old held.new }
+    ensures next { SameNext held.old held.new }
+    ensures some { is_some result.0 ≡ is_some clock }
+    ensures none { OnErr result.1 (held.new.timers ≡ None) }
+    ensures kept { OnErr result.1 (clock_seen C.least C.faults C.readings result.0 ≡ clock_with C.least C.faults C.readings clock held.old.timers) }
+    ensures timers { OnOk result.1 (held.new.timers ≡ held.old.timers) }
+    ensures asked { OnOk result.1 (AskedFor held.new.moment (clock_with C.least C.faults C.readings clock held.old.timers) (clock_with C.least C.faults C.readings result.0 held.new.timers)) }
+    ensures made { OnOk result.1 (IsMade A.place held.new plan.now) }
+    ensures started { IfOk result.1 (λ o. o ≡ started) }
+{
+    let (clock, asked) = ask_moment(clock);
+    match asked {
+        Err(OutOfMemory) => (put_times(held, clock), Err(OutOfMemory)),
+        Ok(moment) => {
+            held.moment = moment;
+            (clock, Ok(started))
+        }
+    }
+}
+
 /// Makes all that the event of the plan needs; of a timeout the clock is asked last. The timers are held then. Where there
 /// is no memory the clockwork shows what it did.
 pub(crate) fn prepare<R: Wait, A: Starting, C: Clock + Drop>(
@@ -420,15 +451,6 @@ pub(crate) fn prepare<R: Wait, A: Starting, C: Clock + Drop>(
     let clock = take_times(alloc, held, clock);
     match make_parts(rt, alloc, code, worker, held, task, plan, &clock) {
         Err(OutOfMemory) => (put_times(held, clock), Err(OutOfMemory)),
-        Ok(started) => {
-            let asked = ask_moment(clock);
-            match asked.1 {
-                Err(OutOfMemory) => (put_times(held, asked.0), Err(OutOfMemory)),
-                Ok(moment) => {
-                    held.moment = moment;
-                    (asked.0, Ok(started))
-                }
-            }
-        }
+        Ok(started) => prepare_moment(held, plan, clock, started),
     }
 }

@@ -12,8 +12,8 @@ use Rattle.ca_pool.proofs.EndsMoved.{cost_one}
 use Rattle.ca_pool.proofs.PlansDrawn.{is_timely, plan_moved, plan_same, runs_within}
 use Rattle.ca_pool.proofs.committing.draw_plan.Goals as goal
 
-pub commit_plan-requires-clause-timely : goal.commit_plan-requires-clause-timely
-commit_plan-requires-clause-timely g c = let K = g.C.Clock in let r = c.requires.carries in is_timely {A = g.row.A.Denot} K.least K.faults K.readings (plan_view c.args.plan) r.3 c.args.clock c.args.held.now r.6
+pub commit_plan-event-requires-clause-timely : goal.commit_plan-event-requires-clause-timely
+commit_plan-event-requires-clause-timely g c = let K = g.C.Clock in let r = c.requires.carries in is_timely {A = g.row.A.Denot} K.least K.faults K.readings (plan_view c.args.plan) r.3 c.args.clock c.args.held.now r.6
 
 pub draw_turn-lane-requires-clause-moved : goal.draw_turn-lane-requires-clause-moved
 draw_turn-lane-requires-clause-moved g c = let a = g.A.Agent in let K = g.C.Clock in let m = g.met.A.Agent in let r = c.requires.carries in let p = c.commit_plan-event in let q = p.ensures in let t = c.put_times-clock in

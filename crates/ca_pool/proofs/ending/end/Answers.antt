@@ -6,6 +6,7 @@ use Rattle.ca_table.specs.Parts.{part_seen}
 use Rattle.ca_table.proofs.Drawing.{drew_later, drew_none}
 use Rattle.ca_table.proofs.HaltMoved.{ends_draw}
 use Rattle.ca_pool.proofs.AtEvents.{kept_carrying, lane_bare, same_turns}
+use Rattle.ca_pool.proofs.Resolutions.{err_any}
 use Rattle.ca_pool.proofs.ending.end.Goals as goal
 
 pub take_last-clock-requires-clause-carries : goal.take_last-clock-requires-clause-carries
@@ -41,8 +42,8 @@ returns-clause-stepped g c = λ program n l lane left its. let a = g.A.Agent in 
     })
 
 pub returns-in_err-make_room-clause-kept : goal.returns-in_err-make_room-clause-kept
-returns-in_err-make_room-clause-kept g c = λ program n l lane. let a = g.A.Agent in let q = c.make_room.ensures in let code = c.args.code.now in
-    kept_carrying a.over a.stands code c.args.table.now.id program n c.args.worker.now c.make_room.new.worker (just_lane n code l) q.same q.hand q.entries lane
+returns-in_err-make_room-clause-kept g c = err_any c.from_residual.result (λ program n l lane. let a = g.A.Agent in let q = c.make_room.ensures in let code = c.args.code.now in
+    kept_carrying a.over a.stands code c.args.table.now.id program n c.args.worker.now c.make_room.new.worker (just_lane n code l) q.same q.hand q.entries lane)
 
 pub returns-in_err-make_room-clause-refused : goal.returns-in_err-make_room-clause-refused
-returns-in_err-make_room-clause-refused g c = let q = c.make_room.ensures in drew_none q.same (same_turns c.args.worker.now.hand c.make_room.new.worker.hand q.hand)
+returns-in_err-make_room-clause-refused g c = let q = c.make_room.ensures in err_any c.from_residual.result (drew_none q.same (same_turns c.args.worker.now.hand c.make_room.new.worker.hand q.hand))

@@ -9,6 +9,7 @@ use Rattle.ca_table.proofs.Drawing.{drew_later, drew_none}
 use Rattle.ca_table.proofs.HaltMoved.{faults_draw}
 use Rattle.ca_pool.proofs.AtEvents.{bare_lane, kept_carrying, lane_bare, own_number, same_turns}
 use Rattle.ca_pool.proofs.BanksHeld.{has_banks}
+use Rattle.ca_pool.proofs.Resolutions.{err_any}
 use Rattle.ca_pool.proofs.ending.fault.Goals as goal
 
 pub take_banks-requires-clause-carries : goal.take_banks-requires-clause-carries
@@ -45,16 +46,16 @@ returns-clause-stepped g c = λ program n l lane left its. let a = g.A.Agent in 
     c.finish_by_fault.ensures.stepped program n l (own_number a.over a.stands code id program n l K.least K.faults K.readings v t.new.worker None t.new.held t.ensures.same.number (t.ensures.carries program n l s)) (record { left = left; program_is = its })
 
 pub returns-in_err-make_room-clause-kept : goal.returns-in_err-make_room-clause-kept
-returns-in_err-make_room-clause-kept g c = λ program n l lane. let a = g.A.Agent in let q = c.make_room.ensures in let code = c.args.code.now in
-    kept_carrying a.over a.stands code c.args.table.now.id program n c.args.worker.now c.make_room.new.worker (just_lane n code l) q.same q.hand q.entries lane
+returns-in_err-make_room-clause-kept g c = err_any c.from_residual.result (λ program n l lane. let a = g.A.Agent in let q = c.make_room.ensures in let code = c.args.code.now in
+    kept_carrying a.over a.stands code c.args.table.now.id program n c.args.worker.now c.make_room.new.worker (just_lane n code l) q.same q.hand q.entries lane)
 
 pub returns-in_err-make_room-clause-refused : goal.returns-in_err-make_room-clause-refused
-returns-in_err-make_room-clause-refused g c = let q = c.make_room.ensures in drew_none q.same (same_turns c.args.worker.now.hand c.make_room.new.worker.hand q.hand)
+returns-in_err-make_room-clause-refused g c = let q = c.make_room.ensures in err_any c.from_residual.result (drew_none q.same (same_turns c.args.worker.now.hand c.make_room.new.worker.hand q.hand))
 
 pub returns-in_err-take_banks-clause-kept : goal.returns-in_err-take_banks-clause-kept
-returns-in_err-take_banks-clause-kept g c = λ program n l lane. let a = g.A.Agent in let K = g.C.Clock in let m = c.make_room in let code = c.args.code.now in let id = c.args.table.now.id in let q = m.ensures in let w = c.args.worker.now in let v = m.new.worker in let t = c.take_banks in
+returns-in_err-take_banks-clause-kept g c = err_any c.from_residual-in_err-take_banks.result (λ program n l lane. let a = g.A.Agent in let K = g.C.Clock in let m = c.make_room in let code = c.args.code.now in let id = c.args.table.now.id in let q = m.ensures in let w = c.args.worker.now in let v = m.new.worker in let t = c.take_banks in
     let s = lane_bare a.over a.stands code id program n l K.least K.faults K.readings v c.args.held.now c.requires.bare (kept_carrying a.over a.stands code id program n w v (just_lane n code l) q.same q.hand q.entries lane) in
-    bare_lane a.over a.stands code id program n l K.least K.faults K.readings t.new.worker t.new.held c.in_err-take_banks.ensures.refused (own_number a.over a.stands code id program n l K.least K.faults K.readings v t.new.worker None t.new.held t.ensures.same.number (t.ensures.carries program n l s))
+    bare_lane a.over a.stands code id program n l K.least K.faults K.readings t.new.worker t.new.held c.in_err-take_banks.ensures.refused (own_number a.over a.stands code id program n l K.least K.faults K.readings v t.new.worker None t.new.held t.ensures.same.number (t.ensures.carries program n l s)))
 
 pub returns-in_err-take_banks-clause-refused : goal.returns-in_err-take_banks-clause-refused
-returns-in_err-take_banks-clause-refused g c = let q = c.make_room.ensures in drew_later q.same (same_turns c.args.worker.now.hand c.make_room.new.worker.hand q.hand) (drew_none c.take_banks.ensures.same c.take_banks.ensures.turns)
+returns-in_err-take_banks-clause-refused g c = let q = c.make_room.ensures in err_any c.from_residual-in_err-take_banks.result (drew_later q.same (same_turns c.args.worker.now.hand c.make_room.new.worker.hand q.hand) (drew_none c.take_banks.ensures.same c.take_banks.ensures.turns))

@@ -6,7 +6,7 @@ use Rattle.ca_commit.specs.Running.{Placed}
 use Rattle.ca_commit.specs.Showing.{channels_held}
 use Rattle.ca_table.proofs.Drawing.{drew_later, drew_none}
 use Rattle.ca_pool.proofs.AtEvents.{bare_lane, lane_bare, own_number}
-use Rattle.ca_pool.proofs.Resolutions.{numbers_both}
+use Rattle.ca_pool.proofs.Resolutions.{err_any, numbers_both}
 use Rattle.ca_pool.proofs.resolving.take_all.Goals as goal
 
 pub take_banks-requires-clause-carries : goal.take_banks-requires-clause-carries
@@ -36,11 +36,11 @@ returns-in_err-take_banks-clause-drew g c = drew_none c.take_banks.ensures.same 
 
 pub returns-in_err-take_banks-clause-refused : goal.returns-in_err-take_banks-clause-refused
 returns-in_err-take_banks-clause-refused g c = let a = g.A.Agent in let K = g.C.Clock in let code = c.args.code.now in let id = c.args.table.now.id in let b = c.take_banks in
-    record {
+    err_any c.from_residual.result (record {
       bare = c.in_err-take_banks.ensures.refused;
       carries = λ program n l lane. bare_lane a.over a.stands code id program n l K.least K.faults K.readings b.new.worker b.new.held c.in_err-take_banks.ensures.refused
           (own_number a.over a.stands code id program n l K.least K.faults K.readings c.args.worker.now b.new.worker None b.new.held b.ensures.same.number (b.ensures.carries program n l (lane_bare a.over a.stands code id program n l K.least K.faults K.readings c.args.worker.now c.args.held.now c.requires.bare lane)));
-    }
+    })
 
 pub returns-in_err-take_banks-clause-numbers : goal.returns-in_err-take_banks-clause-numbers
 returns-in_err-take_banks-clause-numbers g c = c.take_banks.ensures.others.numbers

@@ -8,7 +8,7 @@ use Rattle.ca_commit.proofs.PlanTold.{plan_tells}
 use Rattle.ca_table.specs.Bearing.{parts_held}
 use Rattle.ca_table.specs.Homes.{has_home}
 use Rattle.ca_pool.proofs.AtEvents.{drew_nothing}
-use Rattle.ca_pool.proofs.Resolutions.{decided_else, named_held, refused_is, seen_held, wants_more}
+use Rattle.ca_pool.proofs.Resolutions.{decided_else, named_held, refused_is, seen_held}
 use Rattle.ca_pool.proofs.resolving.take_up.Goals as goal
 
 pub prune_first-requires-clause-stale : goal.prune_first-requires-clause-stale
@@ -17,12 +17,6 @@ prune_first-requires-clause-stale g c = let plan = c.requires.planned in let hel
 
 pub refuse_over-requires-clause-planned : goal.refuse_over-requires-clause-planned
 refuse_over-requires-clause-planned g c = subst (λ (q : Planned). IsPlanFor g.A.Agent.place c.args.held.now q (agent_of c.args.task.now)) (ap plan_view c.in-Refused.is) c.requires.planned
-
-pub returns-in_err-prune_first-clause-wants : goal.returns-in_err-prune_first-clause-wants
-returns-in_err-prune_first-clause-wants g c = wants_more g.A.Agent.place c.args.wanted.now.banks c.args.wanted.now.banks c.args.held.now.new_port c.prune_first.new.held.new_port c.args.task.now (λ i e. e) c.prune_first.ensures.numbers.port c.requires.wants
-
-pub returns-in-Prune-clause-wants : goal.returns-in-Prune-clause-wants
-returns-in-Prune-clause-wants g c = wants_more g.A.Agent.place c.args.wanted.now.banks c.args.wanted.now.banks c.args.held.now.new_port c.prune_first.new.held.new_port c.args.task.now (λ i e. e) c.prune_first.ensures.numbers.port c.requires.wants
 
 pub returns-in_default-clause-drew : goal.returns-in_default-clause-drew
 returns-in_default-clause-drew g c = drew_nothing c.args.worker.now
