@@ -1,10 +1,14 @@
 use Rattle.std.proofs.Common.{◌≡◌, ◌∙◌, ℕ, Option, ap, sym, refl, subst, is_some}
 use Rattle.std.specs.Prelude.{IfSome, OnOk}
+use Rattle.ca_term.specs.Program.{ProgramView}
+use Rattle.ca_states.specs.ValidCode.{valid_code}
+use Rattle.ca_lower.specs.Gos.{SameGos}
+use Rattle.ca_lower.specs.Lowered.{Lowered}
 use Rattle.ca_commit.specs.Applying.{HasSpawned}
 use Rattle.ca_commit.specs.Contents.{TimersPart}
 use Rattle.ca_commit.specs.Plans.{plan_view}
 use Rattle.ca_commit.specs.Showing.{channels_held, registries_held, waits_held}
-use Rattle.ca_pool.specs.Preparing.{AskedFor, clock_with}
+use Rattle.ca_pool.specs.Preparing.{AskedFor, StartsFor, clock_with}
 use Rattle.ca_pool.proofs.PlansReadied.{paused_kept}
 use Rattle.ca_pool.proofs.Preparations.{all_parts, next_both, next_of, shown_both, shown_times}
 use Rattle.ca_pool.proofs.Resolutions.{err_map, if_ok_map, ok_map}
@@ -56,3 +60,9 @@ returns-in-Ok-clause-there g c = if_ok_map c.prepare_moment.result.1 (λ o e. su
 
 pub returns-in-Ok-clause-number : goal.returns-in-Ok-clause-number
 returns-in-Ok-clause-number g c = if_ok_map c.prepare_moment.result.1 (λ o e. subst (λ y. IfSome y (λ s. s.number ≡ c.args.held.now.new_task)) (sym e) (subst (λ (k : ℕ). IfSome c.in-Ok.started (λ s. s.number ≡ k)) c.take_times-clock.ensures.others.numbers.task c.in-Ok.ensures.number)) c.prepare_moment.ensures.started
+
+pub returns-in-Ok-clause-starts : goal.returns-in-Ok-clause-starts
+returns-in-Ok-clause-starts g c = if_ok_map c.prepare_moment.result.1 (λ o e. subst (λ y. IfSome y (λ s. (program : ProgramView) → Lowered program (valid_code c.args.code.now) → SameGos program (valid_code c.args.code.now) → StartsFor g.A.Agent.place g.A.Agent.starts program c.args.task.now s)) (sym e) c.in-Ok.ensures.starts) c.prepare_moment.ensures.started
+
+pub returns-in-Ok-clause-over : goal.returns-in-Ok-clause-over
+returns-in-Ok-clause-over g c = if_ok_map c.prepare_moment.result.1 (λ o e. subst (λ y. IfSome y (λ s. g.A.Agent.over (valid_code c.args.code.now) s.agent)) (sym e) c.in-Ok.ensures.over) c.prepare_moment.ensures.started
