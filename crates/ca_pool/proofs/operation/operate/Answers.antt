@@ -10,6 +10,8 @@ use Rattle.ca_commit.specs.Registering.{AreApart}
 use Rattle.ca_table.proofs.Drawing.{drew_as, drew_both}
 use Rattle.ca_table.specs.Parts.{counts_view}
 use Rattle.ca_commit.specs.declared.planned.Plan.{Plan}
+use Rattle.ca_table.specs.declared.part.Lane.{Lane}
+use Rattle.ca_pool.specs.AtEvent.{HasNumbers}
 use Rattle.ca_pool.specs.Resolving.{IsResolved}
 use Rattle.ca_pool.proofs.PlansReadied.{numbers_moved}
 use Rattle.ca_pool.proofs.Resolutions.{err_any, err_map, event_else, if_ok_map, same_both}
@@ -38,7 +40,7 @@ commit-requires-clause-event g c = event_else c.in_ok-plan.plan c.in_ok-plan.ens
 
 pub commit-requires-clause-numbers : goal.commit-requires-clause-numbers
 commit-requires-clause-numbers g c = let w = c.args.worker.now in let v = c.resolve.new.worker in let d = c.resolve.ensures.drew.same in let k = c.resolve.ensures.numbers in
-    numbers_moved w.number v.number w.workers v.workers (counts_view c.args.lane.value.counts) c.set_numbers.new.held c.resolve.new.held d.number d.workers k.task k.port k.wait c.set_numbers.ensures.numbers
+    numbers_moved w.number v.number w.workers v.workers (counts_view c.args.lane.value.counts) c.set_numbers.new.held c.resolve.new.held d.number d.workers k.task k.port k.wait (subst (λ (x : Lane g.row.A.Denot). HasNumbers w.number w.workers (counts_view x.counts) c.set_numbers.new.held) c.deref.ensures c.set_numbers.ensures.numbers)
 
 pub commit-requires-clause-apart : goal.commit-requires-clause-apart
 commit-requires-clause-apart g c = λ want at s. subst (λ (x : WantView). AreApart s x.op) (same_want (want_view c.want.result.now) want (sym c.want.ensures ∙ at)) (c.check_apart.ensures s)
