@@ -1,6 +1,7 @@
 //! The plain body as an agent.
 ghost use Rattle.std.specs.Prelude.{◌≡◌, None, option_map, IfOk, OnOk};
 ghost use Rattle.ca_term.specs.Operation.{want_view};
+ghost use Rattle.ca_value.specs.View.{view};
 ghost use Rattle.ca_term.specs.Program.{program_view};
 ghost use Rattle.ca_term.specs.View.{kernel};
 ghost use Rattle.ca_meaning.specs.Body.{at};
@@ -18,6 +19,7 @@ use ca_meaning::body::{Body, Stand};
 use ca_states::valid_code::ValidCode;
 use ca_term::operation::Want;
 use ca_value::memory::OutOfMemory;
+use ca_value::value::Value;
 use std::alloc::Global;
 
 // The operation that the body stands at, if it stands at one.
@@ -65,6 +67,19 @@ impl<'p> PlainTask<'p> {
     }
 }
 
+impl<'p> PlainTask<'p> {
+    // The answer takes the place of the operation that the body stands at.
+    fn answer(&mut self, value: Value)
+        ensures gives { Gives (plain_view self.old) (view value) (plain_view self.new) }
+        ensures known { IsBodyOf (program_view self.old.program.now) (kernel self.old.body.term) → IsBodyOf (program_view self.new.program.now) (kernel self.new.body.term) }
+    {
+        if self.body.at() == Stand::AtOp {
+            self.body.fill(value);
+        }
+        put(&mut self.asked, None);
+    }
+}
+
 impl<'p> Agent for PlainTask<'p> {
     ghost over = { λ code t. IsBodyOf (program_view t.program.now) (kernel t.body.term) };
 
@@ -87,10 +102,7 @@ impl<'p> Agent for PlainTask<'p> {
 
     fn give(&mut self, outcome: Outcome) {
         let Outcome { value, branch: _ } = outcome;
-        if self.body.at() == Stand::AtOp {
-            self.body.fill(value);
-        }
-        put(&mut self.asked, None);
+        self.answer(value);
     }
 
     fn advance(&mut self, alloc: Global, _code: &ValidCode) -> Result<Pause, OutOfMemory> {
