@@ -77,10 +77,16 @@ module _ {C : Type 0} (least faults : C → ℕ) (readings : C → Option (List 
       let answered = subst (IsAnswered m s) (sym at) a.2 in
       let came = some_same (times_of y) (timed p (timeout n) m (times_of x)) times in
       let same = some_same s c is in
-      let early_s : s.now ≤ s.least = subst (λ (z : TimersPart). z.now ≤ z.least) (sym same) early in
-      (s, in_place (seen_as k) (Some y), refl, refl, (let l = answered.later in omega (arith, early_s, l)), answered.bound,
-       came ∙ ap (timed p (timeout n) m) (λ i. record { deadlines = answered.deadlines i; now = answered.now i }),
-       record { now = ap (λ z. z.now) came; least = answered.least; faults = answered.faults; readings = answered.readings; mark = answered.mark })
+      let early_s : s.now ≤ s.least = subst (λ (z : TimersPart). z.now ≤ z.least) (sym same) early in (
+        s,
+        in_place (seen_as k) (Some y),
+        refl,
+        refl,
+        (let l = answered.later in omega (arith, early_s, l)),
+        answered.bound,
+        came ∙ ap (timed p (timeout n) m) (λ i. record { deadlines = answered.deadlines i; now = answered.now i }),
+        record { now = ap (λ z. z.now) came; least = answered.least; faults = answered.faults; readings = answered.readings; mark = answered.mark },
+      )
 
   timed_what : (what : WhatView) (s : Option TimersPart) (clock : Option (ClockBox C)) (old new : Option TimersView) → is_some s ≡ is_timeout what → is_some old ≡ is_some s → ((c : TimersPart) → s ≡ Some c → c.now ≤ c.least) → AskedFor m s (timed_with clock old) → times_in new ≡ option_map (timed p what m) (times_in old) → TimesMade p what m s (timed_with clock new)
   timed_what (timeout n) None clock old new e t early a times = absurd (let k : false ≡ true = e in cc)
@@ -339,6 +345,6 @@ module _ {A C : Type 0} (over : CodeView → A → Type 0) (stands_as : ProgramV
       (all_laid (part_seen least faults readings) n code w.number l lane2 clock0 held clock2 held3)
       (all_turned least faults readings n code w.number l clock0 clock2 held held3 plan_same lane2) due did
       (subst (λ (z : Option TimersPart). TimesTo held.new_port held.moment q (clock_seen least faults readings clock0) z) (sym back)
-          (times_to least faults readings held.moment held.new_port q (clock_seen least faults readings clock0) clock held.timers held2.timers (shows_there (λ c. clockwork_seen least faults readings c.value) clock0 ∙ asked.needed) (asked.timers ∙ sym (shows_there (λ c. clockwork_seen least faults readings c.value) clock0)) (early_by (clock_seen least faults readings clock0) asked.timely) asked.asked times))
+      (times_to least faults readings held.moment held.new_port q (clock_seen least faults readings clock0) clock held.timers held2.timers (shows_there (λ c. clockwork_seen least faults readings c.value) clock0 ∙ asked.needed) (asked.timers ∙ sym (shows_there (λ c. clockwork_seen least faults readings c.value) clock0)) (early_by (clock_seen least faults readings clock0) asked.timely) asked.asked times))
       e event ports looked
       (all_brings least faults readings n code w.number l clock0 clock2 held held3 plan_same ports looked (needs_timers q) (needs_ready q) banks shards (sym (clocks ∙ asked.needed)) (sym (plan_same.ready ∙ ready.readied)) lane2)

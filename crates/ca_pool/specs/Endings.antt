@@ -36,7 +36,7 @@ module _ {A C : Type 0} (over_code : CodeView → A → Type 0) (place : A → A
   abbrev pub MayEnd : Ending → Task A → Held A → Held A → Type 0
   MayEnd ending task held held2 = (at : At) × (place task.agent ≡ at)
       × ((w n : ℕ) (h : Carries (Part A C × PartSeen A)) (lane lane2 : LaneView (TaskAgent A)) (timers timers2 : Option TimersPart) (ports looked : List ℕ) → Ends over_code place advances gives starts seen code w n h at lane lane2 timers timers2 held held2 task ports looked
-        → IsMoved over_code place advances gives starts seen code n w (drawn_with w n (shown (over task.number ending)) ports looked) h)
+      → IsMoved over_code place advances gives starts seen code n w (drawn_with w n (shown (over task.number ending)) ports looked) h)
 
   -- it may fault so, and close the channel of its result
   abbrev pub MayFault : Fault → Place → Task A → Held A → Type 0

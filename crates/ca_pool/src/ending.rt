@@ -140,7 +140,15 @@ fn finish<R: Wait, A: Agent, C: Clock + Drop>(
     };
     let cost = cost_of(rt, &event);
     let clock = marked(clock);
-    let lane = draw_turn(table, code, worker, held, clock, left(lane), Turned::Shown(event));
+    let lane = draw_turn(
+        table,
+        code,
+        worker,
+        held,
+        clock,
+        left(lane),
+        Turned::Shown(event),
+    );
     Stepped {
         lane,
         cost,
@@ -181,7 +189,9 @@ fn finish_by_fault<R: Wait, A: Agent, C: Clock + Drop>(
         place,
         result,
     };
-    finish(rt, table, code, worker, held, clock, lane, task, ending, result)
+    finish(
+        rt, table, code, worker, held, clock, lane, task, ending, result,
+    )
 }
 
 /// The lane's task, which has advanced to its end, ends by its value. Where there is no memory the lane is as it was
@@ -260,9 +270,7 @@ pub(crate) fn fault<R: Wait, A: Agent, C: Clock + Drop>(
     make_room(worker)?;
     let homes = home_of(task.result);
     take_banks(rt, table, code, worker, &homes, held)?;
-    Ok(finish_by_fault(
-        rt, table, code, worker, held, lane, &task, fault, place,
-    ))
+    Ok(finish_by_fault(rt, table, code, worker, held, lane, &task, fault, place))
 }
 
 /// The lane's task is paused at an operation that is refused, and ends by that fault. The banks of the ports that the
@@ -295,9 +303,7 @@ pub(crate) fn refuse<R: Wait, A: Agent, C: Clock + Drop>(
         }
         Ok(()) => {
             let place = task.agent.want().place;
-            Ok(finish_by_fault(
-                rt, table, code, worker, held, lane, &task, fault, place,
-            ))
+            Ok(finish_by_fault(rt, table, code, worker, held, lane, &task, fault, place))
         }
     }
 }

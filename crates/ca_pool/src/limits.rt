@@ -121,7 +121,10 @@ pub(crate) fn check_apart<R: Wait>(rt: &R, op: &Op)
 fn number_after(number: u64, workers: u64, count: u64) -> Option<u64>
     ensures { IfSome result (λ k. k ≡ 1 + number + workers * count) }
 {
-    workers.checked_mul(count)?.checked_add(number)?.checked_add(1)
+    workers
+        .checked_mul(count)?
+        .checked_add(number)?
+        .checked_add(1)
 }
 
 fn next_number<R: Wait>(rt: &R, number: u64, workers: u64, count: u64) -> u64

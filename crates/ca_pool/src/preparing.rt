@@ -390,7 +390,10 @@ fn prepare_moment<A: Agent, C: Clock + Drop>(
     plan: &Plan,
     clock: Option<Box<Clockwork<C>>>,
     started: Option<Task<A>>,
-) -> (Option<Box<Clockwork<C>>>, Result<Option<Task<A>>, OutOfMemory>)
+) -> (
+    Option<Box<Clockwork<C>>>,
+    Result<Option<Task<A>>, OutOfMemory>,
+)
     requires made { IsMade A.place held.old plan.now }
     ensures shown { ShowSame held.old held.new }
     ensures next { SameNext held.old held.new }
@@ -423,7 +426,10 @@ pub(crate) fn prepare<R: Wait, A: Starting, C: Clock + Drop>(
     task: &Task<A>,
     plan: &Plan,
     clock: Option<Box<Clockwork<C>>>,
-) -> (Option<Box<Clockwork<C>>>, Result<Option<Task<A>>, OutOfMemory>)
+) -> (
+    Option<Box<Clockwork<C>>>,
+    Result<Option<Task<A>>, OutOfMemory>,
+)
     requires at { is_at_op (A.place task.now.agent) ≡ true }
     requires paused { (w : ℕ) → IsPaused A.place (whole (waits_held held.old.shards) w) }
     requires rest { HasRest held.old (plan_view plan.now) }

@@ -48,5 +48,12 @@ pub(crate) fn prune<R: Wait, A: Agent, C: Clock + Drop>(
 {
     check_turns(rt, worker);
     let wait = prune_held(held, port, side, place);
-    draw_aside(table, code, worker, held, None, Turned::Prune(side, port, wait));
+    draw_aside(
+        table,
+        code,
+        worker,
+        held,
+        None,
+        Turned::Prune(side, port, wait),
+    );
 }

@@ -50,12 +50,20 @@ pub put_off-requires-clause-timers : goal.put_off-requires-clause-timers
 put_off-requires-clause-timers g c = let p = c.prepare-clock in err_is p.result.1 _ p.ensures.none c.in-Err.is
 
 pub draw_plan-requires-clause-carries : goal.draw_plan-requires-clause-carries
-draw_plan-requires-clause-carries g c = let a = g.A.Agent in let K = g.C.Clock in let code = c.args.code.now in let id = c.args.table.now.id in let w = c.args.worker.now in let t = c.take_others-clock in let o = t.ensures in let w1 = t.new.worker in let held1 = t.new.held in let clock0 = t.result in let p = c.prepare-clock in let q = p.ensures in let w2 = p.new.worker in let held2 = p.new.held in let shows : Part g.row.A.Denot g.row.C.Denot → PartSeen g.row.A.Denot = part_seen K.least K.faults K.readings in let plan = plan_view c.args.plan in let r = c.requires.carries in
-    (r.0, r.1, r.2, clock0, taken_shown a.over a.stands code id r.0 r.1 r.2 K.least K.faults K.readings w2 clock0 held1 held2 q.shown (own_number a.over a.stands code id r.0 r.1 r.2 K.least K.faults K.readings w1 w2 clock0 held1 q.same.number (kept_carrying a.over a.stands code id r.0 r.1 w1 w2 (taken shows r.1 code w1.number r.2 clock0 held1) q.same q.hand q.entries (o.carries r.0 r.1 r.2 r.3))), r.4, record { needed = o.clock; timely = o.timely; there = q.some; timers = ok_is p.result.1 c.in-Ok.spawned q.timers c.in-Ok.is; asked = ok_is p.result.1 c.in-Ok.spawned q.asked c.in-Ok.is }, record {
-      number = λ u e. if_some (λ (x : Task g.row.A.Denot). x.number ≡ held1.new_task) c.in-Ok.spawned u (if_ok_is (λ y. IfSome y (λ (x : Task g.row.A.Denot). x.number ≡ held1.new_task)) p.result.1 c.in-Ok.spawned q.number c.in-Ok.is) e ∙ sym q.next.task;
-      begins = λ u e. if_some (Begins a.place a.starts code c.args.task) c.in-Ok.spawned u (if_ok_is (λ y. IfSome y (Begins a.place a.starts code c.args.task)) p.result.1 c.in-Ok.spawned q.starts c.in-Ok.is) e r.0 (subst (λ (x : ProgramView). Lowered x (valid_code code)) r.3.one.of_program c.requires.lowered) (subst (λ (x : ProgramView). SameGos x (valid_code code)) r.3.one.of_program c.requires.gos);
-      within = λ u e. if_some (λ (x : Task g.row.A.Denot). a.over (valid_code code) x.agent) c.in-Ok.spawned u (if_ok_is (λ y. IfSome y (λ (x : Task g.row.A.Denot). a.over (valid_code code) x.agent)) p.result.1 c.in-Ok.spawned q.over c.in-Ok.is) e;
-    })
+draw_plan-requires-clause-carries g c = let a = g.A.Agent in let K = g.C.Clock in let code = c.args.code.now in let id = c.args.table.now.id in let w = c.args.worker.now in let t = c.take_others-clock in let o = t.ensures in let w1 = t.new.worker in let held1 = t.new.held in let clock0 = t.result in let p = c.prepare-clock in let q = p.ensures in let w2 = p.new.worker in let held2 = p.new.held in let shows : Part g.row.A.Denot g.row.C.Denot → PartSeen g.row.A.Denot = part_seen K.least K.faults K.readings in let plan = plan_view c.args.plan in let r = c.requires.carries in (
+  r.0,
+  r.1,
+  r.2,
+  clock0,
+  taken_shown a.over a.stands code id r.0 r.1 r.2 K.least K.faults K.readings w2 clock0 held1 held2 q.shown (own_number a.over a.stands code id r.0 r.1 r.2 K.least K.faults K.readings w1 w2 clock0 held1 q.same.number (kept_carrying a.over a.stands code id r.0 r.1 w1 w2 (taken shows r.1 code w1.number r.2 clock0 held1) q.same q.hand q.entries (o.carries r.0 r.1 r.2 r.3))),
+  r.4,
+  record { needed = o.clock; timely = o.timely; there = q.some; timers = ok_is p.result.1 c.in-Ok.spawned q.timers c.in-Ok.is; asked = ok_is p.result.1 c.in-Ok.spawned q.asked c.in-Ok.is },
+  record {
+    number = λ u e. if_some (λ (x : Task g.row.A.Denot). x.number ≡ held1.new_task) c.in-Ok.spawned u (if_ok_is (λ y. IfSome y (λ (x : Task g.row.A.Denot). x.number ≡ held1.new_task)) p.result.1 c.in-Ok.spawned q.number c.in-Ok.is) e ∙ sym q.next.task;
+    begins = λ u e. if_some (Begins a.place a.starts code c.args.task) c.in-Ok.spawned u (if_ok_is (λ y. IfSome y (Begins a.place a.starts code c.args.task)) p.result.1 c.in-Ok.spawned q.starts c.in-Ok.is) e r.0 (subst (λ (x : ProgramView). Lowered x (valid_code code)) r.3.one.of_program c.requires.lowered) (subst (λ (x : ProgramView). SameGos x (valid_code code)) r.3.one.of_program c.requires.gos);
+    within = λ u e. if_some (λ (x : Task g.row.A.Denot). a.over (valid_code code) x.agent) c.in-Ok.spawned u (if_ok_is (λ y. IfSome y (λ (x : Task g.row.A.Denot). a.over (valid_code code) x.agent)) p.result.1 c.in-Ok.spawned q.over c.in-Ok.is) e;
+  },
+)
 
 pub draw_plan-requires-clause-ready : goal.draw_plan-requires-clause-ready
 draw_plan-requires-clause-ready g c = let a = g.A.Agent in let K = g.C.Clock in let code = c.args.code.now in let id = c.args.table.now.id in let w = c.args.worker.now in let t = c.take_others-clock in let o = t.ensures in let w1 = t.new.worker in let held1 = t.new.held in let clock0 = t.result in let p = c.prepare-clock in let q = p.ensures in let w2 = p.new.worker in let held2 = p.new.held in let shows : Part g.row.A.Denot g.row.C.Denot → PartSeen g.row.A.Denot = part_seen K.least K.faults K.readings in let plan = plan_view c.args.plan in let held = c.args.held.now in let but = o.others in let sh = q.shown in let res = c.requires.resolved in

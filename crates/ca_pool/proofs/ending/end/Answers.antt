@@ -15,14 +15,19 @@ take_last-clock-requires-clause-carries g c = let a = g.A.Agent in let K = g.C.C
 
 pub finish-requires-clause-ending : goal.finish-requires-clause-ending
 finish-requires-clause-ending g c = let a = g.A.Agent in let K = g.C.Clock in let r = c.requires.left in let m = c.make_room in let code = c.args.code.now in let id = c.args.table.now.id in let q = m.ensures in let w = c.args.worker.now in let v = m.new.worker in let held = c.args.held.now in let task = c.args.task in let e = c.requires.ended in
-    let s = lane_bare a.over a.stands code id r.0 r.1 r.2 K.least K.faults K.readings v held c.requires.bare (kept_carrying a.over a.stands code id r.0 r.1 w v (just_lane r.1 code r.2) q.same q.hand q.entries r.3) in
-    (r.0, r.1, r.2, held, record {
-      carries = c.take_last-clock.ensures.carries r.0 r.1 r.2 s;
-      gone = record { left = r.4; program_is = r.5 };
-      same = record { banks = λ i. refl; shards = λ i. refl; ready = refl; timers = refl };
-      keep = record { registries = λ i. refl; waits = λ i. refl; ready = refl };
-      may = (ended e.0, e.1, λ w n h lane lane2 timers timers2 ports looked ends. ends_draw a.over a.place a.advances a.gives a.starts (part_seen K.least K.faults K.readings) code w n h e.0 lane lane2 timers timers2 held held task ports looked ends (λ i. refl));
-    })
+    let s = lane_bare a.over a.stands code id r.0 r.1 r.2 K.least K.faults K.readings v held c.requires.bare (kept_carrying a.over a.stands code id r.0 r.1 w v (just_lane r.1 code r.2) q.same q.hand q.entries r.3) in (
+      r.0,
+      r.1,
+      r.2,
+      held,
+      record {
+        carries = c.take_last-clock.ensures.carries r.0 r.1 r.2 s;
+        gone = record { left = r.4; program_is = r.5 };
+        same = record { banks = λ i. refl; shards = λ i. refl; ready = refl; timers = refl };
+        keep = record { registries = λ i. refl; waits = λ i. refl; ready = refl };
+        may = (ended e.0, e.1, λ w n h lane lane2 timers timers2 ports looked ends. ends_draw a.over a.place a.advances a.gives a.starts (part_seen K.least K.faults K.readings) code w n h e.0 lane lane2 timers timers2 held held task ports looked ends (λ i. refl));
+      },
+    )
 
 pub finish-requires-clause-room : goal.finish-requires-clause-room
 finish-requires-clause-room g c = subst (λ e. 0 < spare e) (sym c.take_last-clock.ensures.entries) c.in_ok-make_room.ensures.room

@@ -9,14 +9,19 @@ use Rattle.ca_pool.proofs.StaleHandlers.{keep_all, same_held}
 use Rattle.ca_pool.proofs.ending.finish_by_fault.Goals as goal
 
 pub finish-requires-clause-ending : goal.finish-requires-clause-ending
-finish-requires-clause-ending g c = let r = c.requires.carries in let q = c.apply_fault.ensures in let held = c.args.held.now in let held2 = c.apply_fault.new.held in let clock = c.take_last-clock.result in
-    (r.0, r.1, r.2, held, record {
-      carries = c.take_last-clock.ensures.carries r.0 r.1 r.2 r.3;
-      gone = r.4;
-      same = same_held held held2 q.others clock clock refl (λ i. ap is_some (q.channels i) ∙ closed_still (option_map port_number c.args.task.now.result) (channels_held held.banks) i);
-      keep = keep_all held held2 q.others q.registries;
-      may = c.requires.may held2 (record { held = c.requires.result; banks = q.channels });
-    })
+finish-requires-clause-ending g c = let r = c.requires.carries in let q = c.apply_fault.ensures in let held = c.args.held.now in let held2 = c.apply_fault.new.held in let clock = c.take_last-clock.result in (
+  r.0,
+  r.1,
+  r.2,
+  held,
+  record {
+    carries = c.take_last-clock.ensures.carries r.0 r.1 r.2 r.3;
+    gone = r.4;
+    same = same_held held held2 q.others clock clock refl (λ i. ap is_some (q.channels i) ∙ closed_still (option_map port_number c.args.task.now.result) (channels_held held.banks) i);
+    keep = keep_all held held2 q.others q.registries;
+    may = c.requires.may held2 (record { held = c.requires.result; banks = q.channels });
+  },
+)
 
 pub finish-requires-clause-ready : goal.finish-requires-clause-ready
 finish-requires-clause-ready g c = c.apply_fault.ensures.others.2 ∙ c.requires.ready

@@ -22,8 +22,8 @@ returns-in_err-plan-clause-drew g c = drew_both c.tries.invariant.drew c.try_onc
 pub returns-in_err-plan-clause-refused : goal.returns-in_err-plan-clause-refused
 returns-in_err-plan-clause-refused g c = let a = g.A.Agent in let K = g.C.Clock in let code = c.args.code.now in let id = c.args.table.now.id in
     err_any c.from_residual-in_err-plan.result (left_from a.over a.stands a.place (part_seen K.least K.faults K.readings) code id
-        (λ program n l. HasTaken a.over a.stands code id program n l (part_seen K.least K.faults K.readings) None c.tries.held c.tries.worker) (λ program n l. HasLane a.over a.stands code id program n l c.args.worker.now) c.tries.invariant.took.carries
-        c.try_once.new.held c.try_once.new.worker c.in_err-plan.ensures.refused)
+    (λ program n l. HasTaken a.over a.stands code id program n l (part_seen K.least K.faults K.readings) None c.tries.held c.tries.worker) (λ program n l. HasLane a.over a.stands code id program n l c.args.worker.now) c.tries.invariant.took.carries
+    c.try_once.new.held c.try_once.new.worker c.in_err-plan.ensures.refused)
 
 pub returns-in-Some-2-clause-drew : goal.returns-in-Some-2-clause-drew
 returns-in-Some-2-clause-drew g c = drew_both c.tries.invariant.drew c.try_once.ensures.drew

@@ -19,11 +19,11 @@ returns-clause-numbers g c = numbers_both c.args.held.now c.put_off.new.held c.t
 pub returns-clause-took : goal.returns-clause-took
 returns-clause-took g c = let a = g.A.Agent in let K = g.C.Clock in let seen = part_seen K.least K.faults K.readings in let code = c.args.code.now in let id = c.args.table.now.id in
     ok_map c.take_all.result (took_from a.over a.stands a.place seen code id
-        (λ program n l. HasLane a.over a.stands code id program n l c.put_off.new.worker) (λ program n l. HasTaken a.over a.stands code id program n l seen None c.args.held.now c.args.worker.now) c.put_off.ensures.carries
-        c.args.wanted.now.banks c.args.wanted.now.shards c.take_all.new.held c.take_all.new.worker) c.take_all.ensures.took
+    (λ program n l. HasLane a.over a.stands code id program n l c.put_off.new.worker) (λ program n l. HasTaken a.over a.stands code id program n l seen None c.args.held.now c.args.worker.now) c.put_off.ensures.carries
+    c.args.wanted.now.banks c.args.wanted.now.shards c.take_all.new.held c.take_all.new.worker) c.take_all.ensures.took
 
 pub returns-clause-refused : goal.returns-clause-refused
 returns-clause-refused g c = let a = g.A.Agent in let K = g.C.Clock in let seen = part_seen K.least K.faults K.readings in let code = c.args.code.now in let id = c.args.table.now.id in
     err_map c.take_all.result (left_from a.over a.stands a.place seen code id
-        (λ program n l. HasLane a.over a.stands code id program n l c.put_off.new.worker) (λ program n l. HasTaken a.over a.stands code id program n l seen None c.args.held.now c.args.worker.now) c.put_off.ensures.carries
-        c.take_all.new.held c.take_all.new.worker) c.take_all.ensures.refused
+    (λ program n l. HasLane a.over a.stands code id program n l c.put_off.new.worker) (λ program n l. HasTaken a.over a.stands code id program n l seen None c.args.held.now c.args.worker.now) c.put_off.ensures.carries
+    c.take_all.new.held c.take_all.new.worker) c.take_all.ensures.refused

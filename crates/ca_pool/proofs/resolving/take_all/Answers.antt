@@ -24,9 +24,13 @@ pub take_shards-requires-clause-ready : goal.take_shards-requires-clause-ready
 take_shards-requires-clause-ready g c = c.take_banks.ensures.others.ready ∙ c.requires.bare.ready
 
 pub put_off-requires-clause-carries : goal.put_off-requires-clause-carries
-put_off-requires-clause-carries g c = let a = g.A.Agent in let K = g.C.Clock in let r = c.requires.carries in let code = c.args.code.now in let id = c.args.table.now.id in let b = c.take_banks in let s = c.take_shards in
-    (r.0, r.1, r.2, own_number a.over a.stands code id r.0 r.1 r.2 K.least K.faults K.readings b.new.worker s.new.worker None s.new.held s.ensures.same.number (s.ensures.carries r.0 r.1 r.2
-        (own_number a.over a.stands code id r.0 r.1 r.2 K.least K.faults K.readings c.args.worker.now b.new.worker None b.new.held b.ensures.same.number (b.ensures.carries r.0 r.1 r.2 (lane_bare a.over a.stands code id r.0 r.1 r.2 K.least K.faults K.readings c.args.worker.now c.args.held.now c.requires.bare r.3)))))
+put_off-requires-clause-carries g c = let a = g.A.Agent in let K = g.C.Clock in let r = c.requires.carries in let code = c.args.code.now in let id = c.args.table.now.id in let b = c.take_banks in let s = c.take_shards in (
+  r.0,
+  r.1,
+  r.2,
+  own_number a.over a.stands code id r.0 r.1 r.2 K.least K.faults K.readings b.new.worker s.new.worker None s.new.held s.ensures.same.number (s.ensures.carries r.0 r.1 r.2
+      (own_number a.over a.stands code id r.0 r.1 r.2 K.least K.faults K.readings c.args.worker.now b.new.worker None b.new.held b.ensures.same.number (b.ensures.carries r.0 r.1 r.2 (lane_bare a.over a.stands code id r.0 r.1 r.2 K.least K.faults K.readings c.args.worker.now c.args.held.now c.requires.bare r.3)))),
+)
 
 pub put_off-requires-clause-timers : goal.put_off-requires-clause-timers
 put_off-requires-clause-timers g c = c.take_shards.ensures.others.timers ∙ c.take_banks.ensures.others.timers ∙ c.requires.bare.timers
