@@ -1,5 +1,11 @@
 pub mod Answers
-pub mod PoolEnds
-pub mod Fitting
+pub mod AtEvent
 pub mod Desk
+pub mod Endings
+pub mod Fitting
 pub mod Leaving
+pub mod Named
+pub mod PoolEnds
+pub mod Prepared
+pub mod Preparing
+pub mod Resolving
