@@ -2,3 +2,4 @@ pub mod Rounding
 pub mod CutRuns
 pub mod Stopping
 pub mod Lightness
+pub mod AtWork

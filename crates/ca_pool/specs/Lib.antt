@@ -3,3 +3,4 @@ pub mod PoolEnds
 pub mod Fitting
 pub mod Desk
 pub mod Leaving
+pub mod AtWork

@@ -10,4 +10,8 @@ pub mod pool_run;
 pub mod rounds;
 pub mod run_end;
 pub mod starting;
+mod going;
+mod stepping;
+mod stirring;
+mod visiting;
 pub mod working;
