@@ -1,6 +1,6 @@
 -- A worker in a call: it stays at work, and what its events cost together.
 use Rattle.std.proofs.Common.{◌≡◌, ◌∙◌, ℕ, ◌+◌, ◌-◌, ◌<◌, ◌≤◌, refl, sym, ap, ap₂, subst, arith, Bool, true, false, Option, Some, None, Result, Ok, Err, IfOk}
-use Rattle.std.specs.Prelude.{◌||◌, OnErr, OnOk, option_map}
+use Rattle.std.specs.Prelude.{◌||◌, IsSome, OnErr, OnOk, option_map}
 use Rattle.ca_term.specs.Event.{port_number}
 use Rattle.ca_term.specs.Program.{ProgramView, program_view}
 use Rattle.ca_meaning.specs.Task.{TaskBody}
@@ -121,6 +121,10 @@ module _ {A C : Type 0} (over : CodeView → A → Type 0) (stands_as : ProgramV
 pub over_none : {A : Type 0} (over : CodeView → A → Type 0) (code : ValidCode) (lane : Lane A) → lane.task ≡ None → TaskOver over code lane
 over_none over code lane none t is = absurd (let z : None ≡ Some t = sym none ∙ is in cc)
 
+pub some_of : {X : Type 0} (o : Option X) → IsSome o → (x : X) × (o ≡ Some x)
+some_of (Some x) h = (x, refl)
+some_of None h = absurd h
+
 -- of an outcome that is known
 pub on_ok : {X E P : Type 0} (r : Result X E) (x : X) → r ≡ Ok x → OnOk r P → P
 on_ok {X} {E} {P} r x is h = subst (λ (o : Result X E). OnOk o P) is h
@@ -131,6 +135,10 @@ if_ok {X} {E} {P} r x is h = subst (λ (o : Result X E). IfOk o P) is h
 pub if_both : {X E : Type 0} {P Q R : X → Type 0} (r : Result X E) → ((x : X) → P x → Q x → R x) → IfOk r P → IfOk r Q → IfOk r R
 if_both (Ok x) f p q = f x p q
 if_both (Err e) f p q = tt
+
+pub any_err : {X E P : Type 0} (r : Result X E) → P → OnErr r P
+any_err (Ok x) p = tt
+any_err (Err e) p = p
 
 pub on_err : {X E P Q : Type 0} (r : Result X E) → (P → Q) → OnErr r P → OnErr r Q
 on_err (Ok x) f p = tt
