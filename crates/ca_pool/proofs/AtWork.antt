@@ -123,14 +123,11 @@ over_none over code lane none t is = absurd (let z : None ≡ Some t = sym none 
 
 pub some_of : {X : Type 0} (o : Option X) → IsSome o → (x : X) × (o ≡ Some x)
 some_of (Some x) h = (x, refl)
-some_of None h = absurd h
+some_of None h = absurd (let z : false ≡ true = h in cc)
 
 -- of an outcome that is known
 pub on_ok : {X E P : Type 0} (r : Result X E) (x : X) → r ≡ Ok x → OnOk r P → P
 on_ok {X} {E} {P} r x is h = subst (λ (o : Result X E). OnOk o P) is h
-
-pub if_ok : {X E : Type 0} {P : X → Type 0} (r : Result X E) (x : X) → r ≡ Ok x → IfOk r P → P x
-if_ok {X} {E} {P} r x is h = subst (λ (o : Result X E). IfOk o P) is h
 
 pub if_both : {X E : Type 0} {P Q R : X → Type 0} (r : Result X E) → ((x : X) → P x → Q x → R x) → IfOk r P → IfOk r Q → IfOk r R
 if_both (Ok x) f p q = f x p q
@@ -150,7 +147,7 @@ pub has_left : {A : Type 0} (over : CodeView → A → Type 0) (advances : Progr
 has_left over advances program code l lane before task is program_is since counts number port alts goes task_over = record {
   agent = agent_of before;
   was = ap (option_map task_view) is ∙ ap (λ (k : ℕ). Some (k, agent_of before)) (sym number);
-  advanced = (ap (option_map port_number) port, alts, goes, λ o. task_over);
+  advanced = (ap (option_map port_number) port, alts, (goes, λ o. task_over));
   program_is = program_is;
   since_is = since;
   counts_are = counts;

@@ -3,3 +3,4 @@ pub mod CutRuns
 pub mod Stopping
 pub mod Lightness
 pub mod AtWork
+pub mod Sending

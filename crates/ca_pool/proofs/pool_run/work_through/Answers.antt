@@ -1,10 +1,15 @@
--- Draft: the names of the goals and of what the context has are not seen yet.
-use Rattle.std.proofs.Common.{◌≡◌, ◌∙◌, ℕ, ◌*◌, ◌≤◌, length, sym, subst}
+use Rattle.std.proofs.Common.{All, ℕ, ◌+◌, ◌-◌, ◌*◌, ◌/◌, ◌≤◌, length, sym, subst}
+use Rattle.ca_term.specs.Program.{program_view}
+use Rattle.ca_states.specs.ValidCode.{valid_code}
 use Rattle.ca_journal.specs.Events.{events}
 use Rattle.ca_turns.specs.Places.{total}
 use Rattle.ca_table.specs.Worked.{spent}
+use Rattle.ca_table.specs.Workers.{IsReady}
 use Rattle.ca_pool.proofs.Stopping.{enough, none_yet, quiet_by}
 use Rattle.ca_pool.proofs.pool_run.work_through.Goals as goal
+
+pub gather-requires-clause-ready : goal.gather-requires-clause-ready
+gather-requires-clause-ready g c = let r = c.in_ok-end.ensures in subst (λ (n : ℕ). All (IsReady g.A.Agent.over g.A.Agent.stands (program_view c.args.program.now) (valid_code c.args.code.now) c.in_ok-opened.opened.0.id n) c.round.new.workers.items) (sym r.many) r.ready
 
 pub returns : goal.returns
 returns g c = let old = c.in_ok-opened.opened.1.items in let opened = c.in_ok-opened.ensures in let r = c.in_ok-end.ensures in let gt = c.in_ok-gathered.ensures in let b = c.args.budget in let w = c.args.workers in
