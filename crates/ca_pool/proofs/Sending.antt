@@ -37,6 +37,9 @@ use Rattle.ca_commit.proofs.held.HeldShard.TheSendSync as shard
 use Rattle.ca_commit.proofs.task.Ready.TheSendSync as ready
 use Rattle.ca_commit.proofs.task.Task.TheSendSync as task
 use Rattle.ca_commit.specs.contracts.held.HeldBank as HeldBank
+use Rattle.ca_commit.specs.contracts.held.HeldShard as HeldShard
+use Rattle.ca_commit.specs.contracts.task.Ready as Ready
+use Rattle.ca_commit.specs.contracts.task.Task as Task
 use Rattle.ca_timers.proofs.Sending.{timers_send}
 use Rattle.ca_states.proofs.code.EntryPoint.TheSendSync as entry_point
 use Rattle.ca_states.proofs.code.Exit.TheSendSync as exit
@@ -46,6 +49,8 @@ use Rattle.ca_states.specs.contracts.code.Block as Block
 use Rattle.ca_states.specs.contracts.code.Code as Code
 use Rattle.ca_states.specs.contracts.code.Instr as Instr
 use Rattle.ca_states.specs.contracts.valid_code.ValidCode as ValidCode
+use Rattle.ca_turns.specs.contracts.table.Table as Table
+use Rattle.ca_turns.specs.declared.object.Object.{Ghosts}
 use Rattle.ca_turns.proofs.Sending.{hand_send, table_sync}
 use Rattle.ca_table.proofs.answer.PoolStop.TheSendSync as pool_stop
 use Rattle.ca_table.proofs.answer.WorkEnd.TheSendSync as work_end
@@ -121,7 +126,7 @@ held_bank_send = declared_send HeldBank.the_type (search (sendable, bank_send) d
 
 -- the code, which all workers see
 instr_sync : IsSync Instr.the_row
-instr_sync = variants_sync Instr.enum (search (sendable, crosses, value_sync, builtin.the_sync, place.the_sync, seq.the_sync) depth 20)
+instr_sync = variants_sync Instr.enum (search (sendable, crosses, value_sync, builtin.the_sync, place.the_sync) depth 20)
 
 block_sync : IsSync Block.the_row
 block_sync = declared_sync Block.the_type (search (sendable, crosses, seq.the_sync, slots.the_sync, instr_sync, exit.the_sync) depth 20)
@@ -134,17 +139,29 @@ valid_code_sync = declared_sync ValidCode.the_type (search (sendable, code_sync)
 
 -- the parts, and a worker
 module _ (A C : RattleType) (s : IsSend A) (t : IsSend C) where
+  task_send : IsSend (Task.the_row A)
+  task_send = task.the_send A s
+
+  shard_send : IsSend (HeldShard.the_row A)
+  shard_send = shard.the_send A s
+
+  ready_send : IsSend (Ready.the_row A)
+  ready_send = ready.the_send A s
+
   lane_send : IsSend (Lane.the_row A)
-  lane_send = declared_send (Lane.the_type A) (search (sendable, crosses, task.the_send, counts.the_send, s) depth 20)
+  lane_send = declared_send (Lane.the_type A) (search (sendable, crosses) depth 20, (search (sendable, crosses, task_send) depth 20, (search sendable, (search (sendable, counts.the_send), tt))))
 
   clockwork_send : IsSend (Clockwork.the_row C)
-  clockwork_send = declared_send (Clockwork.the_type C) (search (sendable, timers_send, mark.the_send, t) depth 20)
+  clockwork_send = declared_send (Clockwork.the_type C) (search (sendable, timers_send), (search (sendable, t), (search (sendable, mark.the_send), tt)))
 
   contents_send : IsSend (Contents.the_row A C)
-  contents_send = variants_send (Contents.enum A C) (search (sendable, crosses, lane_send, held_bank_send, shard.the_send, clockwork_send, ready.the_send, s) depth 20)
+  contents_send = variants_send (Contents.enum A C) (search (sendable, crosses, lane_send) depth 20, (search (sendable, held_bank_send) depth 20, (search (sendable, shard_send) depth 20, (search (sendable, crosses, clockwork_send) depth 20, (search (sendable, ready_send) depth 20, (tt, tt))))))
 
   pub part_send : IsSend (Part.the_row A C)
-  part_send = declared_send (Part.the_type A C) (search (sendable, crosses, contents_send) depth 20)
+  part_send = declared_send (Part.the_type A C) (search sendable, (search (sendable, crosses) depth 20, (search (sendable, contents_send), tt)))
+
+  pub pool_sync : (O : RattleType) (g : Ghosts O.Denot (Part.the_row A C).Denot (Seen.the_row A).Denot (Drawn.the_row).Denot) → IsSync (Table.the_row O (Part.the_row A C) (Seen.the_row A) Drawn.the_row g)
+  pool_sync O g = table_sync O (Part.the_row A C) (Seen.the_row A) Drawn.the_row g part_send
 
   pub worker_send : IsSend (Worker.the_row A C)
   worker_send = declared_send (Worker.the_type A C) (search sendable, (search sendable, (search (sendable, crosses) depth 20, (search (sendable, crosses) depth 20, (hand_send (Part.the_row A C) (Seen.the_row A) Drawn.the_row part_send, (seq.the_send Entry.the_row entry_send, (search (sendable, work_end.the_send, pool_stop.the_send) depth 20, tt)))))))

@@ -9,13 +9,13 @@ use Rattle.ca_pool.proofs.Rounding.{round_going, round_over, round_ready, round_
 use Rattle.ca_pool.proofs.rounds.round.Goals as goal
 
 pub work_all-requires-clause-ready : goal.work_all-requires-clause-ready
-work_all-requires-clause-ready g c = let xs = c.args.workers.now in subst (λ (p : ProgramParts). All (IsReady g.A.Agent.over g.A.Agent.stands (program_view p) (valid_code c.args.code.now) c.args.table.now.id (length xs)) xs) (sym c.of-text.ensures) c.requires.ready
+work_all-requires-clause-ready g c κs within = let xs = c.args.workers.now in subst (λ (p : ProgramParts). All (IsReady g.A.Agent.over g.A.Agent.stands (program_view p) (valid_code c.args.code.now) c.args.table.now.id (length xs)) xs) (sym c.of-text.ensures) c.requires.ready
 
 pub work_all-requires-clause-lowered : goal.work_all-requires-clause-lowered
-work_all-requires-clause-lowered g c = subst (λ (p : ProgramParts). Lowered (program_view p) (valid_code c.args.code.now)) (sym c.of-text.ensures) c.requires.lowered
+work_all-requires-clause-lowered g c κs within = subst (λ (p : ProgramParts). Lowered (program_view p) (valid_code c.args.code.now)) (sym c.of-text.ensures) c.requires.lowered
 
 pub work_all-requires-clause-gos : goal.work_all-requires-clause-gos
-work_all-requires-clause-gos g c = subst (λ (p : ProgramParts). SameGos (program_view p) (valid_code c.args.code.now)) (sym c.of-text.ensures) c.requires.gos
+work_all-requires-clause-gos g c κs within = subst (λ (p : ProgramParts). SameGos (program_view p) (valid_code c.args.code.now)) (sym c.of-text.ensures) c.requires.gos
 
 pub returns-clause-ready : goal.returns-clause-ready
 returns-clause-ready g c = let xs = c.args.workers.now in let w = c.work_all.ensures in let worked = subst (λ (p : ProgramParts). WorkedAt g.A.Agent.over g.A.Agent.stands (program_view p) (valid_code c.args.code.now) c.args.table.now.id (length xs) c.args.allowance xs c.work_all.new.workers) c.of-text.ensures w.worked in round_ready g.A.Agent.over g.A.Agent.stands (program_view c.args.program.now) (valid_code c.args.code.now) c.args.table.now.id (length xs) c.args.allowance xs c.work_all.new.workers c.answer_of.result c.answer_of.ensures w.many worked
