@@ -1,4 +1,5 @@
 pub mod AtEvents
+pub mod AtWork
 pub mod BanksHeld
 pub mod CutRuns
 pub mod Desk
@@ -11,6 +12,7 @@ pub mod PlansReadied
 pub mod Preparations
 pub mod Resolutions
 pub mod Rounding
+pub mod Sending
 pub mod ShardsAbove
 pub mod StaleHandlers
 pub mod Stopping

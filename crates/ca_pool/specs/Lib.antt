@@ -1,5 +1,6 @@
 pub mod Answers
 pub mod AtEvent
+pub mod AtWork
 pub mod Desk
 pub mod Endings
 pub mod Fitting

@@ -4,15 +4,29 @@ ghost use Rattle.std.specs.Prelude.{◌≡◌, ◌^◌, ◌≤◌, ◌+◌, ◌-
 ghost use Rattle.ca_value.specs.Measure.{weight_of, weight_of_items};
 ghost use Rattle.ca_value.specs.Seq.{list};
 ghost use Rattle.ca_value.specs.View.{trees, view};
-ghost use Rattle.ca_term.specs.Cost.{weight_done, weight_of_branches};
+ghost use Rattle.ca_term.specs.Cost.{cost_of, weight_done, weight_of_branches};
 ghost use Rattle.ca_term.specs.Event.{branch_view, event_view};
 ghost use Rattle.ca_journal.specs.Events.{events};
 ghost use Rattle.ca_pool.specs.Fitting.{all_light, is_light};
 
 use ca_journal::entry::Journal;
+use ca_table::waiting::wait_for_good;
 use ca_term::event::{Branch, Event};
 use ca_value::seq::Seq;
 use ca_value::value::{Items, Value};
+use std::sync::Wait;
+
+/// What the event costs of a run's budget. A weight that doesn't fit comes in no run.
+#[tactic(auto, using(crate::proofs::Lightness::light))]
+pub(crate) fn cost_of<R: Wait>(rt: &R, event: &Event) -> u64
+    ensures { result ≡ cost_of (event_view event.now) }
+{
+    if !fits(event) {
+        wait_for_good(rt);
+        unreachable!()
+    }
+    event.cost()
+}
 
 pub(crate) fn all_fit(journal: &Journal) -> bool
     ensures { result ≡ all_light (events journal.now) }
@@ -25,7 +39,8 @@ pub(crate) fn all_fit(journal: &Journal) -> bool
     true
 }
 
-fn fits(event: &Event) -> bool
+/// Whether the weight that the event's line shows fits.
+pub(crate) fn fits(event: &Event) -> bool
     ensures { result ≡ is_light (event_view event.now) }
 {
     match event {

@@ -22,26 +22,27 @@ use ca_term::program::Program;
 use ca_timers::clock::Clock;
 use ca_turns::Table;
 use std::alloc::Global;
+use std::snapshot::Snapshot;
 use std::sync::Wait;
 use std::thread;
 use std::thread::Threads;
 
-// One worker's call, whose answer it keeps.
+// One worker's call, whose answer it keeps. The program is there for the proofs.
 fn work_once<R: Wait, A: Starting, C: Clock + Drop, G: Gate>(
     rt: &R,
     alloc: Global,
     table: &Table<Pool<A, C>>,
     worker: &mut Worker<A, C>,
     allowance: u64,
-    program: &Program,
+    program: &Snapshot<Program>,
     code: &ValidCode,
     count: u64,
     gate: &G,
 )
-    requires ready { IsReady A.over A.stands (program_view program.now) (valid_code code.now) table.now.id count worker.old }
-    requires lowered { Lowered (program_view program.now) (valid_code code.now) }
-    requires gos { SameGos (program_view program.now) (valid_code code.now) }
-    ensures { IsWorked A.over A.stands (program_view program.now) (valid_code code.now) table.now.id count allowance worker.old worker.new }
+    requires ready { IsReady A.over A.stands (program_view program.now.value) (valid_code code.now) table.now.id count worker.old }
+    requires lowered { Lowered (program_view program.now.value) (valid_code code.now) }
+    requires gos { SameGos (program_view program.now.value) (valid_code code.now) }
+    ensures { IsWorked A.over A.stands (program_view program.now.value) (valid_code code.now) table.now.id count allowance worker.old worker.new }
 {
     worker.answer = work(rt, alloc, table, worker, allowance, code, gate);
 }
@@ -58,16 +59,16 @@ fn work_all<
     table: &Table<Pool<A, C>>,
     workers: &mut [Worker<A, C>],
     allowance: u64,
-    program: &Program,
+    program: &Snapshot<Program>,
     code: &ValidCode,
     gate: &G,
 )
     requires some { 0 < length workers.old }
-    requires ready { All (IsReady A.over A.stands (program_view program.now) (valid_code code.now) table.now.id (length workers.old)) workers.old }
-    requires lowered { Lowered (program_view program.now) (valid_code code.now) }
-    requires gos { SameGos (program_view program.now) (valid_code code.now) }
+    requires ready { All (IsReady A.over A.stands (program_view program.now.value) (valid_code code.now) table.now.id (length workers.old)) workers.old }
+    requires lowered { Lowered (program_view program.now.value) (valid_code code.now) }
+    requires gos { SameGos (program_view program.now.value) (valid_code code.now) }
     ensures many { length workers.new ≡ length workers.old }
-    ensures worked { WorkedAt A.over A.stands (program_view program.now) (valid_code code.now) table.now.id (length workers.old) allowance workers.old workers.new }
+    ensures worked { WorkedAt A.over A.stands (program_view program.now.value) (valid_code code.now) table.now.id (length workers.old) allowance workers.old workers.new }
 {
     let threads = workers.len();
     let count = threads as u64;
@@ -76,8 +77,8 @@ fn work_all<
         workers,
         threads,
         &|_, worker: &mut Worker<A, C>|
-            requires { IsReady A.over A.stands (program_view program.now) (valid_code code.now) table.now.id count worker.old × Lowered (program_view program.now) (valid_code code.now) × SameGos (program_view program.now) (valid_code code.now) }
-            ensures { IsWorked A.over A.stands (program_view program.entry.now) (valid_code code.entry.now) table.entry.now.id count allowance worker.old worker.new }
+            requires { IsReady A.over A.stands (program_view program.now.value) (valid_code code.now) table.now.id count worker.old × Lowered (program_view program.now.value) (valid_code code.now) × SameGos (program_view program.now.value) (valid_code code.now) }
+            ensures { IsWorked A.over A.stands (program_view program.entry.now.value) (valid_code code.entry.now) table.entry.now.id count allowance worker.old worker.new }
         { work_once(rt, alloc, table, worker, allowance, program, code, count, gate) },
     );
 }
@@ -110,7 +111,8 @@ pub fn round<
     ensures spent { IfOk result (λ e. e ≡ Spent → length workers.old * allowance + total spent workers.old ≤ total spent workers.new) }
     ensures over { IfOk result (λ e. e ≡ Over → any_drew leaves workers.new ≡ true) }
 {
-    work_all(rt, alloc, table, workers, allowance, program, code, gate);
+    let text = Snapshot::of(program);
+    work_all(rt, alloc, table, workers, allowance, &text, code, gate);
     answer_of(workers)
 }
 
