@@ -3,3 +3,6 @@ pub mod PoolEnds
 pub mod Fitting
 pub mod Desk
 pub mod Leaving
+pub mod Asking
+pub mod Costs
+pub mod Surveys
