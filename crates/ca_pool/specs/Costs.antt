@@ -2,8 +2,8 @@
 use Rattle.std.specs.Prelude.{ℕ, Bool, false, true}
 use Rattle.ca_pool.specs.declared.clocking.Asked.{Asked}
 use Rattle.ca_pool.specs.declared.clocking.Asked.TheVariants as A
-use Rattle.ca_pool.specs.declared.idling.Idle.{Idle}
-use Rattle.ca_pool.specs.declared.idling.Idle.TheVariants as I
+use Rattle.ca_pool.specs.declared.idling.Rested.{Rested}
+use Rattle.ca_pool.specs.declared.idling.Rested.TheVariants as I
 use Rattle.ca_pool.specs.declared.settling.Settling.{Settling}
 use Rattle.ca_pool.specs.declared.settling.Settling.TheVariants as S
 
@@ -23,13 +23,13 @@ is_marked A.Nothing = false
 is_marked A.Marked = true
 is_marked (A.Ticked cost) = false
 
-abbrev pub cost_idle : Idle → ℕ
+abbrev pub cost_idle : Rested → ℕ
 cost_idle I.Busy = 0
 cost_idle I.Over = 0
 cost_idle (I.Ticked cost) = cost
 
 -- the worker found the run's end
-abbrev pub is_over : Idle → Bool
+abbrev pub is_over : Rested → Bool
 is_over I.Busy = false
 is_over I.Over = true
 is_over (I.Ticked cost) = false

@@ -17,8 +17,8 @@ use Rattle.ca_table.specs.Parts.{contents_seen}
 use Rattle.ca_table.specs.Seen.{PartSeen, held_of}
 use Rattle.ca_table.specs.declared.drawn.Drawn.{Drawn}
 use Rattle.ca_table.specs.declared.part.Part.{Part}
-use Rattle.ca_pool.specs.declared.stalling.Survey.{Survey}
-use Rattle.ca_pool.specs.declared.stalling.Survey.TheVariants as S
+use Rattle.ca_pool.specs.declared.stalling.Surveyed.{Surveyed}
+use Rattle.ca_pool.specs.declared.stalling.Surveyed.TheVariants as S
 
 -- no put may move in, and no taker be served, whichever handlers are stale
 abbrev pub rests_anyway : Option Kept → Bool
@@ -79,7 +79,7 @@ module _ {X : Type 0} where
     pub no_more : (i : ℕ) → count ≤ i → g i ≡ None
 
 -- it found that nothing can go on, and drew that
-abbrev pub is_stuck : Survey → Bool
+abbrev pub is_stuck : Surveyed → Bool
 is_stuck S.Busy = false
 is_stuck (S.Stirs p) = false
 is_stuck (S.Waits m) = false

@@ -14,7 +14,7 @@ ghost use Rattle.ca_pool.specs.Surveys.{is_stuck};
 
 use crate::clocking::{Asked, answer_late, draw_clock, is_marked, pass, ready_to_ask, with_mark};
 use crate::laying::put_off;
-use crate::stalling::{Survey, survey};
+use crate::stalling::{Surveyed, survey};
 use crate::taking::try_clock;
 use ca_agent::agent::Agent;
 use ca_commit::held::Held;
@@ -38,7 +38,7 @@ const MOMENTS: u64 = 4_611_686_018_427_387_904;
 
 /// What an idle worker came to.
 #[derive(Clone, Copy)]
-pub(crate) enum Idle {
+pub(crate) enum Rested {
     /// Another worker holds a part, or a task can run.
     Busy,
     /// It leaves: the run's mark is set, or nothing can go on.
@@ -76,19 +76,19 @@ fn obey<A: Agent, C: Clock + Drop>(
     }
 }
 
-fn idle_by(asked: Asked) -> Idle
+fn idle_by(asked: Asked) -> Rested
     ensures cost { cost_idle result ≡ cost_asked asked }
     ensures over { is_over result ≡ is_marked asked }
 {
     match asked {
-        Asked::Nothing => Idle::Busy,
-        Asked::Marked => Idle::Over,
-        Asked::Ticked(cost) => Idle::Ticked(cost),
+        Asked::Nothing => Rested::Busy,
+        Asked::Marked => Rested::Over,
+        Asked::Ticked(cost) => Rested::Ticked(cost),
     }
 }
 
 // Waits until that moment, which is the first deadline, and ticks. All is made for it.
-fn wait<R: Wait, A: Agent, C: Clock + Drop>(
+fn wait_late<R: Wait, A: Agent, C: Clock + Drop>(
     rt: &R,
     alloc: Global,
     table: &Table<Pool<A, C>>,
@@ -98,7 +98,7 @@ fn wait<R: Wait, A: Agent, C: Clock + Drop>(
     clockwork: Box<Clockwork<C>>,
     first: u64,
     ports: &mut Vec<u64>,
-) -> Result<Idle, PoolStop>
+) -> Result<Rested, PoolStop>
     requires bare { IsBare held.old }
     requires carries { (program : ProgramView) × (n : ℕ) × (l : Lane A) × IsCarrying A.over A.stands program code.now table.now.id n worker.old (taken (part_seen C.least C.faults C.readings) n code.now worker.old.number l (Some clockwork) held.old) }
     requires timely { clockwork.value.timers.moment ≤ C.least clockwork.value.clock }
@@ -137,7 +137,7 @@ fn wait_with<R: Wait, A: Agent, C: Clock + Drop>(
     clockwork: Box<Clockwork<C>>,
     first: u64,
     ports: &mut Vec<u64>,
-) -> Result<Idle, PoolStop>
+) -> Result<Rested, PoolStop>
     requires bare { IsBare held.old }
     requires carries { (program : ProgramView) × (n : ℕ) × (l : Lane A) × IsCarrying A.over A.stands program code.now table.now.id n worker.old (taken (part_seen C.least C.faults C.readings) n code.now worker.old.number l (Some clockwork) held.old) }
     requires timely { clockwork.value.timers.moment ≤ C.least clockwork.value.clock }
@@ -149,10 +149,10 @@ fn wait_with<R: Wait, A: Agent, C: Clock + Drop>(
 {
     if clockwork.timers.first() != Some(first) || first >= MOMENTS {
         put_off(table, code, worker, held, Some(clockwork));
-        return Ok(Idle::Busy);
+        return Ok(Rested::Busy);
     }
     match ready_to_ask(worker, clockwork) {
-        (clockwork, Ok(())) => wait(rt, alloc, table, code, worker, held, clockwork, first, ports),
+        (clockwork, Ok(())) => wait_late(rt, alloc, table, code, worker, held, clockwork, first, ports),
         (clockwork, Err(_)) => {
             put_off(table, code, worker, held, Some(clockwork));
             Err(PoolStop::OutOfMemory)
@@ -170,7 +170,7 @@ fn await_deadline<R: Wait, A: Agent, C: Clock + Drop>(
     held: &mut Held<A>,
     first: u64,
     ports: &mut Vec<u64>,
-) -> Result<Idle, PoolStop>
+) -> Result<Rested, PoolStop>
     requires bare { IsBare held.old }
     requires carries { (program : ProgramView) × (n : ℕ) × (l : Lane A) × IsCarrying A.over A.stands program code.now table.now.id n worker.old (just_lane n code.now l) }
     ensures same { SameWorker worker.old worker.new }
@@ -184,18 +184,18 @@ fn await_deadline<R: Wait, A: Agent, C: Clock + Drop>(
         unreachable!()
     }
     match try_clock(table, code, worker, held) {
-        None => Ok(Idle::Busy),
+        None => Ok(Rested::Busy),
         Some(clockwork) => wait_with(rt, alloc, table, code, worker, held, clockwork, first, ports),
     }
 }
 
 // The channel is to be settled.
-fn name_port(ports: &mut Vec<u64>, port: PortId) -> Result<Idle, PoolStop>
+fn name_port(ports: &mut Vec<u64>, port: PortId) -> Result<Rested, PoolStop>
     ensures { IfOk result (λ i. (cost_idle i ≡ 0) × (is_over i ≡ false)) }
 {
     ports.clear();
     match ports.push(port.n) {
-        Ok(()) => Ok(Idle::Ticked(0)),
+        Ok(()) => Ok(Rested::Ticked(0)),
         Err(_) => Err(PoolStop::OutOfMemory),
     }
 }
@@ -207,7 +207,7 @@ fn look_round<R: Wait, A: Agent, C: Clock + Drop>(
     code: &ValidCode,
     worker: &mut Worker<A, C>,
     lane: Box<Lane<A>>,
-) -> (Box<Lane<A>>, Survey)
+) -> (Box<Lane<A>>, Surveyed)
     requires seated { (program : ProgramView) × (n : ℕ) × IsSeated A.over A.stands program code.now table.now.id n worker.old lane.value }
     ensures same { SameWorker worker.old worker.new }
     ensures drew { Drew 0 (is_stuck result.1) worker.old worker.new }
@@ -231,7 +231,7 @@ pub(crate) fn idle<R: Wait, A: Agent, C: Clock + Drop>(
     held: &mut Held<A>,
     lane: Box<Lane<A>>,
     due: &mut Vec<u64>,
-) -> (Box<Lane<A>>, Result<Idle, PoolStop>)
+) -> (Box<Lane<A>>, Result<Rested, PoolStop>)
     requires seated { (program : ProgramView) × (n : ℕ) × IsSeated A.over A.stands program code.now table.now.id n worker.old lane.value }
     requires free { lane.value.task ≡ None }
     requires bare { IsBare held.old }
@@ -247,14 +247,14 @@ pub(crate) fn idle<R: Wait, A: Agent, C: Clock + Drop>(
         unreachable!()
     }
     if obey(table, code, worker, held) {
-        return (lane, Ok(Idle::Over));
+        return (lane, Ok(Rested::Over));
     }
     let (lane, found) = look_round(rt, table, code, worker, lane);
     match found {
-        Survey::Busy => (lane, Ok(Idle::Busy)),
-        Survey::Stuck => (lane, Ok(Idle::Over)),
-        Survey::Stirs(port) => (lane, name_port(due, port)),
-        Survey::Waits(first) => {
+        Surveyed::Busy => (lane, Ok(Rested::Busy)),
+        Surveyed::Stuck => (lane, Ok(Rested::Over)),
+        Surveyed::Stirs(port) => (lane, name_port(due, port)),
+        Surveyed::Waits(first) => {
             let came = await_deadline(rt, alloc, table, code, worker, held, first, due);
             (lane, came)
         }

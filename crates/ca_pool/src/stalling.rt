@@ -28,7 +28,7 @@ use std::sync::Wait;
 
 /// What a look at all parts came to.
 #[derive(Clone, Copy)]
-pub(crate) enum Survey {
+pub(crate) enum Surveyed {
     /// Another worker holds a part, or a task can run.
     Busy,
     /// This channel may settle, or has a stale handler that stands in the way.
@@ -184,7 +184,7 @@ fn conclude<R: Wait, A: Agent, C: Clock + Drop>(
     table: &Table<Pool<A, C>>,
     code: &ValidCode,
     worker: &mut Worker<A, C>,
-) -> Survey
+) -> Surveyed
     requires all { (program : ProgramView) × (n : ℕ) × IsOne A.over A.stands program (valid_code code.now) table.now.id n worker.old × (g : ℕ → Option (Part A C)) × Surveys (part_seen C.least C.faults C.readings) n (valid_code code.now) worker.old.hand g × Fulls (part_count n) g }
     ensures same { SameWorker worker.old worker.new }
     ensures drew { Drew 0 (is_stuck result) worker.old worker.new }
@@ -193,10 +193,10 @@ fn conclude<R: Wait, A: Agent, C: Clock + Drop>(
     let timers = worker.workers + 32;
     let count = worker.workers + 33 + worker.workers;
     match look_over(worker, count) {
-        Look::Runs => Survey::Busy,
-        Look::Stirs(port) => Survey::Stirs(port),
+        Look::Runs => Surveyed::Busy,
+        Look::Stirs(port) => Surveyed::Stirs(port),
         Look::Still => match first_open(worker, timers) {
-            Some(first) => Survey::Waits(first),
+            Some(first) => Surveyed::Waits(first),
             None => {
                 if !can_draw(worker) {
                     // No worker draws 2^59 events.
@@ -204,7 +204,7 @@ fn conclude<R: Wait, A: Agent, C: Clock + Drop>(
                     unreachable!()
                 }
                 draw_stall(table, code, worker);
-                Survey::Stuck
+                Surveyed::Stuck
             }
         },
     }
@@ -216,13 +216,13 @@ pub(crate) fn survey<R: Wait, A: Agent, C: Clock + Drop>(
     table: &Table<Pool<A, C>>,
     code: &ValidCode,
     worker: &mut Worker<A, C>,
-) -> Survey
+) -> Surveyed
     requires ready { (program : ProgramView) × (n : ℕ) × IsReady A.over A.stands program (valid_code code.now) table.now.id n worker.old }
     ensures drew { Drew 0 (is_stuck result) worker.old worker.new }
     ensures ready { (program : ProgramView) (n : ℕ) → IsReady A.over A.stands program (valid_code code.now) table.now.id n worker.old → IsReady A.over A.stands program (valid_code code.now) table.now.id n worker.new }
 {
     if !hold_all(rt, table, worker) {
-        return Survey::Busy;
+        return Surveyed::Busy;
     }
     let found = conclude(rt, table, code, worker);
     let count = worker.workers + 33 + worker.workers;
