@@ -2,3 +2,8 @@ pub mod Rounding
 pub mod CutRuns
 pub mod Stopping
 pub mod Lightness
+pub mod Stays
+pub mod Asides
+pub mod StillParts
+pub mod AllParts
+pub mod Stalls
