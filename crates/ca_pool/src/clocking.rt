@@ -65,6 +65,7 @@ fn reserve_asking<C: Clock + Drop>(
 ) -> (Box<Clockwork<C>>, Result<(), OutOfMemory>)
     ensures seen { clockwork_seen C.least C.faults C.readings result.0.value ≡ clockwork_seen C.least C.faults C.readings clockwork.value }
     ensures room { OnOk result.1 (0 < C.spare result.0.value.clock) }
+    ensures timely { clockwork.value.timers.moment ≤ C.least clockwork.value.clock → result.0.value.timers.moment ≤ C.least result.0.value.clock }
 {
     let made = clockwork.clock.reserve();
     (clockwork, made)
@@ -80,6 +81,7 @@ pub(crate) fn ready_to_ask<A: Agent, C: Clock + Drop>(
     ensures entries { list worker.new.entries ≡ list worker.old.entries }
     ensures seen { clockwork_seen C.least C.faults C.readings result.0.value ≡ clockwork_seen C.least C.faults C.readings clockwork.value }
     ensures asking { OnOk result.1 (0 < C.spare result.0.value.clock) }
+    ensures timely { clockwork.value.timers.moment ≤ C.least clockwork.value.clock → result.0.value.timers.moment ≤ C.least result.0.value.clock }
     ensures room { OnOk result.1 (0 < spare worker.new.entries) }
 {
     match make_room(worker) {
@@ -263,12 +265,13 @@ fn prepare<R: Wait, A: Agent, C: Clock + Drop>(
     ensures made { OnOk result.1 (IsMadeFor held.new (clockwork_seen C.least C.faults C.readings clockwork.value) now) }
     ensures homes { IfOk result.1 (λ homes. HasHomes homes (due now clockwork.value.timers.deadlines)) }
 {
-    match reserve_due(alloc, held, clockwork, now) {
-        (clockwork, Ok(())) => {
+    let (clockwork, made) = reserve_due(alloc, held, clockwork, now);
+    match made {
+        Ok(()) => {
             let banks = banks_due(rt, &clockwork.timers, now, ports);
             (clockwork, banks)
         }
-        (clockwork, Err(refused)) => (clockwork, Err(refused)),
+        Err(refused) => (clockwork, Err(refused)),
     }
 }
 
@@ -318,13 +321,14 @@ fn draw_tick<R: Wait, A: Agent, C: Clock + Drop>(
     ensures drew { Drew (cost_asked result) (is_marked result) worker.old worker.new }
     ensures carries { (program : ProgramView) (n : ℕ) (l : Lane A) (clock0 : ClockBox C) → IsCarrying A.over A.stands program code.now table.now.id n worker.old (taken (part_seen C.least C.faults C.readings) n code.now worker.old.number l (Some clock0) held.old) → IsAsked now (clockwork_seen C.least C.faults C.readings clock0.value) (clockwork_seen C.least C.faults C.readings clockwork.value) → IsCarrying A.over A.stands program code.now table.now.id n worker.new (just_lane n code.now l) }
 {
-    match tick_over(alloc, held, clockwork, now) {
-        (clockwork, Some(event)) => {
+    let (clockwork, ticked) = tick_over(alloc, held, clockwork, now);
+    match ticked {
+        Some(event) => {
             let cost = cost_of(rt, &event);
             draw_aside(table, code, worker, held, Some(clockwork), Turned::Shown(event));
             Asked::Ticked(cost)
         }
-        (clockwork, None) => {
+        None => {
             draw_clock(table, code, worker, held, clockwork, Turned::Read);
             Asked::Nothing
         }
@@ -353,12 +357,13 @@ pub(crate) fn pass<R: Wait, A: Agent, C: Clock + Drop>(
     ensures drew { IfOk result (λ a. Drew (cost_asked a) (is_marked a) worker.old worker.new) }
     ensures carries { (program : ProgramView) (n : ℕ) (l : Lane A) (clock0 : ClockBox C) → IsCarrying A.over A.stands program code.now table.now.id n worker.old (taken (part_seen C.least C.faults C.readings) n code.now worker.old.number l (Some clock0) held.old) → IsAsked now (clockwork_seen C.least C.faults C.readings clock0.value) (clockwork_seen C.least C.faults C.readings clockwork.value) → IsCarrying A.over A.stands program code.now table.now.id n worker.new (just_lane n code.now l) }
 {
-    match prepare(rt, alloc, held, clockwork, now, ports) {
-        (clockwork, Err(refused)) => {
+    let (clockwork, prepared) = prepare(rt, alloc, held, clockwork, now, ports);
+    match prepared {
+        Ok(banks) => close_due(rt, alloc, table, code, worker, held, clockwork, now, &banks),
+        Err(refused) => {
             draw_clock(table, code, worker, held, clockwork, Turned::Read);
             Err(refused)
         }
-        (clockwork, Ok(banks)) => close_due(rt, alloc, table, code, worker, held, clockwork, now, &banks),
     }
 }
 
@@ -398,6 +403,37 @@ fn close_due<R: Wait, A: Agent, C: Clock + Drop>(
     }
 }
 
+// Asks the clock, of which the first deadline is that. All is made for it.
+fn read_now<R: Wait, A: Agent, C: Clock + Drop>(
+    rt: &R,
+    alloc: Global,
+    table: &Table<Pool<A, C>>,
+    code: &ValidCode,
+    worker: &mut Worker<A, C>,
+    held: &mut Held<A>,
+    clockwork: Box<Clockwork<C>>,
+    first: u64,
+    ports: &mut Vec<u64>,
+) -> Result<Asked, OutOfMemory>
+    requires bare { IsBare held.old }
+    requires carries { (program : ProgramView) × (n : ℕ) × (l : Lane A) × IsCarrying A.over A.stands program code.now table.now.id n worker.old (taken (part_seen C.least C.faults C.readings) n code.now worker.old.number l (Some clockwork) held.old) }
+    requires timely { clockwork.value.timers.moment ≤ C.least clockwork.value.clock }
+    requires asking { 0 < C.spare clockwork.value.clock }
+    requires turns { length worker.old.hand.view.turns < 2 ^ 59 }
+    requires room { 0 < spare worker.old.entries }
+    ensures same { SameWorker worker.old worker.new }
+    ensures bare { IsBare held.new }
+    ensures drew { IfOk result (λ a. Drew (cost_asked a) (is_marked a) worker.old worker.new) }
+    ensures carries { (program : ProgramView) (n : ℕ) (l : Lane A) → IsCarrying A.over A.stands program code.now table.now.id n worker.old (taken (part_seen C.least C.faults C.readings) n code.now worker.old.number l (Some clockwork) held.old) → IsCarrying A.over A.stands program code.now table.now.id n worker.new (just_lane n code.now l) }
+{
+    let (clockwork, now) = answer_now(clockwork);
+    if now < first {
+        draw_clock(table, code, worker, held, clockwork, Turned::Read);
+        return Ok(Asked::Nothing);
+    }
+    pass(rt, alloc, table, code, worker, held, clockwork, now, ports)
+}
+
 // Asks the clock, of which the first deadline is that.
 fn read<R: Wait, A: Agent, C: Clock + Drop>(
     rt: &R,
@@ -419,19 +455,12 @@ fn read<R: Wait, A: Agent, C: Clock + Drop>(
     ensures drew { IfOk result (λ a. Drew (cost_asked a) (is_marked a) worker.old worker.new) }
     ensures carries { (program : ProgramView) (n : ℕ) (l : Lane A) → IsCarrying A.over A.stands program code.now table.now.id n worker.old (taken (part_seen C.least C.faults C.readings) n code.now worker.old.number l (Some clockwork) held.old) → IsCarrying A.over A.stands program code.now table.now.id n worker.new (just_lane n code.now l) }
 {
-    match ready_to_ask(worker, clockwork) {
-        (clockwork, Err(refused)) => {
+    let (clockwork, made) = ready_to_ask(worker, clockwork);
+    match made {
+        Ok(()) => read_now(rt, alloc, table, code, worker, held, clockwork, first, ports),
+        Err(refused) => {
             put_off(table, code, worker, held, Some(clockwork));
             Err(refused)
-        }
-        (clockwork, Ok(())) => {
-            let (clockwork, now) = answer_now(clockwork);
-            if now < first {
-                draw_clock(table, code, worker, held, clockwork, Turned::Read);
-                Ok(Asked::Nothing)
-            } else {
-                pass(rt, alloc, table, code, worker, held, clockwork, now, ports)
-            }
         }
     }
 }

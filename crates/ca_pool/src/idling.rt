@@ -28,6 +28,7 @@ use ca_table::seating::{rise, sit};
 use ca_table::waiting::wait_for_good;
 use ca_table::worker::Worker;
 use ca_timers::clock::{Clock, Failed};
+use ca_timers::timers::Timers;
 use ca_turns::Table;
 use ca_value::value::PortId;
 use std::alloc::Global;
@@ -111,18 +112,25 @@ fn wait_late<R: Wait, A: Agent, C: Clock + Drop>(
     ensures drew { IfOk result (λ i. Drew (cost_idle i) (is_over i) worker.old worker.new) }
     ensures carries { (program : ProgramView) (n : ℕ) (l : Lane A) → IsCarrying A.over A.stands program code.now table.now.id n worker.old (taken (part_seen C.least C.faults C.readings) n code.now worker.old.number l (Some clockwork) held.old) → IsCarrying A.over A.stands program code.now table.now.id n worker.new (just_lane n code.now l) }
 {
-    match answer_late(clockwork, first) {
-        (clockwork, Err(Failed)) => {
+    let (clockwork, answer) = answer_late(clockwork, first);
+    match answer {
+        Err(Failed) => {
             let failed = with_mark(clockwork, Mark::ClockFailed);
             draw_clock(table, code, worker, held, failed, Turned::Fail);
             Err(PoolStop::ClockFailed)
         }
-        (clockwork, Ok(now)) => {
-            match pass(rt, alloc, table, code, worker, held, clockwork, now, ports) {
-                Ok(asked) => Ok(idle_by(asked)),
-                Err(_) => Err(PoolStop::OutOfMemory),
-            }
+        Ok(now) => {
+            let asked = pass(rt, alloc, table, code, worker, held, clockwork, now, ports)?;
+            Ok(idle_by(asked))
         }
+    }
+}
+
+// Whether that is the first deadline.
+fn is_first(timers: &Timers, first: u64) -> bool {
+    match timers.first() {
+        Some(moment) => moment == first,
+        None => false,
     }
 }
 
@@ -147,13 +155,14 @@ fn wait_with<R: Wait, A: Agent, C: Clock + Drop>(
     ensures drew { IfOk result (λ i. Drew (cost_idle i) (is_over i) worker.old worker.new) }
     ensures carries { (program : ProgramView) (n : ℕ) (l : Lane A) → IsCarrying A.over A.stands program code.now table.now.id n worker.old (taken (part_seen C.least C.faults C.readings) n code.now worker.old.number l (Some clockwork) held.old) → IsCarrying A.over A.stands program code.now table.now.id n worker.new (just_lane n code.now l) }
 {
-    if clockwork.timers.first() != Some(first) || first >= MOMENTS {
+    if !is_first(&clockwork.timers, first) || first >= MOMENTS {
         put_off(table, code, worker, held, Some(clockwork));
         return Ok(Rested::Busy);
     }
-    match ready_to_ask(worker, clockwork) {
-        (clockwork, Ok(())) => wait_late(rt, alloc, table, code, worker, held, clockwork, first, ports),
-        (clockwork, Err(_)) => {
+    let (clockwork, made) = ready_to_ask(worker, clockwork);
+    match made {
+        Ok(()) => wait_late(rt, alloc, table, code, worker, held, clockwork, first, ports),
+        Err(_) => {
             put_off(table, code, worker, held, Some(clockwork));
             Err(PoolStop::OutOfMemory)
         }
