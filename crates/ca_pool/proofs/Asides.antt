@@ -70,7 +70,7 @@ same_shown clock0 clock old new e s = record {
   banks = λ i. there_by bank_in (listed number_of_bank (parts old.banks) i) (listed number_of_bank (parts new.banks) i) (ap is_some (s.channels i));
   shards = λ i. there_by shard_in (listed number_of_shard (parts old.shards) i) (listed number_of_shard (parts new.shards) i) (ap is_some (s.waits i));
   ready = there_by tasks_in old.ready new.ready (ap is_some s.ready);
-  clock = e;
+  timers = e;
 }
 
 -- a task that is woken is over the code where it was
@@ -84,17 +84,17 @@ woken_there place gives None p v old new w = ap is_some w
 woken_there place gives (Some nobody) p v old new w = ap is_some w
 woken_there place gives (Some (owner u a)) p v old new w = ap is_some w.4 ∙ some_map (λ q. q ++ (u, w.0) ∷ []) old
 
-module _ {A C : Type 0} (place : A → At) (gives : A → Tree → A → Type 0) (held held2 : Held A) (p wait o : ℕ) (side : Side) (e : Event) (s : IsSettled place gives held held2 p side wait o e) where
+module _ {A : Type 0} (place : A → At) (gives : A → Tree → A → Type 0) (held held2 : Held A) (p wait o : ℕ) (side : Side) (e : Event) (s : IsSettled place gives held held2 p side wait o e) where
   abbrev value : Tree
   value = settling side (whole (channels_held held.banks) p)
 
   -- settling leaves which parts are held
-  pub settled_held : (clock : Option (ClockBox C)) → SameHeld clock clock held held2
+  pub settled_held : {C : Type 0} (clock : Option (ClockBox C)) → SameHeld clock clock held held2
   settled_held clock = record {
     banks = λ i. there_by bank_in (listed number_of_bank (parts held.banks) i) (listed number_of_bank (parts held2.banks) i) (ap is_some (s.channels i) ∙ changed_still p (option_map (settle_change side value)) (channels_held held.banks) i);
     shards = λ i. there_by shard_in (listed number_of_shard (parts held.shards) i) (listed number_of_shard (parts held2.shards) i) (ap is_some (s.waits i) ∙ changed_still wait (λ z. None) (waits_held held.shards) i);
     ready = there_by tasks_in held.ready held2.ready (woken_there place gives (whole (waits_held held.shards) wait) p (told side value) (ready_in held.ready) (ready_in held2.ready) s.wakes);
-    clock = refl;
+    timers = refl;
   }
 
   pub settled_over : (over : CodeView → A → Type 0) (code : CodeView) → Stays over gives → IsSettled place (gives_over over code gives) held held2 p side wait o e
@@ -158,9 +158,9 @@ module _ {A C : Type 0} (over : CodeView → A → Type 0) (place : A → At) (a
   pub served_moved : (law : Stays over gives) (held held2 : Held A) (p wait o : ℕ) (side : Side) (e : Event) → served_in held p ≡ serves side wait o → is_some held.ready ≡ true → IsSettled place gives held held2 p side wait o e
       → IsMovedWith over place advances gives starts seen code n w (holds_banks held2) (holds_shards held2) (said.shown (event_view e)) (laid_aside seen n code w l None held None held2)
   served_moved law held held2 p wait o side e served ready s ports looked banks shards =
-      let same = settled_held {C = C} place gives held held2 p wait o side e s None in
+      let same = settled_held place gives held held2 p wait o side e s {C = C} None in
       settles_draw over place advances gives starts seen code w n p wait o side (laid_aside seen n code w l None held None held2) held held2 e ports looked
-      (aside_turned least faults readings n code w l None None held held2 same) refl served ready (settled_over {C = C} place gives held held2 p wait o side e s over (valid_code code) law)
+      (aside_turned least faults readings n code w l None None held held2 same) refl served ready (settled_over place gives held held2 p wait o side e s over (valid_code code) law)
       (aside_brings least faults readings n code w l None None held held2 same ports looked false true banks shards refl (sym (same.ready ∙ ready)))
 
   -- what is drawn over the timers, and whatever is held beside them
@@ -209,30 +209,28 @@ module _ {A C : Type 0} (over : CodeView → A → Type 0) (place : A → At) (a
     readys = λ r. ap (λ o. cond (eqb w r) o None) show.ready;
   }
 
+  -- what a clockwork shows
+  abbrev shows : ClockBox C → TimersPart
+  shows clock = clockwork_seen least faults readings clock.value
+
   -- a silent event of the timers
   pub timed_moved : (clock0 clock : ClockBox C) (held0 held : Held A) (what : said.Turn) → ShowSame held0 held → held.ready ≡ None → TimesBy what (clockwork_seen least faults readings clock0.value) (clockwork_seen least faults readings clock.value)
       → IsMovedWith over place advances gives starts seen code n w (holds_banks held) (holds_shards held) what (laid_aside seen n code w l (Some clock0) held0 (Some clock) held)
   timed_moved clock0 clock held0 held what show ready t ports looked banks shards = by what t where
-    abbrev c : TimersPart
-    c = clockwork_seen least faults readings clock0.value
-
-    abbrev c2 : TimersPart
-    c2 = clockwork_seen least faults readings clock.value
-
     same : SameHeld (Some clock0) (Some clock) held0 held
     same = same_shown (Some clock0) (Some clock) held0 held refl show
 
-    equal : c2 ≡ with_mark stopped c → SameTimes c c2
-    equal e = record { deadlines = ap (λ (x : TimersPart). x.deadlines) e; now = ap (λ (x : TimersPart). x.now) e; least = let k : c2.least ≡ c.least = ap (λ (x : TimersPart). x.least) e in omega (arith, k) }
+    equal : (shows clock) ≡ with_mark stopped (shows clock0) → SameTimes (shows clock0) (shows clock)
+    equal e = record { deadlines = ap (λ (x : TimersPart). x.deadlines) e; now = ap (λ (x : TimersPart). x.now) e; least = let k : (shows clock).least ≡ (shows clock0).least = ap (λ (x : TimersPart). x.least) e in omega (arith, k) }
 
-    kept : c2 ≡ c → SameTimes c c2
-    kept e = record { deadlines = ap (λ (x : TimersPart). x.deadlines) e; now = ap (λ (x : TimersPart). x.now) e; least = let k : c2.least ≡ c.least = ap (λ (x : TimersPart). x.least) e in omega (arith, k) }
+    kept : (shows clock) ≡ (shows clock0) → SameTimes (shows clock0) (shows clock)
+    kept e = record { deadlines = ap (λ (x : TimersPart). x.deadlines) e; now = ap (λ (x : TimersPart). x.now) e; least = let k : (shows clock).least ≡ (shows clock0).least = ap (λ (x : TimersPart). x.least) e in omega (arith, k) }
 
-    by : (what : said.Turn) → TimesBy what c c2 → IsMoved over place advances gives starts seen code n w (drawn_with w n what ports looked) (laid_aside seen n code w l (Some clock0) held0 (Some clock) held)
-    by said.asks_clock t = clock_moved clock0 clock held0 held same said.asks_clock ports looked banks shards ready said.only_timers (λ e. cc) refl refl refl refl tt refl (silent_moves Asked c c2 held0 held show t.0 t.1)
-    by said.fails t = clock_moved clock0 clock held0 held same said.fails ports looked banks shards ready said.only_timers (λ e. cc) refl refl refl refl tt refl (silent_moves Failed c c2 held0 held show t.0 t.1)
-    by said.stops t = clock_moved clock0 clock held0 held same said.stops ports looked banks shards ready said.only_timers (λ e. cc) refl refl refl refl tt refl (silent_moves Stopped c c2 held0 held show (equal t) t)
-    by said.halts t = clock_moved clock0 clock held0 held same said.halts ports looked banks shards ready said.only_timers (λ e. cc) refl refl refl refl tt refl (silent_moves Marked c c2 held0 held show (kept t.0) t)
+    by : (what : said.Turn) → TimesBy what (shows clock0) (shows clock) → IsMoved over place advances gives starts seen code n w (drawn_with w n what ports looked) (laid_aside seen n code w l (Some clock0) held0 (Some clock) held)
+    by said.asks_clock t = clock_moved clock0 clock held0 held same said.asks_clock ports looked banks shards ready said.only_timers (λ e. cc) refl refl refl refl tt refl (silent_moves Asked (shows clock0) (shows clock) held0 held show t.0 t.1)
+    by said.fails t = clock_moved clock0 clock held0 held same said.fails ports looked banks shards ready said.only_timers (λ e. cc) refl refl refl refl tt refl (silent_moves Failed (shows clock0) (shows clock) held0 held show t.0 t.1)
+    by said.stops t = clock_moved clock0 clock held0 held same said.stops ports looked banks shards ready said.only_timers (λ e. cc) refl refl refl refl tt refl (silent_moves Stopped (shows clock0) (shows clock) held0 held show (equal t) t)
+    by said.halts t = clock_moved clock0 clock held0 held same said.halts ports looked banks shards ready said.only_timers (λ e. cc) refl refl refl refl tt refl (silent_moves Marked (shows clock0) (shows clock) held0 held show (kept t.0) t)
     by (said.shown e) t = absurd t
     by (said.picks r) t = absurd t
     by said.yields t = absurd t
@@ -246,7 +244,7 @@ module _ {A C : Type 0} (over : CodeView → A → Type 0) (place : A → At) (a
       banks = λ i. there_by bank_in (listed number_of_bank (parts held0.banks) i) (listed number_of_bank (parts held.banks) i) (ap is_some (t.channels i) ∙ all_still (due m c1.deadlines) (channels_held held0.banks) i);
       shards = λ i. ap (λ s. is_some (listed number_of_shard (parts s) i)) t.shards;
       ready = ap is_some t.ready;
-      clock = refl;
+      timers = refl;
     }
 
     reads : Ticks least faults readings clock0 clock held0 held m c1 e → Reads m (clockwork_seen least faults readings clock0.value) (clockwork_seen least faults readings clock.value)

@@ -20,7 +20,7 @@ use Rattle.ca_table.proofs.Knowing.{knows_same}
 
 -- a hand that is the same drew the same
 pub same_turns : {P C E : Type 0} (x y : Held P C E) → y ≡ x → SameTurns x y
-same_turns x y e = record {
+same_turns {P} {C} {E} x y e = record {
   same = record { table = ap (λ (h : Held P C E). h.table) e; opening = ap (λ (h : Held P C E). h.view.opening) e; hands = ap (λ (h : Held P C E). h.view.hands) e; stands_for = ap (λ (h : Held P C E). h.view.stands_for) e };
   turns = ap (λ (h : Held P C E). h.view.turns) e;
 }

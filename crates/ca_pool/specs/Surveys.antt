@@ -73,6 +73,13 @@ module _ {X : Type 0} where
     pub gone : (i : ℕ) → a ≤ i → i < b → new i ≡ None
     pub others : (i : ℕ) → (i < a) ⊎ (b ≤ i) → new i ≡ old i
 
+  -- those below low are there, and from middle on those below high
+  pub record IsSpread (low middle high : ℕ) (g : ℕ → Option X) : Type 0 where
+    pub below : (i : ℕ) → i < low → is_some (g i) ≡ true
+    pub between : (i : ℕ) → low ≤ i → i < middle → g i ≡ None
+    pub above : (i : ℕ) → middle ≤ i → i < high → is_some (g i) ≡ true
+    pub beyond : (i : ℕ) → middle ≤ i → high ≤ i → g i ≡ None
+
   -- just so many are there
   pub record Fulls (count : ℕ) (g : ℕ → Option X) : Type 0 where
     pub there : (i : ℕ) → i < count → is_some (g i) ≡ true

@@ -10,7 +10,7 @@ ghost use Rattle.ca_table.specs.Parts.{part_seen};
 ghost use Rattle.ca_table.specs.Worked.{Drew};
 ghost use Rattle.ca_table.specs.Workers.{IsOne, IsReady, SameWorker, part_count};
 ghost use Rattle.ca_table.specs.declared.part.Part.{Part};
-ghost use Rattle.ca_pool.specs.Surveys.{Drops, Fills, Fulls, IsUndatedAt, IsStillAt, Surveys, is_stuck};
+ghost use Rattle.ca_pool.specs.Surveys.{Drops, Fills, Fulls, IsSpread, IsUndatedAt, IsStillAt, Surveys, is_stuck};
 
 use crate::surveying::{Look, first_open, look_over};
 use ca_agent::agent::Agent;
@@ -131,6 +131,47 @@ fn give_range<A: Agent, C: Clock + Drop>(
     }
 }
 
+// Holds the parts above the timers, as long as they are free, if it holds all below; how far it came.
+fn hold_above<A: Agent, C: Clock + Drop>(
+    table: &Table<Pool<A, C>>,
+    worker: &mut Worker<A, C>,
+    low: u64,
+    timers: u64,
+    count: u64,
+) -> u64
+    requires parts { (program : ProgramView) × (code : CodeView) × (n : ℕ) × IsOne A.over A.stands program code table.now.id n worker.old × (count ≡ part_count n) × (timers < count) × (g : ℕ → Option (Part A C)) × Surveys (part_seen C.least C.faults C.readings) n code worker.old.hand g × IsSpread low timers (timers + 1) g }
+    ensures same { SameWorker worker.old worker.new }
+    ensures turns { SameTurns worker.old.hand worker.new.hand }
+    ensures entries { worker.new.entries ≡ worker.old.entries }
+    ensures reached { (timers < result) × (result ≤ count) }
+    ensures holds { (program : ProgramView) (code : CodeView) (n : ℕ) → IsOne A.over A.stands program code table.now.id n worker.old → (g : ℕ → Option (Part A C)) → Surveys (part_seen C.least C.faults C.readings) n code worker.old.hand g → IsSpread low timers (timers + 1) g → (g2 : ℕ → Option (Part A C)) × Surveys (part_seen C.least C.faults C.readings) n code worker.new.hand g2 × IsSpread low timers result g2 }
+{
+    if low < timers {
+        return timers + 1;
+    }
+    hold_range(table, worker, timers + 1, count)
+}
+
+// Gives back the parts below that place, and those from the timers on before the other.
+fn give_spread<A: Agent, C: Clock + Drop>(
+    table: &Table<Pool<A, C>>,
+    worker: &mut Worker<A, C>,
+    low: u64,
+    timers: u64,
+    high: u64,
+)
+    requires table { worker.old.hand.table ≡ table.now.id }
+    requires order { (low ≤ timers) × (timers < high) }
+    requires parts { (n : ℕ) × (code : CodeView) × (g : ℕ → Option (Part A C)) × Surveys (part_seen C.least C.faults C.readings) n code worker.old.hand g × IsSpread low timers high g }
+    ensures same { SameWorker worker.old worker.new }
+    ensures turns { SameTurns worker.old.hand worker.new.hand }
+    ensures entries { worker.new.entries ≡ worker.old.entries }
+    ensures nothing { HoldsNothing worker.new.hand }
+{
+    give_range(table, worker, 0, low);
+    give_range(table, worker, timers, high);
+}
+
 // Holds all parts, or none: the timers once they are free, so that of several idle workers one looks at a time, and the
 // others where they are free.
 fn hold_all<R: Wait, A: Agent, C: Clock + Drop>(
@@ -149,17 +190,12 @@ fn hold_all<R: Wait, A: Agent, C: Clock + Drop>(
     let count = worker.workers + 33 + worker.workers;
     hold_one(rt, table, worker, timers);
     let low = hold_range(table, worker, 0, timers);
-    let high = if low < timers {
-        timers + 1
-    } else {
-        hold_range(table, worker, timers + 1, count)
-    };
-    let all = low == timers && high == count;
-    if !all {
-        give_range(table, worker, 0, low);
-        give_range(table, worker, timers, high);
+    let high = hold_above(table, worker, low, timers, count);
+    if low == timers && high == count {
+        return true;
     }
-    all
+    give_spread(table, worker, low, timers, high);
+    false
 }
 
 // Draws that the worker leaves the run, in which nothing can go on, and holds all parts as before.
