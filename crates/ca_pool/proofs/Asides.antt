@@ -46,8 +46,8 @@ use Rattle.ca_table.specs.Covering.{Covers, names_of}
 use Rattle.ca_table.specs.DrawnEvents.{IsTurned}
 use Rattle.ca_table.specs.Needing.{Brings, drawn_with}
 use Rattle.ca_table.specs.OneCode.{advances_over, gives_over, starts_over}
-use Rattle.ca_table.specs.Parts.{away, clockwork_seen, part_seen}
-use Rattle.ca_table.specs.Seen.{PartSeen, seen_timers}
+use Rattle.ca_table.specs.Parts.{clockwork_seen, part_seen}
+use Rattle.ca_table.specs.Seen.{PartSeen}
 use Rattle.ca_table.specs.declared.part.Contents.TheVariants as V
 use Rattle.ca_table.specs.declared.part.Lane.{Lane}
 use Rattle.ca_table.specs.declared.part.Part.{Part}
@@ -57,7 +57,7 @@ use Rattle.ca_table.proofs.Needing.{BanksOf, covers_by}
 use Rattle.ca_table.proofs.SettleMoved.{settles_draw}
 use Rattle.ca_table.proofs.Staying.{changed_still, shows_there}
 use Rattle.ca_pool.specs.Asking.{HasBanksOf, HasFailed, IsAsked, SameTimes, TimesBy, passed}
-use Rattle.ca_pool.specs.Desk.{ClockBox, IsMovedWith, SameHeld, holds_banks, holds_shards, laid_aside, taken}
+use Rattle.ca_pool.specs.Desk.{ClockBox, IsMovedWith, SameHeld, holds_banks, holds_shards, laid_aside}
 use Rattle.ca_pool.proofs.Desk.{aside_brings, aside_turned, lies_there, some_map}
 
 -- a part is there where what it shows is
@@ -272,16 +272,6 @@ module _ {A C : Type 0} (over : CodeView → A → Type 0) (place : A → At) (a
         (all_in (λ p. is_some ((laid_aside seen n code w l (Some clock0) held0 (Some clock) held).banks (home p)) ≡ true) (due m c1.deadlines)
         (λ p among. lies_there seen n code V.Bank (listed number_of_bank (parts held0.banks) (home p)) (listed number_of_bank (parts held.banks) (home p)) ((ticked_held t).banks (home p)) ∙ (ticked_held t).banks (home p) ∙ t.there p among))
         refl (ticks t))
-
-  -- a clockwork that shows the same is taken as the same
-  pub clock_taken : (a b : ClockBox C) (held : Held A) → clockwork_seen least faults readings b.value ≡ clockwork_seen least faults readings a.value → taken seen n code w l (Some a) held ≡ taken seen n code w l (Some b) held
-  clock_taken a b held e = λ t. record {
-    lane = (taken seen n code w l (Some a) held).lane;
-    banks = (taken seen n code w l (Some a) held).banks;
-    shards = (taken seen n code w l (Some a) held).shards;
-    timers = Some (away n code, record { workers = n; code = valid_code code; held = seen_timers (sym e t) });
-    ready = (taken seen n code w l (Some a) held).ready;
-  }
 
 -- the clock was asked, and nothing closes
 pub asked_reads : (m : ℕ) (c c2 : TimersPart) → IsAsked m c c2 → TimesBy said.asks_clock c c2

@@ -7,3 +7,4 @@ pub mod Asides
 pub mod StillParts
 pub mod AllParts
 pub mod Stalls
+pub mod Takens

@@ -1,0 +1,56 @@
+-- What a worker carries at its calls, told of what shows the same, or of a worker with the same number.
+use Rattle.std.proofs.Common.{◌≡◌, ℕ, List, sym, subst, Option, Some, None}
+use Rattle.ca_term.specs.Program.{ProgramView}
+use Rattle.ca_meaning.specs.Task.{TaskBody}
+use Rattle.ca_commit.specs.declared.held.Held.{Held}
+use Rattle.ca_states.specs.Code.{CodeView}
+use Rattle.ca_states.specs.ValidCode.{valid_code}
+use Rattle.ca_states.specs.declared.valid_code.ValidCode.{ValidCode}
+use Rattle.ca_turns.specs.Hands.{TableId}
+use Rattle.ca_table.specs.Bearing.{ShowSame}
+use Rattle.ca_table.specs.Carriers.{IsCarrying, just_lane}
+use Rattle.ca_table.specs.Carrying.{Carries}
+use Rattle.ca_table.specs.Parts.{away, clockwork_seen, part_seen}
+use Rattle.ca_table.specs.Seen.{PartSeen, seen_timers}
+use Rattle.ca_table.specs.declared.part.Lane.{Lane}
+use Rattle.ca_table.specs.declared.part.Part.{Part}
+use Rattle.ca_table.specs.declared.worker.Worker.{Worker}
+use Rattle.ca_pool.specs.Desk.{ClockBox, IsBare, taken}
+use Rattle.ca_pool.proofs.Desk.{bare_taken, taken_same}
+
+-- a clockwork that shows the same is taken as the same
+clock_taken : {A C : Type 0} (least faults : C → ℕ) (readings : C → Option (List ℕ)) (n : ℕ) (code : ValidCode) (w : ℕ) (l : Lane A) (a b : ClockBox C) (held : Held A) → clockwork_seen least faults readings b.value ≡ clockwork_seen least faults readings a.value
+    → taken (part_seen least faults readings) n code w l (Some a) held ≡ taken (part_seen least faults readings) n code w l (Some b) held
+clock_taken least faults readings n code w l a b held e = λ t. record {
+  lane = (taken (part_seen least faults readings) n code w l (Some a) held).lane;
+  banks = (taken (part_seen least faults readings) n code w l (Some a) held).banks;
+  shards = (taken (part_seen least faults readings) n code w l (Some a) held).shards;
+  timers = Some (away n code, record { workers = n; code = valid_code code; held = seen_timers (sym e t) });
+  ready = (taken (part_seen least faults readings) n code w l (Some a) held).ready;
+}
+
+module _ {A C : Type 0} (over : CodeView → A → Type 0) (stands_as : ProgramView → A → TaskBody → Type 0) (least faults : C → ℕ) (readings : C → Option (List ℕ)) (program : ProgramView) (code : ValidCode) (id : TableId) (n : ℕ) (w : Worker A C) (l : Lane A) where
+  abbrev Has : Carries (Part A C × PartSeen A) → Type 0
+  Has = IsCarrying over stands_as program code id n w
+
+  abbrev Takes : ℕ → Option (ClockBox C) → Held A → Carries (Part A C × PartSeen A)
+  Takes k clock held = taken (part_seen least faults readings) n code k l clock held
+
+  -- where nothing is held
+  pub bare_in : (k : ℕ) (held : Held A) → IsBare held → Has (just_lane n code l) → Has (Takes k None held)
+  bare_in k held bare h = subst Has (sym (bare_taken (part_seen least faults readings) n code k l held bare)) h
+
+  -- the same worker by another name
+  pub as_number : (a b : ℕ) (clock : Option (ClockBox C)) (held : Held A) → b ≡ a → Has (Takes a clock held) → Has (Takes b clock held)
+  as_number a b clock held e h = subst (λ (k : ℕ). Has (Takes k clock held)) (sym e) h
+
+  -- what is held shows the same
+  pub as_shown : (k : ℕ) (clock : Option (ClockBox C)) (old new : Held A) → ShowSame old new → Has (Takes k clock old) → Has (Takes k clock new)
+  as_shown k clock old new show h = subst Has (taken_same least faults readings n code k l clock old new show) h
+
+  -- the clockwork shows the same
+  pub as_clocked : (k : ℕ) (a b : ClockBox C) (held : Held A) → clockwork_seen least faults readings b.value ≡ clockwork_seen least faults readings a.value → Has (Takes k (Some a) held) → Has (Takes k (Some b) held)
+  as_clocked k a b held e h = subst Has (clock_taken least faults readings n code k l a b held e) h
+
+  pub bare_out : (k : ℕ) (held : Held A) → IsBare held → Has (Takes k None held) → Has (just_lane n code l)
+  bare_out k held bare h = subst Has (bare_taken (part_seen least faults readings) n code k l held bare) h
