@@ -44,6 +44,7 @@ use Rattle.ca_table.specs.Carriers.{IsMoved, is_now, was}
 use Rattle.ca_table.specs.Carrying.{Carries, carried}
 use Rattle.ca_table.specs.Covering.{Covers, names_of}
 use Rattle.ca_table.specs.DrawnEvents.{IsTurned}
+use Rattle.ca_table.specs.Draws.{MayHold}
 use Rattle.ca_table.specs.Needing.{Brings, drawn_with}
 use Rattle.ca_table.specs.OneCode.{advances_over, gives_over, starts_over}
 use Rattle.ca_table.specs.Parts.{clockwork_seen, part_seen}
@@ -298,3 +299,15 @@ asked_before m c c2 d e a = subst (λ (x : TimersPart). IsAsked m c x) (sym e) a
 -- what one event costs
 pub cost_one : (e : EventView) → cost (e ∷ []) ≡ cost_of e
 cost_one e = let k : cost (e ∷ []) ≡ cost_of e + cost [] = refl in let z : cost [] ≡ 0 = refl in omega (arith, k, z)
+
+-- at a silent event of the timers any part may be held
+pub may_any : (w n i : ℕ) (t : said.Turn) (c c2 : TimersPart) → TimesBy t c c2 → MayHold w n t i
+may_any w n i said.asks_clock c c2 t = tt
+may_any w n i said.fails c c2 t = tt
+may_any w n i said.stops c c2 t = tt
+may_any w n i said.halts c c2 t = tt
+may_any w n i (said.shown e) c c2 t = absurd t
+may_any w n i (said.picks r) c c2 t = absurd t
+may_any w n i said.yields c c2 t = absurd t
+may_any w n i (said.prunes side p wait) c c2 t = absurd t
+may_any w n i said.stalls c c2 t = absurd t

@@ -8,3 +8,4 @@ pub mod StillParts
 pub mod AllParts
 pub mod Stalls
 pub mod Takens
+pub mod Ranges

@@ -1,7 +1,13 @@
 -- What a worker carries at its calls, told of what shows the same, or of a worker with the same number.
-use Rattle.std.proofs.Common.{◌≡◌, ℕ, List, sym, subst, Option, Some, None}
+use Rattle.std.proofs.Common.{◌≡◌, ◌∙◌, ℕ, List, sym, ap, ap₂, subst, Option, Some, None, true, is_some}
+use Rattle.ca_value.specs.Seq.{list}
 use Rattle.ca_term.specs.Program.{ProgramView}
 use Rattle.ca_meaning.specs.Task.{TaskBody}
+use Rattle.ca_commit.specs.Contents.{whole}
+use Rattle.ca_commit.specs.Finding.{glance, settle_at}
+use Rattle.ca_commit.specs.Settling.{served_in}
+use Rattle.ca_commit.specs.Showing.{channels_held, waits_held}
+use Rattle.ca_commit.specs.Tasks.{tasks_in}
 use Rattle.ca_commit.specs.declared.held.Held.{Held}
 use Rattle.ca_states.specs.Code.{CodeView}
 use Rattle.ca_states.specs.ValidCode.{valid_code}
@@ -12,11 +18,13 @@ use Rattle.ca_table.specs.Carriers.{IsCarrying, just_lane}
 use Rattle.ca_table.specs.Carrying.{Carries}
 use Rattle.ca_table.specs.Parts.{away, clockwork_seen, part_seen}
 use Rattle.ca_table.specs.Seen.{PartSeen, seen_timers}
+use Rattle.ca_table.specs.Workers.{SameWorker}
 use Rattle.ca_table.specs.declared.part.Lane.{Lane}
 use Rattle.ca_table.specs.declared.part.Part.{Part}
 use Rattle.ca_table.specs.declared.worker.Worker.{Worker}
 use Rattle.ca_pool.specs.Desk.{ClockBox, IsBare, taken}
-use Rattle.ca_pool.proofs.Desk.{bare_taken, taken_same}
+use Rattle.ca_pool.proofs.Desk.{bare_taken, some_map, taken_same}
+use Rattle.ca_pool.proofs.Stays.{still_carries}
 
 -- a clockwork that shows the same is taken as the same
 clock_taken : {A C : Type 0} (least faults : C → ℕ) (readings : C → Option (List ℕ)) (n : ℕ) (code : ValidCode) (w : ℕ) (l : Lane A) (a b : ClockBox C) (held : Held A) → clockwork_seen least faults readings b.value ≡ clockwork_seen least faults readings a.value
@@ -54,3 +62,21 @@ module _ {A C : Type 0} (over : CodeView → A → Type 0) (stands_as : ProgramV
 
   pub bare_out : (k : ℕ) (held : Held A) → IsBare held → Has (Takes k None held) → Has (just_lane n code l)
   bare_out k held bare h = subst Has (bare_taken (part_seen least faults readings) n code k l held bare) h
+
+module _ {A C : Type 0} (over : CodeView → A → Type 0) (stands_as : ProgramView → A → TaskBody → Type 0) (least faults : C → ℕ) (readings : C → Option (List ℕ)) (program : ProgramView) (code : ValidCode) (id : TableId) (n : ℕ) (t p : Worker A C) (l : Lane A) where
+  -- room was made for what is to come, and what is held shows the same
+  pub made_room : (k : ℕ) (clock : Option (ClockBox C)) (old new : Held A) → SameWorker t p → p.hand ≡ t.hand → list p.entries ≡ list t.entries → p.number ≡ k → ShowSame old new
+      → IsCarrying over stands_as program code id n t (taken (part_seen least faults readings) n code k l clock old) → IsCarrying over stands_as program code id n p (taken (part_seen least faults readings) n code p.number l clock new)
+  made_room k clock old new same hand entries number show s = as_number over stands_as least faults readings program code id n p l k p.number clock new number
+      (still_carries over stands_as program id n t p same entries code (taken (part_seen least faults readings) n code k l clock new) hand (as_shown over stands_as least faults readings program code id n t l k clock old new show s))
+
+-- what shows the same settles the same
+pub served_same : {A : Type 0} (old new : Held A) (p : ℕ) → ShowSame old new → served_in new p ≡ served_in old p
+served_same old new p show = ap₂ (λ see ports. settle_at (glance see) (whole ports p)) (λ t i. show.waits i t) (λ t i. show.channels i t)
+
+pub ready_same : {A : Type 0} (old new : Held A) → ShowSame old new → is_some old.ready ≡ true → is_some new.ready ≡ true
+ready_same old new show e = sym (some_map tasks_in new.ready) ∙ ap is_some show.ready ∙ some_map tasks_in old.ready ∙ e
+
+-- what only got a ready part more settles the same
+pub served_ready : {A : Type 0} (old new : Held A) (p : ℕ) → new.banks ≡ old.banks → new.shards ≡ old.shards → served_in new p ≡ served_in old p
+served_ready old new p banks shards = ap₂ (λ b s. settle_at (glance (waits_held s)) (whole (channels_held b) p)) banks shards

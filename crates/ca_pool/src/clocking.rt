@@ -1,5 +1,5 @@
 // The clock: a worker asks it, closes the timeouts that are due, and sets and obeys the mark of the run.
-ghost use Rattle.std.specs.Prelude.{◌≡◌, ◌≢◌, ℕ, ◌+◌, ◌<◌, ◌≤◌, ◌^◌, [], Some, None, IfNone, IfOk, IfSome, OnErr, OnOk, false, length, true};
+ghost use Rattle.std.specs.Prelude.{◌≡◌, ◌≢◌, ℕ, ◌+◌, ◌<◌, ◌≤◌, ◌^◌, [], Some, None, IfNone, IfOk, IfSome, OnErr, OnOk, false, true};
 ghost use Rattle.ca_term.specs.Event.{event_view, ticked};
 ghost use Rattle.ca_term.specs.Program.{ProgramView};
 ghost use Rattle.ca_value.specs.Deadlines.{due};
@@ -140,7 +140,8 @@ pub(crate) fn is_marked<C: Clock + Drop>(clockwork: &Clockwork<C>) -> bool
 }
 
 /// Draws a silent event over the timers and whatever is held unchanged, and gives all that back.
-pub(crate) fn draw_clock<A: Agent, C: Clock + Drop>(
+pub(crate) fn draw_clock<R: Wait, A: Agent, C: Clock + Drop>(
+    rt: &R,
     table: &Table<Pool<A, C>>,
     code: &ValidCode,
     worker: &mut Worker<A, C>,
@@ -150,7 +151,6 @@ pub(crate) fn draw_clock<A: Agent, C: Clock + Drop>(
 )
     requires carries { (program : ProgramView) × (n : ℕ) × (l : Lane A) × (clock0 : ClockBox C) × (held0 : Held A) × IsCarrying A.over A.stands program code.now table.now.id n worker.old (taken (part_seen C.least C.faults C.readings) n code.now worker.old.number l (Some clock0) held0) × ShowSame held0 held.old × TimesBy (turn_view what) (clockwork_seen C.least C.faults C.readings clock0.value) (clockwork_seen C.least C.faults C.readings clockwork.value) }
     requires hidden { visible (turn_view what) ≡ [] }
-    requires turns { length worker.old.hand.view.turns < 2 ^ 59 }
     requires ready { held.old.ready ≡ None }
     requires timers { held.old.timers ≡ None }
     ensures same { SameWorker worker.old worker.new }
@@ -158,6 +158,11 @@ pub(crate) fn draw_clock<A: Agent, C: Clock + Drop>(
     ensures drew { gives_up (turn_view what) ≡ false → Drew 0 (leaves (turn_view what)) worker.old worker.new }
     ensures carries { (program : ProgramView) (n : ℕ) (l : Lane A) (clock0 : ClockBox C) (held0 : Held A) → IsCarrying A.over A.stands program code.now table.now.id n worker.old (taken (part_seen C.least C.faults C.readings) n code.now worker.old.number l (Some clock0) held0) → ShowSame held0 held.old → TimesBy (turn_view what) (clockwork_seen C.least C.faults C.readings clock0.value) (clockwork_seen C.least C.faults C.readings clockwork.value) → IsCarrying A.over A.stands program code.now table.now.id n worker.new (just_lane n code.now l) }
 {
+    if !can_draw(worker) {
+        // No worker draws 2^59 events.
+        wait_for_good(rt);
+        unreachable!()
+    }
     draw_aside(table, code, worker, held, Some(clockwork), what);
 }
 
@@ -312,7 +317,6 @@ fn draw_tick<R: Wait, A: Agent, C: Clock + Drop>(
     requires made { IsMadeFor held.old (clockwork_seen C.least C.faults C.readings clockwork.value) now }
     requires there { HasBanksOf held.old (due now clockwork.value.timers.deadlines) }
     requires placed { Placed (channels_held held.old.banks) }
-    requires turns { length worker.old.hand.view.turns < 2 ^ 59 }
     requires room { 0 < spare worker.old.entries }
     requires ready { held.old.ready ≡ None }
     requires timers { held.old.timers ≡ None }
@@ -321,6 +325,11 @@ fn draw_tick<R: Wait, A: Agent, C: Clock + Drop>(
     ensures drew { Drew (cost_asked result) (is_marked result) worker.old worker.new }
     ensures carries { (program : ProgramView) (n : ℕ) (l : Lane A) (clock0 : ClockBox C) → IsCarrying A.over A.stands program code.now table.now.id n worker.old (taken (part_seen C.least C.faults C.readings) n code.now worker.old.number l (Some clock0) held.old) → IsAsked now (clockwork_seen C.least C.faults C.readings clock0.value) (clockwork_seen C.least C.faults C.readings clockwork.value) → IsCarrying A.over A.stands program code.now table.now.id n worker.new (just_lane n code.now l) }
 {
+    if !can_draw(worker) {
+        // No worker draws 2^59 events.
+        wait_for_good(rt);
+        unreachable!()
+    }
     let (clockwork, ticked) = tick_over(alloc, held, clockwork, now);
     match ticked {
         Some(event) => {
@@ -329,7 +338,7 @@ fn draw_tick<R: Wait, A: Agent, C: Clock + Drop>(
             Asked::Ticked(cost)
         }
         None => {
-            draw_clock(table, code, worker, held, clockwork, Turned::Read);
+            draw_clock(rt, table, code, worker, held, clockwork, Turned::Read);
             Asked::Nothing
         }
     }
@@ -350,7 +359,6 @@ pub(crate) fn pass<R: Wait, A: Agent, C: Clock + Drop>(
 ) -> Result<Asked, OutOfMemory>
     requires bare { IsBare held.old }
     requires carries { (program : ProgramView) × (n : ℕ) × (l : Lane A) × (clock0 : ClockBox C) × IsCarrying A.over A.stands program code.now table.now.id n worker.old (taken (part_seen C.least C.faults C.readings) n code.now worker.old.number l (Some clock0) held.old) × IsAsked now (clockwork_seen C.least C.faults C.readings clock0.value) (clockwork_seen C.least C.faults C.readings clockwork.value) }
-    requires turns { length worker.old.hand.view.turns < 2 ^ 59 }
     requires room { 0 < spare worker.old.entries }
     ensures same { SameWorker worker.old worker.new }
     ensures bare { IsBare held.new }
@@ -361,7 +369,7 @@ pub(crate) fn pass<R: Wait, A: Agent, C: Clock + Drop>(
     match prepared {
         Ok(banks) => close_due(rt, alloc, table, code, worker, held, clockwork, now, &banks),
         Err(refused) => {
-            draw_clock(table, code, worker, held, clockwork, Turned::Read);
+            draw_clock(rt, table, code, worker, held, clockwork, Turned::Read);
             Err(refused)
         }
     }
@@ -383,7 +391,6 @@ fn close_due<R: Wait, A: Agent, C: Clock + Drop>(
     requires carries { (program : ProgramView) × (n : ℕ) × (l : Lane A) × (clock0 : ClockBox C) × IsCarrying A.over A.stands program code.now table.now.id n worker.old (taken (part_seen C.least C.faults C.readings) n code.now worker.old.number l (Some clock0) held.old) × IsAsked now (clockwork_seen C.least C.faults C.readings clock0.value) (clockwork_seen C.least C.faults C.readings clockwork.value) }
     requires made { IsMadeFor held.old (clockwork_seen C.least C.faults C.readings clockwork.value) now }
     requires homes { HasHomes banks.now (due now clockwork.value.timers.deadlines) }
-    requires turns { length worker.old.hand.view.turns < 2 ^ 59 }
     requires room { 0 < spare worker.old.entries }
     ensures same { SameWorker worker.old worker.new }
     ensures bare { IsBare held.new }
@@ -393,11 +400,11 @@ fn close_due<R: Wait, A: Agent, C: Clock + Drop>(
     match try_banks(rt, table, code, worker, banks, held) {
         Ok(true) => Ok(draw_tick(rt, alloc, table, code, worker, held, clockwork, now)),
         Ok(false) => {
-            draw_clock(table, code, worker, held, clockwork, Turned::Read);
+            draw_clock(rt, table, code, worker, held, clockwork, Turned::Read);
             Ok(Asked::Nothing)
         }
         Err(refused) => {
-            draw_clock(table, code, worker, held, clockwork, Turned::Read);
+            draw_clock(rt, table, code, worker, held, clockwork, Turned::Read);
             Err(refused)
         }
     }
@@ -419,7 +426,6 @@ fn read_now<R: Wait, A: Agent, C: Clock + Drop>(
     requires carries { (program : ProgramView) × (n : ℕ) × (l : Lane A) × IsCarrying A.over A.stands program code.now table.now.id n worker.old (taken (part_seen C.least C.faults C.readings) n code.now worker.old.number l (Some clockwork) held.old) }
     requires timely { clockwork.value.timers.moment ≤ C.least clockwork.value.clock }
     requires asking { 0 < C.spare clockwork.value.clock }
-    requires turns { length worker.old.hand.view.turns < 2 ^ 59 }
     requires room { 0 < spare worker.old.entries }
     ensures same { SameWorker worker.old worker.new }
     ensures bare { IsBare held.new }
@@ -428,7 +434,7 @@ fn read_now<R: Wait, A: Agent, C: Clock + Drop>(
 {
     let (clockwork, now) = answer_now(clockwork);
     if now < first {
-        draw_clock(table, code, worker, held, clockwork, Turned::Read);
+        draw_clock(rt, table, code, worker, held, clockwork, Turned::Read);
         return Ok(Asked::Nothing);
     }
     pass(rt, alloc, table, code, worker, held, clockwork, now, ports)
@@ -449,7 +455,6 @@ fn read<R: Wait, A: Agent, C: Clock + Drop>(
     requires bare { IsBare held.old }
     requires carries { (program : ProgramView) × (n : ℕ) × (l : Lane A) × IsCarrying A.over A.stands program code.now table.now.id n worker.old (taken (part_seen C.least C.faults C.readings) n code.now worker.old.number l (Some clockwork) held.old) }
     requires timely { clockwork.value.timers.moment ≤ C.least clockwork.value.clock }
-    requires turns { length worker.old.hand.view.turns < 2 ^ 59 }
     ensures same { SameWorker worker.old worker.new }
     ensures bare { IsBare held.new }
     ensures drew { IfOk result (λ a. Drew (cost_asked a) (is_marked a) worker.old worker.new) }
@@ -479,14 +484,13 @@ fn look<R: Wait, A: Agent, C: Clock + Drop>(
     requires bare { IsBare held.old }
     requires carries { (program : ProgramView) × (n : ℕ) × (l : Lane A) × IsCarrying A.over A.stands program code.now table.now.id n worker.old (taken (part_seen C.least C.faults C.readings) n code.now worker.old.number l (Some clockwork) held.old) }
     requires timely { clockwork.value.timers.moment ≤ C.least clockwork.value.clock }
-    requires turns { length worker.old.hand.view.turns < 2 ^ 59 }
     ensures same { SameWorker worker.old worker.new }
     ensures bare { IsBare held.new }
     ensures drew { IfOk result (λ a. Drew (cost_asked a) (is_marked a) worker.old worker.new) }
     ensures carries { (program : ProgramView) (n : ℕ) (l : Lane A) → IsCarrying A.over A.stands program code.now table.now.id n worker.old (taken (part_seen C.least C.faults C.readings) n code.now worker.old.number l (Some clockwork) held.old) → IsCarrying A.over A.stands program code.now table.now.id n worker.new (just_lane n code.now l) }
 {
     if is_marked(&clockwork) {
-        draw_clock(table, code, worker, held, clockwork, Turned::Halt);
+        draw_clock(rt, table, code, worker, held, clockwork, Turned::Halt);
         return Ok(Asked::Marked);
     }
     match clockwork.timers.first() {
@@ -516,11 +520,6 @@ pub(crate) fn ask<R: Wait, A: Agent, C: Clock + Drop>(
     ensures drew { IfOk result (λ a. Drew (cost_asked a) (is_marked a) worker.old worker.new) }
     ensures carries { (program : ProgramView) (n : ℕ) (l : Lane A) → IsCarrying A.over A.stands program code.now table.now.id n worker.old (just_lane n code.now l) → IsCarrying A.over A.stands program code.now table.now.id n worker.new (just_lane n code.now l) }
 {
-    if !can_draw(worker) {
-        // No worker draws 2^59 events.
-        wait_for_good(rt);
-        unreachable!()
-    }
     match try_clock(table, code, worker, held) {
         None => Ok(Asked::Nothing),
         Some(clockwork) => look(rt, alloc, table, code, worker, held, clockwork, due),
@@ -541,12 +540,7 @@ pub(crate) fn stop<R: Wait, A: Agent, C: Clock + Drop>(
     ensures bare { IsBare held.new }
     ensures carries { (program : ProgramView) (n : ℕ) (l : Lane A) → IsCarrying A.over A.stands program code.now table.now.id n worker.old (just_lane n code.now l) → IsCarrying A.over A.stands program code.now table.now.id n worker.new (just_lane n code.now l) }
 {
-    if !can_draw(worker) {
-        // No worker draws 2^59 events.
-        wait_for_good(rt);
-        unreachable!()
-    }
     let clockwork = take_clock(rt, table, code, worker, held);
     let stopped = with_mark(clockwork, Mark::Stopped);
-    draw_clock(table, code, worker, held, stopped, Turned::Stop);
+    draw_clock(rt, table, code, worker, held, stopped, Turned::Stop);
 }

@@ -1,5 +1,5 @@
 // A worker that finds no task: it waits for the clock, or leaves a run in which nothing can go on.
-ghost use Rattle.std.specs.Prelude.{◌≡◌, ◌≢◌, ℕ, ◌<◌, ◌≤◌, ◌^◌, Some, None, IfOk, false, length, true};
+ghost use Rattle.std.specs.Prelude.{◌≡◌, ◌≢◌, ℕ, ◌<◌, ◌≤◌, ◌^◌, Some, None, IfOk, false, true};
 ghost use Rattle.ca_term.specs.Program.{ProgramView};
 ghost use Rattle.ca_value.specs.Seq.{spare};
 ghost use Rattle.ca_table.specs.Carriers.{IsCarrying, just_lane};
@@ -21,11 +21,9 @@ use ca_commit::held::Held;
 use ca_states::valid_code::ValidCode;
 use ca_table::answer::PoolStop;
 use ca_table::drawn::Turned;
-use ca_table::noting::can_draw;
 use ca_table::part::{Clockwork, Lane, Mark};
 use ca_table::pool::Pool;
 use ca_table::seating::{rise, sit};
-use ca_table::waiting::wait_for_good;
 use ca_table::worker::Worker;
 use ca_timers::clock::{Clock, Failed};
 use ca_timers::timers::Timers;
@@ -49,7 +47,8 @@ pub(crate) enum Rested {
 }
 
 // Leaves the run if its mark is set, where the timers are free; whether it does.
-fn obey<A: Agent, C: Clock + Drop>(
+fn obey<R: Wait, A: Agent, C: Clock + Drop>(
+    rt: &R,
     table: &Table<Pool<A, C>>,
     code: &ValidCode,
     worker: &mut Worker<A, C>,
@@ -57,7 +56,6 @@ fn obey<A: Agent, C: Clock + Drop>(
 ) -> bool
     requires bare { IsBare held.old }
     requires carries { (program : ProgramView) × (n : ℕ) × (l : Lane A) × IsCarrying A.over A.stands program code.now table.now.id n worker.old (just_lane n code.now l) }
-    requires turns { length worker.old.hand.view.turns < 2 ^ 59 }
     ensures same { SameWorker worker.old worker.new }
     ensures bare { IsBare held.new }
     ensures drew { Drew 0 result worker.old worker.new }
@@ -67,7 +65,7 @@ fn obey<A: Agent, C: Clock + Drop>(
         None => false,
         Some(clockwork) => {
             if is_marked(&clockwork) {
-                draw_clock(table, code, worker, held, clockwork, Turned::Halt);
+                draw_clock(rt, table, code, worker, held, clockwork, Turned::Halt);
                 true
             } else {
                 put_off(table, code, worker, held, Some(clockwork));
@@ -105,7 +103,6 @@ fn wait_late<R: Wait, A: Agent, C: Clock + Drop>(
     requires timely { clockwork.value.timers.moment ≤ C.least clockwork.value.clock }
     requires asking { 0 < C.spare clockwork.value.clock }
     requires bound { first < 2 ^ 62 }
-    requires turns { length worker.old.hand.view.turns < 2 ^ 59 }
     requires room { 0 < spare worker.old.entries }
     ensures same { SameWorker worker.old worker.new }
     ensures bare { IsBare held.new }
@@ -116,7 +113,7 @@ fn wait_late<R: Wait, A: Agent, C: Clock + Drop>(
     match answer {
         Err(Failed) => {
             let failed = with_mark(clockwork, Mark::ClockFailed);
-            draw_clock(table, code, worker, held, failed, Turned::Fail);
+            draw_clock(rt, table, code, worker, held, failed, Turned::Fail);
             Err(PoolStop::ClockFailed)
         }
         Ok(now) => {
@@ -149,7 +146,6 @@ fn wait_with<R: Wait, A: Agent, C: Clock + Drop>(
     requires bare { IsBare held.old }
     requires carries { (program : ProgramView) × (n : ℕ) × (l : Lane A) × IsCarrying A.over A.stands program code.now table.now.id n worker.old (taken (part_seen C.least C.faults C.readings) n code.now worker.old.number l (Some clockwork) held.old) }
     requires timely { clockwork.value.timers.moment ≤ C.least clockwork.value.clock }
-    requires turns { length worker.old.hand.view.turns < 2 ^ 59 }
     ensures same { SameWorker worker.old worker.new }
     ensures bare { IsBare held.new }
     ensures drew { IfOk result (λ i. Drew (cost_idle i) (is_over i) worker.old worker.new) }
@@ -187,11 +183,6 @@ fn await_deadline<R: Wait, A: Agent, C: Clock + Drop>(
     ensures drew { IfOk result (λ i. Drew (cost_idle i) (is_over i) worker.old worker.new) }
     ensures carries { (program : ProgramView) (n : ℕ) (l : Lane A) → IsCarrying A.over A.stands program code.now table.now.id n worker.old (just_lane n code.now l) → IsCarrying A.over A.stands program code.now table.now.id n worker.new (just_lane n code.now l) }
 {
-    if !can_draw(worker) {
-        // No worker draws 2^59 events.
-        wait_for_good(rt);
-        unreachable!()
-    }
     match try_clock(table, code, worker, held) {
         None => Ok(Rested::Busy),
         Some(clockwork) => wait_with(rt, alloc, table, code, worker, held, clockwork, first, ports),
@@ -250,12 +241,7 @@ pub(crate) fn idle<R: Wait, A: Agent, C: Clock + Drop>(
     ensures over { TaskOver A.over code.now result.0.value }
     ensures seated { (program : ProgramView) (n : ℕ) → IsSeated A.over A.stands program code.now table.now.id n worker.old lane.value → IsSeated A.over A.stands program code.now table.now.id n worker.new result.0.value }
 {
-    if !can_draw(worker) {
-        // No worker draws 2^59 events.
-        wait_for_good(rt);
-        unreachable!()
-    }
-    if obey(table, code, worker, held) {
+    if obey(rt, table, code, worker, held) {
         return (lane, Ok(Rested::Over));
     }
     let (lane, found) = look_round(rt, table, code, worker, lane);

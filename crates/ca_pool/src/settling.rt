@@ -1,5 +1,5 @@
 // A channel that settles by itself.
-ghost use Rattle.std.specs.Prelude.{◌≡◌, ℕ, ◌<◌, ◌^◌, None, IfOk, IsSome, OnErr, OnOk, false, length, unwrap_or};
+ghost use Rattle.std.specs.Prelude.{◌≡◌, ℕ, ◌<◌, None, IfOk, IsSome, OnErr, OnOk, false, unwrap_or};
 ghost use Rattle.ca_term.specs.Program.{ProgramView};
 ghost use Rattle.ca_value.specs.Seq.{list, spare};
 ghost use Rattle.ca_commit.specs.Contents.{whole};
@@ -143,12 +143,16 @@ fn draw_served<R: Wait, A: Agent, C: Clock + Drop>(
     requires ready { IsSome held.old.ready }
     requires timers { held.old.timers ≡ None }
     requires room { 0 < spare worker.old.entries }
-    requires turns { length worker.old.hand.view.turns < 2 ^ 59 }
     ensures same { SameWorker worker.old worker.new }
     ensures bare { IsBare held.new }
     ensures drew { Drew result false worker.old worker.new }
     ensures carries { (program : ProgramView) (n : ℕ) (l : Lane A) → IsCarrying A.over A.stands program code.now table.now.id n worker.old (taken (part_seen C.least C.faults C.readings) n code.now worker.old.number l None held.old) → IsCarrying A.over A.stands program code.now table.now.id n worker.new (just_lane n code.now l) }
 {
+    if !can_draw(worker) {
+        // No worker draws 2^59 events.
+        wait_for_good(rt);
+        unreachable!()
+    }
     let event = settled_by(held, port, side, wait, branch);
     let cost = cost_of(rt, &event);
     draw_aside(table, code, worker, held, None, Turned::Shown(event));
@@ -179,11 +183,6 @@ fn serve_taken<R: Wait, A: Agent, C: Clock + Drop>(
     ensures carries { (program : ProgramView) (n : ℕ) (l : Lane A) → IsCarrying A.over A.stands program code.now table.now.id n worker.old (taken (part_seen C.least C.faults C.readings) n code.now worker.old.number l None held.old) → IsCarrying A.over A.stands program code.now table.now.id n worker.new (just_lane n code.now l) }
 {
     take_ready(rt, table, code, worker, held);
-    if !can_draw(worker) {
-        // No worker draws 2^59 events.
-        wait_for_good(rt);
-        unreachable!()
-    }
     match prepare(alloc, worker, held, port) {
         Ok(()) => Ok(draw_served(rt, table, code, worker, held, port, side, wait, branch)),
         Err(refused) => {

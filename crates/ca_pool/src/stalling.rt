@@ -1,5 +1,5 @@
 // A worker that holds all parts of a run, and leaves it where nothing can go on.
-ghost use Rattle.std.specs.Prelude.{◌≡◌, ℕ, ◌+◌, ◌<◌, ◌≤◌, ◌^◌, Option, Some, None, eqb, false, is_some, length, true};
+ghost use Rattle.std.specs.Prelude.{◌≡◌, ℕ, ◌+◌, ◌<◌, ◌≤◌, Option, Some, None, eqb, false, is_some, true};
 ghost use Rattle.std.specs.Map.{update};
 ghost use Rattle.ca_term.specs.Program.{ProgramView};
 ghost use Rattle.ca_states.specs.Code.{CodeView};
@@ -22,7 +22,7 @@ use ca_table::silent::silent;
 use ca_table::waiting::wait_for_good;
 use ca_table::worker::Worker;
 use ca_timers::clock::Clock;
-use ca_turns::Table;
+use ca_turns::{Busy, Table};
 use ca_value::value::PortId;
 use std::sync::Wait;
 
@@ -70,7 +70,10 @@ fn try_one<A: Agent, C: Clock + Drop>(
     ensures holds { result ≡ true → (program : ProgramView) (code : CodeView) (n : ℕ) → IsOne A.over A.stands program code table.now.id n worker.old → (g : ℕ → Option (Part A C)) → Surveys (part_seen C.least C.faults C.readings) n code worker.old.hand g → (x : Part A C) × Surveys (part_seen C.least C.faults C.readings) n code worker.new.hand (update eqb g at (Some x)) }
     ensures missed { result ≡ false → (n : ℕ) (code : CodeView) (g : ℕ → Option (Part A C)) → Surveys (part_seen C.least C.faults C.readings) n code worker.old.hand g → Surveys (part_seen C.least C.faults C.readings) n code worker.new.hand g }
 {
-    table.try_hold(&mut worker.hand, at).is_ok()
+    match table.try_hold(&mut worker.hand, at) {
+        Ok(()) => true,
+        Err(Busy) => false,
+    }
 }
 
 // Holds the parts from the first on, as long as they are free; how far it came.
@@ -199,17 +202,22 @@ fn hold_all<R: Wait, A: Agent, C: Clock + Drop>(
 }
 
 // Draws that the worker leaves the run, in which nothing can go on, and holds all parts as before.
-fn draw_stall<A: Agent, C: Clock + Drop>(
+fn draw_stall<R: Wait, A: Agent, C: Clock + Drop>(
+    rt: &R,
     table: &Table<Pool<A, C>>,
     code: &ValidCode,
     worker: &mut Worker<A, C>,
 )
     requires all { (program : ProgramView) × (n : ℕ) × IsOne A.over A.stands program (valid_code code.now) table.now.id n worker.old × (g : ℕ → Option (Part A C)) × Surveys (part_seen C.least C.faults C.readings) n (valid_code code.now) worker.old.hand g × Fulls (part_count n) g × ((i : ℕ) → i < part_count n → IsStillAt C.least C.faults C.readings worker.old.hand i) × IsUndatedAt C.least C.faults C.readings worker.old.hand (n + 32) }
-    requires turns { length worker.old.hand.view.turns < 2 ^ 59 }
     ensures same { SameWorker worker.old worker.new }
     ensures drew { Drew 0 true worker.old worker.new }
     ensures holds { (program : ProgramView) (n : ℕ) → IsOne A.over A.stands program (valid_code code.now) table.now.id n worker.old → (g : ℕ → Option (Part A C)) → Surveys (part_seen C.least C.faults C.readings) n (valid_code code.now) worker.old.hand g → Fulls (part_count n) g → IsOne A.over A.stands program (valid_code code.now) table.now.id n worker.new × Surveys (part_seen C.least C.faults C.readings) n (valid_code code.now) worker.new.hand g }
 {
+    if !can_draw(worker) {
+        // No worker draws 2^59 events.
+        wait_for_good(rt);
+        unreachable!()
+    }
     let drawn = silent(code, worker, Turned::Stall);
     draw_event(table, worker, drawn);
 }
@@ -234,12 +242,7 @@ fn conclude<R: Wait, A: Agent, C: Clock + Drop>(
         Look::Still => match first_open(worker, timers) {
             Some(first) => Surveyed::Waits(first),
             None => {
-                if !can_draw(worker) {
-                    // No worker draws 2^59 events.
-                    wait_for_good(rt);
-                    unreachable!()
-                }
-                draw_stall(table, code, worker);
+                draw_stall(rt, table, code, worker);
                 Surveyed::Stuck
             }
         },
