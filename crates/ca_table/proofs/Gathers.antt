@@ -119,7 +119,8 @@ module _ {C : Type 0} where
   noted_long [] = refl
   noted_long (t ∷ ts) = length-append (numbered t) (noted ts) ∙ ap (λ (n : ℕ). shows t + n) (noted_long ts)
 
-  shown_noted : (ts : List (Turn C Drawn)) → events_of (noted ts) ≡ shown_by ts
+  -- the events of what a worker noted are those that its turns show
+  pub shown_noted : (ts : List (Turn C Drawn)) → events_of (noted ts) ≡ shown_by ts
   shown_noted [] = refl
   shown_noted (t ∷ ts) = events_append (numbered t) (noted ts) ∙ ap (λ l. l ++ events_of (noted ts)) (same_events t.number (visible (turn_view t.event.what))) ∙ ap (λ l. visible (turn_view t.event.what) ++ l) (shown_noted ts)
 

@@ -20,6 +20,7 @@ pub mod Seeing
 pub mod Seats
 pub mod Carrying
 pub mod Noted
+pub mod Drawing
 pub mod Carried
 pub mod Covered
 pub mod Moved
@@ -27,6 +28,7 @@ pub mod Carriers
 pub mod Becoming
 pub mod Picks
 pub mod Liftings
+pub mod Lifts
 pub mod Loads
 pub mod Sounds
 pub mod Needing
@@ -38,6 +40,8 @@ pub mod Settled
 pub mod MadeOf
 pub mod Staying
 pub mod Loaded
+pub mod Aside
+pub mod Trying
 pub mod Lifted
 pub mod PlanCovered
 pub mod HaltMoved

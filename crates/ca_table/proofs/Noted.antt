@@ -30,7 +30,7 @@ append_nothing (x ∷ xs) = ap (λ l. x ∷ l) (append_nothing xs)
 
 pub drew_one : {A C : Type 0} (over : CodeView → A → Type 0) (stands_as : ProgramView → A → TaskBody → Type 0) (program : ProgramView) (code : CodeView) (id : TableId) (n : ℕ) (w : Worker A C) (h : Held (Part A C) (PartSeen A) Drawn) (es : Seq Entry) (k : ℕ) (d : Drawn) (before after : List (PartSeen A))
     → SameHand w.hand h → h.view.turns ≡ w.hand.view.turns ++ turn k d before after ∷ [] → ((i : ℕ) (t : Turn (PartSeen A) Drawn) → get_elem? w.hand.view.turns i ≡ some t → t.number < k) → entries es ≡ entries w.entries ++ entries_of k d.what
-    → IsOne over stands_as program code id n w → IsOne over stands_as program code id n (record { number = w.number; workers = w.workers; program = w.program; code = w.code; hand = h; entries = es })
+    → IsOne over stands_as program code id n w → IsOne over stands_as program code id n (record { number = w.number; workers = w.workers; program = w.program; code = w.code; hand = h; entries = es; answer = w.answer })
 drew_one over stands_as program code id n w h es k d before after same drew later notes one = record {
   table = same.table ∙ one.table;
   slots = one.slots;

@@ -13,7 +13,7 @@ use Rattle.ca_table.specs.declared.worker.Worker.{Worker}
 use Rattle.ca_table.proofs.Knowing.{knows_same}
 
 abbrev pub with_hand : {A C : Type 0} → Worker A C → Held (Part A C) (PartSeen A) Drawn → Worker A C
-with_hand w h = record { number = w.number; workers = w.workers; program = w.program; code = w.code; hand = h; entries = w.entries }
+with_hand w h = record { number = w.number; workers = w.workers; program = w.program; code = w.code; hand = h; entries = w.entries; answer = w.answer }
 
 pub same_one : {A C : Type 0} (over : CodeView → A → Type 0) (stands_as : ProgramView → A → TaskBody → Type 0) (program : ProgramView) (code : CodeView) (id : TableId) (n : ℕ) (w : Worker A C) (h : Held (Part A C) (PartSeen A) Drawn) → SameTurns w.hand h → IsOne over stands_as program code id n w → IsOne over stands_as program code id n (with_hand w h)
 same_one over stands_as program code id n w h same one = record {

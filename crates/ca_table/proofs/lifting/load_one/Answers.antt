@@ -1,8 +1,12 @@
 use Rattle.std.proofs.Common.{◌≡◌, ◌∙◌, ℕ, ◌+◌, Some, sym, ap, subst, arith}
+use Rattle.ca_states.specs.ValidCode.{valid_code}
 use Rattle.ca_commit.specs.Gathered.{kind_at}
 use Rattle.ca_commit.specs.Listings.{parts}
 use Rattle.ca_table.specs.Lifting.{first_of, lifted, place_in, with_all}
-use Rattle.ca_table.specs.Parts.{away, part_of, part_seen}
+use Rattle.ca_table.specs.Parts.{away, contents_seen, part_of, part_seen}
+use Rattle.ca_table.specs.Seen.{held_of}
+use Rattle.ca_table.specs.Sound.{IsSound}
+use Rattle.ca_table.specs.declared.part.Contents.{Contents}
 use Rattle.ca_table.proofs.Liftings.{in_run, is_place, kind_at_row, kind_of_held, numbered_in}
 use Rattle.ca_table.proofs.Loads.{ascends, lifted_there}
 use Rattle.ca_table.proofs.lifting.load_one.Goals as goal
@@ -35,3 +39,12 @@ returns-clause-carries g c = λ program n h none s. let a = g.A.Agent in let K =
     let at = ap (λ (m : ℕ). m + k) (c.first.ensures.number ∙ ap (first_of group) s.one.of) ∙ numbered_in group n w.number k in
     lifted_there a.over a.stands code c.args.table.now.id seen group g.T.Sixteen.as_contents g.T.Numbered.number program n c.hold_at.new.worker h (parts c.args.list.now) (parts c.push.new.self) k c.from_contents-part.result c.hold_at.result c.from_contents-part.ensures (let m = c.number.ensures in let f = c.if-number.false in omega (arith, m, f)) c.push.ensures.parts none
     (c.hold_at.ensures.carries program n before (place_in group k) s (is_place group k c.requires.number) at)
+
+pub returns-clause-list : goal.returns-clause-list
+returns-clause-list g c = let a = g.A.Agent in let K = g.C.Clock in let code = valid_code c.args.code.now in let w = c.args.worker.now in let k = c.args.number in let x = c.from_contents-part.result in (
+  x,
+  c.push.ensures.parts,
+  (let m = c.number.ensures in let f = c.if-number.false in omega (arith, m, f)),
+  subst (λ (j : ℕ). IsSound a.over a.place code w.workers (j + k) (held_of (contents_seen K.least K.faults K.readings (g.T.Sixteen.as_contents x)))) c.first.ensures.number
+      (subst (λ (z : Contents g.row.A.Denot g.row.C.Denot). IsSound a.over a.place code w.workers (c.first.result + k) (held_of (contents_seen K.least K.faults K.readings z))) (sym c.from_contents-part.ensures) c.hold_at.ensures.sound),
+)

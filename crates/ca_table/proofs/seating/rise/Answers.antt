@@ -8,6 +8,7 @@ use Rattle.ca_table.specs.Seen.{PartSeen}
 use Rattle.ca_table.specs.Workers.{part_of_lane}
 use Rattle.ca_table.specs.declared.part.Contents.TheVariants.{Lane}
 use Rattle.ca_table.specs.declared.part.Part.{Part}
+use Rattle.ca_table.proofs.Drawing.{drew_held}
 use Rattle.ca_table.proofs.Gripping.{fit, holds_nothing}
 use Rattle.ca_table.proofs.Seats.{same_one, then_same}
 use Rattle.ca_table.proofs.Whole.{emptied}
@@ -27,11 +28,14 @@ give-requires-clause-settled g c = let s = c.requires.seated in let w = c.args.w
       update_here (update eqb nothing w.number (Some l)) w.number (Some held),
     )
 
-pub returns : goal.returns
-returns g c = λ program n s. let a = g.A.Agent in let w = c.args.worker.now in let lane = c.args.lane.value in let l : Part g.row.A.Denot g.row.C.Denot × PartSeen g.row.A.Denot = (away n c.args.code.now, part_of_lane n c.args.code.now lane) in let other = part_of w.workers c.args.code.now (Lane c.args.lane) in let held : Part g.row.A.Denot g.row.C.Denot × PartSeen g.row.A.Denot = (other, part_of_lane n c.args.code.now lane) in
+pub returns-clause-ready : goal.returns-clause-ready
+returns-clause-ready g c = λ program n s. let a = g.A.Agent in let w = c.args.worker.now in let lane = c.args.lane.value in let l : Part g.row.A.Denot g.row.C.Denot × PartSeen g.row.A.Denot = (away n c.args.code.now, part_of_lane n c.args.code.now lane) in let other = part_of w.workers c.args.code.now (Lane c.args.lane) in let held : Part g.row.A.Denot g.row.C.Denot × PartSeen g.row.A.Denot = (other, part_of_lane n c.args.code.now lane) in
     let two = subst (λ (p : Part g.row.A.Denot g.row.C.Denot). Grips c.take_part-away.new.hand (update eqb (update eqb nothing w.number (Some l)) w.number (Some (p, part_of_lane n c.args.code.now lane)))) c.part_with-part.ensures (c.take_part-away.ensures.grips (update eqb nothing w.number (Some l)) (away n c.args.code.now) (part_of_lane n c.args.code.now lane) (update_here nothing w.number (Some l)) s.grips) in
     let three = c.give.ensures.grips (update eqb (update eqb nothing w.number (Some l)) w.number (Some held)) two in
     record {
       one = same_one a.over a.stands program (valid_code c.args.code.now) c.args.table.now.id n w c.give.new.hand (then_same w.hand c.take_part-away.new.hand c.give.new.hand c.take_part-away.ensures.same c.give.ensures.same) s.one;
       nothing = holds_nothing c.give.new.hand (update eqb (update eqb (update eqb nothing w.number (Some l)) w.number (Some held)) w.number None) three (λ i. emptied w.number (Some l) (Some held) i);
     }
+
+pub returns-clause-drew : goal.returns-clause-drew
+returns-clause-drew g c = let w = c.args.worker.now in drew_held w c.give.new.hand (then_same w.hand c.take_part-away.new.hand c.give.new.hand c.take_part-away.ensures.same c.give.ensures.same)

@@ -1,19 +1,23 @@
-use Rattle.std.proofs.Common.{ℕ, Some, refl, subst, eqb}
+use Rattle.std.proofs.Common.{ℕ, Some, refl, ap, subst, eqb}
+use Rattle.std.specs.Prelude.{option_map}
 use Rattle.std.specs.Map.{update}
 use Rattle.std.proofs.lemmas.Map.{update_here}
 use Rattle.ca_states.specs.ValidCode.{valid_code}
+use Rattle.ca_commit.specs.Tasks.{task_view}
 use Rattle.ca_table.specs.Grips.{Grips, nothing}
-use Rattle.ca_table.specs.Parts.{away, lane_seen, part_of, part_seen}
+use Rattle.ca_table.specs.Parts.{away, contents_seen, lane_seen, part_of, part_seen}
+use Rattle.ca_table.specs.Seen.{held_of, lane_of_seen}
 use Rattle.ca_table.specs.Workers.{part_of_lane}
 use Rattle.ca_table.specs.declared.part.Contents.{Contents}
+use Rattle.ca_table.proofs.Drawing.{drew_held}
 use Rattle.ca_table.proofs.Gripping.{fit, grips_nothing}
 use Rattle.ca_table.proofs.Knowing.{knows_same}
 use Rattle.ca_table.proofs.Seats.{same_one}
 use Rattle.ca_table.proofs.Seeing.{program_is}
 use Rattle.ca_table.proofs.seating.sit.Goals as goal
 
-pub returns : goal.returns
-returns g c = λ program n r. let a = g.A.Agent in let m = g.met.A.Agent in let K = g.C.Clock in let w = c.args.worker.now in let lane = c.in-Lane.lane.value in let h = c.hold_out.ensures in let hand = c.hold_out.new.hand in
+pub returns-clause-seated : goal.returns-clause-seated
+returns-clause-seated g c = λ program n r. let a = g.A.Agent in let m = g.met.A.Agent in let K = g.C.Clock in let w = c.args.worker.now in let lane = c.in-Lane.lane.value in let h = c.hold_out.ensures in let hand = c.hold_out.new.hand in
     let seen = part_seen K.least K.faults K.readings in
     let held = h.grips nothing (grips_nothing w.hand r.nothing) in
     let here = subst (λ (x : Contents g.row.A.Denot g.row.C.Denot). Grips hand (update eqb nothing w.number (Some (away w.workers c.args.code.now, seen (part_of w.workers c.args.code.now x))))) c.in-Lane.is held in
@@ -25,3 +29,10 @@ returns g c = λ program n r. let a = g.A.Agent in let m = g.met.A.Agent in let 
       lane_is = program_is a.over a.place a.stands a.advances a.gives a.starts m.advanced m.answered m.started program (valid_code c.args.code.now) n hand.view k h.history w.number (part_of_lane n c.args.code.now lane) at.1 (lane_seen lane) refl;
       grips = gripped;
     }
+
+pub returns-clause-drew : goal.returns-clause-drew
+returns-clause-drew g c = drew_held c.args.worker.now c.hold_out.new.hand c.hold_out.ensures.same
+
+pub returns-clause-over : goal.returns-clause-over
+returns-clause-over g c = λ t e. let K = g.C.Clock in let lane = c.in-Lane.lane.value in
+    c.hold_out.ensures.sound.running (lane_of_seen (lane_seen lane)) (task_view t).0 (task_view t).1 (ap (λ (x : Contents g.row.A.Denot g.row.C.Denot). held_of (contents_seen K.least K.faults K.readings x)) c.in-Lane.is) (ap (option_map task_view) e)

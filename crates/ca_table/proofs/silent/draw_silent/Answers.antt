@@ -3,6 +3,7 @@ use Rattle.ca_states.specs.ValidCode.{valid_code}
 use Rattle.ca_table.specs.Draws.{drawn_view, turn_view}
 use Rattle.ca_table.specs.Parts.{part_seen}
 use Rattle.ca_table.proofs.Carriers.{moved_as}
+use Rattle.ca_table.proofs.Drawing.{drew_hidden}
 use Rattle.ca_table.proofs.silent.draw_silent.Goals as goal
 
 pub draw_carried-requires-clause-carries : goal.draw_carried-requires-clause-carries
@@ -15,3 +16,6 @@ draw_carried-requires-clause-code g c = ap valid_code c.silent-drawn.ensures.cod
 pub returns-clause-carries : goal.returns-clause-carries
 returns-clause-carries g c = λ program n h s m. let a = g.A.Agent in let K = g.C.Clock in let w = c.args.worker.now in
     c.draw_carried.ensures.carries program c.args.code.now n h s (moved_as a.over a.place a.advances a.gives a.starts (part_seen K.least K.faults K.readings) c.args.code.now n w.number w.number n w.workers (turn_view c.args.what) (drawn_view c.silent-drawn.result) h refl s.one.of c.silent-drawn.ensures.view m)
+
+pub returns-clause-drew : goal.returns-clause-drew
+returns-clause-drew g c = λ none. let q = c.draw_carried.ensures in let d = q.drew in drew_hidden d.0 c.silent-drawn.result d.1 d.2 c.args.what q.same q.hand d.3 c.silent-drawn.ensures.what c.requires.hidden none

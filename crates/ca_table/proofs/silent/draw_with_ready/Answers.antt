@@ -9,6 +9,7 @@ use Rattle.ca_table.specs.Seen.{PartSeen}
 use Rattle.ca_table.specs.Workers.{part_of_lane}
 use Rattle.ca_table.specs.declared.part.Contents.TheVariants.{Lane, Ready}
 use Rattle.ca_table.specs.declared.part.Part.{Part}
+use Rattle.ca_table.proofs.Drawing.{drew_before, drew_later}
 use Rattle.ca_table.proofs.Picks.{settled_back}
 use Rattle.ca_table.proofs.silent.draw_with_ready.Goals as goal
 
@@ -61,3 +62,7 @@ returns-clause-carries g c = λ P n l q s m. let a = g.A.Agent in let K = g.C.Cl
     let gave = c.give_at.ensures.carries P c.args.code.now n lane (ready_place at) (Some (part_of n c.args.code.now (Ready c.args.ready), part_of_ready n c.args.code.now (tasks_in c.args.ready))) refl drew tt e in
     let last = c.take_lane.ensures.carries P id n nothing_carried c.args.lane (part_of_lane n c.args.code.now c.args.lane.value) gave in
     subst (λ (b : LaneBox g.row.A.Denot). IsCarrying a.over a.stands P c.args.code.now id n c.take_lane.new.worker (just_lane n c.args.code.now b.value)) (sym last.0) last.1
+
+pub returns-clause-drew : goal.returns-clause-drew
+returns-clause-drew g c = λ none. let put = c.put_both.ensures in let gave = c.give_at.ensures in let took = c.take_lane.ensures in
+    drew_before (drew_before (drew_later put.same put.turns (c.draw_silent.ensures.drew none)) gave.same gave.turns) took.same took.turns

@@ -7,6 +7,7 @@ use Rattle.ca_commit.specs.declared.task.Task.{Task}
 use Rattle.ca_table.specs.Carriers.{IsCarrying, LaneBox, just_lane, with_ready}
 use Rattle.ca_table.specs.Sound.{AllOver}
 use Rattle.ca_table.proofs.Carriers.{carries_seated, lane_alone, seated_carries}
+use Rattle.ca_table.proofs.Drawing.{drew_later, drew_none}
 use Rattle.ca_table.proofs.Picks.{picked, some_none, some_same}
 use Rattle.ca_table.proofs.silent.pick.Goals as goal
 
@@ -52,3 +53,9 @@ returns-in-Some-clause-over g c = λ t e. let K = valid_code c.args.code.now in 
     let all = subst (AllOver g.A.Agent.over K) c.in-Some.ensures.some c.hold_ready-ready.ensures.over in
     let is = sym (ap (λ (b : LaneBox g.row.A.Denot). b.value.task) c.draw_with_ready.ensures.lane ∙ c.with_task-seated.ensures.task) ∙ e in
     subst (λ (t : Task g.row.A.Denot). g.A.Agent.over K t.agent) (some_same task t is) all.0
+
+pub returns-in-None-clause-drew : goal.returns-in-None-clause-drew
+returns-in-None-clause-drew g c = let held = c.hold_ready-ready.ensures in let gave = c.give_ready.ensures in drew_later held.same held.turns (drew_none gave.same gave.turns)
+
+pub returns-in-Some-clause-drew : goal.returns-in-Some-clause-drew
+returns-in-Some-clause-drew g c = let held = c.hold_ready-ready.ensures in drew_later held.same held.turns (c.draw_with_ready.ensures.drew refl)

@@ -1,9 +1,10 @@
-use Rattle.std.proofs.Common.{◌∙◌, ℕ, ◌+◌, List, [], ◌∷◌, ◌++◌, sym, ap, arith, subst}
+use Rattle.std.proofs.Common.{◌∙◌, ℕ, ◌+◌, List, [], ◌∷◌, ◌++◌, refl, sym, ap, arith, subst}
 use Rattle.ca_term.specs.Program.{program_view}
 use Rattle.ca_commit.specs.Agents.{TaskAgent}
 use Rattle.ca_commit.specs.Tasks.{task_view, tasks_in}
 use Rattle.ca_table.specs.Carriers.{IsCarrying, LaneBox, just_lane, with_ready}
 use Rattle.ca_table.proofs.Carriers.{carries_seated, lane_alone, seated_carries}
+use Rattle.ca_table.proofs.Drawing.{drew_later, drew_none}
 use Rattle.ca_table.proofs.Picks.{yielded}
 use Rattle.ca_table.proofs.silent.yield_task.Goals as goal
 
@@ -32,3 +33,9 @@ returns-in-Ok-clause-seated g c = λ program n s. let a = g.A.Agent in let K = g
     let held = c.hold_ready-ready.ensures.carries program n (just_lane n c.args.code.now l) (seated_carries a.over a.stands program c.args.code.now id n c.args.worker.now l s) in
     let q = tasks_in c.hold_ready-ready.result in let m = yielded a.over a.place a.advances a.gives a.starts K.least K.faults K.readings c.args.code.now n w.number at l q lane.result.0 ready t (sym c.hold_ready-ready.ensures.same.number) lane.ensures.task lane.ensures.free lane.ensures.program lane.ensures.counts (c.push.ensures.tasks ∙ ap (λ z. z ++ task_view t ∷ []) c.reserve.ensures.tasks) in
     carries_seated a.over a.stands program c.args.code.now id n d.new.worker d.result.value (ap (λ (b : LaneBox g.row.A.Denot). program_view b.value.program.value) d.ensures.lane ∙ ap (λ p. program_view p.value) lane.ensures.program ∙ s.lane_is) (d.ensures.carries program n l q held m)
+
+pub returns-in-Err-clause-drew : goal.returns-in-Err-clause-drew
+returns-in-Err-clause-drew g c = let held = c.hold_ready-ready.ensures in let gave = c.give_ready.ensures in drew_later held.same held.turns (drew_none gave.same gave.turns)
+
+pub returns-in-Ok-clause-drew : goal.returns-in-Ok-clause-drew
+returns-in-Ok-clause-drew g c = let held = c.hold_ready-ready.ensures in drew_later held.same held.turns (c.draw_with_ready-free.ensures.drew refl)
