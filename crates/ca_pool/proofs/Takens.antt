@@ -1,5 +1,5 @@
 -- What a worker carries at its calls, told of what shows the same, or of a worker with the same number.
-use Rattle.std.proofs.Common.{◌≡◌, ◌∙◌, ℕ, List, sym, ap, ap₂, subst, Option, Some, None, true, is_some}
+use Rattle.std.proofs.Common.{◌≡◌, ◌∙◌, ℕ, List, sym, ap, ap₂, subst, Option, Some, None, Result, Ok, Err, OnErr, true, is_some}
 use Rattle.ca_value.specs.Seq.{list}
 use Rattle.ca_term.specs.Program.{ProgramView}
 use Rattle.ca_meaning.specs.Task.{TaskBody}
@@ -80,3 +80,8 @@ ready_same old new show e = sym (some_map tasks_in new.ready) ∙ ap is_some sho
 -- what only got a ready part more settles the same
 pub served_ready : {A : Type 0} (old new : Held A) (p : ℕ) → new.banks ≡ old.banks → new.shards ≡ old.shards → served_in new p ≡ served_in old p
 served_ready old new p banks shards = ap₂ (λ b s. settle_at (glance (waits_held s)) (whole (channels_held b) p)) banks shards
+
+-- what holds anyway holds of what was refused
+pub refused_or : {T E P : Type 0} (r : Result T E) → P → OnErr r P
+refused_or (Ok t) p = tt
+refused_or (Err e) p = p

@@ -159,7 +159,7 @@ fn draw_served<R: Wait, A: Agent, C: Clock + Drop>(
     cost
 }
 
-// Settles the channel by serving that branch of the wait, and gives back all that is held. What that cost.
+// Settles the channel by serving that branch of the wait, and gives back all that is held.
 fn serve_taken<R: Wait, A: Agent, C: Clock + Drop>(
     rt: &R,
     alloc: Global,
@@ -171,7 +171,7 @@ fn serve_taken<R: Wait, A: Agent, C: Clock + Drop>(
     side: Side,
     wait: WaitId,
     branch: u64,
-) -> Result<u64, OutOfMemory>
+) -> Result<Settling, OutOfMemory>
     requires carries { (program : ProgramView) × (n : ℕ) × (l : Lane A) × IsCarrying A.over A.stands program code.now table.now.id n worker.old (taken (part_seen C.least C.faults C.readings) n code.now worker.old.number l None held.old) }
     requires serves { served_in held.old port.n ≡ serves side wait.n branch }
     requires paused { (w : ℕ) → IsPaused A.place (whole (waits_held held.old.shards) w) }
@@ -179,12 +179,15 @@ fn serve_taken<R: Wait, A: Agent, C: Clock + Drop>(
     requires timers { held.old.timers ≡ None }
     ensures same { SameWorker worker.old worker.new }
     ensures bare { IsBare held.new }
-    ensures drew { IfOk result (λ cost. Drew cost false worker.old worker.new) }
+    ensures drew { IfOk result (λ s. Drew (cost_settling s) false worker.old worker.new) }
     ensures carries { (program : ProgramView) (n : ℕ) (l : Lane A) → IsCarrying A.over A.stands program code.now table.now.id n worker.old (taken (part_seen C.least C.faults C.readings) n code.now worker.old.number l None held.old) → IsCarrying A.over A.stands program code.now table.now.id n worker.new (just_lane n code.now l) }
 {
     take_ready(rt, table, code, worker, held);
     match prepare(alloc, worker, held, port) {
-        Ok(()) => Ok(draw_served(rt, table, code, worker, held, port, side, wait, branch)),
+        Ok(()) => {
+            let cost = draw_served(rt, table, code, worker, held, port, side, wait, branch);
+            Ok(Settling::Settled(cost))
+        }
         Err(refused) => {
             put_off(table, code, worker, held, None);
             Err(refused)
@@ -226,8 +229,7 @@ fn look_once<R: Wait, A: Agent, C: Clock + Drop>(
             Ok(Settling::Again)
         }
         Serving::Serves(side, wait, branch) => {
-            let served = serve_taken(rt, alloc, table, code, worker, held, port, side, wait, branch)?;
-            Ok(Settling::Settled(served))
+            serve_taken(rt, alloc, table, code, worker, held, port, side, wait, branch)
         }
     }
 }

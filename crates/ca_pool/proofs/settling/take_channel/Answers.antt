@@ -1,5 +1,8 @@
-use Rattle.std.proofs.Common.{None, sym}
-use Rattle.ca_pool.proofs.Takens.{as_number, bare_in, bare_out}
+use Rattle.std.proofs.Common.{ℕ, None, sym}
+use Rattle.ca_term.specs.Program.{ProgramView}
+use Rattle.ca_table.specs.Carriers.{IsCarrying, just_lane}
+use Rattle.ca_table.specs.declared.part.Lane.{Lane}
+use Rattle.ca_pool.proofs.Takens.{as_number, bare_in, bare_out, refused_or}
 use Rattle.ca_pool.proofs.settling.take_channel.Goals as goal
 
 pub take_banks-requires-clause-carries : goal.take_banks-requires-clause-carries
@@ -7,9 +10,11 @@ take_banks-requires-clause-carries g c = let a = g.A.Agent in let K = g.C.Clock 
     (r.0, r.1, r.2, bare_in a.over a.stands K.least K.faults K.readings r.0 c.args.code.now c.args.table.now.id r.1 w r.2 w.number c.args.held.now c.requires.bare r.3)
 
 pub returns-in_err-take_banks-clause-kept : goal.returns-in_err-take_banks-clause-kept
-returns-in_err-take_banks-clause-kept g c = λ P n l s. let a = g.A.Agent in let K = g.C.Clock in let w = c.args.worker.now in let t = c.take_banks in
-    bare_out a.over a.stands K.least K.faults K.readings P c.args.code.now c.args.table.now.id n t.new.worker l w.number t.new.held c.in_err-take_banks.ensures.refused
-    (t.ensures.carries P n l (bare_in a.over a.stands K.least K.faults K.readings P c.args.code.now c.args.table.now.id n w l w.number c.args.held.now c.requires.bare s))
+returns-in_err-take_banks-clause-kept g c = let a = g.A.Agent in let K = g.C.Clock in let w = c.args.worker.now in let t = c.take_banks in let code = c.args.code.now in let id = c.args.table.now.id in
+    let kept : (P : ProgramView) (n : ℕ) (l : Lane g.row.A.Denot) → IsCarrying a.over a.stands P code id n w (just_lane n code l) → IsCarrying a.over a.stands P code id n t.new.worker (just_lane n code l)
+    = λ P n l s. bare_out a.over a.stands K.least K.faults K.readings P code id n t.new.worker l w.number t.new.held c.in_err-take_banks.ensures.refused
+        (t.ensures.carries P n l (bare_in a.over a.stands K.least K.faults K.readings P code id n w l w.number c.args.held.now c.requires.bare s)) in
+    refused_or _ kept
 
 pub take_shards-requires-clause-carries : goal.take_shards-requires-clause-carries
 take_shards-requires-clause-carries g c = let a = g.A.Agent in let K = g.C.Clock in let r = c.requires.carries in let w = c.args.worker.now in let t = c.take_banks in let code = c.args.code.now in let id = c.args.table.now.id in (
