@@ -1,7 +1,9 @@
 -- A channel that rests whichever of its handlers are stale, and a bank of such.
-use Rattle.std.proofs.Common.{◌≡◌, ◌∙◌, ◌<◌, ℕ, zero, suc, List, [], ◌∷◌, refl, sym, ap, arith, Bool, true, false, ◌&&◌, cond, Option, Some, None, is_some, length}
+use Rattle.std.proofs.Common.{◌≡◌, ◌∙◌, ◌+◌, ◌<◌, ℕ, zero, suc, List, [], ◌∷◌, refl, sym, ap, arith, Bool, true, false, ◌&&◌, cond, Option, Some, None, is_some, length}
 use Rattle.std.specs.Prelude.{◌||◌, nat_lt, not, option_map, slice_get}
 use Rattle.std.proofs.lemmas.Bool.{lt-ltb}
+use mathlib.Core.Logic.{dite}
+use native.Mathlib.Decide.{ℕ_discrete}
 use Rattle.ca_value.specs.Tree.{Tree, nil}
 use Rattle.ca_term.specs.declared.event.Side.TheVariants.{Take}
 use Rattle.ca_meaning.specs.Channel.{Channel, has_room, is_fixed}
@@ -64,3 +66,16 @@ RestBefore b m = (i p : ℕ) → i < m → channel_at b i ≡ Some p → rests_a
 pub all_rest : (b : Bank) (m : ℕ) → RestBefore b m → channel_at b m ≡ None → AllRest (kept_at b)
 all_rest b m before none p k e = let h = has_place b p k e in
     rests_by k (sym (ap rests_anyway e) ∙ before h.0 p (none_after (λ e. e.0) b.rooms.entries m h.0 p none h.1) h.1)
+
+pub none_before : (b : Bank) → RestBefore b 0
+none_before b i p lt e = absurd (omega (arith, lt))
+
+-- one channel more rests
+pub one_rests : (b : Bank) (m p : ℕ) → RestBefore b m → channel_at b m ≡ Some p → rests_anyway (kept_at b p) ≡ true → RestBefore b (m + 1)
+one_rests b m p before at yes i q lt e = dite (ℕ_discrete i m)
+    (λ same. let k : Some q ≡ Some p = sym e ∙ ap (channel_at b) same ∙ at in let z : q ≡ p = cc in ap (λ (r : ℕ). rests_anyway (kept_at b r)) z ∙ yes)
+    (λ ne. before i q (omega (arith, lt, ne)) e)
+
+pub not_false : (b : Bool) → not b ≡ false → b ≡ true
+not_false true e = refl
+not_false false e = absurd (let z : true ≡ false = e in cc)

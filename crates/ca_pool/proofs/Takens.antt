@@ -1,5 +1,5 @@
 -- What a worker carries at its calls, told of what shows the same, or of a worker with the same number.
-use Rattle.std.proofs.Common.{◌≡◌, ◌∙◌, ℕ, List, sym, ap, ap₂, subst, Option, Some, None, Result, Ok, Err, OnErr, true, is_some}
+use Rattle.std.proofs.Common.{◌≡◌, ◌∙◌, ℕ, List, refl, sym, ap, ap₂, subst, Option, Some, None, Result, Ok, Err, IfOk, OnErr, true, is_some}
 use Rattle.ca_value.specs.Seq.{list}
 use Rattle.ca_term.specs.Program.{ProgramView}
 use Rattle.ca_meaning.specs.Task.{TaskBody}
@@ -85,3 +85,11 @@ served_ready old new p banks shards = ap₂ (λ b s. settle_at (glance (waits_he
 pub refused_or : {T E P : Type 0} (r : Result T E) → P → OnErr r P
 refused_or (Ok t) p = tt
 refused_or (Err e) p = p
+
+pub same_show : {A : Type 0} (h : Held A) → ShowSame h h
+same_show h = record { channels = λ i. refl; registries = λ i. refl; waits = λ i. refl; ready = refl }
+
+-- what follows where a call succeeds
+pub if_ok : {T E : Type 0} (P Q : T → Type 0) (r : Result T E) → ((x : T) → P x → Q x) → IfOk r P → IfOk r Q
+if_ok P Q (Ok x) f p = f x p
+if_ok P Q (Err e) f p = tt

@@ -1,8 +1,10 @@
-use Rattle.std.proofs.Common.{None, sym}
+use Rattle.std.proofs.Common.{None, refl, sym, false, zero-add}
 use Rattle.ca_commit.proofs.Stales.{settle_stale}
 use Rattle.ca_table.specs.Bearing.{parts_held}
-use Rattle.ca_table.proofs.Drawing.{drew_both}
-use Rattle.ca_pool.proofs.Takens.{as_number}
+use Rattle.ca_table.specs.Worked.{Drew}
+use Rattle.ca_table.proofs.Drawing.{drew_as, drew_both}
+use Rattle.ca_pool.specs.Costs.{cost_settling}
+use Rattle.ca_pool.proofs.Takens.{as_number, if_ok}
 use Rattle.ca_pool.proofs.settling.look_once.Goals as goal
 
 pub put_off-requires-clause-carries : goal.put_off-requires-clause-carries
@@ -42,3 +44,7 @@ returns-in-Serves-clause-carries g c = λ P n l s. let a = g.A.Agent in let K = 
 
 pub returns-in-Stale-clause-drew : goal.returns-in-Stale-clause-drew
 returns-in-Stale-clause-drew g c = drew_both c.take_channel.ensures.drew c.prune.ensures.drew
+
+pub returns-in-Serves-clause-drew : goal.returns-in-Serves-clause-drew
+returns-in-Serves-clause-drew g c = let t = c.take_channel in let k = c.serve_taken in
+    if_ok (λ x. Drew (cost_settling x) false t.new.worker k.new.worker) (λ x. Drew (cost_settling x) false c.args.worker.now k.new.worker) k.result (λ x d. drew_as (zero-add (cost_settling x)) refl (drew_both t.ensures.drew d)) k.ensures.drew
