@@ -1,3 +1,5 @@
+pub mod AllParts
+pub mod Asides
 pub mod AtEvents
 pub mod AtWork
 pub mod BanksHeld
@@ -10,10 +12,15 @@ pub mod Placing
 pub mod PlansDrawn
 pub mod PlansReadied
 pub mod Preparations
+pub mod Ranges
 pub mod Resolutions
 pub mod Rounding
 pub mod Sending
 pub mod ShardsAbove
 pub mod StaleHandlers
+pub mod Stalls
+pub mod Stays
+pub mod StillParts
 pub mod Stopping
+pub mod Takens
 pub mod Trying

@@ -1,6 +1,8 @@
 pub mod Answers
+pub mod Asking
 pub mod AtEvent
 pub mod AtWork
+pub mod Costs
 pub mod Desk
 pub mod Endings
 pub mod Fitting
@@ -10,3 +12,4 @@ pub mod PoolEnds
 pub mod Prepared
 pub mod Preparing
 pub mod Resolving
+pub mod Surveys
