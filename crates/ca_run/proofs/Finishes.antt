@@ -187,8 +187,12 @@ told_accepted (Some c) before after held taken n h p = record { text = codes "ok
 
 told_run : (asked : Option Command) (before after held taken : Option (List ℕ)) (m : ScriptRun) (shown : Bool) (n : ℕ) → AnswersTo asked before after (Ran m shown) → Appends held taken (take n (answer_text (Ran m shown))) → Partly asked before after held taken (Some m.journal)
 told_run None before after held taken m shown n h p = absurd h
-told_run (Some c) before after held taken m shown n h p = record { text = answer_text (Ran m shown); count = n; prefix = p;
-    source = (c, refl, (end_of m.end, h.2, subst (λ (b : Bool). RunText b (events m.journal) (end_of m.end) (answer_text (Ran m shown))) h.1 (line_of_end m.end, h.3, refl))) }
+told_run (Some c) before after held taken m shown n h p = record {
+  text = answer_text (Ran m shown);
+  count = n;
+  prefix = p;
+  source = (c, refl, (end_of m.end, h.2, subst (λ (b : Bool). RunText b (events m.journal) (end_of m.end) (answer_text (Ran m shown))) h.1 (line_of_end m.end, h.3, refl)));
+}
 
 pub partly_of : (asked : Option Command) (before after held taken : Option (List ℕ)) (a : Answer) (n : ℕ) → AnswersTo asked before after a → Appends held taken (take n (answer_text a)) → Partly asked before after held taken (journal_of a)
 partly_of asked before after held taken Usage n h p = rw (unasked asked before after h) (record { text = usage; count = n; prefix = p; source = refl })

@@ -16,6 +16,8 @@ pub fn load_script(alloc: Global, n: u64) -> Result<Text, OutOfMemory>
         b"(defn step [x] (mod (+ (* x 37) 11) 1000))\n(def in (chan 16))\n(def out (chan 16))\n(pipeline 8 out (map step) in)\n(go-loop [i 0] (if (< i ",
     )?;
     text.append(itoa::Buffer::new().format(n).as_bytes())?;
-    text.append(b") (do (>! in i) (recur (inc i))) (close! in)))\n(println (loop [s 0 k 0] (let [v (<!! out)] (if (nil? v) [k s] (recur (+ s v) (inc k))))))\n")?;
+    text.append(
+        b") (do (>! in i) (recur (inc i))) (close! in)))\n(println (loop [s 0 k 0] (let [v (<!! out)] (if (nil? v) [k s] (recur (+ s v) (inc k))))))\n",
+    )?;
     Ok(text)
 }

@@ -53,10 +53,12 @@ fn last_fault(journal: &Journal) -> Option<(Fault, Place)>
     ensures { (f : FaultKind) (p : PlaceKind) (r : Option PortId) → EndsWith (events journal.now) (over 0 (FaultedEnding f p r)) → result ≡ Some (f, p) }
 {
     match journal.as_slice().last() {
-        Some(Event::End {
-            task: 0,
-            ending: Ending::Faulted { fault, place, .. },
-        }) => Some((*fault, *place)),
+        Some(
+            Event::End {
+                task: 0,
+                ending: Ending::Faulted { fault, place, .. },
+            },
+        ) => Some((*fault, *place)),
         _ => None,
     }
 }
@@ -99,6 +101,8 @@ pub fn run_script<R: Threads + Wait + Sync, C: Clock + Send + Sync, G: Gate + Sy
 {
     let code = lower_moving(alloc, program)?;
     let main = Machine::main(alloc, &code)?;
-    let run = run_pool(rt, alloc, program, &code, main, workers, budget, clock, gate)?;
+    let run = run_pool(
+        rt, alloc, program, &code, main, workers, budget, clock, gate,
+    )?;
     Ok(told(run))
 }

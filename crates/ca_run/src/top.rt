@@ -91,12 +91,7 @@ fn asked(alloc: Global, words: &[String]) -> Result<Option<Command>, memory::Out
 
 // What the source's script comes to.
 #[tactic(auto, using(crate::proofs::Judgements::answers_by_text))]
-fn judge_source<
-    R: Threads + Wait + Sync,
-    S: Source,
-    C: Clock + Send + Sync,
-    G: Gate + Sync,
->(
+fn judge_source<R: Threads + Wait + Sync, S: Source, C: Clock + Send + Sync, G: Gate + Sync>(
     rt: &R,
     alloc: Global,
     command: Command,
