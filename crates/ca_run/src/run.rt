@@ -1,4 +1,4 @@
-ghost use Rattle.std.specs.Prelude.{◌≡◌, ◌≤◌, ◌<◌, IfOk, Some};
+ghost use Rattle.std.specs.Prelude.{◌≡◌, ◌≤◌, ◌<◌, ℕ, IfOk, Option, Some};
 ghost use Rattle.ca_term.specs.declared.event.Ending.TheVariants.{Faulted as FaultedEnding};
 ghost use Rattle.ca_term.specs.declared.fault.Fault.{Fault as FaultKind};
 ghost use Rattle.ca_term.specs.declared.place.Place.{Place as PlaceKind};
@@ -65,7 +65,7 @@ fn last_fault(journal: &Journal) -> Option<(Fault, Place)>
 
 // The same end, with the fault that the journal tells.
 fn told(run: PoolRun) -> ScriptRun
-    requires end { (program : ProgramView) × HasEnd program budget (events run.journal) (end_view run.end) }
+    requires end { (program : ProgramView) × (budget : ℕ) × HasEnd program budget (events run.journal) (end_view run.end) }
     ensures journal { result.journal ≡ run.journal }
     ensures end { end_of result.end ≡ end_view run.end }
     ensures line { EndLine (events result.journal) (end_of result.end) (line_of_end result.end) }

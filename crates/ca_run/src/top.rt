@@ -1,9 +1,9 @@
-ghost use Rattle.std.specs.Prelude.{◌≡◌, ◌≢◌, ◌⊎◌, ◌≤◌, ℕ, List, map, string_bytes, true, false, codes, None, Some, Ok, Err, IfOk, IsSome};
+ghost use Rattle.std.specs.Prelude.{◌≡◌, ◌≢◌, ◌⊎◌, ◌≤◌, ℕ, List, Option, map, string_bytes, true, false, codes, None, Some, Ok, Err, IfOk, IsSome};
 ghost use Rattle.std.specs.Io.KnownBytes.{Appends};
 ghost use Rattle.ca_meaning.specs.Ends.{ended, faulted, limit, stuck};
 ghost use Rattle.ca_timers.specs.Causes.{Rose};
 ghost use Rattle.ca_words.specs.Words.{command_in};
-ghost use Rattle.ca_words.specs.declared.command.Command.TheVariants.{Check};
+ghost use Rattle.ca_words.specs.declared.command.Command.TheVariants.{Check, Load};
 ghost use Rattle.ca_run.specs.Top.{Accepted, Completed, CompletedFor, Refused, Partly, reads, runs, usage};
 ghost use Rattle.ca_run.specs.Answers.{status_of, journal_of, AnswersTo, IsFit};
 ghost use Rattle.ca_run.specs.declared.answer.Answer.{Answer};
@@ -112,6 +112,25 @@ fn judge_source<R: Threads + Wait + Sync, S: Source, C: Clock + Send + Sync, G: 
     Ok(judge_text(rt, alloc, command, input.as_slice(), clock, gate)?)
 }
 
+// What the generator's script for the number comes to.
+#[tactic(auto, using(crate::proofs::Judgements::answers_by_load))]
+fn judge_load<R: Threads + Wait + Sync, C: Clock + Send + Sync, G: Gate + Sync>(
+    rt: &R,
+    alloc: Global,
+    n: u64,
+    workers: u64,
+    clock: &mut C,
+    gate: &G,
+) -> Result<Answer, Stop>
+    requires fit { IsFit (Load n workers) }
+    ensures answers { (left : Option (List ℕ)) (a : Answer) → result ≡ Ok a → AnswersTo (Some (Load n workers)) left left a }
+    ensures unbroken { result ≢ Err Stop.SourceFailed }
+{
+    let script = load_script(alloc, n)?;
+    let command = Command::Load { n, workers };
+    Ok(judge_text(rt, alloc, command, script.as_slice(), clock, gate)?)
+}
+
 // What the words and the source come to.
 fn judge<R: Threads + Wait + Sync, S: Source, C: Clock + Send + Sync, G: Gate + Sync>(
     rt: &R,
@@ -132,10 +151,7 @@ fn judge<R: Threads + Wait + Sync, S: Source, C: Clock + Send + Sync, G: Gate + 
         return Ok(Answer::Usage);
     };
     match command {
-        Command::Load { n, .. } => {
-            let script = load_script(alloc, n)?;
-            Ok(judge_text(rt, alloc, command, script.as_slice(), clock, gate)?)
-        }
+        Command::Load { n, workers } => judge_load(rt, alloc, n, workers, clock, gate),
         Command::Run { .. } | Command::Check => {
             judge_source(rt, alloc, command, source, clock, gate)
         }
