@@ -65,15 +65,15 @@ check_fits (w ∷ ws) c e = absurd (let q : None ≡ Some c = e in cc)
 run_words_fit : (ws : List Text) (c : Command) → run_words ws ≡ Some c → IsFit c
 run_words_fit ws c e =
     run_fits (workers_of ws) (budget_of ws) (journal_of ws) c
-        (λ n h. setting_fits 1 1 16 (filter_map workers_in ws) n (omega arith, omega arith) h)
-        (λ n h. setting_fits 1000000 1 4000000 (filter_map budget_in ws) n (omega arith, omega arith) h)
-        (taken (list_all is_run_word ws) (run_with (workers_of ws) (budget_of ws) (journal_of ws)) c e).1
+    (λ n h. setting_fits 1 1 16 (filter_map workers_in ws) n (omega arith, omega arith) h)
+    (λ n h. setting_fits 1000000 1 4000000 (filter_map budget_in ws) n (omega arith, omega arith) h)
+    (taken (list_all is_run_word ws) (run_with (workers_of ws) (budget_of ws) (journal_of ws)) c e).1
 
 load_words_fit : (ws : List Text) (c : Command) → load_words ws ≡ Some c → IsFit c
 load_words_fit ws c e =
     load_fits (one_number 1 20000 (filter_map bare ws)) (workers_of ws) c
-        (λ n h. setting_fits 1 1 16 (filter_map workers_in ws) n (omega arith, omega arith) h)
-        (taken (list_all is_load_word ws) (load_with (one_number 1 20000 (filter_map bare ws)) (workers_of ws)) c e).1
+    (λ n h. setting_fits 1 1 16 (filter_map workers_in ws) n (omega arith, omega arith) h)
+    (taken (list_all is_load_word ws) (load_with (one_number 1 20000 (filter_map bare ws)) (workers_of ws)) c e).1
 
 -- a choice by the command's name
 named : (r k l : Bool) (ws : List Text) (c : Command) → (if r then run_words ws else (if k then check_words ws else (if l then load_words ws else None))) ≡ Some c → IsFit c

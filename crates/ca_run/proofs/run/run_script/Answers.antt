@@ -28,4 +28,4 @@ returns-clause-end g c =
     let told = c.told.result in
     let P = program_view c.args.program.now in
     subst (λ j. HasEnd P c.args.budget (events j) (end_of told.end)) (sym c.told.ensures.journal)
-        (subst (HasEnd P c.args.budget (events run.journal)) (sym c.told.ensures.end) c.in_ok-run.ensures.end)
+    (subst (HasEnd P c.args.budget (events run.journal)) (sym c.told.ensures.end) c.in_ok-run.ensures.end)

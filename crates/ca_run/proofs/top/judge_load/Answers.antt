@@ -11,4 +11,4 @@ returns-clause-answers g c = λ left a e.
     let same : c.in_ok-judge_text.field-0 ≡ a = cc in
     let judged : Judged (Load c.args.n c.args.workers) (list c.in_ok-script.script) c.in_ok-judge_text.field-0 = search rules in
     subst (AnswersTo (Some (Load c.args.n c.args.workers)) left left) same
-        (answers_by_load c.args.n c.args.workers left (list c.in_ok-script.script) c.in_ok-judge_text.field-0 c.in_ok-script.ensures judged)
+    (answers_by_load c.args.n c.args.workers left (list c.in_ok-script.script) c.in_ok-judge_text.field-0 c.in_ok-script.ensures judged)
