@@ -129,11 +129,11 @@ pub(crate) fn with_mark<C: Clock + Drop>(
     clockwork
 }
 
-/// Whether a mark is set.
-pub(crate) fn is_marked<C: Clock + Drop>(clockwork: &Clockwork<C>) -> bool
-    ensures { result ≡ true → mark_view clockwork.now.mark ≢ unmarked }
+/// Whether it is one that was set.
+pub(crate) fn is_marked(mark: Mark) -> bool
+    ensures { result ≡ true → mark_view mark ≢ unmarked }
 {
-    match clockwork.mark {
+    match mark {
         Mark::Unmarked => false,
         Mark::MainOver | Mark::ClockFailed | Mark::Stopped => true,
     }
@@ -492,7 +492,7 @@ fn look<R: Wait, A: Agent, C: Clock + Drop>(
     ensures drew { IfOk result (λ a. Drew (cost_asked a) (is_marked a) worker.old worker.new) }
     ensures carries { (program : ProgramView) (n : ℕ) (l : Lane A) → IsCarrying A.over A.stands program code.now table.now.id n worker.old (taken (part_seen C.least C.faults C.readings) n code.now worker.old.number l (Some clockwork) held.old) → IsCarrying A.over A.stands program code.now table.now.id n worker.new (just_lane n code.now l) }
 {
-    if is_marked(&clockwork) {
+    if is_marked(clockwork.mark) {
         draw_clock(rt, table, code, worker, held, clockwork, Turned::Halt);
         return Ok(Asked::Marked);
     }
