@@ -1,4 +1,5 @@
-use Rattle.std.proofs.Common.{◌∙◌, ap, arith, inr, refl}
+use Rattle.std.proofs.Common.{◌≡◌, ◌∙◌, ℕ, ap, arith, inr, subst}
+use Rattle.ca_pool.specs.Surveys.{Fills}
 use Rattle.ca_value.specs.Seq.{list}
 use Rattle.ca_table.specs.Parts.{part_seen}
 use Rattle.ca_pool.proofs.AllParts.{free_at}
@@ -21,3 +22,10 @@ pub loop-at-preserved : goal.loop-at-preserved
 loop-at-preserved g c = let a = g.A.Agent in let K = g.C.Clock in let v = c.loop-at.invariant in let t = c.try_one in let w0 = c.args.worker.now in let id = c.args.table.now.id in
     one_held a.over a.stands id (part_seen K.least K.faults K.readings) c.args.first w0 c.loop-at.worker t.new.worker c.loop-at.at v t.ensures.same t.ensures.turns t.ensures.entries
     (λ P code n one f s. t.ensures.holds c.if-not-try_one.false P code n (still_one a.over a.stands P id n w0 c.loop-at.worker v.did.same (ap list v.did.entries) code v.did.turns one) f s)
+
+pub returns-then-not-try_one-clause-holds : goal.returns-then-not-try_one-clause-holds
+returns-then-not-try_one-clause-holds g c = λ P code n one f s. let h = c.loop-at.invariant.holds P code n one f s in (h.0, c.try_one.ensures.missed c.if-not-try_one.true n code h.0 h.1, h.2)
+
+pub returns-clause-holds : goal.returns-clause-holds
+returns-clause-holds g c = λ P code n one f s. let h = c.loop-at.invariant.holds P code n one f s in let o = c.requires.order in let e : c.loop-at.at ≡ c.args.end = omega (arith, o, c.loop-at-test.false, c.loop-at.auto.at-end) in
+    (h.0, h.1, subst (λ (k : ℕ). Fills c.args.first k f h.0) e h.2)
