@@ -23,4 +23,5 @@ pub mod Stays
 pub mod StillParts
 pub mod Stopping
 pub mod Takens
+pub mod Ticked
 pub mod Trying

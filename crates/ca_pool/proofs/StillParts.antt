@@ -72,8 +72,8 @@ none_before b i p lt e = absurd (omega (arith, lt))
 
 -- one channel more rests
 pub one_rests : (b : Bank) (m p : ℕ) → RestBefore b m → channel_at b m ≡ Some p → rests_anyway (kept_at b p) ≡ true → RestBefore b (m + 1)
-one_rests b m p before at yes i q lt e = dite (ℕ_discrete i m)
-    (λ same. let k : Some q ≡ Some p = sym e ∙ ap (channel_at b) same ∙ at in let z : q ≡ p = cc in ap (λ (r : ℕ). rests_anyway (kept_at b r)) z ∙ yes)
+one_rests b m p before at calm i q lt e = dite (ℕ_discrete i m)
+    (λ same. let k : Some q ≡ Some p = sym e ∙ ap (channel_at b) same ∙ at in let z : q ≡ p = cc in ap (λ (r : ℕ). rests_anyway (kept_at b r)) z ∙ calm)
     (λ ne. before i q (omega (arith, lt, ne)) e)
 
 pub not_false : (b : Bool) → not b ≡ false → b ≡ true

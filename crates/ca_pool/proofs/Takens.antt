@@ -1,13 +1,14 @@
 -- What a worker carries at its calls, told of what shows the same, or of a worker with the same number.
-use Rattle.std.proofs.Common.{◌≡◌, ◌∙◌, ℕ, List, refl, sym, ap, ap₂, subst, Option, Some, None, Result, Ok, Err, IfOk, OnErr, true, is_some}
+use Rattle.std.proofs.Common.{◌≡◌, ◌∙◌, ℕ, List, refl, sym, ap, ap₂, subst, Option, Some, None, Result, Ok, Err, IfOk, OnErr, OnOk, true, is_some}
 use Rattle.ca_value.specs.Seq.{list}
 use Rattle.ca_term.specs.Program.{ProgramView}
 use Rattle.ca_meaning.specs.Task.{TaskBody}
 use Rattle.ca_commit.specs.Contents.{whole}
 use Rattle.ca_commit.specs.Finding.{glance, settle_at}
 use Rattle.ca_commit.specs.Settling.{served_in}
-use Rattle.ca_commit.specs.Showing.{channels_held, waits_held}
+use Rattle.ca_commit.specs.Showing.{channels_held, registries_held, waits_held}
 use Rattle.ca_commit.specs.Tasks.{tasks_in}
+use Rattle.ca_commit.specs.Waking.{ready_in}
 use Rattle.ca_commit.specs.declared.held.Held.{Held}
 use Rattle.ca_states.specs.Code.{CodeView}
 use Rattle.ca_states.specs.ValidCode.{valid_code}
@@ -93,3 +94,11 @@ same_show h = record { channels = λ i. refl; registries = λ i. refl; waits = �
 pub if_ok : {T E : Type 0} (P Q : T → Type 0) (r : Result T E) → ((x : T) → P x → Q x) → IfOk r P → IfOk r Q
 if_ok P Q (Ok x) f p = f x p
 if_ok P Q (Err e) f p = tt
+
+-- where only what is spare changed
+pub show_kept : {A : Type 0} (old new : Held A) → new.banks ≡ old.banks → new.shards ≡ old.shards → new.ready ≡ old.ready → ShowSame old new
+show_kept old new banks shards ready = record { channels = λ i. ap (λ b. channels_held b i) banks; registries = λ i. ap (λ b. registries_held b i) banks; waits = λ i. ap (λ z. waits_held z i) shards; ready = ap ready_in ready }
+
+pub for_ok : {T E P : Type 0} (r : Result T E) (x : T) → r ≡ Ok x → OnOk r P → P
+for_ok (Ok t) x e p = p
+for_ok (Err e) x is p = absurd (let z : Err e ≡ Ok x = is in cc)

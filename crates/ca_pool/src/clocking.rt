@@ -129,11 +129,11 @@ pub(crate) fn with_mark<C: Clock + Drop>(
     clockwork
 }
 
-/// Whether a mark is set.
-pub(crate) fn is_marked<C: Clock + Drop>(clockwork: &Clockwork<C>) -> bool
-    ensures { result ≡ true → mark_view clockwork.now.mark ≢ unmarked }
+/// Whether it is one that was set.
+pub(crate) fn is_marked(mark: Mark) -> bool
+    ensures { result ≡ true → mark_view mark ≢ unmarked }
 {
-    match clockwork.mark {
+    match mark {
         Mark::Unmarked => false,
         Mark::MainOver | Mark::ClockFailed | Mark::Stopped => true,
     }
@@ -253,33 +253,6 @@ fn banks_due<R: Wait>(
     unreachable!()
 }
 
-// What the tick of that moment needs: the list of its ports, and which banks they are in.
-fn prepare<R: Wait, A: Agent, C: Clock + Drop>(
-    rt: &R,
-    alloc: Global,
-    held: &mut Held<A>,
-    clockwork: Box<Clockwork<C>>,
-    now: u64,
-    ports: &mut Vec<u64>,
-) -> (Box<Clockwork<C>>, Result<Homes, OutOfMemory>)
-    ensures seen { clockwork_seen C.least C.faults C.readings result.0.value ≡ clockwork_seen C.least C.faults C.readings clockwork.value }
-    ensures timers { held.new.timers ≡ None }
-    ensures banks { held.new.banks ≡ held.old.banks }
-    ensures shards { held.new.shards ≡ held.old.shards }
-    ensures ready { held.new.ready ≡ held.old.ready }
-    ensures made { OnOk result.1 (IsMadeFor held.new (clockwork_seen C.least C.faults C.readings clockwork.value) now) }
-    ensures homes { IfOk result.1 (λ homes. HasHomes homes (due now clockwork.value.timers.deadlines)) }
-{
-    let (clockwork, made) = reserve_due(alloc, held, clockwork, now);
-    match made {
-        Ok(()) => {
-            let banks = banks_due(rt, &clockwork.timers, now, ports);
-            (clockwork, banks)
-        }
-        Err(refused) => (clockwork, Err(refused)),
-    }
-}
-
 // The tick of that moment, over what is held and the timers; None where nothing is due.
 fn tick_over<A: Agent, C: Clock + Drop>(
     alloc: Global,
@@ -365,9 +338,40 @@ pub(crate) fn pass<R: Wait, A: Agent, C: Clock + Drop>(
     ensures drew { IfOk result (λ a. Drew (cost_asked a) (is_marked a) worker.old worker.new) }
     ensures carries { (program : ProgramView) (n : ℕ) (l : Lane A) (clock0 : ClockBox C) → IsCarrying A.over A.stands program code.now table.now.id n worker.old (taken (part_seen C.least C.faults C.readings) n code.now worker.old.number l (Some clock0) held.old) → IsAsked now (clockwork_seen C.least C.faults C.readings clock0.value) (clockwork_seen C.least C.faults C.readings clockwork.value) → IsCarrying A.over A.stands program code.now table.now.id n worker.new (just_lane n code.now l) }
 {
-    let (clockwork, prepared) = prepare(rt, alloc, held, clockwork, now, ports);
-    match prepared {
+    match banks_due(rt, &clockwork.timers, now, ports) {
         Ok(banks) => close_due(rt, alloc, table, code, worker, held, clockwork, now, &banks),
+        Err(refused) => {
+            draw_clock(rt, table, code, worker, held, clockwork, Turned::Read);
+            Err(refused)
+        }
+    }
+}
+
+// Ticks, where the banks of the ports that are due are held.
+fn tick_with<R: Wait, A: Agent, C: Clock + Drop>(
+    rt: &R,
+    alloc: Global,
+    table: &Table<Pool<A, C>>,
+    code: &ValidCode,
+    worker: &mut Worker<A, C>,
+    held: &mut Held<A>,
+    clockwork: Box<Clockwork<C>>,
+    now: u64,
+) -> Result<Asked, OutOfMemory>
+    requires carries { (program : ProgramView) × (n : ℕ) × (l : Lane A) × (clock0 : ClockBox C) × IsCarrying A.over A.stands program code.now table.now.id n worker.old (taken (part_seen C.least C.faults C.readings) n code.now worker.old.number l (Some clock0) held.old) × IsAsked now (clockwork_seen C.least C.faults C.readings clock0.value) (clockwork_seen C.least C.faults C.readings clockwork.value) }
+    requires there { HasBanksOf held.old (due now clockwork.value.timers.deadlines) }
+    requires placed { Placed (channels_held held.old.banks) }
+    requires room { 0 < spare worker.old.entries }
+    requires ready { held.old.ready ≡ None }
+    requires timers { held.old.timers ≡ None }
+    ensures same { SameWorker worker.old worker.new }
+    ensures bare { IsBare held.new }
+    ensures drew { IfOk result (λ a. Drew (cost_asked a) (is_marked a) worker.old worker.new) }
+    ensures carries { (program : ProgramView) (n : ℕ) (l : Lane A) (clock0 : ClockBox C) → IsCarrying A.over A.stands program code.now table.now.id n worker.old (taken (part_seen C.least C.faults C.readings) n code.now worker.old.number l (Some clock0) held.old) → IsAsked now (clockwork_seen C.least C.faults C.readings clock0.value) (clockwork_seen C.least C.faults C.readings clockwork.value) → IsCarrying A.over A.stands program code.now table.now.id n worker.new (just_lane n code.now l) }
+{
+    let (clockwork, made) = reserve_due(alloc, held, clockwork, now);
+    match made {
+        Ok(()) => Ok(draw_tick(rt, alloc, table, code, worker, held, clockwork, now)),
         Err(refused) => {
             draw_clock(rt, table, code, worker, held, clockwork, Turned::Read);
             Err(refused)
@@ -389,7 +393,6 @@ fn close_due<R: Wait, A: Agent, C: Clock + Drop>(
 ) -> Result<Asked, OutOfMemory>
     requires bare { IsBare held.old }
     requires carries { (program : ProgramView) × (n : ℕ) × (l : Lane A) × (clock0 : ClockBox C) × IsCarrying A.over A.stands program code.now table.now.id n worker.old (taken (part_seen C.least C.faults C.readings) n code.now worker.old.number l (Some clock0) held.old) × IsAsked now (clockwork_seen C.least C.faults C.readings clock0.value) (clockwork_seen C.least C.faults C.readings clockwork.value) }
-    requires made { IsMadeFor held.old (clockwork_seen C.least C.faults C.readings clockwork.value) now }
     requires homes { HasHomes banks.now (due now clockwork.value.timers.deadlines) }
     requires room { 0 < spare worker.old.entries }
     ensures same { SameWorker worker.old worker.new }
@@ -398,7 +401,7 @@ fn close_due<R: Wait, A: Agent, C: Clock + Drop>(
     ensures carries { (program : ProgramView) (n : ℕ) (l : Lane A) (clock0 : ClockBox C) → IsCarrying A.over A.stands program code.now table.now.id n worker.old (taken (part_seen C.least C.faults C.readings) n code.now worker.old.number l (Some clock0) held.old) → IsAsked now (clockwork_seen C.least C.faults C.readings clock0.value) (clockwork_seen C.least C.faults C.readings clockwork.value) → IsCarrying A.over A.stands program code.now table.now.id n worker.new (just_lane n code.now l) }
 {
     match try_banks(rt, table, code, worker, banks, held) {
-        Ok(true) => Ok(draw_tick(rt, alloc, table, code, worker, held, clockwork, now)),
+        Ok(true) => tick_with(rt, alloc, table, code, worker, held, clockwork, now),
         Ok(false) => {
             draw_clock(rt, table, code, worker, held, clockwork, Turned::Read);
             Ok(Asked::Nothing)
@@ -489,7 +492,7 @@ fn look<R: Wait, A: Agent, C: Clock + Drop>(
     ensures drew { IfOk result (λ a. Drew (cost_asked a) (is_marked a) worker.old worker.new) }
     ensures carries { (program : ProgramView) (n : ℕ) (l : Lane A) → IsCarrying A.over A.stands program code.now table.now.id n worker.old (taken (part_seen C.least C.faults C.readings) n code.now worker.old.number l (Some clockwork) held.old) → IsCarrying A.over A.stands program code.now table.now.id n worker.new (just_lane n code.now l) }
 {
-    if is_marked(&clockwork) {
+    if is_marked(clockwork.mark) {
         draw_clock(rt, table, code, worker, held, clockwork, Turned::Halt);
         return Ok(Asked::Marked);
     }

@@ -64,7 +64,7 @@ fn obey<R: Wait, A: Agent, C: Clock + Drop>(
     match try_clock(table, code, worker, held) {
         None => false,
         Some(clockwork) => {
-            if is_marked(&clockwork) {
+            if is_marked(clockwork.mark) {
                 draw_clock(rt, table, code, worker, held, clockwork, Turned::Halt);
                 true
             } else {

@@ -123,6 +123,7 @@ fn give_range<A: Agent, C: Clock + Drop>(
     end: u64,
 )
     requires table { worker.old.hand.table ≡ table.now.id }
+    requires order { first ≤ end }
     requires settled { (n : ℕ) × (code : CodeView) × (g : ℕ → Option (Part A C)) × Surveys (part_seen C.least C.faults C.readings) n code worker.old.hand g × ((i : ℕ) → first ≤ i → i < end → is_some (g i) ≡ true) }
     ensures same { SameWorker worker.old worker.new }
     ensures turns { SameTurns worker.old.hand worker.new.hand }
