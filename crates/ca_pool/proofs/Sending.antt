@@ -3,6 +3,8 @@ use denote.RattleType.{RattleType}
 use denote.Param.Send.{IsSend, IsSync, sendable}
 use denote.Param.SendFields.{declared_send, declared_sync, variants_send, variants_sync}
 use Rattle.std.proofs.Crossing.{crosses}
+use Rattle.std.specs.contracts.snapshot.Snapshot as Snapshot
+use Rattle.ca_term.specs.contracts.program.Program as Program
 use Rattle.ca_value.proofs.Crosses.{value_send, value_sync}
 use Rattle.ca_value.proofs.seq.Seq.TheSendSync as seq
 use Rattle.ca_value.proofs.value.PortId.TheSendSync as port
@@ -136,6 +138,10 @@ code_sync = declared_sync Code.the_type (search (sendable, crosses, seq.the_sync
 
 pub valid_code_sync : IsSync ValidCode.the_row
 valid_code_sync = declared_sync ValidCode.the_type (search (sendable, code_sync) depth 20)
+
+-- the program, with no bytes
+pub text_sync : IsSync (Snapshot.the_row Program.the_row)
+text_sync = search (sendable, crosses) depth 20
 
 -- the parts, and a worker
 module _ (A C : RattleType) (s : IsSend A) (t : IsSend C) where
