@@ -15,3 +15,11 @@ returns-in-Err-clause-carries g c = λ P n l s. let K = g.C.Clock in let held = 
 pub pass-requires-clause-carries : goal.pass-requires-clause-carries
 pass-requires-clause-carries g c = let K = g.C.Clock in let r = c.requires.carries in let t = c.answer_late-clockwork in
     (r.0, r.1, r.2, c.args.clockwork, r.3, for_answer (λ now. IsAsked now (clockwork_seen K.least K.faults K.readings c.args.clockwork.value) (clockwork_seen K.least K.faults K.readings t.result.0.value)) t.result.1 c.in-Ok.now c.in-Ok.is t.ensures.asked)
+
+pub returns-in_err-asked-in-Ok-clause-carries : goal.returns-in_err-asked-in-Ok-clause-carries
+returns-in_err-asked-in-Ok-clause-carries g c = λ P n l s. let K = g.C.Clock in let t = c.answer_late-clockwork in
+    c.pass.ensures.carries P n l c.args.clockwork s (for_answer (λ now. IsAsked now (clockwork_seen K.least K.faults K.readings c.args.clockwork.value) (clockwork_seen K.least K.faults K.readings t.result.0.value)) t.result.1 c.in-Ok.now c.in-Ok.is t.ensures.asked)
+
+pub returns-in_ok-asked-in-Ok-clause-carries : goal.returns-in_ok-asked-in-Ok-clause-carries
+returns-in_ok-asked-in-Ok-clause-carries g c = λ P n l s. let K = g.C.Clock in let t = c.answer_late-clockwork in
+    c.pass.ensures.carries P n l c.args.clockwork s (for_answer (λ now. IsAsked now (clockwork_seen K.least K.faults K.readings c.args.clockwork.value) (clockwork_seen K.least K.faults K.readings t.result.0.value)) t.result.1 c.in-Ok.now c.in-Ok.is t.ensures.asked)

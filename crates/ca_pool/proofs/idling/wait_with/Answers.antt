@@ -21,8 +21,8 @@ wait_late-requires-clause-asking g c = for_ok c.ready_to_ask-clockwork.result.1 
 pub wait_late-requires-clause-room : goal.wait_late-requires-clause-room
 wait_late-requires-clause-room g c = for_ok c.ready_to_ask-clockwork.result.1 _ c.in-Ok.is c.ready_to_ask-clockwork.ensures.room
 
-pub put_off-requires-clause-carries : goal.put_off-requires-clause-carries
-put_off-requires-clause-carries g c = let a = g.A.Agent in let K = g.C.Clock in let r = c.requires.carries in let t = c.ready_to_ask-clockwork in let e = t.ensures in let w = c.args.worker.now in let held = c.args.held.now in let code = c.args.code.now in let id = c.args.table.now.id in (
+pub put_off-requires-in-Err-clause-carries : goal.put_off-requires-in-Err-clause-carries
+put_off-requires-in-Err-clause-carries g c = let a = g.A.Agent in let K = g.C.Clock in let r = c.requires.carries in let t = c.ready_to_ask-clockwork in let e = t.ensures in let w = c.args.worker.now in let held = c.args.held.now in let code = c.args.code.now in let id = c.args.table.now.id in (
   r.0,
   r.1,
   r.2,
@@ -41,5 +41,5 @@ returns-in-Ok-clause-drew g c = let t = c.ready_to_ask-clockwork in let k = c.wa
 
 pub returns-in-Err-clause-carries : goal.returns-in-Err-clause-carries
 returns-in-Err-clause-carries g c = λ P n l s. let a = g.A.Agent in let K = g.C.Clock in let t = c.ready_to_ask-clockwork in let e = t.ensures in let w = c.args.worker.now in let held = c.args.held.now in let code = c.args.code.now in let id = c.args.table.now.id in
-    c.put_off.ensures.carries P n l (made_room a.over a.stands K.least K.faults K.readings P code id n w t.new.worker l w.number (Some t.result.0) held held e.same e.hand e.entries e.same.number (same_show held)
+    c.put_off-in-Err.ensures.carries P n l (made_room a.over a.stands K.least K.faults K.readings P code id n w t.new.worker l w.number (Some t.result.0) held held e.same e.hand e.entries e.same.number (same_show held)
     (as_clocked a.over a.stands K.least K.faults K.readings P code id n w l w.number c.args.clockwork t.result.0 held e.seen s))
