@@ -9,3 +9,4 @@ pub mod AllParts
 pub mod Stalls
 pub mod Takens
 pub mod Ranges
+pub mod Ticked

@@ -1,4 +1,4 @@
-use Rattle.std.proofs.Common.{◌≡◌, ◌∙◌, ℕ, ◌+◌, ap, arith, ne_eqb, subst}
+use Rattle.std.proofs.Common.{◌∙◌, ℕ, ◌+◌, ap, arith, ne_eqb, subst}
 use Rattle.ca_value.specs.Seq.{list}
 use Rattle.ca_table.specs.Workers.{part_count}
 use Rattle.ca_pool.specs.Surveys.{Fulls, IsSpread}

@@ -1,4 +1,4 @@
-use Rattle.std.proofs.Common.{◌≡◌, ◌∙◌, ℕ, ap, arith, subst}
+use Rattle.std.proofs.Common.{ℕ, ap, arith, subst}
 use Rattle.ca_value.specs.Seq.{list}
 use Rattle.ca_states.specs.ValidCode.{valid_code}
 use Rattle.ca_table.specs.Parts.{part_seen}
