@@ -1,9 +1,10 @@
 -- A channel that rests whichever of its handlers are stale, and a bank of such.
 use Rattle.std.proofs.Common.{◌≡◌, ◌∙◌, ◌+◌, ◌<◌, ℕ, zero, suc, List, [], ◌∷◌, refl, sym, ap, arith, Bool, true, false, ◌&&◌, cond, Option, Some, None, is_some, length}
-use Rattle.std.specs.Prelude.{◌||◌, nat_lt, not, option_map, slice_get}
+use Rattle.std.specs.Prelude.{◌||◌, IfNone, nat_lt, not, option_map, slice_get}
 use Rattle.std.proofs.lemmas.Bool.{lt-ltb}
 use mathlib.Core.Logic.{dite}
 use native.Mathlib.Decide.{ℕ_discrete}
+use Rattle.ca_value.specs.Deadlines.{Deadline}
 use Rattle.ca_value.specs.Tree.{Tree, nil}
 use Rattle.ca_term.specs.declared.event.Side.TheVariants.{Take}
 use Rattle.ca_meaning.specs.Channel.{Channel, has_room, is_fixed}
@@ -79,3 +80,9 @@ one_rests b m p before at calm i q lt e = dite (ℕ_discrete i m)
 pub not_false : (b : Bool) → not b ≡ false → b ≡ true
 not_false true e = refl
 not_false false e = absurd (let z : true ≡ false = e in cc)
+
+-- no first deadline, none at all
+pub first_none : (o : Option ℕ) (ds : List Deadline) (Q : Type 0) → o ≡ option_map (λ (d : Deadline). d.moment) (slice_get ds 0) → (ds ≡ [] → Q) → IfNone o Q
+first_none None [] Q e k = k refl
+first_none None (d ∷ ds) Q e k = absurd (let z : None ≡ Some d.moment = e in cc)
+first_none (Some m) ds Q e k = tt

@@ -102,3 +102,11 @@ show_kept old new banks shards ready = record { channels = λ i. ap (λ b. chann
 pub for_ok : {T E P : Type 0} (r : Result T E) (x : T) → r ≡ Ok x → OnOk r P → P
 for_ok (Ok t) x e p = p
 for_ok (Err e) x is p = absurd (let z : Err e ≡ Ok x = is in cc)
+
+pub for_answer : {T E : Type 0} (P : T → Type 0) (r : Result T E) (x : T) → r ≡ Ok x → IfOk r P → P x
+for_answer P (Ok t) x e p = let z : t ≡ x = cc in subst P z p
+for_answer P (Err e) x is p = absurd (let z : Err e ≡ Ok x = is in cc)
+
+pub for_err : {T E P : Type 0} (r : Result T E) (e : E) → r ≡ Err e → OnErr r P → P
+for_err (Ok t) e is p = absurd (let z : Ok t ≡ Err e = is in cc)
+for_err (Err f) e is p = p

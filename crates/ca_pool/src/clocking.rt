@@ -307,7 +307,14 @@ fn draw_tick<R: Wait, A: Agent, C: Clock + Drop>(
     match ticked {
         Some(event) => {
             let cost = cost_of(rt, &event);
-            draw_aside(table, code, worker, held, Some(clockwork), Turned::Shown(event));
+            draw_aside(
+                table,
+                code,
+                worker,
+                held,
+                Some(clockwork),
+                Turned::Shown(event),
+            );
             Asked::Ticked(cost)
         }
         None => {
@@ -465,7 +472,9 @@ fn read<R: Wait, A: Agent, C: Clock + Drop>(
 {
     let (clockwork, made) = ready_to_ask(worker, clockwork);
     match made {
-        Ok(()) => read_now(rt, alloc, table, code, worker, held, clockwork, first, ports),
+        Ok(()) => read_now(
+            rt, alloc, table, code, worker, held, clockwork, first, ports,
+        ),
         Err(refused) => {
             put_off(table, code, worker, held, Some(clockwork));
             Err(refused)
@@ -501,7 +510,9 @@ fn look<R: Wait, A: Agent, C: Clock + Drop>(
             put_off(table, code, worker, held, Some(clockwork));
             Ok(Asked::Nothing)
         }
-        Some(first) => read(rt, alloc, table, code, worker, held, clockwork, first, ports),
+        Some(first) => read(
+            rt, alloc, table, code, worker, held, clockwork, first, ports,
+        ),
     }
 }
 

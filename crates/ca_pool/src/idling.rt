@@ -157,7 +157,9 @@ fn wait_with<R: Wait, A: Agent, C: Clock + Drop>(
     }
     let (clockwork, made) = ready_to_ask(worker, clockwork);
     match made {
-        Ok(()) => wait_late(rt, alloc, table, code, worker, held, clockwork, first, ports),
+        Ok(()) => wait_late(
+            rt, alloc, table, code, worker, held, clockwork, first, ports,
+        ),
         Err(_) => {
             put_off(table, code, worker, held, Some(clockwork));
             Err(PoolStop::OutOfMemory)
@@ -185,7 +187,9 @@ fn await_deadline<R: Wait, A: Agent, C: Clock + Drop>(
 {
     match try_clock(table, code, worker, held) {
         None => Ok(Rested::Busy),
-        Some(clockwork) => wait_with(rt, alloc, table, code, worker, held, clockwork, first, ports),
+        Some(clockwork) => wait_with(
+            rt, alloc, table, code, worker, held, clockwork, first, ports,
+        ),
     }
 }
 

@@ -229,7 +229,9 @@ fn look_once<R: Wait, A: Agent, C: Clock + Drop>(
             Ok(Settling::Again)
         }
         Serving::Serves(side, wait, branch) => {
-            serve_taken(rt, alloc, table, code, worker, held, port, side, wait, branch)
+            serve_taken(
+                rt, alloc, table, code, worker, held, port, side, wait, branch,
+            )
         }
     }
 }

@@ -143,6 +143,7 @@ fn hold_above<A: Agent, C: Clock + Drop>(
     timers: u64,
     count: u64,
 ) -> u64
+    requires order { low ≤ timers }
     requires parts { (program : ProgramView) × (code : CodeView) × (n : ℕ) × IsOne A.over A.stands program code table.now.id n worker.old × (count ≡ part_count n) × (timers < count) × (g : ℕ → Option (Part A C)) × Surveys (part_seen C.least C.faults C.readings) n code worker.old.hand g × IsSpread low timers (timers + 1) g }
     ensures same { SameWorker worker.old worker.new }
     ensures turns { SameTurns worker.old.hand worker.new.hand }

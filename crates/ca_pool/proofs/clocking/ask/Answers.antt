@@ -6,8 +6,10 @@ use Rattle.ca_pool.proofs.Takens.{as_number, bare_in, bare_out, if_ok}
 use Rattle.ca_pool.proofs.clocking.ask.Goals as goal
 
 pub try_clock-requires : goal.try_clock-requires
-try_clock-requires g c = let a = g.A.Agent in let K = g.C.Clock in let r = c.requires.carries in let w = c.args.worker.now in record { carries =
-    (r.0, r.1, r.2, bare_in a.over a.stands K.least K.faults K.readings r.0 c.args.code.now c.args.table.now.id r.1 w r.2 w.number c.args.held.now c.requires.bare r.3) }
+try_clock-requires g c = let a = g.A.Agent in let K = g.C.Clock in let r = c.requires.carries in let w = c.args.worker.now in record {
+  carries =
+      (r.0, r.1, r.2, bare_in a.over a.stands K.least K.faults K.readings r.0 c.args.code.now c.args.table.now.id r.1 w r.2 w.number c.args.held.now c.requires.bare r.3);
+}
 
 pub look-requires-clause-carries : goal.look-requires-clause-carries
 look-requires-clause-carries g c = let a = g.A.Agent in let K = g.C.Clock in let r = c.requires.carries in let w = c.args.worker.now in let t = c.try_clock in let code = c.args.code.now in let id = c.args.table.now.id in let held = c.args.held.now in (

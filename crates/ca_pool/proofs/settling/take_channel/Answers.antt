@@ -13,7 +13,7 @@ pub returns-in_err-take_banks-clause-kept : goal.returns-in_err-take_banks-claus
 returns-in_err-take_banks-clause-kept g c = let a = g.A.Agent in let K = g.C.Clock in let w = c.args.worker.now in let t = c.take_banks in let code = c.args.code.now in let id = c.args.table.now.id in
     let kept : (P : ProgramView) (n : ℕ) (l : Lane g.row.A.Denot) → IsCarrying a.over a.stands P code id n w (just_lane n code l) → IsCarrying a.over a.stands P code id n t.new.worker (just_lane n code l)
     = λ P n l s. bare_out a.over a.stands K.least K.faults K.readings P code id n t.new.worker l w.number t.new.held c.in_err-take_banks.ensures.refused
-        (t.ensures.carries P n l (bare_in a.over a.stands K.least K.faults K.readings P code id n w l w.number c.args.held.now c.requires.bare s)) in
+    (t.ensures.carries P n l (bare_in a.over a.stands K.least K.faults K.readings P code id n w l w.number c.args.held.now c.requires.bare s)) in
     refused_or _ kept
 
 pub take_shards-requires-clause-carries : goal.take_shards-requires-clause-carries

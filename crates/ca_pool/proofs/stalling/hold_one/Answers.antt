@@ -1,7 +1,6 @@
-use Rattle.std.proofs.Common.{◌≡◌, ℕ, Option, Some, None, ap, arith, eqb}
+use Rattle.std.proofs.Common.{ℕ, Some, None, ap, arith, eqb}
 use Rattle.std.specs.Map.{update}
 use Rattle.ca_table.specs.Parts.{part_seen}
-use Rattle.ca_table.specs.declared.part.Part.{Part}
 use Rattle.ca_pool.proofs.AllParts.{only_there, surveys_more, surveys_nothing}
 use Rattle.ca_pool.proofs.stalling.hold_one.Goals as goal
 

@@ -1,4 +1,4 @@
-use Rattle.std.proofs.Common.{◌≡◌, ap, arith, true, false}
+use Rattle.std.proofs.Common.{ap, arith}
 use Rattle.ca_table.specs.Parts.{part_seen}
 use Rattle.ca_pool.proofs.AllParts.{surveys_more, surveys_same}
 use Rattle.ca_pool.proofs.stalling.try_one.Goals as goal

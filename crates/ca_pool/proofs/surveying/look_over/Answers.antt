@@ -1,6 +1,5 @@
-use Rattle.std.proofs.Common.{◌∙◌, ℕ, Some, ap, arith, subst, sym}
+use Rattle.std.proofs.Common.{◌∙◌, ℕ, ap, arith, subst, sym}
 use mathlib.Core.Logic.{dite}
-use mathlib.Core.Option as core
 use native.Mathlib.Decide.{ℕ_discrete}
 use lib.ListN.{get_elem?}
 use Rattle.ca_turns.proofs.Lists.{both_some}
