@@ -20,17 +20,17 @@ ghost use Rattle.ca_pool.specs.PoolEnds.{end_view};
 
 use crate::fitting::all_fit;
 use crate::gate::Gate;
-use ca_table::gathering::{Gathered, gather};
-use ca_table::opening::open_pool;
 use crate::rounds::round;
 use crate::run_end::{PoolRun, end_run};
 use crate::starting::Starting;
-use ca_table::waiting::wait_for_good;
-use ca_table::answer::{PoolStop, WorkEnd};
-use ca_table::pool::Pool;
-use ca_table::worker::Worker;
 use ca_journal::entry::Journal;
 use ca_states::valid_code::ValidCode;
+use ca_table::answer::{PoolStop, WorkEnd};
+use ca_table::gathering::{Gathered, gather};
+use ca_table::opening::open_pool;
+use ca_table::pool::Pool;
+use ca_table::waiting::wait_for_good;
+use ca_table::worker::Worker;
 use ca_term::program::Program;
 use ca_timers::clock::Clock;
 use ca_turns::Table;
@@ -65,7 +65,16 @@ fn round_of<
     ensures spent { IfOk result (λ e. e ≡ Spent → length workers.old.items * allowance + total spent workers.old.items ≤ total spent workers.new.items) }
     ensures over { IfOk result (λ e. e ≡ Over → any_drew leaves workers.new.items ≡ true) }
 {
-    round(rt, alloc, table, workers.as_mut_slice(), allowance, program, code, gate)
+    round(
+        rt,
+        alloc,
+        table,
+        workers.as_mut_slice(),
+        allowance,
+        program,
+        code,
+        gate,
+    )
 }
 
 // The whole journal of workers whose allowances are the budget together.
@@ -96,7 +105,9 @@ fn work_through<
     let opened = open_pool(alloc, program, code, main, workers, clock)?;
     let (table, mut hands) = opened;
     let allowance = (budget - 1) / workers + 1;
-    let end = round_of(rt, alloc, &table, &mut hands, allowance, program, code, gate)?;
+    let end = round_of(
+        rt, alloc, &table, &mut hands, allowance, program, code, gate,
+    )?;
     let gathered = gather(alloc, table, hands, program, code)?;
     let Gathered { journal, parts: _ } = gathered;
     Ok(journal)

@@ -11,13 +11,13 @@ ghost use Rattle.ca_table.specs.Workers.{IsReady, stands_for};
 ghost use Rattle.ca_table.specs.declared.answer.WorkEnd.TheVariants.{Over, Spent};
 
 use crate::gate::Gate;
-use ca_table::pool::Pool;
 use crate::starting::Starting;
-use ca_table::worker::Worker;
 use crate::working::work;
-use ca_table::answer::{PoolStop, WorkEnd};
 use ca_agent::agent::Agent;
 use ca_states::valid_code::ValidCode;
+use ca_table::answer::{PoolStop, WorkEnd};
+use ca_table::pool::Pool;
+use ca_table::worker::Worker;
 use ca_term::program::Program;
 use ca_timers::clock::Clock;
 use ca_turns::Table;
@@ -79,7 +79,11 @@ fn work_all<
         &|_, worker: &mut Worker<A, C>|
             requires { IsReady A.over A.stands (program_view program.now.value) (valid_code code.now) table.now.id count worker.old × Lowered (program_view program.now.value) (valid_code code.now) × SameGos (program_view program.now.value) (valid_code code.now) }
             ensures { IsWorked A.over A.stands (program_view program.entry.now.value) (valid_code code.entry.now) table.entry.now.id count allowance worker.old worker.new }
-        { work_once(rt, alloc, table, worker, allowance, program, code, count, gate) },
+        {
+            work_once(
+                rt, alloc, table, worker, allowance, program, code, count, gate,
+            )
+        },
     );
 }
 

@@ -50,11 +50,7 @@ fn new_machine(alloc: Global, code: &ValidCode, seed: GoSeed) -> Result<Machine,
 }
 
 // None where the code has no such go body that takes as many values.
-fn machine_of(
-    alloc: Global,
-    code: &ValidCode,
-    seed: GoSeed,
-) -> Result<Option<Machine>, OutOfMemory>
+fn machine_of(alloc: Global, code: &ValidCode, seed: GoSeed) -> Result<Option<Machine>, OutOfMemory>
     ensures starts { IfOk result (λ o. IfSome o (λ m. (program : ProgramView) → Lowered program (valid_code code.now) → SameGos program (valid_code code.now) → Starts program (go seed.body (trees (list seed.values)) seed.result.n seed.place) (machine_view m))) }
     ensures over { IfOk result (λ o. IfSome o (λ m. IsOver (valid_code code.now) (machine_view m))) }
 {
