@@ -2,7 +2,7 @@
 //! clock. What it does is what `ca_run::top::main_call` does.
 #![tactic(auto)]
 
-use ca_run::gate::OpenGate;
+use ca_pool::gate::OpenGate;
 use ca_run::standard::{ReaderSource, SteadyClock, WriterSink};
 use ca_run::top::main_call;
 use std::process::ExitCode;

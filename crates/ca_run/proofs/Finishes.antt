@@ -1,17 +1,19 @@
 -- How a call ends, by its answer.
 use Rattle.std.proofs.Common.{◌≡◌, ◌≢◌, ℕ, List, codes, ap, take, subst, Option, Some, None, Result, Ok, Err, Bool, true, false, refl, sym, ◌∙◌, ◌⊎◌, inl, inr, OnOk, OnErr, is_ok, IsSome, arith, ◌<◌, ◌≤◌}
 use Rattle.std.specs.Io.KnownBytes.{Appends}
-use Rattle.ca_meaning.specs.Ends.{ended, faulted, limit}
+use Rattle.ca_meaning.specs.Ends.{RunEnd, ended, faulted, limit, stuck}
 use Rattle.ca_value.specs.declared.seq.Seq.{Seq}
 use Rattle.ca_term.specs.declared.event.Event.{Event}
-use Rattle.ca_run.specs.declared.words.Command.{Command}
-use Rattle.ca_run.specs.declared.run.MainRun.{MainRun}
-use Rattle.ca_run.specs.declared.run.MainEnd.{MainEnd}
-use Rattle.ca_run.specs.declared.run.MainEnd.TheVariants.{Ended, Faulted, Limit}
+use Rattle.ca_words.specs.declared.command.Command.{Command}
+use Rattle.ca_words.specs.declared.command.Command.TheVariants.{Check, Load, Run}
+use Rattle.ca_run.specs.declared.run.ScriptRun.{ScriptRun}
+use Rattle.ca_run.specs.declared.run.ScriptEnd.{ScriptEnd}
+use Rattle.ca_run.specs.declared.run.ScriptEnd.TheVariants.{Ended, Faulted, Limit, Stuck}
 use Rattle.ca_run.specs.declared.answer.Refusal.{Refusal}
 use Rattle.ca_run.specs.declared.answer.Answer.{Answer}
 use Rattle.ca_run.specs.declared.answer.Answer.TheVariants.{Usage, Refused, Accepted, Ran}
-use Rattle.ca_run.specs.Top.{Refused as RefusedFrom, Accepted as AcceptedFrom, Completed, Partly, usage}
+use Rattle.ca_journal.specs.Events.{events}
+use Rattle.ca_run.specs.Top.{Refused as RefusedFrom, Accepted as AcceptedFrom, Completed, CompletedFor, Partly, RunText, runs, shows_journal, usage}
 use Rattle.ca_run.specs.Answers.{answer_text, status_of, status_of_end, journal_of, refusal_line, end_of, line_of_end, AnswersTo}
 
 on_ok : {T E : Type 0} (r : Result T E) (P : Type 0) → OnOk r P → is_ok r ≡ true → P
@@ -31,16 +33,17 @@ written_when : (w : Bool) (s n : ℕ) → (w ≡ false → s ≡ 7) → s ≡ n 
 written_when true s n h e g = refl
 written_when false s n h e g = absurd (g (sym e ∙ h refl))
 
-end_under_six : (e : MainEnd) → status_of_end e < 6
+end_under_six : (e : ScriptEnd) → status_of_end e < 6
 end_under_six Ended = omega arith
 end_under_six (Faulted f p) = omega arith
 end_under_six Limit = omega arith
+end_under_six Stuck = omega arith
 
 under_six : (a : Answer) → status_of a < 6
 under_six Usage = omega arith
 under_six (Refused r) = omega arith
 under_six Accepted = omega arith
-under_six (Ran m) = end_under_six m.end
+under_six (Ran m shown) = end_under_six m.end
 
 unwritten_when : (w : Bool) (s : ℕ) (a : Answer) → (w ≡ true → s ≡ status_of a) → s ≡ 7 → w ≡ false
 unwritten_when true s a h e = let u : status_of a < 6 = under_six a in let k : status_of a ≡ 7 = sym (h refl) ∙ e in absurd (omega arith)
@@ -60,82 +63,89 @@ part_text wrote w s a held room taken piece is done err words same e =
     let part : (n : ℕ) × Appends room taken (take n piece) = on_err wrote ((n : ℕ) × Appends room taken (take n piece)) err (sym is ∙ no) in
     (part.0, subst (λ h. Appends h taken (take part.0 (answer_text a))) same (subst (λ t. Appends room taken (take part.0 t)) words part.1))
 
--- the statuses that an answer can have
-abbrev pub IsKnown : ℕ → Type 0
-IsKnown s = (s ≤ 3) ⊎ ((s ≡ 5) ⊎ (6 ≤ s × s ≤ 8))
+-- no answer has a greater status
+pub known_of : (a : Answer) → status_of a ≤ 9
+known_of a = let k = under_six a in omega (arith, k)
 
-end_known : (e : MainEnd) → IsKnown (status_of_end e)
-end_known Ended = inl (omega arith)
-end_known (Faulted f p) = inl (omega arith)
-end_known Limit = inr (inl refl)
+-- the status of an end
+abbrev pub number_of : RunEnd → ℕ
+number_of ended = 0
+number_of faulted = 3
+number_of limit = 5
+number_of stuck = 4
 
-pub known_of : (a : Answer) → IsKnown (status_of a)
-known_of Usage = inl (omega arith)
-known_of (Refused r) = inl (omega arith)
-known_of Accepted = inl (omega arith)
-known_of (Ran m) = end_known m.end
+by_status : (e : ScriptEnd) (want : RunEnd) → status_of_end e ≡ number_of want → end_of e ≡ want
+by_status Ended ended q = refl
+by_status Ended faulted q = absurd (omega (arith, q))
+by_status Ended limit q = absurd (omega (arith, q))
+by_status Ended stuck q = absurd (omega (arith, q))
+by_status (Faulted f p) ended q = absurd (omega (arith, q))
+by_status (Faulted f p) faulted q = refl
+by_status (Faulted f p) limit q = absurd (omega (arith, q))
+by_status (Faulted f p) stuck q = absurd (omega (arith, q))
+by_status Limit ended q = absurd (omega (arith, q))
+by_status Limit faulted q = absurd (omega (arith, q))
+by_status Limit limit q = refl
+by_status Limit stuck q = absurd (omega (arith, q))
+by_status Stuck ended q = absurd (omega (arith, q))
+by_status Stuck faulted q = absurd (omega (arith, q))
+by_status Stuck limit q = absurd (omega (arith, q))
+by_status Stuck stuck q = refl
+
+no_end : (want : RunEnd) (n : ℕ) → 0 < n → n < 3 → n ≡ number_of want → ⊥
+no_end ended n a b q = omega (arith, a, q)
+no_end faulted n a b q = omega (arith, b, q)
+no_end limit n a b q = omega (arith, b, q)
+no_end stuck n a b q = omega (arith, b, q)
 
 -- A run that has come to an end has completed with it.
-completed : (before after held taken : Option (List ℕ)) (m : MainRun) (e : MainEnd) → m.end ≡ e → AnswersTo (Some Command.Run) before after (Ran m) → Appends held taken (answer_text (Ran m)) → Completed before after held taken (journal_of (Ran m)) (end_of e)
-completed before after held taken m e is h p = subst (λ (x : MainEnd). Completed before after held taken (Some m.journal) (end_of x)) is (h.1, (answer_text (Ran m), (line_of_end m.end, h.2, refl), p))
+completed : (c : Command) (before after held taken : Option (List ℕ)) (m : ScriptRun) (shown : Bool) → AnswersTo (Some c) before after (Ran m shown) → Appends held taken (answer_text (Ran m shown)) → Completed c before after held taken (Some m.journal) (end_of m.end)
+completed c before after held taken m shown h p = (h.2, (answer_text (Ran m shown), subst (λ (b : Bool). RunText b (events m.journal) (end_of m.end) (answer_text (Ran m shown))) h.1 (line_of_end m.end, h.3, refl), p))
 
-ended_by : (before after held taken : Option (List ℕ)) (m : MainRun) (e : MainEnd) → m.end ≡ e → status_of_end e ≡ 0 → AnswersTo (Some Command.Run) before after (Ran m) → Appends held taken (answer_text (Ran m)) → Completed before after held taken (journal_of (Ran m)) ended
-ended_by before after held taken m Ended is s h p = completed before after held taken m Ended is h p
-ended_by before after held taken m (Faulted f q) is s h p = absurd (omega arith)
-ended_by before after held taken m Limit is s h p = absurd (omega arith)
+run_for : (asked : Option Command) (before after held taken : Option (List ℕ)) (m : ScriptRun) (shown : Bool) (want : RunEnd) → status_of_end m.end ≡ number_of want → AnswersTo asked before after (Ran m shown) → Appends held taken (answer_text (Ran m shown)) → CompletedFor asked before after held taken (Some m.journal) want
+run_for None before after held taken m shown want s h p = absurd h
+run_for (Some c) before after held taken m shown want s h p = (c, refl, h.0, subst (λ (x : RunEnd). Completed c before after held taken (Some m.journal) x) (by_status m.end want s) (completed c before after held taken m shown h p))
 
-faulted_by : (before after held taken : Option (List ℕ)) (m : MainRun) (e : MainEnd) → m.end ≡ e → status_of_end e ≡ 3 → AnswersTo (Some Command.Run) before after (Ran m) → Appends held taken (answer_text (Ran m)) → Completed before after held taken (journal_of (Ran m)) faulted
-faulted_by before after held taken m Ended is s h p = absurd (omega arith)
-faulted_by before after held taken m (Faulted f q) is s h p = completed before after held taken m (Faulted f q) is h p
-faulted_by before after held taken m Limit is s h p = absurd (omega arith)
+-- a status past 2 is that of a run's end
+pub ends_of : (asked : Option Command) (before after held taken : Option (List ℕ)) (a : Answer) (want : RunEnd) → 0 < number_of want → status_of a ≡ number_of want → AnswersTo asked before after a → Appends held taken (answer_text a) → CompletedFor asked before after held taken (journal_of a) want
+ends_of asked before after held taken Usage want some s h p = absurd (no_end want 1 (omega arith) (omega arith) s)
+ends_of asked before after held taken (Refused r) want some s h p = absurd (no_end want 2 (omega arith) (omega arith) s)
+ends_of asked before after held taken Accepted want some s h p = absurd (omega (arith, some, s))
+ends_of asked before after held taken (Ran m shown) want some s h p = run_for asked before after held taken m shown want s h p
 
-limit_by : (before after held taken : Option (List ℕ)) (m : MainRun) (e : MainEnd) → m.end ≡ e → status_of_end e ≡ 5 → AnswersTo (Some Command.Run) before after (Ran m) → Appends held taken (answer_text (Ran m)) → Completed before after held taken (journal_of (Ran m)) limit
-limit_by before after held taken m Ended is s h p = absurd (omega arith)
-limit_by before after held taken m (Faulted f q) is s h p = absurd (omega arith)
-limit_by before after held taken m Limit is s h p = completed before after held taken m Limit is h p
-
--- where a run was answered, it was asked for
-run_asked : (asked : Option Command) (before after : Option (List ℕ)) (m : MainRun) → AnswersTo asked before after (Ran m) → asked ≡ Some Command.Run
-run_asked None before after m h = absurd h
-run_asked (Some c) before after m h = ap Some h.0
+same_command : (c d : Command) → Some c ≡ Some d → c ≡ d
+same_command c d e = cc
 
 -- where a script was accepted, a check was asked for
-check_asked : (asked : Option Command) (before after : Option (List ℕ)) → AnswersTo asked before after Accepted → asked ≡ Some Command.Check
+check_asked : (asked : Option Command) (before after : Option (List ℕ)) → AnswersTo asked before after Accepted → asked ≡ Some Check
 check_asked None before after h = absurd h
 check_asked (Some c) before after h = ap Some h.0
 
-run_or_check : (asked : Option Command) → asked ≡ Some Command.Run → asked ≡ Some Command.Check → ⊥
-run_or_check None h g = cc
-run_or_check (Some Command.Run) h g = cc
-run_or_check (Some Command.Check) h g = cc
+never_checks : {G : Type 0} (c : Command) → c ≡ Check → runs c ≡ true → G
+never_checks c e r = absurd (let z : false ≡ true = sym (ap runs e) ∙ r in cc)
 
-pub ended_of : (asked : Option Command) (before after held taken : Option (List ℕ)) (a : Answer) → asked ≡ Some Command.Run → status_of a ≡ 0 → AnswersTo asked before after a → Appends held taken (answer_text a) → Completed before after held taken (journal_of a) ended
-ended_of asked before after held taken Usage q s h p = absurd (omega arith)
-ended_of asked before after held taken (Refused r) q s h p = absurd (omega arith)
-ended_of asked before after held taken Accepted q s h p = absurd (run_or_check asked q (check_asked asked before after h))
-ended_of asked before after held taken (Ran m) q s h p = ended_by before after held taken m m.end refl s (subst (λ c. AnswersTo c before after (Ran m)) q h) p
+of_command : (asked : Option Command) (before after held taken : Option (List ℕ)) (journal : Option (Seq Event)) (end : RunEnd) (c : Command) → asked ≡ Some c → CompletedFor asked before after held taken journal end → Completed c before after held taken journal end
+of_command asked before after held taken journal end c e h = subst (λ (d : Command). Completed d before after held taken journal end) (same_command h.0 c (sym h.1 ∙ e)) h.3
+
+pub ended_of : (asked : Option Command) (before after held taken : Option (List ℕ)) (a : Answer) (c : Command) → asked ≡ Some c → runs c ≡ true → status_of a ≡ 0 → AnswersTo asked before after a → Appends held taken (answer_text a) → Completed c before after held taken (journal_of a) ended
+ended_of asked before after held taken Usage c q r s h p = absurd (omega (arith, s))
+ended_of asked before after held taken (Refused f) c q r s h p = absurd (omega (arith, s))
+ended_of asked before after held taken Accepted c q r s h p = never_checks c (same_command c Check (sym q ∙ check_asked asked before after h)) r
+ended_of asked before after held taken (Ran m shown) c q r s h p = of_command asked before after held taken (Some m.journal) ended c q (run_for asked before after held taken m shown ended s h p)
 
 accepted_by : (asked : Option Command) (before after : Option (List ℕ)) → AnswersTo asked before after Accepted → AcceptedFrom before after
 accepted_by None before after h = absurd h
 accepted_by (Some c) before after h = h.1
 
-pub accepted_of : (asked : Option Command) (before after held taken : Option (List ℕ)) (a : Answer) → asked ≡ Some Command.Check → status_of a ≡ 0 → AnswersTo asked before after a → Appends held taken (answer_text a) → AcceptedFrom before after × Appends held taken (codes "ok\n")
-accepted_of asked before after held taken Usage q s h p = absurd (omega arith)
-accepted_of asked before after held taken (Refused r) q s h p = absurd (omega arith)
+no_run : {G : Type 0} (asked : Option Command) (before after : Option (List ℕ)) (m : ScriptRun) (shown : Bool) → asked ≡ Some Check → AnswersTo asked before after (Ran m shown) → G
+no_run None before after m shown q h = absurd h
+no_run (Some c) before after m shown q h = never_checks c (same_command c Check q) h.0
+
+pub accepted_of : (asked : Option Command) (before after held taken : Option (List ℕ)) (a : Answer) → asked ≡ Some Check → status_of a ≡ 0 → AnswersTo asked before after a → Appends held taken (answer_text a) → AcceptedFrom before after × Appends held taken (codes "ok\n")
+accepted_of asked before after held taken Usage q s h p = absurd (omega (arith, s))
+accepted_of asked before after held taken (Refused r) q s h p = absurd (omega (arith, s))
 accepted_of asked before after held taken Accepted q s h p = (accepted_by asked before after h, p)
-accepted_of asked before after held taken (Ran m) q s h p = absurd (run_or_check asked (run_asked asked before after m h) q)
-
-pub faulted_of : (asked : Option Command) (before after held taken : Option (List ℕ)) (a : Answer) → status_of a ≡ 3 → AnswersTo asked before after a → Appends held taken (answer_text a) → Completed before after held taken (journal_of a) faulted
-faulted_of asked before after held taken Usage s h p = absurd (omega arith)
-faulted_of asked before after held taken (Refused r) s h p = absurd (omega arith)
-faulted_of asked before after held taken Accepted s h p = absurd (omega arith)
-faulted_of asked before after held taken (Ran m) s h p = faulted_by before after held taken m m.end refl s (subst (λ c. AnswersTo c before after (Ran m)) (run_asked asked before after m h) h) p
-
-pub limit_of : (asked : Option Command) (before after held taken : Option (List ℕ)) (a : Answer) → status_of a ≡ 5 → AnswersTo asked before after a → Appends held taken (answer_text a) → Completed before after held taken (journal_of a) limit
-limit_of asked before after held taken Usage s h p = absurd (omega arith)
-limit_of asked before after held taken (Refused r) s h p = absurd (omega arith)
-limit_of asked before after held taken Accepted s h p = absurd (omega arith)
-limit_of asked before after held taken (Ran m) s h p = limit_by before after held taken m m.end refl s (subst (λ c. AnswersTo c before after (Ran m)) (run_asked asked before after m h) h) p
+accepted_of asked before after held taken (Ran m shown) q s h p = no_run asked before after m shown q h
 
 -- the line of a refusal
 abbrev pub IsRefusal : Option Command → Option (List ℕ) → Option (List ℕ) → Option (List ℕ) → Option (List ℕ) → Type 0
@@ -145,31 +155,27 @@ refusal_of : (asked : Option Command) (before after held taken : Option (List �
 refusal_of None before after held taken r h p = absurd h
 refusal_of (Some c) before after held taken r h p = (c, refusal_line r, refl, h, p)
 
-end_not_two : (e : MainEnd) → status_of_end e ≢ 2
-end_not_two Ended s = omega arith
-end_not_two (Faulted f p) s = omega arith
-end_not_two Limit s = omega arith
+end_not : (e : ScriptEnd) (n : ℕ) → 0 < n → n < 3 → status_of_end e ≢ n
+end_not Ended n a b s = omega (arith, a, s)
+end_not (Faulted f p) n a b s = omega (arith, b, s)
+end_not Limit n a b s = omega (arith, b, s)
+end_not Stuck n a b s = omega (arith, b, s)
 
 pub refused_of : (asked : Option Command) (before after held taken : Option (List ℕ)) (a : Answer) → status_of a ≡ 2 → AnswersTo asked before after a → Appends held taken (answer_text a) → IsRefusal asked before after held taken
-refused_of asked before after held taken Usage s h p = absurd (omega arith)
+refused_of asked before after held taken Usage s h p = absurd (omega (arith, s))
 refused_of asked before after held taken (Refused r) s h p = refusal_of asked before after held taken r h p
-refused_of asked before after held taken Accepted s h p = absurd (omega arith)
-refused_of asked before after held taken (Ran m) s h p = absurd (end_not_two m.end s)
+refused_of asked before after held taken Accepted s h p = absurd (omega (arith, s))
+refused_of asked before after held taken (Ran m shown) s h p = absurd (end_not m.end 2 (omega arith) (omega arith) s)
 
 unasked : (asked : Option Command) (before after : Option (List ℕ)) → AnswersTo asked before after Usage → asked ≡ None
 unasked None before after h = refl
 unasked (Some c) before after h = absurd h
 
-end_not_one : (e : MainEnd) → status_of_end e ≢ 1
-end_not_one Ended s = omega arith
-end_not_one (Faulted f p) s = omega arith
-end_not_one Limit s = omega arith
-
 pub usage_of : (asked : Option Command) (before after held taken : Option (List ℕ)) (a : Answer) → status_of a ≡ 1 → AnswersTo asked before after a → Appends held taken (answer_text a) → (asked ≡ None) × Appends held taken usage
 usage_of asked before after held taken Usage s h p = (unasked asked before after h, p)
-usage_of asked before after held taken (Refused r) s h p = absurd (omega arith)
-usage_of asked before after held taken Accepted s h p = absurd (omega arith)
-usage_of asked before after held taken (Ran m) s h p = absurd (end_not_one m.end s)
+usage_of asked before after held taken (Refused r) s h p = absurd (omega (arith, s))
+usage_of asked before after held taken Accepted s h p = absurd (omega (arith, s))
+usage_of asked before after held taken (Ran m shown) s h p = absurd (end_not m.end 1 (omega arith) (omega arith) s)
 
 told_refusal : (asked : Option Command) (before after held taken : Option (List ℕ)) (r : Refusal) (n : ℕ) → AnswersTo asked before after (Refused r) → Appends held taken (take n (refusal_line r)) → Partly asked before after held taken None
 told_refusal None before after held taken r n h p = absurd h
@@ -177,66 +183,66 @@ told_refusal (Some c) before after held taken r n h p = record { text = refusal_
 
 told_accepted : (asked : Option Command) (before after held taken : Option (List ℕ)) (n : ℕ) → AnswersTo asked before after Accepted → Appends held taken (take n (codes "ok\n")) → Partly asked before after held taken None
 told_accepted None before after held taken n h p = absurd h
-told_accepted (Some c) before after held taken n h p = record { text = codes "ok\n"; count = n; prefix = p; source = inr (h.1, refl) }
+told_accepted (Some c) before after held taken n h p = record { text = codes "ok\n"; count = n; prefix = p; source = inr (h.0, h.1, refl) }
 
-told_run : (asked : Option Command) (before after held taken : Option (List ℕ)) (m : MainRun) (n : ℕ) → AnswersTo asked before after (Ran m) → Appends held taken (take n (answer_text (Ran m))) → Partly asked before after held taken (Some m.journal)
-told_run None before after held taken m n h p = absurd h
-told_run (Some c) before after held taken m n h p = record { text = answer_text (Ran m); count = n; prefix = p; source = (end_of m.end, h.1, (line_of_end m.end, h.2, refl)) }
+told_run : (asked : Option Command) (before after held taken : Option (List ℕ)) (m : ScriptRun) (shown : Bool) (n : ℕ) → AnswersTo asked before after (Ran m shown) → Appends held taken (take n (answer_text (Ran m shown))) → Partly asked before after held taken (Some m.journal)
+told_run None before after held taken m shown n h p = absurd h
+told_run (Some c) before after held taken m shown n h p = record {
+  text = answer_text (Ran m shown);
+  count = n;
+  prefix = p;
+  source = (c, refl, (end_of m.end, h.2, subst (λ (b : Bool). RunText b (events m.journal) (end_of m.end) (answer_text (Ran m shown))) h.1 (line_of_end m.end, h.3, refl)));
+}
 
 pub partly_of : (asked : Option Command) (before after held taken : Option (List ℕ)) (a : Answer) (n : ℕ) → AnswersTo asked before after a → Appends held taken (take n (answer_text a)) → Partly asked before after held taken (journal_of a)
 partly_of asked before after held taken Usage n h p = rw (unasked asked before after h) (record { text = usage; count = n; prefix = p; source = refl })
 partly_of asked before after held taken (Refused r) n h p = told_refusal asked before after held taken r n h p
 partly_of asked before after held taken Accepted n h p = told_accepted asked before after held taken n h p
-partly_of asked before after held taken (Ran m) n h p = told_run asked before after held taken m n h p
+partly_of asked before after held taken (Ran m shown) n h p = told_run asked before after held taken m shown n h p
+
+-- a command that runs a script was asked for
+abbrev pub RunAsked : Option Command → Type 0
+RunAsked asked = (command : Command) × (asked ≡ Some command) × (runs command ≡ true)
+
+run_asked : (asked : Option Command) (before after : Option (List ℕ)) (m : ScriptRun) (shown : Bool) → AnswersTo asked before after (Ran m shown) → RunAsked asked
+run_asked None before after m shown h = absurd h
+run_asked (Some c) before after m shown h = (c, refl, h.0)
 
 -- a status at which a run has come to its end
 abbrev pub IsEndOfRun : ℕ → Type 0
-IsEndOfRun s = (s ≡ 0) ⊎ ((s ≡ 3) ⊎ (s ≡ 5))
+IsEndOfRun s = (s ≡ 0) ⊎ (3 ≤ s × s ≤ 5)
 
-end_of_run : (e : MainEnd) → IsEndOfRun (status_of_end e)
+end_of_run : (e : ScriptEnd) → IsEndOfRun (status_of_end e)
 end_of_run Ended = inl refl
-end_of_run (Faulted f p) = inr (inl refl)
-end_of_run Limit = inr (inr refl)
+end_of_run (Faulted f p) = inr (omega arith, omega arith)
+end_of_run Limit = inr (omega arith, omega arith)
+end_of_run Stuck = inr (omega arith, omega arith)
 
 nothing_there : IsSome {T = Seq Event} None → ⊥
 nothing_there g = cc
 
-pub journal_when : (asked : Option Command) (before after : Option (List ℕ)) (a : Answer) → AnswersTo asked before after a → IsSome (journal_of a) → (asked ≡ Some Command.Run) × IsEndOfRun (status_of a)
+journal_when : (asked : Option Command) (before after : Option (List ℕ)) (a : Answer) → AnswersTo asked before after a → IsSome (journal_of a) → RunAsked asked × IsEndOfRun (status_of a)
 journal_when asked before after Usage h g = absurd (nothing_there g)
 journal_when asked before after (Refused r) h g = absurd (nothing_there g)
 journal_when asked before after Accepted h g = absurd (nothing_there g)
-journal_when asked before after (Ran m) h g = (run_asked asked before after m h, end_of_run m.end)
+journal_when asked before after (Ran m shown) h g = (run_asked asked before after m shown h, end_of_run m.end)
 
--- at 3 and 5 a run was asked for, at 0 a run or a check
-abbrev pub AskedFor : Option Command → ℕ → Type 0
-AskedFor asked s = ((s ≡ 3) ⊎ (s ≡ 5) → asked ≡ Some Command.Run) × (s ≡ 0 → (asked ≡ Some Command.Run) ⊎ (asked ≡ Some Command.Check))
-
-no_cut : (s : ℕ) → s < 3 → (s ≡ 3) ⊎ (s ≡ 5) → ⊥
-no_cut s l (inl e) = omega arith
-no_cut s l (inr e) = omega arith
-
-asked_when : (asked : Option Command) (before after : Option (List ℕ)) (a : Answer) → AnswersTo asked before after a → AskedFor asked (status_of a)
-asked_when asked before after Usage h = (λ e. absurd (no_cut 1 (omega arith) e), λ e. absurd (omega arith))
-asked_when asked before after (Refused r) h = (λ e. absurd (no_cut 2 (omega arith) e), λ e. absurd (omega arith))
-asked_when asked before after Accepted h = (λ e. absurd (no_cut 0 (omega arith) e), λ e. inr (check_asked asked before after h))
-asked_when asked before after (Ran m) h = (λ e. run_asked asked before after m h, λ e. inl (run_asked asked before after m h))
-
-seven_asks : (asked : Option Command) (s : ℕ) → s ≡ 7 → AskedFor asked s
-seven_asks asked s k = (λ e. absurd (seven e), λ e. absurd (omega arith)) where
-  seven : (s ≡ 3) ⊎ (s ≡ 5) → ⊥
-  seven (inl g) = omega arith
-  seven (inr g) = omega arith
-
--- the same of the status that is answered
-pub close_asked : (asked : Option Command) (before after : Option (List ℕ)) (a : Answer) (w : Bool) (s : ℕ) → (w ≡ false → s ≡ 7) → (w ≡ true → s ≡ status_of a) → AnswersTo asked before after a → AskedFor asked s
-close_asked asked before after a true s lost done h = subst (AskedFor asked) (sym (done refl)) (asked_when asked before after a h)
-close_asked asked before after a false s lost done h = seven_asks asked s (lost refl)
-
-pub close_journal : (asked : Option Command) (before after : Option (List ℕ)) (a : Answer) (w : Bool) (s : ℕ) → (w ≡ false → s ≡ 7) → (w ≡ true → s ≡ status_of a) → AnswersTo asked before after a → IsSome (journal_of a) → (asked ≡ Some Command.Run) × ((s ≡ 0) ⊎ ((s ≡ 3) ⊎ ((s ≡ 5) ⊎ (s ≡ 7))))
-close_journal asked before after a false s lost done h g = ((journal_when asked before after a h g).0, inr (inr (inr (lost refl))))
+pub close_journal : (asked : Option Command) (before after : Option (List ℕ)) (a : Answer) (w : Bool) (s : ℕ) → (w ≡ false → s ≡ 7) → (w ≡ true → s ≡ status_of a) → AnswersTo asked before after a → IsSome (journal_of a) → RunAsked asked × ((s ≡ 0) ⊎ ((3 ≤ s × s ≤ 5) ⊎ (s ≡ 7)))
+close_journal asked before after a false s lost done h g = ((journal_when asked before after a h g).0, inr (inr (lost refl)))
 close_journal asked before after a true s lost done h g = ((journal_when asked before after a h g).0, widened s (subst IsEndOfRun (sym (done refl)) (journal_when asked before after a h g).1))
   where
-    widened : (n : ℕ) → IsEndOfRun n → (n ≡ 0) ⊎ ((n ≡ 3) ⊎ ((n ≡ 5) ⊎ (n ≡ 7)))
+    widened : (n : ℕ) → IsEndOfRun n → (n ≡ 0) ⊎ ((3 ≤ n × n ≤ 5) ⊎ (n ≡ 7))
     widened n (inl e) = inl e
-    widened n (inr (inl e)) = inr (inl e)
-    widened n (inr (inr e)) = inr (inr (inl e))
+    widened n (inr e) = inr (inl e)
+
+-- at status 0 something was asked for
+asked_of : (asked : Option Command) (before after : Option (List ℕ)) (a : Answer) → status_of a ≡ 0 → AnswersTo asked before after a → (command : Command) × (asked ≡ Some command)
+asked_of None before after Usage s h = absurd (omega (arith, s))
+asked_of None before after (Refused r) s h = absurd h
+asked_of None before after Accepted s h = absurd h
+asked_of None before after (Ran m shown) s h = absurd h
+asked_of (Some c) before after a s h = (c, refl)
+
+pub close_asked : (asked : Option Command) (before after : Option (List ℕ)) (a : Answer) (w : Bool) (s : ℕ) → (w ≡ false → s ≡ 7) → (w ≡ true → s ≡ status_of a) → AnswersTo asked before after a → s ≡ 0 → (command : Command) × (asked ≡ Some command)
+close_asked asked before after a true s lost done h e = asked_of asked before after a (sym (done refl) ∙ e) h
+close_asked asked before after a false s lost done h e = absurd (let k = lost refl in omega (arith, k, e))

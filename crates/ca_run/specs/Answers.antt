@@ -1,25 +1,27 @@
 -- The text, the status and the journal of an answer, and when the answer is right.
-use Rattle.std.specs.Prelude.{◌≡◌, ℕ, List, [], ◌++◌, codes, Option, Some, None}
+use Rattle.std.specs.Prelude.{◌≡◌, ◌<◌, ◌≤◌, ℕ, List, [], ◌++◌, codes, cond, Bool, true, Option, Some, None}
 use Rattle.ca_value.specs.declared.seq.Seq.{Seq}
 use Rattle.ca_term.specs.declared.place.Place.{Place}
 use Rattle.ca_term.specs.declared.event.Event.{Event}
 use Rattle.ca_term.specs.Program.{ProgramView}
+use Rattle.ca_meaning.specs.Journal.{journal_text}
 use Rattle.ca_meaning.specs.Texts.{output, fault_line}
 use Rattle.ca_meaning.specs.Legal.{Legal}
-use Rattle.ca_meaning.specs.Ends.{RunEnd, ended, faulted, limit, HasEnd}
+use Rattle.ca_meaning.specs.Ends.{RunEnd, ended, faulted, limit, stuck, HasEnd}
 use Rattle.ca_reader.specs.Kind.{kind_name}
 use Rattle.ca_check.specs.Kind.{kind_name as check_kind_name}
-use Rattle.ca_run.specs.declared.words.Command.{Command}
-use Rattle.ca_run.specs.declared.run.MainRun.{MainRun}
-use Rattle.ca_run.specs.declared.run.MainEnd.{MainEnd}
-use Rattle.ca_run.specs.declared.run.MainEnd.TheVariants.{Ended, Faulted, Limit}
+use Rattle.ca_words.specs.declared.command.Command.{Command}
+use Rattle.ca_words.specs.declared.command.Command.TheVariants.{Check, Load, Run}
+use Rattle.ca_run.specs.declared.run.ScriptRun.{ScriptRun}
+use Rattle.ca_run.specs.declared.run.ScriptEnd.{ScriptEnd}
+use Rattle.ca_run.specs.declared.run.ScriptEnd.TheVariants.{Ended, Faulted, Limit, Stuck}
 use Rattle.ca_run.specs.declared.answer.Answer.{Answer}
 use Rattle.ca_run.specs.declared.answer.Answer.TheVariants.{Usage, Refused, Accepted, Ran}
 use Rattle.ca_run.specs.declared.answer.Refusal.{Refusal}
 use Rattle.ca_run.specs.declared.answer.Refusal.TheVariants.{TooLong, Unreadable, Unchecked, NotYet}
 use Rattle.ca_journal.specs.Events.{events}
 use Rattle.ca_run.specs.Served.{first_unserved}
-use Rattle.ca_run.specs.Top.{usage, budget, error_line, first_place, ProgramOf, RefusedFor, RunOf, EndLine, Refused as RefusedFrom, Accepted as AcceptedFrom, Ran as RanFrom}
+use Rattle.ca_run.specs.Top.{budget_of, runs, shows_journal, usage, error_line, first_place, ProgramOf, RefusedFor, RunOf, EndLine, Refused as RefusedFrom, Accepted as AcceptedFrom, Ran as RanFrom}
 
 abbrev pub refusal_line : Refusal → List ℕ
 refusal_line TooLong = error_line (codes "TooLong") first_place
@@ -28,68 +30,77 @@ refusal_line (Unchecked k p) = error_line (check_kind_name k) p
 refusal_line (NotYet p) = error_line (codes "NotYet") p
 
 -- the end that a run has come to, and the line that tells it
-abbrev pub end_of : MainEnd → RunEnd
+abbrev pub end_of : ScriptEnd → RunEnd
 end_of Ended = ended
 end_of (Faulted fault place) = faulted
 end_of Limit = limit
+end_of Stuck = stuck
 
-abbrev pub line_of_end : MainEnd → List ℕ
+abbrev pub line_of_end : ScriptEnd → List ℕ
 line_of_end Ended = []
 line_of_end (Faulted fault place) = fault_line fault place
 line_of_end Limit = codes "budget\n"
+line_of_end Stuck = codes "stuck\n"
 
 abbrev pub answer_text : Answer → List ℕ
 answer_text Usage = usage
 answer_text (Refused r) = refusal_line r
 answer_text Accepted = codes "ok\n"
-answer_text (Ran m) = output (events m.journal) ++ line_of_end m.end
+answer_text (Ran m shown) = output (events m.journal) ++ (cond shown (journal_text (events m.journal)) [] ++ line_of_end m.end)
 
-abbrev pub status_of_end : MainEnd → ℕ
+abbrev pub status_of_end : ScriptEnd → ℕ
 status_of_end Ended = 0
 status_of_end (Faulted fault place) = 3
 status_of_end Limit = 5
+status_of_end Stuck = 4
 
 abbrev pub status_of : Answer → ℕ
 status_of Usage = 1
 status_of (Refused r) = 2
 status_of Accepted = 0
-status_of (Ran m) = status_of_end m.end
+status_of (Ran m shown) = status_of_end m.end
 
 abbrev pub journal_of : Answer → Option (Seq Event)
 journal_of Usage = None
 journal_of (Refused r) = None
 journal_of Accepted = None
-journal_of (Ran m) = Some m.journal
+journal_of (Ran m shown) = Some m.journal
 
--- the run of the program has come to that end, which its line tells
-pub record IsRun (program : ProgramView) (m : MainRun) : Type 0 where
+-- the run of the program has come to that end for the budget, which its line tells
+pub record IsRun (budget : ℕ) (program : ProgramView) (m : ScriptRun) : Type 0 where
   pub legal : Legal program (events m.journal)
   pub has_end : HasEnd program budget (events m.journal) (end_of m.end)
   pub told : EndLine (events m.journal) (end_of m.end) (line_of_end m.end)
+
+-- its workers and its budget are such as words can ask for
+abbrev pub IsFit : Command → Type 0
+IsFit (Run workers budget journal) = ((0 < workers) × (workers ≤ 16)) × (0 < budget)
+IsFit Check = Unit {0}
+IsFit (Load n workers) = (0 < workers) × (workers ≤ 16)
 
 -- what a program comes to under a command
 abbrev pub JudgedProgram : Command → ProgramView → Answer → Type 0
 JudgedProgram command program Usage = ⊥
 JudgedProgram command program (Refused r) =
-    (command ≡ Command.Run) × ((p : Place) × (first_unserved program ≡ Some p) × (r ≡ NotYet p))
-JudgedProgram command program Accepted = command ≡ Command.Check
-JudgedProgram command program (Ran m) = (command ≡ Command.Run) × IsRun program m
+    (runs command ≡ true) × ((p : Place) × (first_unserved program ≡ Some p) × (r ≡ NotYet p))
+JudgedProgram command program Accepted = command ≡ Check
+JudgedProgram command program (Ran m shown) = (runs command ≡ true) × (shown ≡ shows_journal command) × IsRun (budget_of command) program m
 
 -- what a text comes to under a command
 abbrev pub Judged : Command → List ℕ → Answer → Type 0
 Judged command input Usage = ⊥
 Judged command input (Refused r) = RefusedFor command input (refusal_line r)
-Judged command input Accepted = (command ≡ Command.Check) × ((program : ProgramView) × ProgramOf input program)
-Judged command input (Ran m) = (command ≡ Command.Run) × RunOf input (events m.journal) (end_of m.end) × EndLine (events m.journal) (end_of m.end) (line_of_end m.end)
+Judged command input Accepted = (command ≡ Check) × ((program : ProgramView) × ProgramOf input program)
+Judged command input (Ran m shown) = (runs command ≡ true) × (shown ≡ shows_journal command) × RunOf (budget_of command) input (events m.journal) (end_of m.end) × EndLine (events m.journal) (end_of m.end) (line_of_end m.end)
 
 -- what the words and the source come to
 abbrev pub AnswersTo : Option Command → Option (List ℕ) → Option (List ℕ) → Answer → Type 0
 AnswersTo None before after Usage = Unit {0}
 AnswersTo None before after (Refused r) = ⊥
 AnswersTo None before after Accepted = ⊥
-AnswersTo None before after (Ran m) = ⊥
+AnswersTo None before after (Ran m shown) = ⊥
 AnswersTo (Some c) before after Usage = ⊥
 AnswersTo (Some c) before after (Refused r) = RefusedFrom c before after (refusal_line r)
-AnswersTo (Some c) before after Accepted = (c ≡ Command.Check) × AcceptedFrom before after
-AnswersTo (Some c) before after (Ran m) = (c ≡ Command.Run) × RanFrom before after (events m.journal) (end_of m.end)
+AnswersTo (Some c) before after Accepted = (c ≡ Check) × AcceptedFrom before after
+AnswersTo (Some c) before after (Ran m shown) = (runs c ≡ true) × (shown ≡ shows_journal c) × RanFrom c before after (events m.journal) (end_of m.end)
     × EndLine (events m.journal) (end_of m.end) (line_of_end m.end)

@@ -1,10 +1,8 @@
-pub mod Printing
 pub mod Memory
 pub mod Failing
 pub mod Standard
-pub mod Words
+pub mod Generator
 pub mod Top
 pub mod Answers
 pub mod Served
-pub mod Over
-pub mod Pausing
+pub mod Stops

@@ -1,25 +1,16 @@
--- Which programs are run so far: those whose one operation is a print. Each operation that is served later
--- leaves this list, until nothing is left of it.
+-- Which programs are run so far: those that start no system task. These leave this list once they are served, until
+-- nothing is left of it.
 use Rattle.std.specs.Prelude.{◌≡◌, ℕ, List, [], ◌∷◌, Bool, true, false, cond, nat_lt, ◌&&◌, ◌||◌, ◌==◌, Option, Some, None}
 use Rattle.ca_term.specs.declared.place.Place.{Place}
 use Rattle.ca_term.specs.declared.head.Head.{Head}
-use Rattle.ca_term.specs.declared.head.Head.TheVariants.{Recur, Builtin, Call, Take, Put, Alts, Make, Spawn, Close, Register, Print, Post}
+use Rattle.ca_term.specs.declared.head.Head.TheVariants.{Spawn}
+use Rattle.ca_term.specs.declared.head.SeedKind.TheVariants.{System}
 use Rattle.ca_term.specs.Kernel.{Kernel, Kernels, Bindings, const, var, branch, bind, loop, seq, frame, turn, apply, none, item, empty, binding}
 use Rattle.ca_term.specs.Program.{ProcedureView, ProgramView}
 
 abbrev pub is_served : Head → Bool
-is_served Recur = true
-is_served (Builtin b) = true
-is_served (Call n) = true
-is_served Take = false
-is_served Put = false
-is_served (Alts options) = false
-is_served (Make kind) = false
-is_served (Spawn kind) = false
-is_served Close = false
-is_served (Register name) = false
-is_served Print = true
-is_served Post = false
+is_served (Spawn (System task)) = false
+is_served other = true
 
 -- by line, and then by column
 abbrev pub is_before : Place → Place → Bool
@@ -59,7 +50,3 @@ unserved_among (t ∷ ts) seen = unserved_among ts (unserved t.body seen)
 -- the place of the program's first operation that isn't served yet
 abbrev pub first_unserved : ProgramView → Option Place
 first_unserved p = unserved_among p.functions (unserved_among p.bodies (unserved p.main None))
-
--- a head that is served, as a judge of terms
-abbrev pub Served : Option ℕ → Head → ℕ → Type 0
-Served target h k = is_served h ≡ true

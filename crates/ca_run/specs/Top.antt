@@ -1,5 +1,5 @@
 -- What the top call answers.
-use Rattle.std.specs.Prelude.{◌≡◌, ℕ, ◌≤◌, ◌<◌, ◌⊎◌, List, [], ◌∷◌, ◌++◌, length, take, codes, decimal, Option, Some, None, Ok, Err, MatchOption}
+use Rattle.std.specs.Prelude.{◌≡◌, ℕ, ◌≤◌, ◌<◌, ◌⊎◌, List, [], ◌∷◌, ◌++◌, length, take, codes, decimal, cond, Bool, true, false, Option, Some, None, Ok, Err, MatchOption}
 use Rattle.std.specs.Io.KnownBytes.{Consumes, Appends, IsAtEnd}
 use Rattle.ca_value.specs.declared.seq.Seq.{Seq}
 use Rattle.ca_value.specs.declared.value.PortId.{PortId}
@@ -11,6 +11,7 @@ use Rattle.ca_term.specs.Program.{ProgramView}
 use Rattle.ca_term.specs.Event.{EventView, over}
 use Rattle.ca_meaning.specs.Legal.{Legal}
 use Rattle.ca_meaning.specs.Ends.{RunEnd, ended, faulted, limit, stuck, HasEnd, EndsWith}
+use Rattle.ca_meaning.specs.Journal.{journal_text}
 use Rattle.ca_meaning.specs.Texts.{output, fault_line}
 use Rattle.ca_reader.specs.declared.error.ReadErrorKind.{ReadErrorKind}
 use Rattle.ca_reader.specs.Form.{FormTrees}
@@ -19,24 +20,46 @@ use Rattle.ca_reader.specs.Reads.{Reads, ReadFault}
 use Rattle.ca_check.specs.declared.error.CheckErrorKind.{CheckErrorKind}
 use Rattle.ca_check.specs.Kind.{kind_name as check_kind_name}
 use Rattle.ca_check.specs.Expansion.{expansion_of}
-use Rattle.ca_run.specs.declared.words.Command.{Command}
+use Rattle.ca_words.specs.declared.command.Command.{Command}
+use Rattle.ca_words.specs.declared.command.Command.TheVariants.{Check, Load, Run}
 use Rattle.ca_journal.specs.Events.{events}
+use Rattle.ca_run.specs.Generator.{load_text}
 use Rattle.ca_run.specs.Served.{first_unserved}
 
 -- the greatest length of a script, in bytes
 abbrev pub greatest_length : ℕ
 greatest_length = 1_048_576
 
--- what the events of a run may cost
-abbrev pub budget : ℕ
-budget = 1_000_000
+-- what the events of a run may cost together; a run of the generator's script may cost the most that can be asked for
+abbrev pub budget_of : Command → ℕ
+budget_of (Run workers budget journal) = budget
+budget_of Check = 0
+budget_of (Load n workers) = 4_000_000
+
+-- a script is run, and not only checked
+abbrev pub runs : Command → Bool
+runs (Run workers budget journal) = true
+runs Check = false
+runs (Load n workers) = true
+
+-- its script is read from the source
+abbrev pub reads : Command → Bool
+reads (Run workers budget journal) = true
+reads Check = true
+reads (Load n workers) = false
+
+-- the journal follows what the run prints
+abbrev pub shows_journal : Command → Bool
+shows_journal (Run workers budget journal) = journal
+shows_journal Check = false
+shows_journal (Load n workers) = false
 
 -- the text is a script, and this is its program
 abbrev pub ProgramOf : List ℕ → ProgramView → Type 0
 ProgramOf input program = (forms : FormTrees) × Reads input forms × (expansion_of forms ≡ Ok program)
 
--- the events are a run of the text's program, which came to that end
-pub record RunOf (input : List ℕ) (journal : List EventView) (end : RunEnd) : Type 0 where
+-- the events are a run of the text's program, which came to that end for the budget
+pub record RunOf (budget : ℕ) (input : List ℕ) (journal : List EventView) (end : RunEnd) : Type 0 where
   pub program : ProgramView
   pub is_program : ProgramOf input program
   pub legal : Legal program journal
@@ -56,9 +79,15 @@ pub record ReadWhole (before after : Option (List ℕ)) (input : List ℕ) : Typ
   pub whole : IsAtEnd after
   pub short : length input ≤ greatest_length
 
--- the events are a run of what was read
-abbrev pub Ran : Option (List ℕ) → Option (List ℕ) → List EventView → RunEnd → Type 0
-Ran before after journal end = (input : List ℕ) × ReadWhole before after input × RunOf input journal end
+-- the script of a command: what was read, or the generator's, for which nothing is read
+abbrev pub Given : Command → Option (List ℕ) → Option (List ℕ) → List ℕ → Type 0
+Given (Run workers budget journal) before after input = ReadWhole before after input
+Given Check before after input = ReadWhole before after input
+Given (Load n workers) before after input = (after ≡ before) × (input ≡ load_text n)
+
+-- the events are a run of the command's script
+abbrev pub Ran : Command → Option (List ℕ) → Option (List ℕ) → List EventView → RunEnd → Type 0
+Ran command before after journal end = (input : List ℕ) × Given command before after input × RunOf (budget_of command) input journal end
 
 -- what was read is a script that has a program
 abbrev pub Accepted : Option (List ℕ) → Option (List ℕ) → Type 0
@@ -88,31 +117,43 @@ IsUnserved input line = (program : ProgramView) × (p : Place) × ProgramOf inpu
 -- the text is refused with this line; where it is only to be checked, all is served
 abbrev pub RefusedFor : Command → List ℕ → List ℕ → Type 0
 RefusedFor command input line =
-    IsUnreadable input line ⊎ (IsMistaken input line ⊎ ((command ≡ Command.Run) × IsUnserved input line))
+    IsUnreadable input line ⊎ (IsMistaken input line ⊎ ((runs command ≡ true) × IsUnserved input line))
+
+-- the source was longer than a script may be, and was read as far as that shows
+abbrev pub IsTooLong : Option (List ℕ) → Option (List ℕ) → List ℕ → Type 0
+IsTooLong before after line = (input : List ℕ) × Consumes before after input × (greatest_length < length input) × (line ≡ error_line (codes "TooLong") first_place)
+
+-- the command's script is refused with this line
+abbrev pub IsRefused : Command → Option (List ℕ) → Option (List ℕ) → List ℕ → Type 0
+IsRefused command before after line = (input : List ℕ) × Given command before after input × RefusedFor command input line
 
 -- what was read is refused with this line: it is too long, or it is the whole source, short enough, and is refused
 abbrev pub Refused : Command → Option (List ℕ) → Option (List ℕ) → List ℕ → Type 0
-Refused command before after line = (input : List ℕ)
-    × ((Consumes before after input × (greatest_length < length input) × (line ≡ error_line (codes "TooLong") first_place))
-    ⊎ (ReadWhole before after input × RefusedFor command input line))
+Refused (Run workers budget journal) before after line = IsTooLong before after line ⊎ IsRefused (Run workers budget journal) before after line
+Refused Check before after line = IsTooLong before after line ⊎ IsRefused Check before after line
+Refused (Load n workers) before after line = IsRefused (Load n workers) before after line
 
 -- the line that says which words are admitted
 abbrev pub usage : List ℕ
 usage = codes "usage: run [--workers N] [--budget N] [--journal] / check / load N [--workers N]\n"
 
--- What a run writes: what it prints, and the line of its end.
-abbrev pub RunText : List EventView → RunEnd → List ℕ → Type 0
-RunText journal end text = (line : List ℕ) × EndLine journal end line × (text ≡ output journal ++ line)
+-- What a run writes: what it prints, its journal where that is asked for, and the line of its end.
+abbrev pub RunText : Bool → List EventView → RunEnd → List ℕ → Type 0
+RunText shown journal end text = (line : List ℕ) × EndLine journal end line × (text ≡ output journal ++ (cond shown (journal_text journal) [] ++ line))
 
--- A run of what was read came to that end; its journal is handed back, and its whole text was taken.
-abbrev pub Completed : Option (List ℕ) → Option (List ℕ) → Option (List ℕ) → Option (List ℕ) → Option (Seq Event) → RunEnd → Type 0
-Completed before after held taken journal end = MatchOption journal ⊥ (λ j.
-    Ran before after (events j) end × ((text : List ℕ) × RunText (events j) end text × Appends held taken text))
+-- A run of the command's script came to that end; its journal is handed back, and its whole text was taken.
+abbrev pub Completed : Command → Option (List ℕ) → Option (List ℕ) → Option (List ℕ) → Option (List ℕ) → Option (Seq Event) → RunEnd → Type 0
+Completed command before after held taken journal end = MatchOption journal ⊥ (λ j.
+    Ran command before after (events j) end × ((text : List ℕ) × RunText (shows_journal command) (events j) end text × Appends held taken text))
+
+-- the same of the command that was asked for, which runs a script
+abbrev pub CompletedFor : Option Command → Option (List ℕ) → Option (List ℕ) → Option (List ℕ) → Option (List ℕ) → Option (Seq Event) → RunEnd → Type 0
+CompletedFor asked before after held taken journal end = (command : Command) × (asked ≡ Some command) × (runs command ≡ true) × Completed command before after held taken journal end
 
 -- the text of an answer without a run: the usage line, a refusal's or that of a script that is accepted
 abbrev pub Told : Option Command → Option (List ℕ) → Option (List ℕ) → List ℕ → Type 0
 Told None before after text = text ≡ usage
-Told (Some command) before after text = Refused command before after text ⊎ (Accepted before after × (text ≡ codes "ok\n"))
+Told (Some command) before after text = Refused command before after text ⊎ ((command ≡ Check) × Accepted before after × (text ≡ codes "ok\n"))
 
 -- a prefix of a text was taken: that of a run, whose journal is handed back, or another with none
 pub record Partly (command : Option Command) (before after held taken : Option (List ℕ)) (journal : Option (Seq Event)) : Type 0 where
@@ -120,4 +161,4 @@ pub record Partly (command : Option Command) (before after held taken : Option (
   pub count : ℕ
   pub prefix : Appends held taken (take count text)
   pub source : MatchOption journal (Told command before after text)
-      (λ j. (end : RunEnd) × Ran before after (events j) end × RunText (events j) end text)
+      (λ j. (c : Command) × (command ≡ Some c) × ((end : RunEnd) × Ran c before after (events j) end × RunText (shows_journal c) (events j) end text))

@@ -1,24 +1,34 @@
-ghost use Rattle.std.specs.Prelude.{◌≡◌, ◌++◌, IfOk};
+ghost use Rattle.std.specs.Prelude.{◌≡◌, ◌++◌, [], cond, IfOk, OnOk};
 ghost use Rattle.ca_value.specs.Seq.{list};
 ghost use Rattle.ca_term.specs.Program.{program_view};
+ghost use Rattle.ca_meaning.specs.Journal.{journal_text};
 ghost use Rattle.ca_meaning.specs.Texts.{output};
 ghost use Rattle.ca_journal.specs.Events.{events};
 ghost use Rattle.ca_run.specs.Top.{error_line};
-ghost use Rattle.ca_run.specs.Answers.{answer_text, line_of_end, refusal_line, Judged, JudgedProgram};
+ghost use Rattle.ca_run.specs.Answers.{answer_text, line_of_end, refusal_line, IsFit, Judged, JudgedProgram};
 
-use crate::run::{BUDGET, MainEnd, MainRun, run_main};
+use crate::run::{ScriptEnd, ScriptRun, run_script};
 use crate::served::served;
-use crate::words::Command;
 use ca_check::check::check;
 use ca_check::error::{CheckError, CheckErrorKind};
 use ca_journal::output::{append_fault, output};
+use ca_journal::print::print;
+use ca_pool::gate::Gate;
 use ca_reader::error::{ReadError, ReadErrorKind};
 use ca_reader::read::read;
+use ca_table::answer::PoolStop;
 use ca_term::place::Place;
 use ca_term::program::Program;
+use ca_timers::clock::Clock;
 use ca_value::memory::OutOfMemory;
 use ca_value::seq::Text;
+use ca_words::command::Command;
 use std::alloc::Global;
+use std::sync::Wait;
+use std::thread::Threads;
+
+/// The budget of a run of the generator's script.
+const LOAD_BUDGET: u64 = 4_000_000;
 
 /// Why a script is refused, with the place where it is.
 #[derive(Clone, Copy, PartialEq, Eq, Debug)]
@@ -29,7 +39,7 @@ pub enum Refusal {
     Unreadable(ReadErrorKind, Place),
     /// The first error of its forms.
     Unchecked(CheckErrorKind, Place),
-    /// The first operation that isn't served yet.
+    /// The first system task, which isn't served yet.
     NotYet(Place),
 }
 
@@ -40,12 +50,21 @@ pub enum Answer {
     Refused(Refusal),
     /// The script has a program, and only that was asked.
     Accepted,
-    Ran(MainRun),
+    /// The run, and whether its journal was asked for.
+    Ran(ScriptRun, bool),
 }
 
 /// The run of a text or that it is accepted, or why it is refused.
 #[tactic(auto, using(crate::proofs::Judgements::judged_by_program))]
-pub fn judge_text(alloc: Global, command: Command, input: &[u8]) -> Result<Answer, OutOfMemory>
+pub fn judge_text<R: Threads + Wait + Sync, C: Clock + Send + Sync, G: Gate + Sync>(
+    rt: &R,
+    alloc: Global,
+    command: Command,
+    input: &[u8],
+    clock: &mut C,
+    gate: &G,
+) -> Result<Answer, PoolStop>
+    requires { IsFit command }
     ensures { IfOk result (λ a. Judged command input.now a) }
 {
     let forms = match read(alloc, input) {
@@ -53,28 +72,45 @@ pub fn judge_text(alloc: Global, command: Command, input: &[u8]) -> Result<Answe
         Err(ReadError::Fault(kind, place)) => {
             return Ok(Answer::Refused(Refusal::Unreadable(kind, place)));
         }
-        Err(ReadError::OutOfMemory) => return Err(OutOfMemory),
+        Err(ReadError::OutOfMemory) => return Err(PoolStop::OutOfMemory),
     };
     let program = match check(alloc, &forms) {
         Ok(program) => program,
         Err(CheckError::Fault(kind, place)) => {
             return Ok(Answer::Refused(Refusal::Unchecked(kind, place)));
         }
-        Err(CheckError::OutOfMemory) => return Err(OutOfMemory),
+        Err(CheckError::OutOfMemory) => return Err(PoolStop::OutOfMemory),
     };
-    answer_of(alloc, command, &program)
+    answer_of(rt, alloc, command, &program, clock, gate)
 }
 
 // What a program comes to.
-fn answer_of(alloc: Global, command: Command, program: &Program) -> Result<Answer, OutOfMemory>
+fn answer_of<R: Threads + Wait + Sync, C: Clock + Send + Sync, G: Gate + Sync>(
+    rt: &R,
+    alloc: Global,
+    command: Command,
+    program: &Program,
+    clock: &mut C,
+    gate: &G,
+) -> Result<Answer, PoolStop>
+    requires { IsFit command }
     ensures { IfOk result (λ a. JudgedProgram command (program_view program.now) a) }
 {
-    match command {
-        Command::Check => Ok(Answer::Accepted),
-        Command::Run => match served(program) {
-            Some(place) => Ok(Answer::Refused(Refusal::NotYet(place))),
-            None => Ok(Answer::Ran(run_main(alloc, program, BUDGET)?)),
-        },
+    let (workers, budget, shown) = match command {
+        Command::Check => return Ok(Answer::Accepted),
+        Command::Run {
+            workers,
+            budget,
+            journal,
+        } => (workers, budget, journal),
+        Command::Load { workers, .. } => (workers, LOAD_BUDGET, false),
+    };
+    match served(program) {
+        Some(place) => Ok(Answer::Refused(Refusal::NotYet(place))),
+        None => Ok(Answer::Ran(
+            run_script(rt, alloc, program, workers, budget, clock, gate)?,
+            shown,
+        )),
     }
 }
 
@@ -89,21 +125,32 @@ pub fn text_of(alloc: Global, answer: &Answer) -> Result<Text, OutOfMemory>
         ),
         Answer::Refused(refusal) => line_of(alloc, *refusal),
         Answer::Accepted => Text::from_bytes(alloc, b"ok\n"),
-        Answer::Ran(run) => text_of_run(alloc, run),
+        Answer::Ran(run, shown) => text_of_run(alloc, run, *shown),
     }
 }
 
-// What the run prints, and then the line of its end.
-fn text_of_run(alloc: Global, run: &MainRun) -> Result<Text, OutOfMemory>
-    ensures { IfOk result (λ t. list t ≡ output (events run.now.journal) ++ line_of_end run.now.end) }
+// What the run prints, its journal where that is shown, and then the line of its end.
+fn text_of_run(alloc: Global, run: &ScriptRun, shown: bool) -> Result<Text, OutOfMemory>
+    ensures { IfOk result (λ t. list t ≡ output (events run.now.journal) ++ (cond shown (journal_text (events run.now.journal)) [] ++ line_of_end run.now.end)) }
 {
     let mut text = output(alloc, &run.journal)?;
-    match run.end {
-        MainEnd::Ended => {}
-        MainEnd::Faulted(fault, place) => append_fault(fault, place, &mut text)?,
-        MainEnd::Limit => text.append(b"budget\n")?,
+    if shown {
+        text.append(print(alloc, &run.journal)?.as_slice())?;
     }
+    append_end(run.end, &mut text)?;
     Ok(text)
+}
+
+// The line that tells of the end.
+fn append_end(end: ScriptEnd, text: &mut Text) -> Result<(), OutOfMemory>
+    ensures { OnOk result (list text.new ≡ list text.old ++ line_of_end end) }
+{
+    match end {
+        ScriptEnd::Ended => Ok(()),
+        ScriptEnd::Faulted(fault, place) => append_fault(fault, place, text),
+        ScriptEnd::Limit => text.append(b"budget\n"),
+        ScriptEnd::Stuck => text.append(b"stuck\n"),
+    }
 }
 
 fn line_of(alloc: Global, refusal: Refusal) -> Result<Text, OutOfMemory>

@@ -3,12 +3,12 @@ ghost use Rattle.ca_term.specs.View.{kernel, kernels, bindings};
 ghost use Rattle.ca_term.specs.Program.{program_view, procedure_view};
 ghost use Rattle.ca_run.specs.Served.{is_served, is_before, earlier, unserved, unserved_items, unserved_bindings, unserved_among, first_unserved};
 
-use ca_term::head::Head;
+use ca_term::head::{Head, SeedKind};
 use ca_term::place::Place;
 use ca_term::program::{Procedure, Program};
 use ca_term::term::{Binding, Term};
 
-/// The place of the program's first operation that isn't served yet, by line and then by column; None where
+/// The place of the program's first system task, which isn't served yet, by line and then by column; None where
 /// all are served. It takes no memory.
 pub fn served(program: &Program) -> Option<Place>
     ensures { result ≡ first_unserved (program_view program.now) }
@@ -78,8 +78,8 @@ fn unserved_head(head: Head, place: Place) -> Option<Place>
     ensures { result ≡ cond (is_served head) None (Some place) }
 {
     match head {
-        Head::Recur | Head::Builtin(_) | Head::Call(_) | Head::Print => None,
-        _ => Some(place),
+        Head::Spawn(SeedKind::System(_)) => Some(place),
+        _ => None,
     }
 }
 

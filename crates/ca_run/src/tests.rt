@@ -1,8 +1,8 @@
 use crate::device::{Sink, Source};
-use crate::gate::OpenGate;
 use crate::memory::{MemoryClock, MemorySink, MemorySource};
 use crate::standard::{ReaderSource, SteadyClock, WriterSink};
 use crate::top::main_call;
+use ca_pool::gate::OpenGate;
 use ca_timers::clock::Clock;
 use std::io;
 use std::process::Abort;

@@ -1,12 +1,12 @@
 //! Worked rows of whole scripts: each line of the input has the words, devices that fail where it says so,
-//! and a script; its line of the output has the exit status, the number of events of the journal that is
-//! handed back, or `-`, and the text that was written.
+//! and a script; its line of the output has the exit status, `+` where a journal is handed back or `-`, and the text that
+//! was written.
 //!
-//! `run: (println 1)` asks for a run; `|` in a script stands for a line feed. `budget=N` runs the script within that
-//! budget, without the top call and its devices. `piece=N` lets the devices give
-//! and take N bytes at most at once; `read=N` and `write=N` make that call fail, counted from 0. Empty lines
-//! and comments are written as they stand, so the lines of both files go together. A row is added by writing
-//! a line into each: what the language's rules or core.async answer, never what this program did.
+//! `run: (println 1)` asks for a run; `|` in a script stands for a line feed. `piece=N` lets the devices give and take N
+//! bytes at most at once; `read=N`, `write=N` and `wait=N` make that call of the source, the sink or the clock fail, counted
+//! from 0. The clock is one in memory. Empty lines and comments are written as they stand, so the lines of both files go
+//! together. A row is added by writing a line into each: what the language's rules or core.async answer, never what this
+//! program did.
 //!
 //! Stands on `ca_run`, with no claim of its own; start with `answer_text`.
 #![tactic(auto)]

@@ -1,15 +1,15 @@
 use std::alloc::{AllocError, Global};
 
-/// A row: the words, the script, the budget where one is told, how many bytes the devices give and take at most
-/// at once, and which of their calls fail.
+/// A row: the words, the script, how many bytes the devices give and take at most at once, and which of their calls
+/// fail.
 #[derive(Drop)]
 pub struct Row {
     pub words: Vec<String>,
     pub script: Vec<u8>,
-    pub budget: Option<u64>,
     pub piece: usize,
     pub reads: Vec<u64>,
     pub writes: Vec<u64>,
+    pub waits: Vec<u64>,
 }
 
 impl Row {
@@ -19,10 +19,10 @@ impl Row {
         let mut row = Row {
             words: Vec::new(alloc),
             script: script_of(alloc, script)?,
-            budget: None,
             piece: 4096,
             reads: Vec::new(alloc),
             writes: Vec::new(alloc),
+            waits: Vec::new(alloc),
         };
         for word in head.split(' ') {
             row.add(alloc, word)?;
@@ -36,10 +36,10 @@ impl Row {
             return Ok(());
         }
         match word.split_once("=") {
-            Some(("budget", number)) => self.budget = number.parse().ok(),
             Some(("piece", number)) => self.piece = number.parse().unwrap_or(1),
             Some(("read", number)) => self.reads.push(number.parse().unwrap_or(0))?,
             Some(("write", number)) => self.writes.push(number.parse().unwrap_or(0))?,
+            Some(("wait", number)) => self.waits.push(number.parse().unwrap_or(0))?,
             _ => self.words.push(String::from_str(alloc, word)?)?,
         }
         Ok(())

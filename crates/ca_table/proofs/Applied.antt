@@ -1,21 +1,20 @@
 -- A plan's event that was applied to what a worker holds, as its law speaks of the parts of a run.
 use Rattle.std.proofs.Common.{◌≡◌, ◌∙◌, ℕ, List, [], ◌∷◌, ◌++◌, refl, sym, ap, subst, Bool, true, false, cond, Option, Some, None, option_map, eqb, eq-eqb, ne_eqb, is_some}
 use Rattle.ca_value.specs.Tree.{Tree}
-use Rattle.ca_term.specs.declared.head.SeedKind.{SeedKind}
 use Rattle.ca_term.specs.Operation.{OpView, SeedView, spawning}
 use Rattle.ca_term.specs.Program.{ProgramView}
-use Rattle.ca_meaning.specs.Body.{At, at_op}
+use Rattle.ca_meaning.specs.Body.{At}
 use Rattle.ca_meaning.specs.ChannelSteps.{other_side}
 use Rattle.ca_meaning.specs.Registry.{Registry}
 use Rattle.ca_meaning.specs.Wait.{port_of, side_of, told}
-use Rattle.ca_commit.specs.Agents.{TaskAgent, advances_of, place_of, starts_of}
+use Rattle.ca_commit.specs.Agents.{TaskAgent, starts_of}
 use Rattle.ca_commit.specs.Applying.{HasParts, ReadyBy, RunsBy, number_of}
-use Rattle.ca_commit.specs.Contents.{Kept, LaneView, Parked, Parts, TimersPart, at_key, home, whole}
+use Rattle.ca_commit.specs.Contents.{Kept, LaneView, Parts, TimersPart, at_key, home, whole}
 use Rattle.ca_commit.specs.Listing.{listed}
 use Rattle.ca_commit.specs.Listings.{parts}
-use Rattle.ca_commit.specs.Moves.{Becomes, Stays, Stood}
+use Rattle.ca_commit.specs.Moves.{Becomes, Stays}
 use Rattle.ca_commit.specs.Numbers.{number_of_bank}
-use Rattle.ca_commit.specs.PlanMoves.{HasPartsIn, IsApplied, OthersStay, ReadyTo, RunsOn, StartsIn, TimesTo, next_task}
+use Rattle.ca_commit.specs.PlanMoves.{HasPartsIn, IsApplied, OthersStay, ReadyTo, RunsOn, StartsIn, TimesTo}
 use Rattle.ca_commit.specs.Planning.{Planned, to_close, to_default, to_do, to_look, to_make, to_meet, to_park, to_post, to_print, to_prune, to_refuse, to_register, to_spawn}
 use Rattle.ca_commit.specs.Showing.{bank_in, channels_held, registries_held, registries_in, waits_held}
 use Rattle.ca_commit.specs.Tasks.{agent_of, task_view, tasks_in}

@@ -15,7 +15,7 @@ use Rattle.ca_commit.specs.declared.held.Held.{Held}
 use Rattle.ca_commit.specs.declared.task.Task.{Task}
 use Rattle.ca_table.specs.Bearing.{Bears, ShowSame, parts_held}
 use Rattle.ca_table.specs.Carrying.{Carries, carried}
-use Rattle.ca_table.specs.Parts.{bank_seen, finite, shard_seen}
+use Rattle.ca_table.specs.Parts.{bank_seen, shard_seen}
 use Rattle.ca_table.proofs.Finite.{get_finite}
 
 -- what a part shows to contracts has all that `ca_commit` sees of it

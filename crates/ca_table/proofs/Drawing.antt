@@ -6,7 +6,7 @@ use Rattle.ca_term.specs.Event.{EventView}
 use Rattle.ca_meaning.specs.Cost.{cost}
 use Rattle.ca_journal.specs.Merge.{Numbered, entries, events_of}
 use Rattle.ca_turns.specs.Hands.{Held}
-use Rattle.ca_turns.specs.Views.{stands, turn}
+use Rattle.ca_turns.specs.Views.{turn}
 use Rattle.ca_turns.specs.declared.rule.Turn.{Turn}
 use Rattle.ca_commit.specs.Moving.{visible}
 use Rattle.ca_table.specs.Draws.{turn_view}

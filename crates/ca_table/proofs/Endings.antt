@@ -1,7 +1,7 @@
 -- How the history of a run ends: where a worker found that nothing can go on, the state is quiet, and a mark that
 -- workers obeyed was set.
-use Rattle.std.proofs.Common.{◌≡◌, ◌≢◌, ◌∙◌, ⊎_elim, ℕ, ◌+◌, ◌<◌, List, [], ◌∷◌, ◌++◌, map, refl, sym, ap, subst, Option, Some, None, Bool, true, false}
-use Rattle.std.specs.Prelude.{◌||◌, nat_lt}
+use Rattle.std.proofs.Common.{◌≡◌, ◌≢◌, ◌∙◌, ⊎_elim, ℕ, ◌+◌, List, [], ◌∷◌, ◌++◌, map, refl, sym, subst, Option, Some, Bool, true, false}
+use Rattle.std.specs.Prelude.{nat_lt}
 use Rattle.ca_value.specs.Tree.{Tree}
 use Rattle.ca_term.specs.Event.{EventView}
 use Rattle.ca_term.specs.Program.{ProgramView, program_view}
@@ -21,11 +21,11 @@ use Rattle.ca_turns.specs.History.{Goes, Run}
 use Rattle.ca_turns.specs.Places.{write}
 use Rattle.ca_turns.specs.Steps.{IsWhole, Sees}
 use Rattle.ca_commit.specs.Agents.{TaskAgent}
-use Rattle.ca_commit.specs.Contents.{Content, Parts, TimersPart}
+use Rattle.ca_commit.specs.Contents.{Content, Parts}
 use Rattle.ca_commit.specs.Gathered.{AllAlike, kind_at, kind_of_part, parts_of, pick}
 use Rattle.ca_commit.specs.Moving.{Moves, MovesTurn, visible}
-use Rattle.ca_commit.specs.Opening.{opening_parts, unasked}
-use Rattle.ca_commit.specs.Running.{AreAt, RunStands, written}
+use Rattle.ca_commit.specs.Opening.{unasked}
+use Rattle.ca_commit.specs.Running.{AreAt, written}
 use Rattle.ca_commit.specs.Touched as said
 use Rattle.ca_commit.proofs.Gathering.{parts_in, parts_laid, picks_within}
 use Rattle.ca_commit.proofs.Locality.{stalled}
@@ -126,13 +126,13 @@ module _ {A : Type 0} (over : CodeView → A → Type 0) (place : A → At) (sta
   ends_before [] now last s have run r none kept e = e
   ends_before (t ∷ ts) now last s have run r none kept e = by (ends_main (turn_view t.event.what)) refl
       (λ goes k. let a = turn_leads over place stands advances gives starts advance_law answer_law start_law program code n now s t have run r.0 in
-          ends_before ts (write now (drawn_touches t.event) t.after) last a.0 (leaves_code over place advances gives starts code now t have r.0) a.2 r.1 (turn_unmarked now s t have run r.0 none goes (kept_both kept).0) (kept_both kept).1 k) where
-    kept_both : has gives_up (t ∷ ts) ≡ false → (gives_up (turn_view t.event.what) ≡ false) × (has gives_up ts ≡ false)
-    kept_both k = both_false (gives_up (turn_view t.event.what)) (has gives_up ts) k
+      ends_before ts (write now (drawn_touches t.event) t.after) last a.0 (leaves_code over place advances gives starts code now t have r.0) a.2 r.1 (turn_unmarked now s t have run r.0 none goes (kept_both kept).0) (kept_both kept).1 k) where
+        kept_both : has gives_up (t ∷ ts) ≡ false → (gives_up (turn_view t.event.what) ≡ false) × (has gives_up ts ≡ false)
+        kept_both k = both_false (gives_up (turn_view t.event.what)) (has gives_up ts) k
 
-    by : (b : Bool) → ends_main (turn_view t.event.what) ≡ b → (ends_main (turn_view t.event.what) ≡ false → has obeys_mark ts ≡ true → has ends_main ts ≡ true) → has ends_main (t ∷ ts) ≡ true
-    by true is later = first_true (ends_main (turn_view t.event.what)) (has ends_main ts) is
-    by false is later = second_true (ends_main (turn_view t.event.what)) (has ends_main ts) (⊎_elim (λ here. turn_marked now s t have run r.0 none here) (later is) (either_true (obeys_mark (turn_view t.event.what)) (has obeys_mark ts) e))
+        by : (b : Bool) → ends_main (turn_view t.event.what) ≡ b → (ends_main (turn_view t.event.what) ≡ false → has obeys_mark ts ≡ true → has ends_main ts ≡ true) → has ends_main (t ∷ ts) ≡ true
+        by true is later = first_true (ends_main (turn_view t.event.what)) (has ends_main ts) is
+        by false is later = second_true (ends_main (turn_view t.event.what)) (has ends_main ts) (⊎_elim (λ here. turn_marked now s t have run r.0 none here) (later is) (either_true (obeys_mark (turn_view t.event.what)) (has obeys_mark ts) e))
 
   module _ (v : View (PartSeen A) Drawn) (k : Knows over stands program code n v) where
     opening_unmarked : IsUnmarked v.opening

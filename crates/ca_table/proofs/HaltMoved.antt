@@ -1,5 +1,5 @@
 -- The worker may draw the end of its task.
-use Rattle.std.proofs.Common.{◌≡◌, ℕ, List, refl, Some, None, Option, eqb}
+use Rattle.std.proofs.Common.{ℕ, List, refl, Some, Option}
 use Rattle.ca_value.specs.Tree.{Tree}
 use Rattle.ca_term.specs.declared.event.Ending.TheVariants.{Ended, Faulted}
 use Rattle.ca_term.specs.Event.{EventView, over}
@@ -7,7 +7,7 @@ use Rattle.ca_term.specs.Operation.{SeedView}
 use Rattle.ca_term.specs.Program.{ProgramView}
 use Rattle.ca_meaning.specs.Body.{At, at_op, ended, faulted}
 use Rattle.ca_commit.specs.Agents.{TaskAgent}
-use Rattle.ca_commit.specs.Contents.{LaneView, Parts, TimersPart}
+use Rattle.ca_commit.specs.Contents.{LaneView, TimersPart}
 use Rattle.ca_commit.specs.Moving.{MovesTurn}
 use Rattle.ca_commit.specs.Touched.{shown}
 use Rattle.ca_commit.specs.declared.held.Held.{Held}

@@ -1,5 +1,5 @@
 -- The end of a lane's task: the worker may draw it.
-use Rattle.std.proofs.Common.{◌≡◌, ◌∙◌, ℕ, List, [], ◌∷◌, refl, sym, ap, subst, Bool, true, false, cond, Option, Some, None, option_map, eqb, is_some}
+use Rattle.std.proofs.Common.{◌≡◌, ℕ, List, [], refl, sym, ap, true, cond, Option, Some, None, option_map, eqb, is_some}
 use Rattle.ca_value.specs.Tree.{Tree}
 use Rattle.ca_value.specs.declared.value.PortId.{PortId}
 use Rattle.ca_term.specs.declared.event.Ending.TheVariants.{Ended, Faulted}
@@ -12,28 +12,26 @@ use Rattle.ca_meaning.specs.Body.{At, at_op, ended, faulted}
 use Rattle.ca_meaning.specs.Wait.{is_among}
 use Rattle.ca_commit.specs.Agents.{TaskAgent, advances_of, place_of}
 use Rattle.ca_commit.specs.Applying.{IsPlanFor}
-use Rattle.ca_commit.specs.Contents.{Content, Kept, LaneView, Parts, TimersPart, home}
+use Rattle.ca_commit.specs.Contents.{Content, LaneView, Parts, TimersPart, home}
 use Rattle.ca_commit.specs.Ending.{ClosesResult}
-use Rattle.ca_commit.specs.Moves.{Stays}
 use Rattle.ca_commit.specs.Moving.{MovesTurn}
-use Rattle.ca_commit.specs.Naming.{IsBankHeld, NamesHeld, named_ports}
+use Rattle.ca_commit.specs.Naming.{NamesHeld, named_ports}
 use Rattle.ca_commit.specs.Planning.{to_refuse}
 use Rattle.ca_commit.specs.Showing.{channels_held, registries_held}
 use Rattle.ca_commit.specs.Tasks.{agent_of}
 use Rattle.ca_commit.specs.TaskMoves.{Halts, MarksEnd}
 use Rattle.ca_commit.specs.Ticking.{closed_result}
 use Rattle.ca_commit.specs.Touched as said
-use Rattle.ca_commit.specs.Waking.{ready_in}
 use Rattle.ca_commit.specs.declared.held.Held.{Held}
 use Rattle.ca_commit.specs.declared.task.Task.{Task}
 use Rattle.ca_commit.proofs.Ends.{end_moves, fault_moves, refused_moves}
 use Rattle.ca_table.specs.Bearing.{Bears, parts_held}
-use Rattle.ca_table.specs.Carrying.{Carries, carried}
+use Rattle.ca_table.specs.Carrying.{Carries}
 use Rattle.ca_table.specs.Covering.{Covers, names_of}
 use Rattle.ca_table.specs.Halting.{KeepAll, LeavesLane, result_ports}
 use Rattle.ca_table.specs.Needing.{Brings, drawn_with}
 use Rattle.ca_table.proofs.Applied.{is_there, lane_goes, registries_there}
-use Rattle.ca_table.proofs.Bearing.{both_carried, has_bank, has_lane}
+use Rattle.ca_table.proofs.Bearing.{has_bank, has_lane}
 use Rattle.ca_table.proofs.Needing.{BanksOf, covers_by}
 use Rattle.ca_table.proofs.PlanCovered.{no_stall}
 

@@ -1,8 +1,6 @@
 -- Which kinds of turns stand in lists of turns, and among those of several workers.
 use Rattle.std.proofs.Common.{◌≡◌, ◌∙◌, ◌⊎◌, inl, inr, ⊎_elim, List, [], ◌∷◌, ◌++◌, length, refl, sym, ap, subst, arith, Bool, true, false}
 use Rattle.std.specs.Prelude.{◌||◌}
-use Rattle.ca_term.specs.Event.{EventView}
-use Rattle.ca_meaning.specs.Legal.{is_end_of_main}
 use Rattle.ca_turns.specs.declared.rule.Turn.{Turn}
 use Rattle.ca_commit.specs.Moving.{visible}
 use Rattle.ca_commit.specs.Touched as said

@@ -40,6 +40,8 @@ pub mod Settled
 pub mod MadeOf
 pub mod Staying
 pub mod Loaded
+pub mod Aside
+pub mod Trying
 pub mod Lifted
 pub mod PlanCovered
 pub mod HaltMoved

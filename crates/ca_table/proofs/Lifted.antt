@@ -1,20 +1,17 @@
 -- Where an answer gives more than is said of it, an event that was applied gives more.
-use Rattle.std.proofs.Common.{◌≡◌, ℕ, List, Option, Some, None}
+use Rattle.std.proofs.Common.{ℕ, List, Option, Some, None}
 use Rattle.ca_value.specs.Tree.{Tree}
-use Rattle.ca_term.specs.Operation.{SeedView}
-use Rattle.ca_term.specs.Program.{ProgramView}
 use Rattle.ca_meaning.specs.Body.{At}
 use Rattle.ca_meaning.specs.ChannelSteps.{other_side}
 use Rattle.ca_meaning.specs.Wait.{port_of, side_of, told}
 use Rattle.ca_commit.specs.Agents.{TaskAgent}
 use Rattle.ca_commit.specs.Applying.{ReadyBy, RunsBy}
-use Rattle.ca_commit.specs.Contents.{LaneView, Parked, nobody, owner, whole}
+use Rattle.ca_commit.specs.Contents.{Parked, nobody, owner, whole}
 use Rattle.ca_commit.specs.Planning.{Planned, to_close, to_default, to_do, to_look, to_make, to_meet, to_park, to_post, to_print, to_prune, to_refuse, to_register, to_spawn}
 use Rattle.ca_commit.specs.Showing.{channels_held, waits_held}
 use Rattle.ca_commit.specs.Waking.{WakesBy, passing, ready_in}
 use Rattle.ca_commit.specs.declared.held.Held.{Held}
 use Rattle.ca_commit.specs.declared.task.Task.{Task}
-use Rattle.ca_table.specs.Committing.{IsDone}
 
 module _ {A : Type 0} (place : A → At) (gives more : A → Tree → A → Type 0) (lift : (a : A) (v : Tree) (c : A) → gives a v c → more a v c) where
   pub wakes_more : (o : Option (Parked (TaskAgent A))) (p : ℕ) (v : Tree) (old new : Option (List (ℕ × TaskAgent A))) → WakesBy place gives o p v old new → WakesBy place more o p v old new

@@ -1,12 +1,11 @@
 -- Banks or shards that move out of a hand one after another, and back.
-use Rattle.std.proofs.Common.{◌≡◌, ◌∙◌, ⊎_elim, ℕ, zero, suc, ◌+◌, ◌<◌, ◌≤◌, List, [], ◌∷◌, ◌++◌, refl, sym, ap, subst, arith, Bool, true, false, cond, Option, Some, None, eqb, eqb-true, eq-eqb, ne_eqb, is_some, nat_lt}
+use Rattle.std.proofs.Common.{◌≡◌, ◌∙◌, ⊎_elim, ℕ, ◌+◌, ◌<◌, ◌≤◌, List, [], ◌∷◌, ◌++◌, refl, sym, ap, arith, Bool, true, false, cond, Option, Some, None, eqb, eqb-true, eq-eqb, ne_eqb, is_some, nat_lt}
 use Rattle.std.specs.Prelude.{option_map}
 use Rattle.std.specs.Map.{update}
 use Rattle.std.proofs.lemmas.Bool.{cases_lt, eqb-false, le-ltb, lt-ltb}
 use Rattle.ca_states.specs.declared.valid_code.ValidCode.{ValidCode}
 use Rattle.ca_turns.specs.Hands.{Held, IsHolding}
-use Rattle.ca_commit.specs.Contents.{home}
-use Rattle.ca_commit.specs.Gathered.{Kind, kind_at, kind_of_part}
+use Rattle.ca_commit.specs.Gathered.{kind_at, kind_of_part}
 use Rattle.ca_commit.specs.Listing.{listed}
 use Rattle.ca_commit.specs.Running.{or_was}
 use Rattle.ca_table.specs.Carrying.{Carries, IsPlace, kind_there, number_at, part_at, with_at}

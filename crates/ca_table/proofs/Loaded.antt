@@ -1,8 +1,8 @@
 -- What is carried is made of what is held, as it was loaded and as it is now; reserving leaves that as it is.
-use Rattle.std.proofs.Common.{◌≡◌, ◌∙◌, ℕ, refl, sym, ap, Bool, true, false, cond, Option, Some, None, eqb, is_some}
+use Rattle.std.proofs.Common.{◌≡◌, ◌∙◌, ℕ, refl, sym, ap, cond, Option, Some, None, eqb, is_some}
 use Rattle.std.specs.Prelude.{option_map}
 use Rattle.ca_commit.specs.Agents.{TaskAgent}
-use Rattle.ca_commit.specs.Contents.{Content, Kept, LaneView, Parked, TimersPart, a_bank, a_ready, a_shard}
+use Rattle.ca_commit.specs.Contents.{Content, LaneView, TimersPart, a_bank, a_ready, a_shard}
 use Rattle.ca_commit.specs.Listing.{listed}
 use Rattle.ca_commit.specs.Listings.{parts}
 use Rattle.ca_commit.specs.Numbers.{number_of_bank, number_of_shard}

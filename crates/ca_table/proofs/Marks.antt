@@ -8,7 +8,7 @@ use Rattle.ca_term.specs.Program.{ProgramView}
 use Rattle.ca_meaning.specs.Body.{At}
 use Rattle.ca_meaning.specs.Legal.{is_end_of_main}
 use Rattle.ca_commit.specs.Agents.{TaskAgent}
-use Rattle.ca_commit.specs.Contents.{Content, Parts, TimersPart, unmarked}
+use Rattle.ca_commit.specs.Contents.{Parts, TimersPart, unmarked}
 use Rattle.ca_commit.specs.Gathered.{Kind, away_kind, bank_kind, lane_kind, ready_kind, shard_kind, sorted, timers_kind, timers_of}
 use Rattle.ca_commit.specs.Moving.{MovesShown, MovesTurn}
 use Rattle.ca_commit.specs.Opening.{opened}

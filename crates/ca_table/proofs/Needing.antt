@@ -1,5 +1,5 @@
 -- An event covers what is carried, where all that it names is carried, and what stands beside it names the rest.
-use Rattle.std.proofs.Common.{◌≡◌, ◌≢◌, ◌∙◌, ℕ, ◌<◌, List, [], ◌∷◌, ◌++◌, refl, sym, ap, Bool, true, false, cond, Option, Some, None, eqb, eqb-true, is_some}
+use Rattle.std.proofs.Common.{◌≡◌, ◌≢◌, ◌∙◌, ℕ, List, [], ◌∷◌, ◌++◌, refl, sym, ap, Bool, true, false, cond, Option, Some, None, eqb, eqb-true, is_some}
 use Rattle.std.specs.Prelude.{option_map}
 use Rattle.ca_meaning.specs.Registry.{Registry}
 use Rattle.ca_commit.specs.Contents.{Content, Kept, LaneView, Parked, Parts, alive_in, at_key, home, whole}

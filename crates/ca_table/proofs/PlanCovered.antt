@@ -1,8 +1,8 @@
 -- The event of a plan covers what its worker carries, and moves it.
-use Rattle.std.proofs.Common.{◌≡◌, ◌≢◌, ◌∙◌, ℕ, List, [], ◌∷◌, refl, sym, subst, Bool, true, false, Option, Some, None, is_some, map}
+use Rattle.std.proofs.Common.{◌≡◌, ◌≢◌, ◌∙◌, ℕ, List, [], ◌∷◌, refl, sym, subst, map}
 use Rattle.ca_value.specs.Tree.{Tree}
 use Rattle.ca_term.specs.Event.{BranchView, EventView, put_of}
-use Rattle.ca_term.specs.Operation.{OpView, SeedView, WhatView, dropping, fixed, mix, mult, promise, publication, sliding, timeout, unbuffered}
+use Rattle.ca_term.specs.Operation.{OpView, SeedView, dropping, fixed, mix, mult, promise, publication, sliding, timeout, unbuffered}
 use Rattle.ca_term.specs.Program.{ProgramView}
 use Rattle.ca_meaning.specs.Body.{At}
 use Rattle.ca_meaning.specs.Wait.{port_of}

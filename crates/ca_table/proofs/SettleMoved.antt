@@ -1,28 +1,23 @@
 -- The worker may draw what a channel served, and a stale handler that left its queue, beside its lane.
-use Rattle.std.proofs.Common.{◌≡◌, ℕ, List, refl, sym, subst, Some, None, Option, is_some}
+use Rattle.std.proofs.Common.{ℕ, refl, sym, subst, None}
 use Rattle.ca_value.specs.Tree.{Tree}
-use Rattle.ca_term.specs.declared.event.Event.{Event}
-use Rattle.ca_term.specs.declared.event.Side.{Side}
-use Rattle.ca_term.specs.Event.{EventView, event_view, settled}
+use Rattle.ca_term.specs.Event.{EventView, event_view}
 use Rattle.ca_term.specs.Operation.{SeedView}
 use Rattle.ca_term.specs.Program.{ProgramView}
 use Rattle.ca_meaning.specs.Body.{At}
-use Rattle.ca_commit.specs.Agents.{TaskAgent, place_of, wakes_of}
-use Rattle.ca_commit.specs.ChannelMoves.{MovesSettle}
-use Rattle.ca_commit.specs.Contents.{Parts, whole}
-use Rattle.ca_commit.specs.Deciding.{IsStale}
+use Rattle.ca_commit.specs.Agents.{place_of, wakes_of}
+use Rattle.ca_commit.specs.Contents.{whole}
 use Rattle.ca_commit.specs.Moving.{MovesTurn}
 use Rattle.ca_commit.specs.Settling.{settling}
 use Rattle.ca_commit.specs.Showing.{channels_held}
 use Rattle.ca_commit.specs.Touched.{prunes, shown}
-use Rattle.ca_commit.specs.declared.held.Held.{Held}
 use Rattle.ca_states.specs.Code.{CodeView}
 use Rattle.ca_states.specs.ValidCode.{valid_code}
 use Rattle.ca_states.specs.declared.valid_code.ValidCode.{ValidCode}
 use Rattle.ca_table.specs.OneCode.{advances_over, gives_over, starts_over}
-use Rattle.ca_table.specs.Bearing.{Bears, parts_held}
-use Rattle.ca_table.specs.Carriers.{IsMoved, is_now, was}
-use Rattle.ca_table.specs.Carrying.{Carries, carried}
+use Rattle.ca_table.specs.Bearing.{parts_held}
+use Rattle.ca_table.specs.Carriers.{is_now, was}
+use Rattle.ca_table.specs.Carrying.{carried}
 use Rattle.ca_table.specs.Covering.{Covers}
 use Rattle.ca_table.specs.DrawnEvents.{PrunesDraw, SettlesDraw}
 use Rattle.ca_table.specs.Needing.{drawn_with}

@@ -1,5 +1,5 @@
 -- A channel that settles, and a stale handler that is pruned: the worker may draw it, and its lane is not touched.
-use Rattle.std.proofs.Common.{◌≡◌, ◌≢◌, ◌∙◌, ℕ, List, [], ◌∷◌, refl, sym, ap, subst, Bool, true, false, cond, Option, Some, None, option_map, eqb, is_some}
+use Rattle.std.proofs.Common.{◌≡◌, ◌≢◌, ◌∙◌, ℕ, List, [], ◌∷◌, refl, sym, ap, subst, true, false, cond, Option, Some, None, option_map, eqb, is_some}
 use Rattle.ca_value.specs.Tree.{Tree}
 use Rattle.ca_term.specs.declared.event.Event.{Event}
 use Rattle.ca_term.specs.declared.event.Side.{Side}
@@ -9,7 +9,7 @@ use Rattle.ca_term.specs.Program.{ProgramView}
 use Rattle.ca_meaning.specs.Body.{At}
 use Rattle.ca_meaning.specs.Wait.{told}
 use Rattle.ca_bank.specs.Kept.{pruned}
-use Rattle.ca_commit.specs.Agents.{TaskAgent, place_of, wakes_of}
+use Rattle.ca_commit.specs.Agents.{TaskAgent}
 use Rattle.ca_commit.specs.ChannelMoves.{MovesSettle}
 use Rattle.ca_commit.specs.Contents.{Content, LaneView, Parts, TimersPart, home, whole}
 use Rattle.ca_commit.specs.Deciding.{IsStale}

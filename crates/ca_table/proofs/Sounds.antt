@@ -1,5 +1,5 @@
 -- Each part that a worker holds is sound.
-use Rattle.std.proofs.Common.{◌≡◌, ◌∙◌, ⊎_elim, ℕ, ◌+◌, ◌-◌, ◌<◌, ◌≤◌, List, [], ◌∷◌, sym, ap, subst, arith, Bool, true, false, cond, Option, Some, nat_lt}
+use Rattle.std.proofs.Common.{◌≡◌, ◌∙◌, ⊎_elim, ℕ, ◌+◌, ◌-◌, ◌<◌, ◌≤◌, List, [], ◌∷◌, sym, ap, arith, Bool, false, cond, Option, Some, nat_lt}
 use Rattle.std.specs.Prelude.{option_map}
 use Rattle.std.proofs.lemmas.Bool.{cases_lt, le-ltb, lt-ltb}
 use mathlib.Core.Option as core
@@ -9,15 +9,14 @@ use Rattle.ca_term.specs.Operation.{SeedView}
 use Rattle.ca_term.specs.Program.{ProgramView}
 use Rattle.ca_meaning.specs.Body.{At}
 use Rattle.ca_meaning.specs.BodyViews.{is_at_op}
-use Rattle.ca_meaning.specs.Registry.{Registry}
-use Rattle.ca_meaning.specs.State.{State, Tasks}
+use Rattle.ca_meaning.specs.State.{State}
 use Rattle.ca_meaning.specs.Task.{TaskBody}
 use Rattle.ca_states.specs.Code.{CodeView}
 use Rattle.ca_agent.specs.Agents.{Advanced, Answered, Started}
 use Rattle.ca_turns.specs.Steps.{SeesOne}
 use Rattle.ca_turns.specs.declared.rule.View.{View}
 use Rattle.ca_commit.specs.Agents.{TaskAgent, stands_of}
-use Rattle.ca_commit.specs.Contents.{BankView, Content, Held, Kept, LaneView, Parked, TimersPart, a_bank, a_lane, a_ready, a_shard, at_key, home, owner, the_timers}
+use Rattle.ca_commit.specs.Contents.{BankView, Content, Held, Parked, a_bank, a_ready, a_shard, at_key, home, owner, the_timers}
 use Rattle.ca_commit.specs.Gathered.{Kind, bank_kind, bank_of, channels_of, kind_at, kind_of_part, lane_kind, lane_of, ready_kind, ready_of, registries_of, shard_kind, shard_of, sorted, timers_kind, timers_of}
 use Rattle.ca_commit.specs.Running.{RunStands}
 use Rattle.ca_commit.specs.Seated.{EachSeated, Seat}

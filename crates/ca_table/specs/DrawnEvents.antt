@@ -1,6 +1,6 @@
 -- The events that a worker may draw over what it carries: a plan's, a task's end, what a channel settles by itself, and
 -- a stale handler that leaves its queue.
-use Rattle.std.specs.Prelude.{◌≡◌, ℕ, List, Option, Some, None, Bool, false, true, option_map, is_some, eqb}
+use Rattle.std.specs.Prelude.{◌≡◌, ℕ, List, Option, Some, None, false, true, option_map, is_some, eqb}
 use Rattle.ca_value.specs.Tree.{Tree}
 use Rattle.ca_term.specs.declared.event.Ending.TheVariants.{Ended, Faulted}
 use Rattle.ca_term.specs.declared.event.Event.{Event}

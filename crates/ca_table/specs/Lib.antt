@@ -12,6 +12,7 @@ pub mod Members
 pub mod Workers
 pub mod Worked
 pub mod Carriers
+pub mod Beside
 pub mod Lifting
 pub mod Sound
 pub mod Needing

@@ -2,7 +2,7 @@
 // and gives them back. Each call says what it does to all that the worker carries.
 ghost use mathlib.Core.Option.{some};
 ghost use lib.ListN.{get_elem?};
-ghost use Rattle.std.specs.Prelude.{◌≡◌, ℕ, ◌+◌, ◌^◌, ◌<◌, ◌≤◌, ◌++◌, ◌∷◌, List, [], Option, Some, None, length};
+ghost use Rattle.std.specs.Prelude.{◌≡◌, ℕ, ◌+◌, ◌^◌, ◌<◌, ◌≤◌, ◌++◌, ◌∷◌, IfNone, IfSome, List, [], Option, Some, None, length};
 ghost use Rattle.ca_term.specs.Program.{ProgramView};
 ghost use Rattle.ca_states.specs.ValidCode.{valid_code};
 ghost use Rattle.ca_value.specs.Seq.{spare};
@@ -11,9 +11,10 @@ ghost use Rattle.ca_turns.specs.Views.{turn};
 ghost use Rattle.ca_commit.specs.Moving.{visible};
 ghost use Rattle.ca_commit.specs.Gathered.{kind_at, kind_of_part};
 ghost use Rattle.ca_commit.specs.Tasks.{tasks_in};
+ghost use Rattle.ca_table.specs.Beside.{beside_lane, settled_beside};
 ghost use Rattle.ca_table.specs.Carriers.{IsCarrying, IsMoved, LaneBox, with_ready};
 ghost use Rattle.ca_table.specs.Carrying.{Carries, IsPlace, Place, each_by, lane_place, number_at, part_at, with_at};
-ghost use Rattle.ca_table.specs.Draws.{drawn_code, drawn_view, turn_view};
+ghost use Rattle.ca_table.specs.Draws.{drawn_allows, drawn_code, drawn_view, turn_view};
 ghost use Rattle.ca_table.specs.Grips.{SameHand, SameTurns, settled_one};
 ghost use Rattle.ca_table.specs.Parts.{away, contents_seen, part_of, part_seen};
 ghost use Rattle.ca_table.specs.Seen.{PartSeen, held_of};
@@ -23,10 +24,10 @@ ghost use Rattle.ca_table.specs.declared.part.Contents.TheVariants as V;
 ghost use Rattle.ca_table.specs.declared.part.Part.{Part};
 
 use crate::drawn::Drawn;
-use crate::holding::{hold_out, part_with};
+use crate::holding::{hold_out, part_with, try_out};
 use crate::moving::{give, take_part};
 use crate::noting::draw_event;
-use crate::part::{Contents, Lane};
+use crate::part::{Contents, Lane, Part};
 use crate::pool::Pool;
 use crate::worker::Worker;
 use ca_agent::agent::Agent;
@@ -63,6 +64,36 @@ pub fn hold_at<R: Wait, A: Agent, C: Clock + Drop>(
         workers,
         at,
     )
+}
+
+/// Tries once to hold a part that the worker doesn't hold, and moves it out of the hand. None where another worker held
+/// it at that moment: then nothing changes.
+pub fn try_hold_at<A: Agent, C: Clock + Drop>(
+    table: &Table<Pool<A, C>>,
+    code: &ValidCode,
+    worker: &mut Worker<A, C>,
+    at: u64,
+) -> Option<Contents<A, C>>
+    requires one { (program : ProgramView) × (n : ℕ) × (h : Carries (Part A C × PartSeen A)) × (z : Place) × IsCarrying A.over A.stands program code.now table.now.id n worker.old h × IsPlace z × (at ≡ number_at n worker.old.number z) × (part_at z h ≡ None) × (at < part_count n) }
+    ensures same { SameWorker worker.old worker.new }
+    ensures turns { SameTurns worker.old.hand worker.new.hand }
+    ensures entries { worker.new.entries ≡ worker.old.entries }
+    ensures kind { IfSome result (λ x. kind_of_part (held_of (contents_seen C.least C.faults C.readings x)) ≡ kind_at worker.old.workers at) }
+    ensures sound { IfSome result (λ x. IsSound A.over A.place (valid_code code.now) worker.old.workers at (held_of (contents_seen C.least C.faults C.readings x))) }
+    ensures carries { IfSome result (λ x. (program : ProgramView) (n : ℕ) (h : Carries (Part A C × PartSeen A)) (z : Place) → IsCarrying A.over A.stands program code.now table.now.id n worker.old h → IsPlace z → at ≡ number_at n worker.old.number z → IsCarrying A.over A.stands program code.now table.now.id n worker.new (with_at z (Some (away n code.now, part_seen C.least C.faults C.readings (part_of n code.now x))) h)) }
+    ensures busy { IfNone result ((program : ProgramView) (n : ℕ) (h : Carries (Part A C × PartSeen A)) → IsCarrying A.over A.stands program code.now table.now.id n worker.old h → IsCarrying A.over A.stands program code.now table.now.id n worker.new h) }
+{
+    let workers = worker.workers;
+    try_out(table, &mut worker.hand, &worker.program, code, workers, at)
+}
+
+/// The part that the worker holds there, as it is now.
+pub fn look_at<A: Agent, C: Clock + Drop>(worker: &Worker<A, C>, at: u64) -> &Part<A, C>
+    requires { IsHolding worker.now.hand at }
+    ensures there { get_elem? worker.now.hand.parts at ≡ some (Some result.now) }
+    ensures carries { (program : ProgramView) (code : ValidCode) (id : TableId) (n : ℕ) (h : Carries (Part A C × PartSeen A)) (z : Place) (x : Part A C) (c : PartSeen A) → IsCarrying A.over A.stands program code id n worker.now (with_at z (Some (x, c)) h) → IsPlace z → at ≡ number_at n worker.now.number z → result.now ≡ x }
+{
+    worker.hand.part(at)
 }
 
 /// The tasks of a ready part, held above all that the worker holds.
@@ -171,6 +202,27 @@ pub fn draw_carried<A: Agent, C: Clock + Drop>(
     ensures hand { SameHand worker.old.hand worker.new.hand }
     ensures drew { (k : ℕ) × (before : List (PartSeen A)) × (after : List (PartSeen A)) × (worker.new.hand.view.turns ≡ worker.old.hand.view.turns ++ turn k drawn before after ∷ []) }
     ensures carries { (program : ProgramView) (code : ValidCode) (n : ℕ) (h : Carries (Part A C × PartSeen A)) → IsCarrying A.over A.stands program code table.now.id n worker.old h → IsMoved A.over A.place A.advances A.gives A.starts (part_seen C.least C.faults C.readings) code n worker.old.number (drawn_view drawn) h → IsCarrying A.over A.stands program code table.now.id n worker.new (each_by (settled_one (part_seen C.least C.faults C.readings)) h) }
+{
+    draw_event(table, worker, drawn);
+}
+
+/// Draws the event, whose parts the worker carries as the event leaves them, beside its lane, which it leaves alone.
+/// Such an event allows that any part is held.
+pub fn draw_beside<A: Agent, C: Clock + Drop>(
+    table: &Table<Pool<A, C>>,
+    worker: &mut Worker<A, C>,
+    drawn: Drawn,
+)
+    requires carries { (program : ProgramView) × (code : ValidCode) × (n : ℕ) × (h : Carries (Part A C × PartSeen A)) × IsCarrying A.over A.stands program code table.now.id n worker.old h × IsMoved A.over A.place A.advances A.gives A.starts (part_seen C.least C.faults C.readings) code n worker.old.number (drawn_view drawn) (beside_lane h) }
+    requires code { drawn_code drawn ≡ valid_code worker.old.code.value }
+    requires allows { (i : ℕ) → drawn_allows drawn i }
+    requires room { length (visible (turn_view drawn.what)) ≤ spare worker.old.entries }
+    requires turns { length worker.old.hand.view.turns < 2 ^ 59 }
+    ensures same { SameWorker worker.old worker.new }
+    ensures spare { spare worker.old.entries ≤ spare worker.new.entries + length (visible (turn_view drawn.what)) }
+    ensures hand { SameHand worker.old.hand worker.new.hand }
+    ensures drew { (k : ℕ) × (before : List (PartSeen A)) × (after : List (PartSeen A)) × (worker.new.hand.view.turns ≡ worker.old.hand.view.turns ++ turn k drawn before after ∷ []) }
+    ensures carries { (program : ProgramView) (code : ValidCode) (n : ℕ) (h : Carries (Part A C × PartSeen A)) → IsCarrying A.over A.stands program code table.now.id n worker.old h → IsMoved A.over A.place A.advances A.gives A.starts (part_seen C.least C.faults C.readings) code n worker.old.number (drawn_view drawn) (beside_lane h) → IsCarrying A.over A.stands program code table.now.id n worker.new (settled_beside (part_seen C.least C.faults C.readings) h) }
 {
     draw_event(table, worker, drawn);
 }

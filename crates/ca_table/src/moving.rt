@@ -1,15 +1,15 @@
 // Parts that move out of a hand and back, and events that are drawn with them.
 ghost use mathlib.Core.Option.{some};
 ghost use lib.ListN.{get_elem?};
-ghost use Rattle.std.specs.Prelude.{◌≡◌, ℕ, ◌^◌, ◌<◌, ◌++◌, List, [], ◌∷◌, Some, None, Option, map, slice_set, eqb, length};
+ghost use Rattle.std.specs.Prelude.{◌≡◌, ℕ, ◌^◌, ◌<◌, ◌++◌, List, [], ◌∷◌, Some, None, Option, map, slice_set, eqb, length, true, false};
 ghost use Rattle.std.specs.Map.{update};
 ghost use Rattle.ca_turns.specs.declared.rule.Turn.{Turn};
-ghost use Rattle.ca_turns.specs.Hands.{IsHolding, IsNone};
+ghost use Rattle.ca_turns.specs.Hands.{IsHolding, IsNone, IsWithout};
 ghost use Rattle.ca_turns.specs.Steps.{SeesOne};
 ghost use Rattle.ca_turns.specs.Views.{turn};
 ghost use Rattle.ca_table.specs.Grips.{Grips, HasAll, SameHand, SameTurns, settle, settled, values};
 
-use ca_turns::{Hand, Object, Table};
+use ca_turns::{Busy, Hand, Object, Table};
 use std::mem;
 use std::sync::Wait;
 
@@ -35,6 +35,22 @@ pub(crate) fn hold<R: Wait, O: Object>(rt: &R, table: &Table<O>, hand: &mut Hand
     ensures history { SeesOne O.touches O.moves hand.new.view }
 {
     table.hold(rt, hand, at);
+}
+
+/// Tries once to hold the part: false where another hand held it at that moment.
+pub(crate) fn try_hold<O: Object>(table: &Table<O>, hand: &mut Hand<O>, at: u64) -> bool
+    requires table { hand.old.table ≡ table.now.id }
+    requires range { at < table.now.id.slots }
+    requires free { IsWithout hand.old at }
+    ensures same { SameTurns hand.old hand.new }
+    ensures held { result ≡ true → (x : O.Part) × (get_elem? hand.new.parts at ≡ some (Some x)) × (get_elem? hand.new.view.held at ≡ some (Some (O.content x))) × ((g : ℕ → Option (O.Part × O.Content)) → Grips hand.old g → Grips hand.new (update eqb g at (Some (x, O.content x)))) }
+    ensures kept { result ≡ false → (g : ℕ → Option (O.Part × O.Content)) → Grips hand.old g → Grips hand.new g }
+    ensures history { result ≡ true → SeesOne O.touches O.moves hand.new.view }
+{
+    match table.try_hold(hand, at) {
+        Ok(()) => true,
+        Err(Busy) => false,
+    }
 }
 
 /// The part moves out, and another stands in its place.

@@ -27,9 +27,7 @@ use ca_value::memory::OutOfMemory;
 const MOST_TURNS: u64 = 576_460_752_303_423_488;
 
 /// Makes room for one more entry, and changes nothing else.
-pub fn make_room<A: Agent, C: Clock + Drop>(
-    worker: &mut Worker<A, C>,
-) -> Result<(), OutOfMemory>
+pub fn make_room<A: Agent, C: Clock + Drop>(worker: &mut Worker<A, C>) -> Result<(), OutOfMemory>
     ensures room { OnOk result (0 < spare worker.new.entries) }
     ensures kept { spare worker.old.entries ≤ spare worker.new.entries }
     ensures entries { list worker.new.entries ≡ list worker.old.entries }

@@ -13,10 +13,10 @@ ghost use Rattle.ca_table.specs.Seen.{PartSeen, seen_timers};
 ghost use Rattle.ca_table.specs.Workers.{IsNew, IsOpenedWith, IsReady, stands_for};
 ghost use Rattle.ca_table.specs.Worked.{HasDrawnNothing};
 
+use crate::answer::WorkEnd;
 use crate::part::{Clockwork, Contents, Counts, Lane, Mark, Part};
 use crate::pool::Pool;
 use crate::worker::Worker;
-use crate::answer::WorkEnd;
 use ca_agent::agent::Agent;
 use ca_bank::bank::Bank;
 use ca_bank::shard::Shard;

@@ -1,5 +1,5 @@
-use crate::pool::Pool;
 use crate::answer::{PoolStop, WorkEnd};
+use crate::pool::Pool;
 use ca_agent::agent::Agent;
 use ca_journal::entry::Entries;
 use ca_states::valid_code::ValidCode;

@@ -1,126 +1,136 @@
-use Rattle.std.proofs.Common.{◌≡◌, rules, refl, sym, subst, arith, IsSome}
+use Rattle.std.proofs.Common.{◌≡◌, rules, map, refl, sym, subst, arith, IsSome}
+use Rattle.std.specs.Prelude.{string_bytes}
 use Rattle.ca_value.specs.declared.seq.Seq.{Seq}
 use Rattle.ca_term.specs.declared.event.Event.{Event}
-use Rattle.ca_run.specs.Words.{command_in}
+use Rattle.ca_words.specs.Words.{command_in}
 use Rattle.ca_run.specs.Answers.{answer_text, AnswersTo}
-use Rattle.ca_run.specs.Top.{Completed, Partly}
-use Rattle.ca_meaning.specs.Ends.{ended, faulted, limit}
-use Rattle.ca_run.proofs.Finishes.{whole_text, part_text, ended_of, accepted_of, faulted_of, limit_of, refused_of, usage_of, partly_of, close_journal, close_asked}
+use Rattle.ca_run.specs.Top.{Completed, CompletedFor, Partly}
+use Rattle.ca_meaning.specs.Ends.{ended, faulted, limit, stuck}
+use Rattle.ca_run.proofs.Finishes.{whole_text, part_text, ended_of, ends_of, accepted_of, refused_of, usage_of, partly_of, close_journal, close_asked}
 use Rattle.ca_run.proofs.top.main_call.Goals as goal
 
 pub returns-clause-ended : goal.returns-clause-ended
-returns-clause-ended g c = λ asked e.
-    let a = c.in-Ok.answer in
+returns-clause-ended g c = λ command is runs e.
+    let a = c.in-Ok-judge.answer in
     let left = g.S.Source.left c.args.source.now in
     let after = g.S.Source.left c.judge.new.source in
     let held = g.K.Sink.held c.args.sink.now in
     let taken = g.K.Sink.held c.write_all.new.sink in
-    let answers : AnswersTo (command_in c.args.words.now) left after a = subst (λ q. AnswersTo q left after a) c.read_words.ensures (c.in-Ok.ensures.answers a refl) in
+    let asked = command_in (map string_bytes c.args.words.now) in
+    let answers : AnswersTo asked left after a = subst (λ q. AnswersTo q left after a) c.in-Ok.ensures.command (c.in-Ok-judge.ensures.answers a refl) in
     let words : c.as_slice.result.now ≡ answer_text a = search rules in
     let text = whole_text c.write_all.result c.is_ok-written.result c.close.result.status 0 a held (g.K.Sink.held c.reserve.new.self) taken c.as_slice.result.now c.is_ok-written.ensures.value c.close.ensures.lost c.close.ensures.done c.write_all.ensures.ok words c.reserve.ensures.held e (omega arith) in
-    subst (λ j. Completed left after held taken j ended) (sym c.close.ensures.journal) (ended_of (command_in c.args.words.now) left after held taken a asked text.0 answers text.1)
-
-pub returns-clause-accepted : goal.returns-clause-accepted
-returns-clause-accepted g c = λ asked e.
-    let a = c.in-Ok.answer in
-    let left = g.S.Source.left c.args.source.now in
-    let after = g.S.Source.left c.judge.new.source in
-    let held = g.K.Sink.held c.args.sink.now in
-    let taken = g.K.Sink.held c.write_all.new.sink in
-    let answers : AnswersTo (command_in c.args.words.now) left after a = subst (λ q. AnswersTo q left after a) c.read_words.ensures (c.in-Ok.ensures.answers a refl) in
-    let words : c.as_slice.result.now ≡ answer_text a = search rules in
-    let text = whole_text c.write_all.result c.is_ok-written.result c.close.result.status 0 a held (g.K.Sink.held c.reserve.new.self) taken c.as_slice.result.now c.is_ok-written.ensures.value c.close.ensures.lost c.close.ensures.done c.write_all.ensures.ok words c.reserve.ensures.held e (omega arith) in
-    accepted_of (command_in c.args.words.now) left after held taken a asked text.0 answers text.1
+    subst (λ j. Completed command left after held taken j ended) (sym c.close.ensures.journal) (ended_of asked left after held taken a command is runs text.0 answers text.1)
 
 pub returns-clause-faulted : goal.returns-clause-faulted
 returns-clause-faulted g c = λ e.
-    let a = c.in-Ok.answer in
+    let a = c.in-Ok-judge.answer in
     let left = g.S.Source.left c.args.source.now in
     let after = g.S.Source.left c.judge.new.source in
     let held = g.K.Sink.held c.args.sink.now in
     let taken = g.K.Sink.held c.write_all.new.sink in
-    let answers : AnswersTo (command_in c.args.words.now) left after a = subst (λ q. AnswersTo q left after a) c.read_words.ensures (c.in-Ok.ensures.answers a refl) in
+    let asked = command_in (map string_bytes c.args.words.now) in
+    let answers : AnswersTo asked left after a = subst (λ q. AnswersTo q left after a) c.in-Ok.ensures.command (c.in-Ok-judge.ensures.answers a refl) in
     let words : c.as_slice.result.now ≡ answer_text a = search rules in
     let text = whole_text c.write_all.result c.is_ok-written.result c.close.result.status 3 a held (g.K.Sink.held c.reserve.new.self) taken c.as_slice.result.now c.is_ok-written.ensures.value c.close.ensures.lost c.close.ensures.done c.write_all.ensures.ok words c.reserve.ensures.held e (omega arith) in
-    subst (λ j. Completed left after held taken j faulted) (sym c.close.ensures.journal) (faulted_of (command_in c.args.words.now) left after held taken a text.0 answers text.1)
+    subst (λ j. CompletedFor asked left after held taken j faulted) (sym c.close.ensures.journal) (ends_of asked left after held taken a faulted (omega arith) text.0 answers text.1)
+
+pub returns-clause-stuck : goal.returns-clause-stuck
+returns-clause-stuck g c = λ e.
+    let a = c.in-Ok-judge.answer in
+    let left = g.S.Source.left c.args.source.now in
+    let after = g.S.Source.left c.judge.new.source in
+    let held = g.K.Sink.held c.args.sink.now in
+    let taken = g.K.Sink.held c.write_all.new.sink in
+    let asked = command_in (map string_bytes c.args.words.now) in
+    let answers : AnswersTo asked left after a = subst (λ q. AnswersTo q left after a) c.in-Ok.ensures.command (c.in-Ok-judge.ensures.answers a refl) in
+    let words : c.as_slice.result.now ≡ answer_text a = search rules in
+    let text = whole_text c.write_all.result c.is_ok-written.result c.close.result.status 4 a held (g.K.Sink.held c.reserve.new.self) taken c.as_slice.result.now c.is_ok-written.ensures.value c.close.ensures.lost c.close.ensures.done c.write_all.ensures.ok words c.reserve.ensures.held e (omega arith) in
+    subst (λ j. CompletedFor asked left after held taken j stuck) (sym c.close.ensures.journal) (ends_of asked left after held taken a stuck (omega arith) text.0 answers text.1)
 
 pub returns-clause-limit : goal.returns-clause-limit
 returns-clause-limit g c = λ e.
-    let a = c.in-Ok.answer in
+    let a = c.in-Ok-judge.answer in
     let left = g.S.Source.left c.args.source.now in
     let after = g.S.Source.left c.judge.new.source in
     let held = g.K.Sink.held c.args.sink.now in
     let taken = g.K.Sink.held c.write_all.new.sink in
-    let answers : AnswersTo (command_in c.args.words.now) left after a = subst (λ q. AnswersTo q left after a) c.read_words.ensures (c.in-Ok.ensures.answers a refl) in
+    let asked = command_in (map string_bytes c.args.words.now) in
+    let answers : AnswersTo asked left after a = subst (λ q. AnswersTo q left after a) c.in-Ok.ensures.command (c.in-Ok-judge.ensures.answers a refl) in
     let words : c.as_slice.result.now ≡ answer_text a = search rules in
     let text = whole_text c.write_all.result c.is_ok-written.result c.close.result.status 5 a held (g.K.Sink.held c.reserve.new.self) taken c.as_slice.result.now c.is_ok-written.ensures.value c.close.ensures.lost c.close.ensures.done c.write_all.ensures.ok words c.reserve.ensures.held e (omega arith) in
-    subst (λ j. Completed left after held taken j limit) (sym c.close.ensures.journal) (limit_of (command_in c.args.words.now) left after held taken a text.0 answers text.1)
+    subst (λ j. CompletedFor asked left after held taken j limit) (sym c.close.ensures.journal) (ends_of asked left after held taken a limit (omega arith) text.0 answers text.1)
+
+pub returns-clause-accepted : goal.returns-clause-accepted
+returns-clause-accepted g c = λ is e.
+    let a = c.in-Ok-judge.answer in
+    let left = g.S.Source.left c.args.source.now in
+    let after = g.S.Source.left c.judge.new.source in
+    let held = g.K.Sink.held c.args.sink.now in
+    let taken = g.K.Sink.held c.write_all.new.sink in
+    let asked = command_in (map string_bytes c.args.words.now) in
+    let answers : AnswersTo asked left after a = subst (λ q. AnswersTo q left after a) c.in-Ok.ensures.command (c.in-Ok-judge.ensures.answers a refl) in
+    let words : c.as_slice.result.now ≡ answer_text a = search rules in
+    let text = whole_text c.write_all.result c.is_ok-written.result c.close.result.status 0 a held (g.K.Sink.held c.reserve.new.self) taken c.as_slice.result.now c.is_ok-written.ensures.value c.close.ensures.lost c.close.ensures.done c.write_all.ensures.ok words c.reserve.ensures.held e (omega arith) in
+    accepted_of asked left after held taken a is text.0 answers text.1
 
 pub returns-clause-usage : goal.returns-clause-usage
 returns-clause-usage g c = λ e.
-    let a = c.in-Ok.answer in
+    let a = c.in-Ok-judge.answer in
     let left = g.S.Source.left c.args.source.now in
     let after = g.S.Source.left c.judge.new.source in
     let held = g.K.Sink.held c.args.sink.now in
     let taken = g.K.Sink.held c.write_all.new.sink in
-    let answers : AnswersTo (command_in c.args.words.now) left after a = subst (λ q. AnswersTo q left after a) c.read_words.ensures (c.in-Ok.ensures.answers a refl) in
+    let asked = command_in (map string_bytes c.args.words.now) in
+    let answers : AnswersTo asked left after a = subst (λ q. AnswersTo q left after a) c.in-Ok.ensures.command (c.in-Ok-judge.ensures.answers a refl) in
     let words : c.as_slice.result.now ≡ answer_text a = search rules in
     let text = whole_text c.write_all.result c.is_ok-written.result c.close.result.status 1 a held (g.K.Sink.held c.reserve.new.self) taken c.as_slice.result.now c.is_ok-written.ensures.value c.close.ensures.lost c.close.ensures.done c.write_all.ensures.ok words c.reserve.ensures.held e (omega arith) in
-    usage_of (command_in c.args.words.now) left after held taken a text.0 answers text.1
+    usage_of asked left after held taken a text.0 answers text.1
 
 pub returns-clause-refused : goal.returns-clause-refused
 returns-clause-refused g c = λ e.
-    let a = c.in-Ok.answer in
+    let a = c.in-Ok-judge.answer in
     let left = g.S.Source.left c.args.source.now in
     let after = g.S.Source.left c.judge.new.source in
     let held = g.K.Sink.held c.args.sink.now in
     let taken = g.K.Sink.held c.write_all.new.sink in
-    let answers : AnswersTo (command_in c.args.words.now) left after a = subst (λ q. AnswersTo q left after a) c.read_words.ensures (c.in-Ok.ensures.answers a refl) in
+    let asked = command_in (map string_bytes c.args.words.now) in
+    let answers : AnswersTo asked left after a = subst (λ q. AnswersTo q left after a) c.in-Ok.ensures.command (c.in-Ok-judge.ensures.answers a refl) in
     let words : c.as_slice.result.now ≡ answer_text a = search rules in
     let text = whole_text c.write_all.result c.is_ok-written.result c.close.result.status 2 a held (g.K.Sink.held c.reserve.new.self) taken c.as_slice.result.now c.is_ok-written.ensures.value c.close.ensures.lost c.close.ensures.done c.write_all.ensures.ok words c.reserve.ensures.held e (omega arith) in
-    refused_of (command_in c.args.words.now) left after held taken a text.0 answers text.1
+    refused_of asked left after held taken a text.0 answers text.1
 
 pub returns-clause-partial : goal.returns-clause-partial
 returns-clause-partial g c = λ e.
-    let a = c.in-Ok.answer in
+    let a = c.in-Ok-judge.answer in
     let left = g.S.Source.left c.args.source.now in
     let after = g.S.Source.left c.judge.new.source in
     let held = g.K.Sink.held c.args.sink.now in
     let taken = g.K.Sink.held c.write_all.new.sink in
-    let answers : AnswersTo (command_in c.args.words.now) left after a = subst (λ q. AnswersTo q left after a) c.read_words.ensures (c.in-Ok.ensures.answers a refl) in
+    let asked = command_in (map string_bytes c.args.words.now) in
+    let answers : AnswersTo asked left after a = subst (λ q. AnswersTo q left after a) c.in-Ok.ensures.command (c.in-Ok-judge.ensures.answers a refl) in
     let words : c.as_slice.result.now ≡ answer_text a = search rules in
     let part = part_text c.write_all.result c.is_ok-written.result c.close.result.status a held (g.K.Sink.held c.reserve.new.self) taken c.as_slice.result.now c.is_ok-written.ensures.value c.close.ensures.done c.write_all.ensures.err words c.reserve.ensures.held e in
-    subst (Partly (command_in c.args.words.now) left after held taken) (sym c.close.ensures.journal) (partly_of (command_in c.args.words.now) left after held taken a part.0 answers part.1)
-
-pub returns-clause-runs : goal.returns-clause-runs
-returns-clause-runs g c =
-    let a = c.in-Ok.answer in
-    let left = g.S.Source.left c.args.source.now in
-    let after = g.S.Source.left c.judge.new.source in
-    let held = g.K.Sink.held c.args.sink.now in
-    let taken = g.K.Sink.held c.write_all.new.sink in
-    let answers : AnswersTo (command_in c.args.words.now) left after a = subst (λ q. AnswersTo q left after a) c.read_words.ensures (c.in-Ok.ensures.answers a refl) in
-    let words : c.as_slice.result.now ≡ answer_text a = search rules in
-    (close_asked (command_in c.args.words.now) left after a c.is_ok-written.result c.close.result.status c.close.ensures.lost c.close.ensures.done answers).0
+    subst (Partly asked left after held taken) (sym c.close.ensures.journal) (partly_of asked left after held taken a part.0 answers part.1)
 
 pub returns-clause-done : goal.returns-clause-done
 returns-clause-done g c =
-    let a = c.in-Ok.answer in
+    let a = c.in-Ok-judge.answer in
     let left = g.S.Source.left c.args.source.now in
     let after = g.S.Source.left c.judge.new.source in
     let held = g.K.Sink.held c.args.sink.now in
     let taken = g.K.Sink.held c.write_all.new.sink in
-    let answers : AnswersTo (command_in c.args.words.now) left after a = subst (λ q. AnswersTo q left after a) c.read_words.ensures (c.in-Ok.ensures.answers a refl) in
-    let words : c.as_slice.result.now ≡ answer_text a = search rules in
-    (close_asked (command_in c.args.words.now) left after a c.is_ok-written.result c.close.result.status c.close.ensures.lost c.close.ensures.done answers).1
+    let asked = command_in (map string_bytes c.args.words.now) in
+    let answers : AnswersTo asked left after a = subst (λ q. AnswersTo q left after a) c.in-Ok.ensures.command (c.in-Ok-judge.ensures.answers a refl) in
+    close_asked asked left after a c.is_ok-written.result c.close.result.status c.close.ensures.lost c.close.ensures.done answers
 
 pub returns-clause-journal : goal.returns-clause-journal
 returns-clause-journal g c = λ j.
-    let a = c.in-Ok.answer in
+    let a = c.in-Ok-judge.answer in
     let left = g.S.Source.left c.args.source.now in
     let after = g.S.Source.left c.judge.new.source in
     let held = g.K.Sink.held c.args.sink.now in
     let taken = g.K.Sink.held c.write_all.new.sink in
-    let answers : AnswersTo (command_in c.args.words.now) left after a = subst (λ q. AnswersTo q left after a) c.read_words.ensures (c.in-Ok.ensures.answers a refl) in
-    let words : c.as_slice.result.now ≡ answer_text a = search rules in
-    close_journal (command_in c.args.words.now) left after a c.is_ok-written.result c.close.result.status c.close.ensures.lost c.close.ensures.done answers (subst (IsSome {T = Seq Event}) c.close.ensures.journal j)
+    let asked = command_in (map string_bytes c.args.words.now) in
+    let answers : AnswersTo asked left after a = subst (λ q. AnswersTo q left after a) c.in-Ok.ensures.command (c.in-Ok-judge.ensures.answers a refl) in
+    close_journal asked left after a c.is_ok-written.result c.close.result.status c.close.ensures.lost c.close.ensures.done answers (subst (IsSome {T = Seq Event}) c.close.ensures.journal j)

@@ -1,45 +1,18 @@
-use Rattle.std.proofs.Common.{◌≡◌, ◌∙◌, ℕ, Option, Some, sym, ap₂, subst, eqb}
-use Rattle.std.specs.Map.{update}
-use Rattle.std.proofs.lemmas.Map.{update_here}
-use mathlib.Core.Option.{some}
-use lib.ListN.{get_elem?}
 use Rattle.ca_term.specs.Program.{program_view}
 use Rattle.ca_states.specs.ValidCode.{valid_code}
-use Rattle.ca_turns.proofs.Lists.{both_some}
-use Rattle.ca_table.specs.Grips.{Grips}
-use Rattle.ca_table.specs.Parts.{part_seen}
-use Rattle.ca_table.specs.Seen.{PartSeen}
-use Rattle.ca_table.specs.declared.part.Part.{Part}
-use Rattle.ca_table.proofs.Whole.{seen_whole, twice}
 use Rattle.ca_table.proofs.Knowing.{knows_same}
-use Rattle.ca_table.proofs.Seeing.{code_is, kind_is}
-use Rattle.ca_table.proofs.Sounds.{is_sound}
+use Rattle.ca_table.proofs.Seats.{then_same}
 use Rattle.ca_table.proofs.holding.hold_out.Goals as goal
 
-pub returns-clause-kind : goal.returns-clause-kind
-returns-clause-kind g c = let a = g.A.Agent in let m = g.met.A.Agent in let K = g.C.Clock in let n = c.args.workers in let k = valid_code c.args.code.now in let P = program_view c.args.program.now.value in let h = c.hold.ensures in let view = c.hold.new.hand.view in let part = c.take_part-part.result in let at = c.args.at in
-    let known = knows_same a.over a.stands P k n c.args.hand.now.view view h.same.same.opening c.requires.knows in
-    let seen = part_seen K.least K.faults K.readings in
-    let is = both_some h.held.0 part (sym h.held.1 ∙ c.take_part-part.ensures.out) in
-    let kind = kind_is a.over a.place a.stands a.advances a.gives a.starts m.advanced m.answered m.started P k n view known h.history at (seen part) (subst (λ (x : Part g.row.A.Denot g.row.C.Denot). get_elem? view.held at ≡ some (Some (seen x))) is h.held.2) in
-    kind.1
+pub move_out-requires-clause-knows : goal.move_out-requires-clause-knows
+move_out-requires-clause-knows g c = let a = g.A.Agent in let h = c.hold in
+    knows_same a.over a.stands (program_view c.args.program.now.value) (valid_code c.args.code.now) c.args.workers c.args.hand.now.view h.new.hand.view h.ensures.same.same.opening c.requires.knows
 
-pub returns-clause-sound : goal.returns-clause-sound
-returns-clause-sound g c = let a = g.A.Agent in let m = g.met.A.Agent in let K = g.C.Clock in let n = c.args.workers in let k = valid_code c.args.code.now in let P = program_view c.args.program.now.value in let h = c.hold.ensures in let view = c.hold.new.hand.view in let part = c.take_part-part.result in let at = c.args.at in
-    let known = knows_same a.over a.stands P k n c.args.hand.now.view view h.same.same.opening c.requires.knows in
-    let seen = part_seen K.least K.faults K.readings in
-    let is = both_some h.held.0 part (sym h.held.1 ∙ c.take_part-part.ensures.out) in
-    let sound = is_sound a.over a.place a.stands a.advances a.gives a.starts m.advanced m.answered m.started P k n view known h.history at (seen part) (subst (λ (x : Part g.row.A.Denot g.row.C.Denot). get_elem? view.held at ≡ some (Some (seen x))) is h.held.2) in
-    sound
+pub move_out-requires-clause-held : goal.move_out-requires-clause-held
+move_out-requires-clause-held g c = let h = c.hold.ensures.held in (h.0, h.1, h.2)
+
+pub returns-clause-same : goal.returns-clause-same
+returns-clause-same g c = then_same c.args.hand.now c.hold.new.hand c.move_out.new.hand c.hold.ensures.same c.move_out.ensures.same
 
 pub returns-clause-grips : goal.returns-clause-grips
-returns-clause-grips g c = λ f all. let a = g.A.Agent in let m = g.met.A.Agent in let K = g.C.Clock in let n = c.args.workers in let k = valid_code c.args.code.now in let P = program_view c.args.program.now.value in let h = c.hold.ensures in let view = c.hold.new.hand.view in let part = c.take_part-part.result in let at = c.args.at in
-    let known = knows_same a.over a.stands P k n c.args.hand.now.view view h.same.same.opening c.requires.knows in
-    let seen = part_seen K.least K.faults K.readings in
-    let is = both_some h.held.0 part (sym h.held.1 ∙ c.take_part-part.ensures.out) in
-    let kind = kind_is a.over a.place a.stands a.advances a.gives a.starts m.advanced m.answered m.started P k n view known h.history at (seen part) (subst (λ (x : Part g.row.A.Denot g.row.C.Denot). get_elem? view.held at ≡ some (Some (seen x))) is h.held.2) in
-    let code = code_is a.over a.place a.stands a.advances a.gives a.starts m.advanced m.answered m.started P k n view known h.history at (seen part) (subst (λ (x : Part g.row.A.Denot g.row.C.Denot). get_elem? view.held at ≡ some (Some (seen x))) is h.held.2) in
-    let one = subst (λ (x : Part g.row.A.Denot g.row.C.Denot). Grips c.hold.new.hand (update eqb f at (Some (x, seen x)))) is (h.held.3 f all) in
-    let two = c.take_part-part.ensures.grips (update eqb f at (Some (part, seen part))) part (seen part) (update_here f at (Some (part, seen part))) one in
-    subst (λ (o : Part g.row.A.Denot g.row.C.Denot × PartSeen g.row.A.Denot). Grips c.take_part-part.new.hand (update eqb f at (Some o))) (ap₂ (λ (x : Part g.row.A.Denot g.row.C.Denot) (y : PartSeen g.row.A.Denot). (x, y)) c.part_with-away.ensures (seen_whole K.least K.faults K.readings part n c.args.code.now kind.0 code))
-    (subst (λ (q : ℕ → Option (Part g.row.A.Denot g.row.C.Denot × PartSeen g.row.A.Denot)). Grips c.take_part-part.new.hand q) (twice f at (Some (part, seen part)) (Some (c.part_with-away.result, seen part))) two)
+returns-clause-grips g c = λ f all. let h = c.hold.ensures.held in c.move_out.ensures.grips f h.0 (h.3 f all)

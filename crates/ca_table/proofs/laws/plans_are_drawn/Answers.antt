@@ -1,5 +1,3 @@
-use Rattle.std.proofs.Common.{Some}
-use Rattle.ca_table.specs.Carriers.{is_now, was}
 use Rattle.ca_table.specs.Parts.{part_seen}
 use Rattle.ca_table.proofs.Committed.{commit_moved}
 use Rattle.ca_table.proofs.laws.plans_are_drawn.Goals as goal

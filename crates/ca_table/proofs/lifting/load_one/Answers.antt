@@ -1,4 +1,4 @@
-use Rattle.std.proofs.Common.{◌≡◌, ◌∙◌, ℕ, ◌+◌, Some, sym, ap, subst, arith}
+use Rattle.std.proofs.Common.{◌∙◌, ℕ, ◌+◌, sym, ap, subst, arith}
 use Rattle.ca_states.specs.ValidCode.{valid_code}
 use Rattle.ca_commit.specs.Gathered.{kind_at}
 use Rattle.ca_commit.specs.Listings.{parts}

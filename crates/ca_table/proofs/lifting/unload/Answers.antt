@@ -1,5 +1,4 @@
-use Rattle.std.proofs.Common.{◌≡◌, ◌∙◌, ℕ, ◌+◌, ◌<◌, List, [], ◌∷◌, ◌++◌, length, Some, sym, ap, ap₂, subst, arith, length-append, true, cond, eqb, is_some}
-use Rattle.ca_turns.specs.Hands.{TableId}
+use Rattle.std.proofs.Common.{◌∙◌, ℕ, ◌+◌, List, [], ◌∷◌, ◌++◌, length, Some, sym, ap, ap₂, subst, arith, length-append, true, cond, eqb, is_some}
 use Rattle.ca_commit.specs.Contents.{home}
 use Rattle.ca_commit.specs.Listing.{listed}
 use Rattle.ca_commit.specs.Listings.{parts}
@@ -34,11 +33,11 @@ pub loop-part-preserved : goal.loop-part-preserved
 loop-part-preserved g c = let fits = c.loop-part.invariant.0 in let room = c.in-Some.ensures.room in let shorter = ap length c.in-Some.ensures.some ∙ length-append (parts c.pop.new.self) (c.in-Some.part ∷ []) in (
   omega (arith, fits, room, shorter),
   λ id. let a = g.A.Agent in let K = g.C.Clock in let seen = part_seen K.least K.faults K.readings in let code = c.args.code.now in let group = g.T.Sixteen.group in let contents = g.T.Sixteen.as_contents in let number = g.T.Numbered.number in let w0 = c.args.worker.now in let w = c.loop-part.worker in let all = parts c.args.list.now in let xs = parts c.loop-part.list in let rest = parts c.pop.new.self in let x = c.in-Some.part in let homes = c.loop-part.homes in let r = c.requires.carries in let popped = c.in-Some.ensures.some in
-    let below = number_below a.over a.stands code r.1 seen group contents number w0 w all xs rest x homes popped (c.loop-part.invariant.1 r.1) r.0 r.2 r.3 r.4 r.5 r.6 in
-    one_back a.over a.stands code id seen group contents number w0 w all xs rest x homes popped (c.loop-part.invariant.1 id) c.put_at.new.worker c.add.new.self below c.put_at.ensures.same c.put_at.ensures.turns c.put_at.ensures.entries
-    (λ i. c.add.ensures i ∙ ap (λ (m : ℕ). cond (eqb (home m) i) true (has_home homes i)) c.number-number.ensures)
-    (λ program n h y d s. subst (λ (z : Contents g.row.A.Denot g.row.C.Denot). IsCarrying a.over a.stands program code id n c.put_at.new.worker (with_at (place_in group (number x)) (Some (part_of n code z, d)) h)) c.into_contents.ensures
-    (c.put_at.ensures.carries program id n h (place_in group (number x)) y d s (is_place group (number x) below) (ap₂ (λ (m k : ℕ). m + k) (c.first.ensures.number ∙ ap (first_of group) s.one.of) c.number-number.ensures ∙ numbered_in group n w.number (number x)))),
+      let below = number_below a.over a.stands code r.1 seen group contents number w0 w all xs rest x homes popped (c.loop-part.invariant.1 r.1) r.0 r.2 r.3 r.4 r.5 r.6 in
+      one_back a.over a.stands code id seen group contents number w0 w all xs rest x homes popped (c.loop-part.invariant.1 id) c.put_at.new.worker c.add.new.self below c.put_at.ensures.same c.put_at.ensures.turns c.put_at.ensures.entries
+      (λ i. c.add.ensures i ∙ ap (λ (m : ℕ). cond (eqb (home m) i) true (has_home homes i)) c.number-number.ensures)
+      (λ program n h y d s. subst (λ (z : Contents g.row.A.Denot g.row.C.Denot). IsCarrying a.over a.stands program code id n c.put_at.new.worker (with_at (place_in group (number x)) (Some (part_of n code z, d)) h)) c.into_contents.ensures
+      (c.put_at.ensures.carries program id n h (place_in group (number x)) y d s (is_place group (number x) below) (ap₂ (λ (m k : ℕ). m + k) (c.first.ensures.number ∙ ap (first_of group) s.one.of) c.number-number.ensures ∙ numbered_in group n w.number (number x)))),
 )
 
 pub returns-clause-same : goal.returns-clause-same

@@ -1,0 +1,33 @@
+use Rattle.std.proofs.Common.{All, length, sym, subst}
+use Rattle.ca_term.specs.Program.{ProgramParts, program_view}
+use Rattle.ca_states.specs.ValidCode.{valid_code}
+use Rattle.ca_lower.specs.Gos.{SameGos}
+use Rattle.ca_lower.specs.Lowered.{Lowered}
+use Rattle.ca_table.specs.Workers.{IsReady}
+use Rattle.ca_pool.specs.Answers.{WorkedAt}
+use Rattle.ca_pool.proofs.Rounding.{round_going, round_over, round_ready, round_spent, round_stays}
+use Rattle.ca_pool.proofs.rounds.round.Goals as goal
+
+pub work_all-requires-clause-ready : goal.work_all-requires-clause-ready
+work_all-requires-clause-ready g c κs within = let xs = c.args.workers.now in subst (λ (p : ProgramParts). All (IsReady g.A.Agent.over g.A.Agent.stands (program_view p) (valid_code c.args.code.now) c.args.table.now.id (length xs)) xs) (sym c.of-text.ensures) c.requires.ready
+
+pub work_all-requires-clause-lowered : goal.work_all-requires-clause-lowered
+work_all-requires-clause-lowered g c κs within = subst (λ (p : ProgramParts). Lowered (program_view p) (valid_code c.args.code.now)) (sym c.of-text.ensures) c.requires.lowered
+
+pub work_all-requires-clause-gos : goal.work_all-requires-clause-gos
+work_all-requires-clause-gos g c κs within = subst (λ (p : ProgramParts). SameGos (program_view p) (valid_code c.args.code.now)) (sym c.of-text.ensures) c.requires.gos
+
+pub returns-clause-ready : goal.returns-clause-ready
+returns-clause-ready g c = let xs = c.args.workers.now in let w = c.work_all.ensures in let worked = subst (λ (p : ProgramParts). WorkedAt g.A.Agent.over g.A.Agent.stands (program_view p) (valid_code c.args.code.now) c.args.table.now.id (length xs) c.args.allowance xs c.work_all.new.workers) c.of-text.ensures w.worked in round_ready g.A.Agent.over g.A.Agent.stands (program_view c.args.program.now) (valid_code c.args.code.now) c.args.table.now.id (length xs) c.args.allowance xs c.work_all.new.workers c.answer_of.result c.answer_of.ensures w.many worked
+
+pub returns-clause-stay : goal.returns-clause-stay
+returns-clause-stay g c = let xs = c.args.workers.now in let w = c.work_all.ensures in let worked = subst (λ (p : ProgramParts). WorkedAt g.A.Agent.over g.A.Agent.stands (program_view p) (valid_code c.args.code.now) c.args.table.now.id (length xs) c.args.allowance xs c.work_all.new.workers) c.of-text.ensures w.worked in round_stays g.A.Agent.over g.A.Agent.stands (program_view c.args.program.now) (valid_code c.args.code.now) c.args.table.now.id (length xs) c.args.allowance xs c.work_all.new.workers c.answer_of.result c.answer_of.ensures w.many worked
+
+pub returns-clause-going : goal.returns-clause-going
+returns-clause-going g c = let xs = c.args.workers.now in let w = c.work_all.ensures in let worked = subst (λ (p : ProgramParts). WorkedAt g.A.Agent.over g.A.Agent.stands (program_view p) (valid_code c.args.code.now) c.args.table.now.id (length xs) c.args.allowance xs c.work_all.new.workers) c.of-text.ensures w.worked in round_going g.A.Agent.over g.A.Agent.stands (program_view c.args.program.now) (valid_code c.args.code.now) c.args.table.now.id (length xs) c.args.allowance xs c.work_all.new.workers c.answer_of.result c.answer_of.ensures w.many worked
+
+pub returns-clause-spent : goal.returns-clause-spent
+returns-clause-spent g c = let xs = c.args.workers.now in let w = c.work_all.ensures in let worked = subst (λ (p : ProgramParts). WorkedAt g.A.Agent.over g.A.Agent.stands (program_view p) (valid_code c.args.code.now) c.args.table.now.id (length xs) c.args.allowance xs c.work_all.new.workers) c.of-text.ensures w.worked in round_spent g.A.Agent.over g.A.Agent.stands (program_view c.args.program.now) (valid_code c.args.code.now) c.args.table.now.id (length xs) c.args.allowance xs c.work_all.new.workers c.answer_of.result c.answer_of.ensures w.many worked
+
+pub returns-clause-over : goal.returns-clause-over
+returns-clause-over g c = let xs = c.args.workers.now in let w = c.work_all.ensures in let worked = subst (λ (p : ProgramParts). WorkedAt g.A.Agent.over g.A.Agent.stands (program_view p) (valid_code c.args.code.now) c.args.table.now.id (length xs) c.args.allowance xs c.work_all.new.workers) c.of-text.ensures w.worked in round_over g.A.Agent.over g.A.Agent.stands (program_view c.args.program.now) (valid_code c.args.code.now) c.args.table.now.id (length xs) c.args.allowance xs c.work_all.new.workers c.answer_of.result c.answer_of.ensures w.many worked

@@ -1,0 +1,50 @@
+use Rattle.std.proofs.Common.{None, refl, sym, false, zero-add}
+use Rattle.ca_commit.proofs.Stales.{settle_stale}
+use Rattle.ca_table.specs.Bearing.{parts_held}
+use Rattle.ca_table.specs.Worked.{Drew}
+use Rattle.ca_table.proofs.Drawing.{drew_as, drew_both}
+use Rattle.ca_pool.specs.Costs.{cost_settling}
+use Rattle.ca_pool.proofs.Takens.{as_number, if_ok}
+use Rattle.ca_pool.proofs.settling.look_once.Goals as goal
+
+pub put_off-requires-clause-carries : goal.put_off-requires-clause-carries
+put_off-requires-clause-carries g c = let a = g.A.Agent in let K = g.C.Clock in let r = c.requires.carries in let t = c.take_channel in
+    (r.0, r.1, r.2, as_number a.over a.stands K.least K.faults K.readings r.0 c.args.code.now c.args.table.now.id r.1 t.new.worker r.2 c.args.worker.now.number t.new.worker.number None t.new.held t.ensures.same.number (c.in_ok-take_channel.ensures.carries r.0 r.1 r.2 r.3))
+
+pub put_off-requires-in-Unheld-clause-carries : goal.put_off-requires-in-Unheld-clause-carries
+put_off-requires-in-Unheld-clause-carries g c = let a = g.A.Agent in let K = g.C.Clock in let r = c.requires.carries in let t = c.take_channel in
+    (r.0, r.1, r.2, as_number a.over a.stands K.least K.faults K.readings r.0 c.args.code.now c.args.table.now.id r.1 t.new.worker r.2 c.args.worker.now.number t.new.worker.number None t.new.held t.ensures.same.number (c.in_ok-take_channel.ensures.carries r.0 r.1 r.2 r.3))
+
+pub prune-requires-clause-carries : goal.prune-requires-clause-carries
+prune-requires-clause-carries g c = let a = g.A.Agent in let K = g.C.Clock in let r = c.requires.carries in let t = c.take_channel in
+    (r.0, r.1, r.2, as_number a.over a.stands K.least K.faults K.readings r.0 c.args.code.now c.args.table.now.id r.1 t.new.worker r.2 c.args.worker.now.number t.new.worker.number None t.new.held t.ensures.same.number (c.in_ok-take_channel.ensures.carries r.0 r.1 r.2 r.3))
+
+pub prune-requires-clause-stale : goal.prune-requires-clause-stale
+prune-requires-clause-stale g c = let t = c.take_channel in settle_stale (parts_held t.new.worker.number None None t.new.held) c.args.port.n c.in-Stale.side (sym c.in-Stale.ensures)
+
+pub serve_taken-requires-clause-carries : goal.serve_taken-requires-clause-carries
+serve_taken-requires-clause-carries g c = let a = g.A.Agent in let K = g.C.Clock in let r = c.requires.carries in let t = c.take_channel in
+    (r.0, r.1, r.2, as_number a.over a.stands K.least K.faults K.readings r.0 c.args.code.now c.args.table.now.id r.1 t.new.worker r.2 c.args.worker.now.number t.new.worker.number None t.new.held t.ensures.same.number (c.in_ok-take_channel.ensures.carries r.0 r.1 r.2 r.3))
+
+pub returns-in-Rests-clause-carries : goal.returns-in-Rests-clause-carries
+returns-in-Rests-clause-carries g c = λ P n l s. let a = g.A.Agent in let K = g.C.Clock in let t = c.take_channel in
+    c.put_off.ensures.carries P n l (as_number a.over a.stands K.least K.faults K.readings P c.args.code.now c.args.table.now.id n t.new.worker l c.args.worker.now.number t.new.worker.number None t.new.held t.ensures.same.number (c.in_ok-take_channel.ensures.carries P n l s))
+
+pub returns-in-Unheld-clause-carries : goal.returns-in-Unheld-clause-carries
+returns-in-Unheld-clause-carries g c = λ P n l s. let a = g.A.Agent in let K = g.C.Clock in let t = c.take_channel in
+    c.put_off-in-Unheld.ensures.carries P n l (as_number a.over a.stands K.least K.faults K.readings P c.args.code.now c.args.table.now.id n t.new.worker l c.args.worker.now.number t.new.worker.number None t.new.held t.ensures.same.number (c.in_ok-take_channel.ensures.carries P n l s))
+
+pub returns-in-Stale-clause-carries : goal.returns-in-Stale-clause-carries
+returns-in-Stale-clause-carries g c = λ P n l s. let a = g.A.Agent in let K = g.C.Clock in let t = c.take_channel in
+    c.prune.ensures.carries P n l (as_number a.over a.stands K.least K.faults K.readings P c.args.code.now c.args.table.now.id n t.new.worker l c.args.worker.now.number t.new.worker.number None t.new.held t.ensures.same.number (c.in_ok-take_channel.ensures.carries P n l s))
+
+pub returns-in-Serves-clause-carries : goal.returns-in-Serves-clause-carries
+returns-in-Serves-clause-carries g c = λ P n l s. let a = g.A.Agent in let K = g.C.Clock in let t = c.take_channel in
+    c.serve_taken.ensures.carries P n l (as_number a.over a.stands K.least K.faults K.readings P c.args.code.now c.args.table.now.id n t.new.worker l c.args.worker.now.number t.new.worker.number None t.new.held t.ensures.same.number (c.in_ok-take_channel.ensures.carries P n l s))
+
+pub returns-in-Stale-clause-drew : goal.returns-in-Stale-clause-drew
+returns-in-Stale-clause-drew g c = drew_both c.take_channel.ensures.drew c.prune.ensures.drew
+
+pub returns-in-Serves-clause-drew : goal.returns-in-Serves-clause-drew
+returns-in-Serves-clause-drew g c = let t = c.take_channel in let k = c.serve_taken in
+    if_ok (λ x. Drew (cost_settling x) false t.new.worker k.new.worker) (λ x. Drew (cost_settling x) false c.args.worker.now k.new.worker) k.result (λ x d. drew_as (zero-add (cost_settling x)) refl (drew_both t.ensures.drew d)) k.ensures.drew

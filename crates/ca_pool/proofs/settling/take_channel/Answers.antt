@@ -1,0 +1,48 @@
+use Rattle.std.proofs.Common.{ℕ, None, sym}
+use Rattle.ca_term.specs.Program.{ProgramView}
+use Rattle.ca_table.specs.Carriers.{IsCarrying, just_lane}
+use Rattle.ca_table.specs.declared.part.Lane.{Lane}
+use Rattle.ca_pool.proofs.Takens.{as_number, bare_in, bare_out, refused_or}
+use Rattle.ca_pool.proofs.settling.take_channel.Goals as goal
+
+pub take_banks-requires-clause-carries : goal.take_banks-requires-clause-carries
+take_banks-requires-clause-carries g c = let a = g.A.Agent in let K = g.C.Clock in let r = c.requires.carries in let w = c.args.worker.now in
+    (r.0, r.1, r.2, bare_in a.over a.stands K.least K.faults K.readings r.0 c.args.code.now c.args.table.now.id r.1 w r.2 w.number c.args.held.now c.requires.bare r.3)
+
+pub returns-in_err-take_banks-clause-kept : goal.returns-in_err-take_banks-clause-kept
+returns-in_err-take_banks-clause-kept g c = let a = g.A.Agent in let K = g.C.Clock in let w = c.args.worker.now in let t = c.take_banks in let code = c.args.code.now in let id = c.args.table.now.id in
+    let kept : (P : ProgramView) (n : ℕ) (l : Lane g.row.A.Denot) → IsCarrying a.over a.stands P code id n w (just_lane n code l) → IsCarrying a.over a.stands P code id n t.new.worker (just_lane n code l)
+    = λ P n l s. bare_out a.over a.stands K.least K.faults K.readings P code id n t.new.worker l w.number t.new.held c.in_err-take_banks.ensures.refused
+    (t.ensures.carries P n l (bare_in a.over a.stands K.least K.faults K.readings P code id n w l w.number c.args.held.now c.requires.bare s)) in
+    refused_or _ kept
+
+pub take_shards-requires-clause-carries : goal.take_shards-requires-clause-carries
+take_shards-requires-clause-carries g c = let a = g.A.Agent in let K = g.C.Clock in let r = c.requires.carries in let w = c.args.worker.now in let t = c.take_banks in let code = c.args.code.now in let id = c.args.table.now.id in (
+  r.0,
+  r.1,
+  r.2,
+  as_number a.over a.stands K.least K.faults K.readings r.0 code id r.1 t.new.worker r.2 w.number t.new.worker.number None t.new.held t.ensures.same.number
+      (t.ensures.carries r.0 r.1 r.2 (bare_in a.over a.stands K.least K.faults K.readings r.0 code id r.1 w r.2 w.number c.args.held.now c.requires.bare r.3)),
+)
+
+pub put_off-requires-clause-carries : goal.put_off-requires-clause-carries
+put_off-requires-clause-carries g c = let a = g.A.Agent in let K = g.C.Clock in let r = c.requires.carries in let w = c.args.worker.now in let t = c.take_banks in let u = c.take_shards in let code = c.args.code.now in let id = c.args.table.now.id in (
+  r.0,
+  r.1,
+  r.2,
+  as_number a.over a.stands K.least K.faults K.readings r.0 code id r.1 u.new.worker r.2 t.new.worker.number u.new.worker.number None u.new.held u.ensures.same.number
+      (u.ensures.carries r.0 r.1 r.2 (as_number a.over a.stands K.least K.faults K.readings r.0 code id r.1 t.new.worker r.2 w.number t.new.worker.number None t.new.held t.ensures.same.number
+      (t.ensures.carries r.0 r.1 r.2 (bare_in a.over a.stands K.least K.faults K.readings r.0 code id r.1 w r.2 w.number c.args.held.now c.requires.bare r.3)))),
+)
+
+pub returns-in-Ok-clause-carries : goal.returns-in-Ok-clause-carries
+returns-in-Ok-clause-carries g c = λ P n l s. let a = g.A.Agent in let K = g.C.Clock in let w = c.args.worker.now in let t = c.take_banks in let u = c.take_shards in let code = c.args.code.now in let id = c.args.table.now.id in
+    as_number a.over a.stands K.least K.faults K.readings P code id n u.new.worker l t.new.worker.number w.number None u.new.held (sym t.ensures.same.number)
+    (u.ensures.carries P n l (as_number a.over a.stands K.least K.faults K.readings P code id n t.new.worker l w.number t.new.worker.number None t.new.held t.ensures.same.number
+    (t.ensures.carries P n l (bare_in a.over a.stands K.least K.faults K.readings P code id n w l w.number c.args.held.now c.requires.bare s))))
+
+pub returns-in-Err-clause-kept : goal.returns-in-Err-clause-kept
+returns-in-Err-clause-kept g c = λ P n l s. let a = g.A.Agent in let K = g.C.Clock in let w = c.args.worker.now in let t = c.take_banks in let u = c.take_shards in let code = c.args.code.now in let id = c.args.table.now.id in
+    c.put_off.ensures.carries P n l (as_number a.over a.stands K.least K.faults K.readings P code id n u.new.worker l t.new.worker.number u.new.worker.number None u.new.held u.ensures.same.number
+    (u.ensures.carries P n l (as_number a.over a.stands K.least K.faults K.readings P code id n t.new.worker l w.number t.new.worker.number None t.new.held t.ensures.same.number
+    (t.ensures.carries P n l (bare_in a.over a.stands K.least K.faults K.readings P code id n w l w.number c.args.held.now c.requires.bare s)))))

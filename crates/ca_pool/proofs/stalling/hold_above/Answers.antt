@@ -1,0 +1,7 @@
+use Rattle.std.proofs.Common.{arith}
+use Rattle.ca_pool.proofs.AllParts.{spread_more}
+use Rattle.ca_pool.proofs.stalling.hold_above.Goals as goal
+
+pub returns-clause-holds : goal.returns-clause-holds
+returns-clause-holds g c = λ P code n one f s spread. let h = c.hold_range.ensures.holds P code n one f s in let up = c.hold_range.ensures.reached.0 in
+    (h.0, h.1, spread_more c.args.low c.args.timers c.hold_range.result f h.0 c.requires.order (omega (arith, up)) spread h.2)

@@ -1,0 +1,12 @@
+use Rattle.ca_term.specs.Program.{program_view}
+use Rattle.ca_pool.proofs.AtWork.{lost_now, ready_later}
+use Rattle.ca_pool.proofs.visiting.give_up.Goals as goal
+
+pub rise-requires : goal.rise-requires
+rise-requires g c = record { seated = (program_view c.args.worker.now.program.value, c.args.worker.now.workers, c.requires.at.seated) }
+
+pub returns-in-ClockFailed-clause-given_up : goal.returns-in-ClockFailed-clause-given_up
+returns-in-ClockFailed-clause-given_up g c = ready_later g.A.Agent.over g.A.Agent.stands c.args.code.now c.args.table.now.id c.rise.ensures.drew.same (c.rise.ensures.ready (program_view c.args.worker.now.program.value) c.args.worker.now.workers c.requires.at.seated)
+
+pub returns-in-OutOfMemory-clause-given_up : goal.returns-in-OutOfMemory-clause-given_up
+returns-in-OutOfMemory-clause-given_up g c = lost_now g.A.Agent.over g.A.Agent.stands c.args.code.now c.args.table.now.id c.requires.at

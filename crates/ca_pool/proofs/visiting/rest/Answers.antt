@@ -1,0 +1,13 @@
+use Rattle.std.proofs.Common.{◌∙◌, ℕ, ◌-◌, Bool, ap, subst, sym}
+use Rattle.std.specs.Prelude.{◌||◌}
+use Rattle.ca_table.specs.Carriers.{LaneBox}
+use Rattle.ca_pool.specs.AtWork.{IsAtWork}
+use Rattle.ca_pool.specs.Costs.{cost_idle, is_over}
+use Rattle.ca_pool.proofs.AtWork.{spent_by}
+use Rattle.ca_pool.proofs.visiting.rest.Goals as goal
+
+pub returns-in-Ok-clause-at : goal.returns-in-Ok-clause-at
+returns-in-Ok-clause-at g c = subst (λ (l : LaneBox g.row.A.Denot). IsAtWork g.A.Agent.over g.A.Agent.stands c.args.code.now c.args.table.now.id c.look_idle-looked.new.worker l.value) (sym c.count_rested.ensures.lane) c.look_idle-looked.ensures.at
+
+pub returns-in-Ok-clause-spent : goal.returns-in-Ok-clause-spent
+returns-in-Ok-clause-spent g c = λ start w h. let r = c.count_rested in let y = c.look_idle-looked.ensures in let rested = c.in-Ok.rested in spent_by r.result.left r.result.found (r.ensures.left ∙ ap (λ (n : ℕ). n - cost_idle rested) y.left) (r.ensures.found ∙ ap (λ (b : Bool). is_over rested || b) y.found) h (rw c.in-Ok.is at y.drew)

@@ -1,0 +1,18 @@
+use Rattle.ca_term.specs.Program.{program_view}
+use Rattle.ca_pool.proofs.AtWork.{at_later, lost_seated, on_ok, over_none, some_of, spent_none}
+use Rattle.ca_pool.proofs.visiting.yield_lane.Goals as goal
+
+pub yield_task-lane-requires-clause-seated : goal.yield_task-lane-requires-clause-seated
+yield_task-lane-requires-clause-seated g c = (program_view c.args.worker.now.program.value, c.args.worker.now.workers, c.requires.at.seated)
+
+pub yield_task-lane-requires-clause-busy : goal.yield_task-lane-requires-clause-busy
+yield_task-lane-requires-clause-busy g c = some_of c.args.going.lane.value.task c.requires.busy
+
+pub returns-in-Ok-clause-at : goal.returns-in-Ok-clause-at
+returns-in-Ok-clause-at g c = let y = c.yield_task-lane in at_later g.A.Agent.over g.A.Agent.stands c.args.code.now c.args.table.now.id y.ensures.same c.requires.at (y.ensures.seated (program_view c.args.worker.now.program.value) c.args.worker.now.workers c.requires.at.seated) (over_none g.A.Agent.over c.args.code.now y.result.0.value (on_ok y.result.1 _ c.in-Ok.is y.ensures.free))
+
+pub returns-in-Ok-clause-spent : goal.returns-in-Ok-clause-spent
+returns-in-Ok-clause-spent g c = λ start w h. spent_none h c.yield_task-lane.ensures.drew
+
+pub returns-in-Err-clause-given_up : goal.returns-in-Err-clause-given_up
+returns-in-Err-clause-given_up g c = let y = c.yield_task-lane in lost_seated g.A.Agent.over g.A.Agent.stands c.args.code.now c.args.table.now.id y.ensures.same y.result.0.value (y.ensures.seated (program_view c.args.worker.now.program.value) c.args.worker.now.workers c.requires.at.seated)

@@ -1,0 +1,13 @@
+use Rattle.std.proofs.Common.{arith}
+use Rattle.ca_term.specs.Program.{program_view}
+use Rattle.ca_pool.proofs.AtWork.{at_first}
+use Rattle.ca_pool.proofs.working.take_seat.Goals as goal
+
+pub sit-lane-requires : goal.sit-lane-requires
+sit-lane-requires g c = record { ready = (program_view c.args.worker.now.program.value, c.args.worker.now.workers, c.requires.ready) }
+
+pub returns-clause-at : goal.returns-clause-at
+returns-clause-at g c = let y = c.sit-lane in at_first g.A.Agent.over g.A.Agent.stands c.args.code.now c.args.table.now.id y.ensures.drew.same c.requires.lowered c.requires.gos (y.ensures.seated (program_view c.args.worker.now.program.value) c.args.worker.now.workers c.requires.ready) y.ensures.over
+
+pub returns-clause-spent : goal.returns-clause-spent
+returns-clause-spent g c = record { spends = 0; drew = c.sit-lane.ensures.drew; left_is = omega arith }

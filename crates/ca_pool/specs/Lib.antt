@@ -1,0 +1,15 @@
+pub mod Answers
+pub mod Asking
+pub mod AtEvent
+pub mod AtWork
+pub mod Costs
+pub mod Desk
+pub mod Endings
+pub mod Fitting
+pub mod Leaving
+pub mod Named
+pub mod PoolEnds
+pub mod Prepared
+pub mod Preparing
+pub mod Resolving
+pub mod Surveys

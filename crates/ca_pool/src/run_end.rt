@@ -1,0 +1,63 @@
+// How a whole run ends.
+ghost use Rattle.std.specs.Prelude.{◌≡◌, ◌<◌, None, option_map};
+ghost use Rattle.ca_term.specs.Program.{ProgramView};
+ghost use Rattle.ca_meaning.specs.Ends.{HasEnd};
+ghost use Rattle.ca_meaning.specs.EndsLaw.{IsQuiet};
+ghost use Rattle.ca_meaning.specs.Legal.{Legal, Reaches};
+ghost use Rattle.ca_meaning.specs.State.{State};
+ghost use Rattle.ca_journal.specs.Cut.{AllFit, end_in, kept};
+ghost use Rattle.ca_journal.specs.Events.{events};
+ghost use Rattle.ca_pool.specs.PoolEnds.{end_view, ended_by};
+
+use ca_journal::cut::{CutAt, cut};
+use ca_journal::entry::Journal;
+
+/// How a run came to its end.
+#[derive(Clone, Copy, PartialEq, Eq, Debug)]
+pub enum PoolEnd {
+    /// The main text has a value.
+    Ended,
+    /// The main text faulted.
+    Faulted,
+    /// Nothing can go on.
+    Stuck,
+    /// The budget is used up.
+    Limit,
+}
+
+/// What a run was, up to its end.
+#[derive(Drop)]
+pub struct PoolRun {
+    pub journal: Journal,
+    pub end: PoolEnd,
+}
+
+fn end_at(at: Option<CutAt>) -> PoolEnd
+    ensures { end_view result ≡ ended_by at }
+{
+    match at {
+        Some(CutAt::MainOver) => PoolEnd::Ended,
+        Some(CutAt::Faulted) => PoolEnd::Faulted,
+        Some(CutAt::Limit) => PoolEnd::Limit,
+        None => PoolEnd::Stuck,
+    }
+}
+
+fn cut_run(journal: Journal, budget: u64) -> PoolRun
+    requires { AllFit (events journal) }
+    ensures journal { events result.journal ≡ kept (end_in budget (events journal)) (events journal) }
+    ensures end { end_view result.end ≡ ended_by (option_map (λ c. c.1) (end_in budget (events journal))) }
+{
+    let (journal, at) = cut(journal, budget);
+    let end = end_at(at);
+    PoolRun { journal, end }
+}
+
+/// The journal of a run up to its end for the budget, where nothing can go on if it has none.
+pub(crate) fn end_run(journal: Journal, budget: u64) -> PoolRun
+    requires fit { AllFit (events journal) }
+    requires budget { 0 < budget }
+    ensures ends { (program : ProgramView) (s : State) → Reaches program (events journal) s → (end_in budget (events journal) ≡ None → IsQuiet s) → Legal program (events result.journal) × HasEnd program budget (events result.journal) (end_view result.end) }
+{
+    cut_run(journal, budget)
+}

@@ -1,0 +1,31 @@
+use denote.Param.Send.{sendable}
+use Rattle.std.proofs.Common.{◌≡◌, ◌∙◌, ap, sym, subst}
+use Rattle.ca_term.specs.Program.{program_view}
+use Rattle.ca_meaning.specs.Body.{new_body}
+use Rattle.ca_meaning.specs.Ends.{HasEnd}
+use Rattle.ca_meaning.specs.Task.{script}
+use Rattle.ca_meaning.proofs.Possible.{body_rests}
+use Rattle.ca_journal.specs.Events.{events}
+use Rattle.ca_run.specs.Answers.{end_of}
+use Rattle.ca_run.proofs.Sending.{machine_send, machine_sync}
+use Rattle.ca_run.proofs.run.run_script.Goals as goal
+
+pub run_pool-requires-send-A : goal.run_pool-requires-send-A
+run_pool-requires-send-A g c κs within = search (sendable, machine_send) depth 20
+
+pub run_pool-requires-sync-A : goal.run_pool-requires-sync-A
+run_pool-requires-sync-A g c κs within = search (sendable, machine_sync) depth 20
+
+pub run_pool-requires-clause-main : goal.run_pool-requires-clause-main
+run_pool-requires-clause-main g c κs within =
+    let program = program_view c.args.program.now in
+    let rest = body_rests program (script (new_body program.main)) in
+    (rest.0, rest.1, c.in_ok-main.ensures.stands program rest.0 c.in_ok-code.ensures.lowered rest.1)
+
+pub returns-clause-end : goal.returns-clause-end
+returns-clause-end g c =
+    let run = c.in_ok-run.run' in
+    let told = c.told.result in
+    let P = program_view c.args.program.now in
+    subst (λ j. HasEnd P c.args.budget (events j) (end_of told.end)) (sym c.told.ensures.journal)
+    (subst (HasEnd P c.args.budget (events run.journal)) (sym c.told.ensures.end) c.in_ok-run.ensures.end)

@@ -1,0 +1,1 @@
+(def c (chan)) (go (>! c 42)) (println (<!! c))
