@@ -5,7 +5,9 @@
 //! of a run speak of nothing else of it, so compiled text, the tables of the system's tasks and the plain body are
 //! exchanged for one another freely.
 //!
-//! Stands on `ca_lower`, for the code of a program. Start with `specs/Agents.antt`, then `agent`.
+//! Stands on `ca_lower`, for the code of a program. Start with `specs/Agents.antt`, then `agent`, and
+//! `starting` for the agents of new tasks.
 #![tactic(auto)]
 
 pub mod agent;
+pub mod starting;

@@ -42,7 +42,7 @@ module _ {A : Type 0} (place : A → At) (stands : ProgramView → A → Option 
   -- all parts are held
   pub is_quiet : (now old new : Parts A) (s : State) → Stands place stands program n now s → IsPart old now → IsPart now old → (c : TimersPart) → now.timers ≡ Some c → MovesStall old new → IsQuiet s
   is_quiet now old new s st part all c clock m = record {
-    no_task = λ t x e run script. no_seat t (st.seated.seat t) (st.seated.found t x (e, run));
+    no_task = λ t x e run. no_seat t (st.seated.seat t) (st.seated.found t x (e, run));
     no_settle = λ p k e. settles_not p k (whole now.bank p) refl (sym (st.holds.channels_are p) ∙ e);
     no_deadline = sym (st.clocked c clock).0 ∙ m.none_open c (all.clocks c clock);
   } where

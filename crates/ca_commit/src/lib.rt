@@ -30,7 +30,7 @@ pub mod going;
 pub mod held;
 pub mod laws;
 pub mod listing;
-mod making;
+pub mod making;
 pub mod meeting;
 pub mod new_port;
 pub mod parking;

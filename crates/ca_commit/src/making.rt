@@ -120,8 +120,8 @@ fn last_port(values: &[Value]) -> Option<PortId>
     }
 }
 
-/// Its result port, if it has one.
-pub(crate) fn result_of(seed: &Seed) -> Option<PortId>
+/// The result port of the new task, if it has one: the last of the values of `onto` and of `collect`.
+pub fn result_of(seed: &Seed) -> Option<PortId>
     ensures { option_map port_number result ≡ result_of (seed_view seed.now) }
 {
     match seed {

@@ -272,7 +272,7 @@ module _ (P : ProgramView) (C : CodeView) where
 
   -- CALLS
   -- a call, or its fault
-  called_at : (n f h to : ℕ) (q : Position) (pl : Place) (ws s s' : List Tree) (K : List Frame) (E : Kernel → Kernel) (turns : ℕ) (a b : Bool) → nat_le 999_999 turns ≡ a → nat_le 256 (length K) ≡ b → Context E → Same h s s' → Calls P C n → f < length C.functions → length ws ≡ (function_at C f).values → q ≡ start_of C to → Then P C n q h s K E
+  pub called_at : (n f h to : ℕ) (q : Position) (pl : Place) (ws s s' : List Tree) (K : List Frame) (E : Kernel → Kernel) (turns : ℕ) (a b : Bool) → nat_le 999_999 turns ≡ a → nat_le 256 (length K) ≡ b → Context E → Same h s s' → Calls P C n → f < length C.functions → length ws ≡ (function_at C f).values → q ≡ start_of C to → Then P C n q h s K E
       → After P (AreAlike P C n) (cond a (faults Spun pl turns) (cond b (faults TooDeep pl turns) (goes (state (function_at C f).block (begun_at C (function_at C f) ws) (record { next = to; answer = h; slots = s' } ∷ K) (suc turns))))) (body (E (apply (head.Call f) (consts ws) pl)) turns (length K))
   called_at n f h to q pl ws s s' K E turns true b ea eb ctx same calls ltf len eq cont =
       let r = apply (head.Call f) (consts ws) pl in

@@ -1,7 +1,10 @@
 -- Code that implements each text of a program stands for it; and what its runners come to.
-use Rattle.std.proofs.Common.{◌≡◌, ◌≢◌, ℕ, zero, suc, ◌≤◌, List, [], length, None, refl, sym, ◌∙◌, subst, arith}
+use Rattle.std.proofs.Common.{◌≡◌, ◌≢◌, ℕ, zero, suc, ◌<◌, ◌≤◌, List, [], ◌∷◌, length, None, false, refl, sym, ◌∙◌, subst, arith, nat_lt, ◌==◌}
+use Rattle.std.proofs.lemmas.Bool.{and_parts, eqb-true, ltb-true}
 use Rattle.ca_value.specs.Tree.{Tree}
-use Rattle.ca_term.specs.Kernel.{Kernel, const}
+use Rattle.ca_term.specs.declared.place.Place.{Place}
+use Rattle.ca_term.specs.declared.head.Head.TheVariants.{Call}
+use Rattle.ca_term.specs.Kernel.{Kernel, const, var, apply, none, item}
 use Rattle.ca_term.specs.Operation.{WantView}
 use Rattle.ca_term.specs.Program.{ProgramView, ProcedureView, arity}
 use Rattle.ca_meaning.specs.Body.{BodyView, At, local, at, at_op, fill, new_body}
@@ -11,13 +14,16 @@ use Rattle.ca_meaning.proofs.Rests.{one_rest}
 use Rattle.ca_states.specs.declared.code.EntryPoint.{EntryPoint}
 use Rattle.ca_states.specs.declared.code.Exit.TheVariants.{Return}
 use Rattle.ca_states.specs.Code.{CodeView, block_at, function_at, body_at}
-use Rattle.ca_states.specs.Machine.{Frame, State, Move, goes, ends, faults, waits, read, begun, begun_at, returned, move, started, resumed, IsHalt, ComesTo, halts, goes_on}
+use Rattle.ca_states.specs.Machine.{Frame, State, Move, goes, ends, faults, waits, read, begun, begun_at, returned, move, started, outermost, calling, resumed, IsHalt, ComesTo, halts, goes_on}
+use Rattle.ca_states.specs.declared.runner.Start.TheVariants.{Function}
 use Rattle.ca_states.specs.Valid.{main_entry}
+use Rattle.ca_states.specs.Standing.{IsStart}
 use Rattle.ca_lower.specs.Implements.{position, start_of, in_slots, ImplementsText, ImplementsProgram}
 use Rattle.ca_lower.specs.Lowered.{After, AreAlike, StandsFor, Lowered}
 use Rattle.ca_lower.proofs.Slots.{Holds, holds_begun}
 use Rattle.ca_lower.proofs.Contexts.{Context, whole}
 use Rattle.ca_lower.proofs.Alike.{body, AlikeAt}
+use Rattle.ca_lower.proofs.Heads.{called_at}
 use Rattle.ca_lower.proofs.Goes.{Calls}
 use Rattle.ca_lower.proofs.Loops.{gen}
 
@@ -48,11 +54,34 @@ module _ (P : ProgramView) (C : CodeView) where
         by zero = tt
         by (suc n) = text_alike t e im n (calls n n (omega arith)) vs [] (λ u. u) 0 (len ∙ im.1) whole (λ m le v turns. (body (const v) turns 0, here, refl, refl))
 
+    -- the text that has the value which it takes ends with what its first slot holds
+    given_back : (n : ℕ) (s : List Tree) (turns : ℕ) → AlikeAt P C n (start_of C C.identity) s [] turns (const (read s 0))
+    given_back n s turns =
+        let v = read s 0 in
+        let t = all.identity in
+        gen P C (var 0) n None (in_slots (0 ∷ []) 0) ((0, v) ∷ []) 1 (start_of C C.identity) (position t.0 [] (Return 1)) s [] (λ u. u) turns
+        (calls n n (omega arith)) t.2 (refl, omega arith, refl, tt) tt whole tt (λ k le s2 turns2 same. (body (const (read s2 1)) turns2 0, here, refl, refl))
+
+    call_stands : (n : ℕ) (v : Tree) (p : Place) → n < length C.functions → (function_at C n).values ≡ 1 → StandsFor P C (calling C n (v ∷ [])) (new_body (apply (Call n) (item (const v) none) p))
+    call_stands n v p lt one = record { alike = by }
+      where
+        by : (m : ℕ) → AreAlike P C m (calling C n (v ∷ [])) (new_body (apply (Call n) (item (const v) none) p))
+        by m =
+            let s = (outermost C).slots in
+            called_at P C m n 0 C.identity (start_of C C.identity) p (v ∷ []) s s [] (λ u. u) 0 false false refl refl whole (λ k below. refl) (calls m m (omega arith)) lt (sym one) refl
+            (λ k le s2 turns same. given_back k s2 turns)
+
+    starts_there : (n : ℕ) → IsStart C (Function n) 1 → (n < length C.functions) × ((function_at C n).values ≡ 1)
+    starts_there n h =
+        let two = and_parts (nat_lt n (length C.functions)) ((function_at C n).values == 1) h in
+        (ltb-true n (length C.functions) two.0, eqb-true (function_at C n).values 1 two.1)
+
     pub lowered : Lowered P C
     lowered = record {
       main = text_stands (record { parameters = []; body = P.main }) (main_entry C) all.main [] refl;
       bodies = λ n vs lt len. text_stands (procedure_at P.bodies n) (body_at C n) (all.bodies n lt) vs len;
       functions = λ n vs lt len. text_stands (procedure_at P.functions n) (function_at C n) (all.functions n lt) vs len;
+      calls = λ n v p start. let there = starts_there n start in call_stands n v p there.0 there.1;
     }
 
   not_local : (a : At) (w : WantView) → a ≡ at_op w → a ≢ local

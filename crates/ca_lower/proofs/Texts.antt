@@ -7,7 +7,7 @@ use Rattle.ca_meaning.specs.Started.{procedure_at}
 use Rattle.ca_states.specs.declared.code.Exit.{Exit}
 use Rattle.ca_states.specs.declared.code.Exit.TheVariants.{Return}
 use Rattle.ca_states.specs.Code.{Instruction, BlockView, CodeView, no_block, block_at, no_entry, function_at}
-use Rattle.ca_lower.specs.Implements.{position, start_of, in_slots, Implements, ImplementsText, ImplementsProgram}
+use Rattle.ca_lower.specs.Implements.{position, start_of, in_slots, Implements, ImplementsText, identity_text, ImplementsProgram}
 use Rattle.ca_lower.specs.Emit.{Builder, building, at_work, finished, block_of, close, emit, opened, width_of, emit_text, emit_texts, entries, main_text, nothing_built, code_of}
 use Rattle.ca_lower.proofs.Lays.{Ends, Covers, lays}
 
@@ -73,6 +73,9 @@ takes_entry [] B n k h = absurd h
 takes_entry (t ∷ ts) B zero k h = (omega arith, sym h)
 takes_entry (t ∷ ts) B (suc n) k h = let r = takes_entry ts (emit_text t B) n k h in (let lt = r.0 in omega (arith, lt), r.1)
 
+pub identity_fits : (known : Known) → IsProcedure known identity_text
+identity_fits known = record { bound = inl refl; anew = tt; fits = tt; source = tt }
+
 pub code_implements : (P : ProgramView) → IsProgram P → ImplementsProgram (code_of P) P
 code_implements P fit =
     let C = code_of P in
@@ -80,11 +83,14 @@ code_implements P fit =
     let F = emit_texts P.functions nothing_built in
     let G = emit_texts P.bodies F in
     let there : (f k : ℕ) → Takes known.functions f k → (f < length C.functions) × (k ≡ (function_at C f).values) = takes_entry P.functions nothing_built in
-    let main = text_implemented C known there (main_text P) G fit.main_fits ([], sym (append-nil C.blocks)) in
+    let M = emit_text (main_text P) G in
+    let identity = text_implemented C known there identity_text M (identity_fits known) ([], sym (append-nil C.blocks)) in
+    let main = text_implemented C known there (main_text P) G fit.main_fits identity.1 in
     let bodies = texts_implemented C known there P.bodies F fit.bodies_fit main.1 in
     let functions = texts_implemented C known there P.functions nothing_built fit.functions_fit bodies.1 in
     record {
       main = main.0;
+      identity = identity.0;
       bodies = bodies.0;
       as_many = sym (length_entries P.functions nothing_built);
       functions = functions.0;

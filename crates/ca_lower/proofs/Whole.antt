@@ -14,11 +14,11 @@ use Rattle.ca_term.specs.Program.{ProgramView, ProcedureView, arity, known_in, I
 use Rattle.ca_states.specs.declared.code.Exit.{Exit}
 use Rattle.ca_states.specs.declared.code.Exit.TheVariants.{Return}
 use Rattle.ca_states.specs.Code.{has_slot, Instruction, BlockView, CodeView, size, no_block, block_at, no_entry, function_at}
-use Rattle.ca_states.specs.Valid.{each, takes, is_applied, is_task, is_operation, is_valid_block, are_valid_blocks, are_just, begins_well, main_entry, is_valid}
-use Rattle.ca_lower.specs.Implements.{in_slots}
+use Rattle.ca_states.specs.Valid.{each, takes, is_applied, is_task, is_operation, is_valid_block, are_valid_blocks, are_just, begins_well, main_entry, identity_entry, is_valid}
+use Rattle.ca_lower.specs.Implements.{in_slots, identity_text}
 use Rattle.ca_lower.specs.Emit.{Builder, building, at_work, finished, block_of, emit, opened, width_of, emit_text, emit_texts, entries, widest, greater, main_text, nothing_built, code_of}
 use Rattle.ca_lower.proofs.Lays.{Ends, closed_at}
-use Rattle.ca_lower.proofs.Texts.{Has, has_close, has_ends, has_opened, opened_work, first_block, covers_parameters, takes_entry}
+use Rattle.ca_lower.proofs.Texts.{Has, has_close, has_ends, has_opened, opened_work, first_block, covers_parameters, takes_entry, identity_fits}
 use Rattle.ca_lower.proofs.Knows.{both_true, up_first, first_slots, just_first, Valid, valid_block, valid_return}
 use Rattle.ca_lower.proofs.Sound.{enough, own_slot, below_range, sound}
 
@@ -129,16 +129,22 @@ code_valid P fit =
     let F = emit_texts P.functions nothing_built in
     let G = emit_texts P.bodies F in
     let M = emit_text (main_text P) G in
+    let I = emit_text identity_text M in
     let there : (f k : ℕ) → Takes known.functions f k → (f < length C.functions) × (k ≡ (function_at C f).values) = takes_entry P.functions nothing_built in
     let bodies_there : (f k : ℕ) → Takes known.bodies f k → takes C.bodies f k ≡ true = takes_entries P.bodies F in
-    let w1 = enough (width_of (main_text P)) (greater (widest P.functions) (widest P.bodies)) C.width (omega arith) in
+    let w0 = enough (width_of identity_text) (greater (width_of (main_text P)) (greater (widest P.functions) (widest P.bodies))) C.width (omega arith) in
+    let w1 = enough (width_of (main_text P)) (greater (widest P.functions) (widest P.bodies)) C.width w0.1 in
     let w2 = enough (widest P.functions) (widest P.bodies) C.width w1.1 in
-    let main = text_valid C known there bodies_there (main_text P) G fit.main_fits w1.0 ([], sym (append-nil C.blocks)) in
+    let identity = text_valid C known there bodies_there identity_text M (identity_fits known) w0.0 ([], sym (append-nil C.blocks)) in
+    let main = text_valid C known there bodies_there (main_text P) G fit.main_fits w1.0 identity.2 in
     let bodies = texts_valid C known there bodies_there P.bodies F fit.bodies_fit w2.1 main.2 in
     let functions = texts_valid C known there bodies_there P.functions nothing_built fit.functions_fit w2.0 bodies.2 in
-    let all = joined C known there bodies_there 0 (at_work F) (at_work M) functions.0 (joined C known there bodies_there (at_work F) (at_work G) (at_work M) bodies.0 main.0) in
+    let all =
+    joined C known there bodies_there 0 (at_work F) (at_work I) functions.0
+    (joined C known there bodies_there (at_work F) (at_work G) (at_work I) bodies.0 (joined C known there bodies_there (at_work G) (at_work M) (at_work I) main.0 identity.0)) in
     let blocks : are_valid_blocks C 0 C.blocks ≡ true =
-    all_valid C known there bodies_there 0 C.blocks (λ k lt. let e : 0 + k ≡ k = omega arith in let s = finished_count M in subst (λ m. is_valid_block C m (block_at C k) ≡ true) (sym e) (all k (omega arith) (omega (arith, lt, s)))) in
-    both_true (are_valid_blocks C 0 C.blocks && begins_well C (main_entry C) && each (begins_well C) C.bodies) (each (begins_well C) C.functions)
-    (both_true (are_valid_blocks C 0 C.blocks && begins_well C (main_entry C)) (each (begins_well C) C.bodies) (both_true (are_valid_blocks C 0 C.blocks) (begins_well C (main_entry C)) blocks main.1) bodies.1)
-    functions.1
+    all_valid C known there bodies_there 0 C.blocks (λ k lt. let e : 0 + k ≡ k = omega arith in let s = finished_count I in subst (λ m. is_valid_block C m (block_at C k) ≡ true) (sym e) (all k (omega arith) (omega (arith, lt, s)))) in
+    let one = both_true (are_valid_blocks C 0 C.blocks) (begins_well C (main_entry C)) blocks main.1 in
+    let two = both_true (are_valid_blocks C 0 C.blocks && begins_well C (main_entry C)) (begins_well C (identity_entry C)) one identity.1 in
+    let three = both_true (are_valid_blocks C 0 C.blocks && begins_well C (main_entry C) && begins_well C (identity_entry C)) (each (begins_well C) C.bodies) two bodies.1 in
+    both_true (are_valid_blocks C 0 C.blocks && begins_well C (main_entry C) && begins_well C (identity_entry C) && each (begins_well C) C.bodies) (each (begins_well C) C.functions) three functions.1

@@ -14,7 +14,7 @@ use Rattle.ca_states.specs.declared.code.Exit.{Exit}
 use Rattle.ca_states.specs.declared.code.Exit.TheVariants.{Jump, Branch, Return, Cut}
 use Rattle.ca_states.specs.declared.code.Exit.TheVariants as exit
 use Rattle.ca_states.specs.Code.{Instruction, constant, copying, moving, one, pushing, putting, many, BlockView, CodeView}
-use Rattle.ca_lower.specs.Implements.{Scope, slot_of, in_slots, names_bound, Target, moves, operand_slot, next_slot, integer_of, paired}
+use Rattle.ca_lower.specs.Implements.{Scope, slot_of, in_slots, names_bound, Target, moves, operand_slot, next_slot, integer_of, paired, identity_text}
 
 -- the finished blocks, and the block at work: how many slots it begins with, and its instructions so far
 pub data Builder : Type 0 where
@@ -227,15 +227,18 @@ main_text P = record { parameters = []; body = P.main }
 abbrev pub nothing_built : Builder
 nothing_built = building [] 0 []
 
--- The code of a program: the functions, then the go bodies, then the main text.
+-- The code of a program: the functions, then the go bodies, then the main text, and last the text that has the value
+-- which it takes.
 abbrev pub code_of : ProgramView → CodeView
 code_of P =
     let F = emit_texts P.functions nothing_built in
     let G = emit_texts P.bodies F in
+    let M = emit_text (main_text P) G in
     record {
-      blocks = finished (emit_text (main_text P) G);
+      blocks = finished (emit_text identity_text M);
       main = at_work G;
+      identity = at_work M;
       bodies = entries P.bodies F;
       functions = entries P.functions nothing_built;
-      width = greater (width_of (main_text P)) (greater (widest P.functions) (widest P.bodies));
+      width = greater (width_of identity_text) (greater (width_of (main_text P)) (greater (widest P.functions) (widest P.bodies)));
     }

@@ -16,7 +16,7 @@ use Rattle.ca_states.specs.declared.code.Exit.{Exit}
 use Rattle.ca_states.specs.declared.code.Exit.TheVariants.{Jump, Branch, Return, Cut}
 use Rattle.ca_states.specs.declared.code.Exit.TheVariants as exit
 use Rattle.ca_states.specs.Code.{Instruction, constant, copying, moving, one, two, two_int, pushing, putting, many, CodeView, block_at, function_at, body_at}
-use Rattle.ca_states.specs.Valid.{main_entry}
+use Rattle.ca_states.specs.Valid.{main_entry, identity_entry}
 
 -- a place in the code: the block's number, and what is left of it
 pub data Position : Type 0 where
@@ -169,9 +169,14 @@ abbrev pub ImplementsText : CodeView → ProcedureView → EntryPoint → Type 0
 ImplementsText C t e =
     (n : ℕ) × (arity t ≡ e.values) × Implements C None (in_slots t.parameters 0) e.values t.body (start_of C e.block) (position n [] (Return e.values))
 
--- the code implements each text of the program
+-- the text that has the one value which it takes
+abbrev pub identity_text : ProcedureView
+identity_text = record { parameters = 0 ∷ []; body = var 0 }
+
+-- the code implements each text of the program, and that of a value that is given back
 pub record ImplementsProgram (C : CodeView) (P : ProgramView) : Type 0 where
   pub main : ImplementsText C (record { parameters = []; body = P.main }) (main_entry C)
+  pub identity : ImplementsText C identity_text (identity_entry C)
   pub bodies : (n : ℕ) → n < length P.bodies → ImplementsText C (procedure_at P.bodies n) (body_at C n)
   pub as_many : length P.functions ≡ length C.functions
   pub functions : (n : ℕ) → n < length P.functions → ImplementsText C (procedure_at P.functions n) (function_at C n)

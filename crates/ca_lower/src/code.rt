@@ -3,7 +3,8 @@ ghost use Rattle.std.specs.Prelude.{◌≡◌, length, option_map, slice_get, If
 ghost use Rattle.ca_value.specs.Seq.{list};
 ghost use Rattle.ca_term.specs.Program.{procedure_view, program_view};
 ghost use Rattle.ca_states.specs.Code.{code_view};
-ghost use Rattle.ca_lower.specs.Emit.{code_of, emit_texts, entries, widest};
+ghost use Rattle.ca_lower.specs.Implements.{identity_text};
+ghost use Rattle.ca_lower.specs.Emit.{code_of, emit_text, emit_texts, entries, widest, width_of};
 ghost use Rattle.ca_lower.specs.Views.{builder_view, texts_of};
 
 use crate::builder::{Builder, sum};
@@ -11,6 +12,7 @@ use crate::text::emit_text;
 use crate::width::greater;
 use ca_states::code::{Code, EntryPoint, Mark};
 use ca_term::program::{Procedure, Program};
+use ca_term::term::Term;
 use ca_value::memory::OutOfMemory;
 use ca_value::seq::Seq;
 use std::alloc::Global;
@@ -85,7 +87,15 @@ fn marks(alloc: Global, count: u64) -> Result<Seq<Mark>, OutOfMemory>
     Ok(marks)
 }
 
-/// The code of the program: its functions, its go bodies, and its main text.
+// The text that has the one value which it takes.
+fn emit_identity(alloc: Global, builder: &mut Builder) -> Result<u64, OutOfMemory>
+    ensures code { OnOk result (builder_view builder.new ≡ emit_text identity_text (builder_view builder.old)) }
+    ensures width { IfOk result (λ n. n ≡ width_of identity_text) }
+{
+    emit_text(alloc, builder, &[0], &Term::Var(0))
+}
+
+/// The code of the program: its functions, its go bodies, its main text, and the text that has the value which it takes.
 pub fn code_for(alloc: Global, program: &Program) -> Result<Code, OutOfMemory>
     ensures { IfOk result (λ c. code_view c ≡ code_of (program_view program.now)) }
 {
@@ -98,10 +108,16 @@ pub fn code_for(alloc: Global, program: &Program) -> Result<Code, OutOfMemory>
     let bodies = emit_texts(alloc, &mut builder, program, Texts::Bodies)?;
     let main = builder.number();
     let own = emit_text(alloc, &mut builder, &[], program.main())?;
-    let width = greater(own, greater(functions.widest, bodies.widest));
+    let identity = builder.number();
+    let giving = emit_identity(alloc, &mut builder)?;
+    let width = greater(
+        giving,
+        greater(own, greater(functions.widest, bodies.widest)),
+    );
     Ok(Code {
         blocks: builder.blocks,
         main,
+        identity,
         bodies: bodies.entries,
         functions: functions.entries,
         marks: marks(alloc, width)?,

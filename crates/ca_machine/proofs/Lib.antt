@@ -1,2 +1,3 @@
-mod Starting
+mod Results
 mod Halting
+pub mod Sending

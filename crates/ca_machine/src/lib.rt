@@ -4,10 +4,11 @@
 //! `specs/Machines.antt` says: over lowered code it meets the operations of its body, with the same values, ends or
 //! faults alike and with as many turns, after any answers.
 //!
-//! Stands on `ca_agent` and `ca_lower`. Start with `specs/Machines.antt`, then `machine`, `start` and `agent`.
+//! Stands on `ca_agent` and `ca_lower`. Start with `specs/Machines.antt`, then `machine`, `start`, `starting` and `agent`.
 #![tactic(auto)]
 
 mod agent;
 pub mod machine;
 pub mod stage;
 mod start;
+mod starting;

@@ -8,6 +8,8 @@ pub mod RedexFits
 pub mod Contracts
 pub mod Bodies
 pub mod Rests
+pub mod Systems
+pub mod Tables
 pub mod Waits
 pub mod Rows
 pub mod Fits

@@ -46,14 +46,14 @@ fewer : (journal : List EventView) (w : ℕ) (ws : List Wait) → AllNamed journ
 fewer journal w ws all side p = subst (Each (NamedIn journal side p)) (sym (queue_without side p w ws)) (each-filter (NamedIn journal side p) (other w) (queue side p ws) (all side p))
 
 -- a handler's branch, by its number
-abbrev IsBranch : Side → ℕ → ℕ → List BranchView → Handler → Type 0
+abbrev pub IsBranch : Side → ℕ → ℕ → List BranchView → Handler → Type 0
 IsBranch side p w whole h = (h.wait ≡ w) × (slice_get whole h.branch ≡ Some (branch_on side p h.value))
 
 on_side : (side : Side) (p : ℕ) (b : BranchView) → is_on side p b ≡ true → b ≡ branch_on side p (brought b)
 on_side Take p b e = takes_there p b e
 on_side Put p b e = let v = puts_there p b e in v.1 ∙ ap (put_of p) (sym (ap brought v.1))
 
-handlers_at : (side : Side) (p w k : ℕ) (bs whole : List BranchView) → ((j : ℕ) (b : BranchView) → slice_get bs j ≡ Some b → slice_get whole (k + j) ≡ Some b) → Each (IsBranch side p w whole) (handlers side p w k bs)
+pub handlers_at : (side : Side) (p w k : ℕ) (bs whole : List BranchView) → ((j : ℕ) (b : BranchView) → slice_get bs j ≡ Some b → slice_get whole (k + j) ≡ Some b) → Each (IsBranch side p w whole) (handlers side p w k bs)
 handlers_at side p w k [] whole f = tt
 handlers_at side p w k (b ∷ bs) whole f = by (is_on side p b) refl (handlers_at side p w (suc k) bs whole (λ j o e. ap (slice_get whole) (let q : suc k + j ≡ k + suc j = omega arith in q) ∙ f (suc j) o e)) where
   by : (t : Bool) → is_on side p b ≡ t → Each (IsBranch side p w whole) (handlers side p w (suc k) bs)

@@ -18,7 +18,7 @@ use Rattle.ca_meaning.specs.Channel.{Channel}
 use Rattle.ca_meaning.specs.Registry.{Registered, answers, refuses}
 use Rattle.ca_meaning.specs.Wait.{Handler, side_of, port_of, front, without, owner_of, told, is_among}
 use Rattle.ca_meaning.specs.Row.{Row, not_ready, completes, meets, Settling, unsettled, settles, settle_row}
-use Rattle.ca_meaning.specs.Task.{TaskBody, script, system_task, unserved, body_at, body_fill, BodyRest, new_task, reply}
+use Rattle.ca_meaning.specs.Task.{TaskBody, script, system_task, body_at, body_fill, BodyRest, new_task, reply}
 use Rattle.ca_meaning.specs.State.{State, Task, Tasks, Deadline, running, waiting, over, runs, shut_at, shut_all, shut_result, due, open_after}
 use Rattle.ca_meaning.specs.Choice.{branches_of, default_of, parks, row, is_ready, any_ready, Picks}
 use Rattle.ca_meaning.specs.Refusal.{is_channel, not_a_channel, nil_put, unfit, too_many, refusal, registering_gives, fault_of_registered, unmet, needs_to_register, fault_at}
@@ -28,8 +28,9 @@ use Rattle.ca_meaning.specs.TaskSteps.{moments, IsMoment, kind_of, result_of}
 use Rattle.ca_meaning.specs.Steps.{Step}
 use Rattle.ca_meaning.specs.Ends.{IsPossible}
 use Rattle.ca_meaning.specs.Sound.{Each, AllOwned, Sound}
-use Rattle.ca_meaning.specs.EndsLaw.{HasEvent, IsScript, IsQuiet}
+use Rattle.ca_meaning.specs.EndsLaw.{HasEvent, IsQuiet}
 use Rattle.ca_meaning.proofs.Rests.{rests}
+use Rattle.ca_meaning.proofs.Systems.{system_rests}
 use Rattle.ca_meaning.proofs.Refusals.{or_none}
 
 -- a number that was never given
@@ -46,7 +47,7 @@ new_wait used = not_there used (above used) (omega arith)
 
 pub body_rests : (program : ProgramView) (b : TaskBody) → (c : TaskBody) × BodyRest program b c
 body_rests program (script b) = let r = rests program b in (script r.0, (r.0, r.1, refl))
-body_rests program (system_task (unserved kind values place)) = (system_task (unserved kind values place), (unserved kind values place, refl, refl))
+body_rests program (system_task b) = let r = system_rests program b in (system_task r.0, (r.0, r.1, refl))
 
 pub goes_there : (program : ProgramView) (tasks : Tasks) (t : ℕ) (x : Task) (v : Tree) → (after : Tasks) × Goes program tasks t x v after
 goes_there program tasks t x v = let r = body_rests program (body_fill v x.body) in (update eqb tasks t (Some (runs x.result r.0)), (r.0, r.1, refl))
@@ -275,13 +276,9 @@ tick_there program s sound d ds e =
     let some : due m s.deadlines ≢ [] = (λ k. some_due d ds dm (ap (due m) (sym e) ∙ k)) in
     (ticked m (due m s.deadlines), record s { channels = shut_all (due m s.deadlines) s.channels; deadlines = open_after m s.deadlines; now = m }, (omega (arith, n), omega arith, refl, some, refl))
 
--- a script's text stands somewhere
-abbrev pub StandsSomewhere : TaskBody → Type 0
-StandsSomewhere b = IsScript b → body_at b ≢ nowhere
-
-pub stuck_quiet : (program : ProgramView) (s : State) → Sound s → ((t : ℕ) (x : Task) → s.tasks t ≡ Some x → StandsSomewhere x.body) → (IsPossible program s → ⊥) → IsQuiet s
+pub stuck_quiet : (program : ProgramView) (s : State) → Sound s → ((t : ℕ) (x : Task) → s.tasks t ≡ Some x → body_at x.body ≢ nowhere) → (IsPossible program s → ⊥) → IsQuiet s
 stuck_quiet program s sound somewhere stuck = record {
-  no_task = λ t x there goes is. let h = has_event program s sound t x there goes (somewhere t x there is) in stuck (h.0, h.1, h.2);
+  no_task = λ t x there goes. let h = has_event program s sound t x there goes (somewhere t x there) in stuck (h.0, h.1, h.2);
   no_settle = λ p c at. settle p c at (settle_row c (front Take p s.waits) (front Put p s.waits)) refl;
   no_deadline = deadline s.deadlines refl;
 } where
@@ -293,19 +290,11 @@ stuck_quiet program s sound somewhere stuck = record {
   deadline [] e = e
   deadline (d ∷ ds) e = absurd (stuck (tick_there program s sound d ds e))
 
--- what stands somewhere is a script's text
-is_script : (b : TaskBody) → body_at b ≢ nowhere → IsScript b
-is_script (script b) ne = tt
-is_script (system_task (unserved kind values place)) ne = absurd (ne refl)
-
-runs_at : {G : Type 0} (s : State) → IsQuiet s → (t : ℕ) (x : Task) → s.tasks t ≡ Some x → x.mode ≡ running → (a : At) → body_at x.body ≡ a → (a ≡ nowhere → ⊥) → G
-runs_at s q t x there goes a e ne = absurd (q.no_task t x there goes (is_script x.body (λ n. ne (sym e ∙ n))))
+runs_not : {G : Type 0} (s : State) → IsQuiet s → (t : ℕ) (x : Task) → s.tasks t ≡ Some x → x.mode ≡ running → G
+runs_not s q t x there goes = absurd (q.no_task t x there goes)
 
 stands_not : {G : Type 0} (s : State) → IsQuiet s → (t : ℕ) (op : OpView) (x : Task) → Stands s t op x → G
-stands_not s q t op x st = runs_at s q t x st.0 st.1 (at_op (record { op = op; place = st.2.0 })) st.2.1 (λ k. cc)
-
-fault_not : (s : State) (a : At) (f : Fault × Place) → a ≡ nowhere → fault_at s a ≡ Some f → ⊥
-fault_not s a f n e = let k : None ≡ Some f = sym (ap (fault_at s) n) ∙ e in cc
+stands_not s q t op x st = runs_not s q t x st.0 st.1
 
 pub quiet_stuck : (program : ProgramView) (s s2 : State) (e : EventView) → IsQuiet s → Step program s e s2 → ⊥
 quiet_stuck program s s2 (made t p what moment) q x = stands_not s q t (making what) x.0 x.2
@@ -320,5 +309,5 @@ quiet_stuck program s s2 (closed t p) q x = stands_not s q t (closing (port p)) 
 quiet_stuck program s s2 (registered t name args v) q x = stands_not s q t (registering name args) x.0 x.3
 quiet_stuck program s s2 (printed t line) q x = stands_not s q t (printing line) x.0 x.2
 quiet_stuck program s s2 (ticked m ports) q x = x.3 (sym x.2 ∙ ap (due m) q.no_deadline)
-quiet_stuck program s s2 (is_over t Ended) q x = runs_at s q t x.0 x.2.0 x.2.1 (ended x.1) x.3 (λ k. cc)
-quiet_stuck program s s2 (is_over t (Faulted fault place result)) q x = q.no_task t x.0 x.1.0 x.1.1 (is_script x.0.body (λ n. fault_not s (body_at x.0.body) (fault, place) n x.2))
+quiet_stuck program s s2 (is_over t Ended) q x = runs_not s q t x.0 x.2.0 x.2.1
+quiet_stuck program s s2 (is_over t (Faulted fault place result)) q x = runs_not s q t x.0 x.1.0 x.1.1

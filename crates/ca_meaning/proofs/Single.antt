@@ -12,16 +12,17 @@ use Rattle.ca_meaning.specs.Channel.{Channel}
 use Rattle.ca_meaning.specs.Registry.{Registry, answers}
 use Rattle.ca_meaning.specs.Wait.{Handler, owner_of, port_of}
 use Rattle.ca_meaning.specs.Row.{Row, Settling, completes, settles, settle_row}
-use Rattle.ca_meaning.specs.Task.{TaskBody, script, system_task, unserved, body_at, body_fill, BodyRest, new_task, reply}
+use Rattle.ca_meaning.specs.Task.{TaskBody, script, system_task, body_at, body_fill, BodyRest, new_task, reply}
 use Rattle.ca_meaning.specs.State.{State, Task, Tasks, Opening, runs, opening_state}
 use Rattle.ca_meaning.specs.Going.{IsAtOp, Goes, Wakes}
 use Rattle.ca_meaning.specs.Steps.{Step, Steps}
 use Rattle.ca_meaning.specs.Legal.{Reaches}
 use Rattle.ca_meaning.proofs.Rests.{one_rest}
+use Rattle.ca_meaning.proofs.Systems.{system_once}
 
 pub body_once : (program : ProgramView) (b c d : TaskBody) → BodyRest program b c → BodyRest program b d → c ≡ d
 body_once program (script b) c d r q = r.2 ∙ ap script (one_rest program b r.0 q.0 r.1 q.1) ∙ sym q.2
-body_once program (system_task (unserved kind values place)) c d r q = r.2 ∙ ap system_task (r.1 ∙ sym q.1) ∙ sym q.2
+body_once program (system_task b) c d r q = r.2 ∙ ap system_task (system_once program b r.0 q.0 r.1 q.1) ∙ sym q.2
 
 pub goes_once : (program : ProgramView) (tasks : Tasks) (t : ℕ) (x y : Task) (v w : Tree) (f g : Tasks) → x ≡ y → v ≡ w → Goes program tasks t x v f → Goes program tasks t y w g → f ≡ g
 goes_once program tasks t x y v w f g e h p q =

@@ -1,5 +1,5 @@
 -- Along every legal journal of a checked program each task of a script's text has a body of that program.
-use Rattle.std.proofs.Common.{◌≡◌, ◌≢◌, ℕ, ◌≤◌, List, [], ◌∷◌, ◌++◌, length, sym, subst, arith, Bool, true, false, cond, nat_le, Option, Some, None, Result, Ok, Err}
+use Rattle.std.proofs.Common.{◌≡◌, ◌≢◌, ℕ, ◌≤◌, List, [], ◌∷◌, ◌++◌, length, sym, ap, ◌∙◌, subst, arith, Bool, true, false, cond, nat_le, Option, Some, None, Result, Ok, Err}
 use Rattle.ca_value.specs.Tree.{Tree, Trees, port, text as line_text}
 use Rattle.ca_term.specs.declared.place.Place.{Place}
 use Rattle.ca_term.specs.declared.fault.Fault.{Fault}
@@ -19,24 +19,25 @@ use Rattle.ca_meaning.specs.Started.{named, procedure_at}
 use Rattle.ca_meaning.specs.Body.{BodyView, At, local, at_op, faulted, nowhere, line_of, asking, asking_to_make, at_or, at, standing, standing_turn, standing_with, fill, new_body}
 use Rattle.ca_meaning.specs.IsBody.{IsBodyBy}
 use Rattle.ca_meaning.specs.Rest.{LocalSteps, here, after}
-use Rattle.ca_meaning.specs.Task.{TaskBody, script, system_task, unserved, body_at, body_fill, BodyRest, new_task}
+use Rattle.ca_meaning.specs.System.{new_system, system_at, system_fill}
+use Rattle.ca_meaning.specs.Task.{TaskBody, script, system_task, body_at, body_fill, BodyRest, new_task}
 use Rattle.ca_meaning.specs.State.{State, Task, Opening}
 use Rattle.ca_meaning.specs.Going.{IsAtOp}
 use Rattle.ca_meaning.specs.Steps.{Steps}
 use Rattle.ca_meaning.specs.Legal.{Reaches}
-use Rattle.ca_meaning.specs.EndsLaw.{IsScript}
 use Rattle.ca_meaning.proofs.Closed.{named-closed}
 use Rattle.ca_meaning.proofs.PutFits.{puts-fits}
 use Rattle.ca_meaning.proofs.RedexFits.{seat}
 use Rattle.ca_meaning.proofs.Contracts.{Judges}
 use Rattle.ca_meaning.proofs.Bodies.{stepped, filled, never_nowhere, suits_in_loop, taken, program_judges}
+use Rattle.ca_meaning.proofs.Systems.{is_firm, system_firm}
 use Rattle.ca_meaning.proofs.Tasks.{Kept, AllBodies, step_puts, puts_all}
 use Rattle.ca_meaning.proofs.Soundness.{only_task}
 
--- a script's text is a body by the judge
+-- a script's text is a body by the judge, and a system task stands somewhere and starts no go block
 abbrev pub IsOf : Known → TaskBody → Type 0
 IsOf known (script b) = IsBodyBy (Suits known) b.term
-IsOf known (system_task b) = Unit {0}
+IsOf known (system_task b) = is_firm (system_at b) ≡ true
 
 -- an operation that is asked for is the form's own
 asked : (p : Place) (f : Option Fault) (op : OpView) (w : WantView) → asking p f op ≡ at_op w → op ≡ w.op
@@ -139,11 +140,11 @@ module _ (program : ProgramView) (checked : IsProgram program) where
 
   goes_of : (b c : TaskBody) (v : Tree) → IsOf known b → BodyRest program (body_fill v b) c → IsOf known c
   goes_of (script b) c v h r = rest_of (fill v b) c (filled S v b.term h) r
-  goes_of (system_task (unserved kind values place)) c v h r = subst (IsOf known) (sym r.2) tt
+  goes_of (system_task b) c v h r = subst (IsOf known) (sym r.2) (system_firm program (system_fill v b) r.0 r.1)
 
   starts_of : (b c : TaskBody) (seed : SeedView) → IsOf known b → IsAtOp b (spawning seed) → BodyRest program (new_task program seed) c → IsOf known c
-  starts_of b c (system kind values place) h at r = subst (IsOf known) (sym r.2) tt
-  starts_of (system_task (unserved k vs p)) c (go n values result place) h at r = absurd (let e : nowhere ≡ at_op (record { op = spawning (go n values result place); place = at.0 }) = at.1 in cc)
+  starts_of b c (system kind values place) h at r = subst (IsOf known) (sym r.2) (system_firm program (new_system kind values place) r.0 r.1)
+  starts_of (system_task b) c (go n values result place) h at r = absurd (let e : true ≡ false = sym h ∙ ap is_firm at.1 in cc)
   starts_of (script b) c (go n values result place) h at r =
       let s = seat S None b.term h.fits in
       let want : WantView = record { op = spawning (go n values result place); place = at.0 } in
@@ -177,9 +178,9 @@ module _ (program : ProgramView) (checked : IsProgram program) where
   pub bodies_somewhere : (journal : List EventView) (s : State) (t : ℕ) (x : Task) (b : BodyView) → Reaches program journal s → s.tasks t ≡ Some x → x.body ≡ script b → at b ≢ nowhere
   bodies_somewhere journal s t x b r there is = never_nowhere S (suits_in_loop known) b (bodies_of journal s t x b r there is)
 
-  scripts_somewhere : (b : TaskBody) → IsOf known b → IsScript b → body_at b ≢ nowhere
-  scripts_somewhere (script b) h is = never_nowhere S (suits_in_loop known) b h
-  scripts_somewhere (system_task b) h is = absurd is
+  stands_somewhere : (b : TaskBody) → IsOf known b → body_at b ≢ nowhere
+  stands_somewhere (script b) h = never_nowhere S (suits_in_loop known) b h
+  stands_somewhere (system_task b) h = λ e. let k : false ≡ true = sym (ap is_firm e) ∙ h in cc
 
-  pub tasks_somewhere : (journal : List EventView) (s : State) → Reaches program journal s → (t : ℕ) (x : Task) → s.tasks t ≡ Some x → IsScript x.body → body_at x.body ≢ nowhere
-  tasks_somewhere journal s r t x there is = scripts_somewhere x.body (reached_of journal s r t x there) is
+  pub tasks_somewhere : (journal : List EventView) (s : State) → Reaches program journal s → (t : ℕ) (x : Task) → s.tasks t ≡ Some x → body_at x.body ≢ nowhere
+  tasks_somewhere journal s r t x there = stands_somewhere x.body (reached_of journal s r t x there)

@@ -7,13 +7,14 @@ use Rattle.ca_term.specs.declared.event.Ending.TheVariants.{Ended, Faulted}
 use Rattle.ca_term.specs.Operation.{SeedView, spawning}
 use Rattle.ca_term.specs.Program.{ProgramView}
 use Rattle.ca_term.specs.Event.{EventView, made, spawned, done, met, parked, posted, settled, defaulted, closed, registered, printed, ticked, over as is_over}
-use Rattle.ca_meaning.specs.Body.{local, nowhere, at}
+use Rattle.ca_meaning.specs.Body.{local, at}
 use Rattle.ca_meaning.specs.Wait.{Wait, without, is_live, owner_of, is_among}
-use Rattle.ca_meaning.specs.Task.{TaskBody, script, system_task, unserved, body_at, body_fill, BodyRest, new_task}
+use Rattle.ca_meaning.specs.Task.{TaskBody, script, system_task, body_at, body_fill, BodyRest, new_task}
 use Rattle.ca_meaning.specs.State.{State, Task, Tasks, running, waiting, over, runs}
 use Rattle.ca_meaning.specs.Going.{IsAtOp, Goes, Wakes}
 use Rattle.ca_meaning.specs.Steps.{Step}
 use Rattle.ca_meaning.specs.Sound.{Bounded, AllOwned, AllWaited}
+use Rattle.ca_meaning.proofs.Systems.{system_rested}
 use Rattle.ca_meaning.proofs.Waits.{owner_gone, owner_else, owner_before, owner_joined, owner_live}
 
 abbrev pub tasks_of : {s t : State} → s ≡ t → s.tasks ≡ t.tasks
@@ -22,7 +23,7 @@ tasks_of e = ap (λ (z : State). z.tasks) e
 -- a body after its local steps stands at none
 pub rest_rested : (program : ProgramView) (b c : TaskBody) → BodyRest program b c → body_at c ≢ local
 rest_rested program (script b) c r e = r.1.over (ap body_at (sym r.2) ∙ e)
-rest_rested program (system_task (unserved kind values place)) c r e = let k : nowhere ≡ local = ap body_at (sym (r.2 ∙ ap system_task r.1)) ∙ e in cc
+rest_rested program (system_task b) c r e = system_rested program b r.0 r.1 (ap body_at (sym r.2) ∙ e)
 
 -- what is kept of each body: by an answer and what follows it, and by the start of a task
 pub record Kept (program : ProgramView) (P : TaskBody → Type 0) : Type 0 where

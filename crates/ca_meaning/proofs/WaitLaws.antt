@@ -157,7 +157,7 @@ module _ (program : ProgramView) (s s2 : State) (sound : Sound s) (t : ℕ) (x :
   no_other : {G : Type 0} → (b : Bool) → b ≡ true → b ≡ false → G
   no_other b e f = let k : true ≡ false = sym e ∙ f in absurd cc
 
-  step_told : (e : EventView) → Step program s e s2 → Then e
+  pub step_told : (e : EventView) → Step program s e s2 → Then e
   step_told (made u p what moment) k =
       alone program s s2 sound (made u p what moment) t x there u k.0 (runs k.0.result k.6.0) refl (λ w. refl) k.2.0 k.2.1 (at_chooses k.0 (making what) false k.2.2 refl, went k.0 _ s.tasks k.1 u k.6) (tasks_of k.7 ∙ k.6.2)
   step_told (spawned u n kind result) k =

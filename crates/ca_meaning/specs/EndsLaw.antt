@@ -6,7 +6,6 @@ use Rattle.ca_term.specs.Event.{EventView, made, spawned, done, met, parked, pos
 use Rattle.ca_meaning.specs.Channel.{Channel}
 use Rattle.ca_meaning.specs.Wait.{front}
 use Rattle.ca_meaning.specs.Row.{unsettled, settle_row}
-use Rattle.ca_meaning.specs.Task.{TaskBody, script, system_task}
 use Rattle.ca_meaning.specs.State.{State, Task, running}
 use Rattle.ca_meaning.specs.Steps.{Step}
 
@@ -30,13 +29,8 @@ is_of t (over u how) = eqb u t
 abbrev pub HasEvent : ProgramView → State → ℕ → Type 0
 HasEvent program s t = (e : EventView) × (s2 : State) × Step program s e s2 × (is_of t e ≡ true)
 
--- a script's text: system tasks, whose tables aren't told yet, have no events
-abbrev pub IsScript : TaskBody → Type 0
-IsScript (script b) = Unit {0}
-IsScript (system_task b) = ⊥
-
--- no task of a script's text runs, no channel settles, no deadline is open
+-- no task runs, no channel settles, no deadline is open
 pub record IsQuiet (s : State) : Type 0 where
-  pub no_task : (t : ℕ) (x : Task) → s.tasks t ≡ Some x → x.mode ≡ running → IsScript x.body → ⊥
+  pub no_task : (t : ℕ) (x : Task) → s.tasks t ≡ Some x → x.mode ≡ running → ⊥
   pub no_settle : (p : ℕ) (c : Channel) → s.channels p ≡ Some c → settle_row c (front Take p s.waits) (front Put p s.waits) ≡ unsettled
   pub no_deadline : s.deadlines ≡ []

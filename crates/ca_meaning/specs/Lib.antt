@@ -13,6 +13,14 @@ pub mod Channel
 pub mod Wait
 pub mod Row
 pub mod Registry
+pub mod Asks
+pub mod Applied
+pub mod MultTable
+pub mod MixTable
+pub mod PubTable
+pub mod PipeTable
+pub mod PipelineTable
+pub mod System
 pub mod Task
 pub mod State
 pub mod Choice
@@ -33,5 +41,6 @@ pub mod Solo
 pub mod RowViews
 pub mod Scripts
 pub mod Worked
+pub mod WorkedTables
 pub mod Texts
 pub mod Journal

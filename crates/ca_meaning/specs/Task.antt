@@ -2,35 +2,13 @@
 -- replaced by the answer, and the body after all its local steps.
 use Rattle.std.specs.Prelude.{◌≡◌, ℕ, [], ◌∷◌, ◌++◌}
 use Rattle.ca_value.specs.Tree.{Tree, Trees, port, vector, none, item}
-use Rattle.ca_term.specs.declared.place.Place.{Place}
-use Rattle.ca_term.specs.declared.head.SystemTask.{SystemTask}
 use Rattle.ca_term.specs.Operation.{OpView, SeedView, go, system, choosing}
 use Rattle.ca_term.specs.Program.{ProgramView}
-use Rattle.ca_meaning.specs.Body.{BodyView, At, nowhere, at_op, at, fill, new_body}
+use Rattle.ca_meaning.specs.Body.{BodyView, At, at_op, at, fill, new_body}
 use Rattle.ca_meaning.specs.Rest.{Rest}
 use Rattle.ca_meaning.specs.Started.{procedure_at, started}
+use Rattle.ca_meaning.specs.System.{SystemBody, new_system, system_at, system_fill, SystemRest}
 use Rattle.ca_meaning.specs.Operands.{values_in}
-
--- A system task stands in a state of its table. Each kind that is served adds its states here, and its
--- rows to the four definitions below.
-pub data SystemBody : Type 0 where
-  -- of a kind that isn't served yet: its kind, its values and its place
-  unserved : SystemTask → Trees → Place → SystemBody
-
--- the first state of the table
-abbrev pub new_system : SystemTask → Trees → Place → SystemBody
-new_system kind values place = unserved kind values place
-
-abbrev pub system_at : SystemBody → At
-system_at (unserved kind values place) = nowhere
-
-abbrev pub system_fill : Tree → SystemBody → SystemBody
-system_fill v (unserved kind values place) = unserved kind values place
-
--- c is b after all that b does between two operations. It is a relation, since a table may call the
--- program's functions.
-abbrev pub SystemRest : ProgramView → SystemBody → SystemBody → Type 0
-SystemRest program (unserved kind values place) c = c ≡ unserved kind values place
 
 pub data TaskBody : Type 0 where
   script : BodyView → TaskBody

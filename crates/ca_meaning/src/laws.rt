@@ -7,5 +7,6 @@ pub mod channels;
 pub mod ends;
 pub mod solo;
 pub mod states;
+pub mod systems;
 pub mod waits;
 pub mod worked;

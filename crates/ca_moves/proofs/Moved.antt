@@ -6,14 +6,15 @@ use Rattle.ca_value.specs.Tree.{Tree}
 use Rattle.ca_term.specs.Program.{ProgramView}
 use Rattle.ca_meaning.specs.Body.{BodyView, fill}
 use Rattle.ca_states.specs.declared.code.EntryPoint.{EntryPoint}
-use Rattle.ca_states.specs.Code.{CodeView, size, block_at, no_entry, function_at, body_at}
-use Rattle.ca_states.specs.Machine.{read, begun_at, State, Move, move, started, resumed}
+use Rattle.ca_states.specs.Code.{BlockView, CodeView, size, block_at, no_entry, function_at, body_at}
+use Rattle.ca_states.specs.Machine.{read, write, begun, begun_at, State, Move, move, started, outermost, calling, resumed}
 use Rattle.ca_states.specs.Valid.{each, are_just, begins_well, main_entry, is_valid}
 use Rattle.ca_states.proofs.RowLaws.{both}
+use Rattle.ca_states.proofs.Calling.{identity_room}
 use Rattle.ca_states.proofs.StandingLaws.{ValidParts, valid_parts}
 use Rattle.ca_lower.specs.Lowered.{After, AreAlike, StandsFor, Lowered}
 use Rattle.ca_moves.specs.Plain.{plain_code}
-use Rattle.ca_moves.proofs.Twins.{StatesAlike, alike, no_frames, Twin, both_go, both_end, both_fault, both_wait, plain_begun, twin_move}
+use Rattle.ca_moves.proofs.Twins.{StatesAlike, alike, no_frames, one_frame, Twin, both_go, both_end, both_fault, both_wait, plain_at, plain_begun, twin_move}
 
 module _ (P : ProgramView) where
   to_moved : {D : CodeView} (G H : State → BodyView → Type 0) → ((c d : State) (b : BodyView) → StatesAlike D c d → G c b → H d b) → {m k : Move} (b : BodyView) → Twin D m k → After P G m b → After P H k b
@@ -41,14 +42,30 @@ module _ (P : ProgramView) where
     start_alike : (e : EntryPoint) → e.block < size D → (vs : List Tree) → StatesAlike D (started (plain_code D) e vs) (started D e vs)
     start_alike e lt vs = alike e.block (begun_at (plain_code D) e vs) (begun_at D e vs) [] [] 0 lt (λ k is. ap (λ u. read u k) (plain_begun D e vs)) no_frames
 
+    to_moved_one : {c d : State} → StatesAlike D c d → (b : BodyView) → StandsFor P (plain_code D) c b → StandsFor P D d b
+    to_moved_one {c} {d} a b g = record { alike = λ n. alike_moved n c d b a (g.alike n) }
+
+    to_plain_one : {c d : State} → StatesAlike D c d → (b : BodyView) → StandsFor P D d b → StandsFor P (plain_code D) c b
+    to_plain_one {c} {d} a b g = record { alike = λ n. alike_plain n c d b a (g.alike n) }
+
     stands_moved : (e : EntryPoint) → e.block < size D → (vs : List Tree) (b : BodyView) → StandsFor P (plain_code D) (started (plain_code D) e vs) b → StandsFor P D (started D e vs) b
-    stands_moved e lt vs b g = record { alike = λ n. alike_moved n (started (plain_code D) e vs) (started D e vs) b (start_alike e lt vs) (g.alike n) }
+    stands_moved e lt vs b g = to_moved_one (start_alike e lt vs) b g
 
     stands_plain : (e : EntryPoint) → e.block < size D → (vs : List Tree) (b : BodyView) → StandsFor P D (started D e vs) b → StandsFor P (plain_code D) (started (plain_code D) e vs) b
-    stands_plain e lt vs b g = record { alike = λ n. alike_plain n (started (plain_code D) e vs) (started D e vs) b (start_alike e lt vs) (g.alike n) }
+    stands_plain e lt vs b g = to_plain_one (start_alike e lt vs) b g
 
     main_there : D.main < size D
     main_there = ltb-true D.main (size D) (both (nat_lt D.main (size D)) (are_just 0 (block_at D D.main).entry) valid.main).0
+
+    -- a function that is called by itself goes like itself
+    calling_alike : (n : ℕ) → (function_at D n).block < size D → (vs : List Tree) → StatesAlike D (calling (plain_code D) n vs) (calling D n vs)
+    calling_alike n lt vs =
+        let e = function_at D n in
+        let s = (outermost (plain_code D)).slots in
+        let t = (outermost D).slots in
+        let same : s ≡ t = ap (λ (b : BlockView). begun b.width []) (plain_at D.blocks D.identity) in
+        alike e.block (begun_at (plain_code D) e vs) (begun_at D e vs) (outermost (plain_code D) ∷ []) (outermost D ∷ []) 1 lt (λ k is. ap (λ u. read u k) (plain_begun D e vs))
+        (one_frame D.identity 0 s t [] [] (identity_room D valid).0 (λ v k is. ap (λ u. read (write u 0 v) k) same) no_frames)
 
     -- where a text begins; past the last one the code begins at block 0
     entry_there : (es : List EntryPoint) → each (begins_well D) es ≡ true → (n : ℕ) → (slice_index_or es n no_entry).block < size D
@@ -61,6 +78,7 @@ module _ (P : ProgramView) where
       main = stands_moved (main_entry D) main_there [] _ low.main;
       bodies = λ n vs lt len. stands_moved (body_at D n) (entry_there D.bodies valid.bodies n) vs _ (low.bodies n vs lt len);
       functions = λ n vs lt len. stands_moved (function_at D n) (entry_there D.functions valid.functions n) vs _ (low.functions n vs lt len);
+      calls = λ n v p start. to_moved_one (calling_alike n (entry_there D.functions valid.functions n) (v ∷ [])) _ (low.calls n v p start);
     }
 
     lowered_plain : Lowered P D → Lowered P (plain_code D)
@@ -68,6 +86,7 @@ module _ (P : ProgramView) where
       main = stands_plain (main_entry D) main_there [] _ low.main;
       bodies = λ n vs lt len. stands_plain (body_at D n) (entry_there D.bodies valid.bodies n) vs _ (low.bodies n vs lt len);
       functions = λ n vs lt len. stands_plain (function_at D n) (entry_there D.functions valid.functions n) vs _ (low.functions n vs lt len);
+      calls = λ n v p start. to_plain_one (calling_alike n (entry_there D.functions valid.functions n) (v ∷ [])) _ (low.calls n v p start);
     }
 
 pub moved : (P : ProgramView) (C D : CodeView) → is_valid C ≡ true → is_valid D ≡ true → plain_code C ≡ plain_code D → Lowered P C → Lowered P D

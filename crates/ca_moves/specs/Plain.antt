@@ -41,4 +41,4 @@ abbrev pub plain_block : BlockView → BlockView
 plain_block b = record { width = b.width; entry = no_slots; instrs = doing (map plain b.instrs); exit = b.exit }
 
 abbrev pub plain_code : CodeView → CodeView
-plain_code C = record { blocks = map plain_block C.blocks; main = C.main; bodies = C.bodies; functions = C.functions; width = C.width }
+plain_code C = record { blocks = map plain_block C.blocks; main = C.main; identity = C.identity; bodies = C.bodies; functions = C.functions; width = C.width }

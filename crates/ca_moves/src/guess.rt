@@ -29,6 +29,7 @@ impl Needs {
         }
         let mut needs = Needs { blocks };
         needs.keep(alloc, code, code.main)?;
+        needs.keep(alloc, code, code.identity)?;
         needs.keep_all(alloc, code, code.bodies.as_slice())?;
         needs.keep_all(alloc, code, code.functions.as_slice())?;
         Ok(needs)

@@ -34,6 +34,7 @@ fn moved(alloc: Global, code: Code) -> Result<Code, OutOfMemory>
     let Code {
         blocks,
         main,
+        identity,
         bodies,
         functions,
         marks,
@@ -41,6 +42,7 @@ fn moved(alloc: Global, code: Code) -> Result<Code, OutOfMemory>
     Ok(Code {
         blocks: moved_blocks(alloc, &needs, blocks)?,
         main,
+        identity,
         bodies,
         functions,
         marks,

@@ -42,7 +42,7 @@ use Rattle.ca_table.specs.declared.part.Lane.{Lane}
 use Rattle.ca_table.specs.declared.part.Part.{Part}
 use Rattle.ca_table.specs.declared.worker.Worker.{Worker}
 use Rattle.ca_table.proofs.Committed.{commit_moved}
-use Rattle.ca_table.proofs.Lifted.{wakes_more}
+use Rattle.ca_table.proofs.Lifted.{ready_more, runs_more}
 use Rattle.ca_table.proofs.Staying.{parts_stay, shows_there}
 use Rattle.ca_pool.specs.AtEvent.{HasTaken}
 use Rattle.ca_pool.specs.Desk.{ClockBox, IsMovedWith, SameHeld, all_laid, holds_banks, holds_shards}
@@ -193,50 +193,6 @@ module _ {A : Type 0} (place : A → At) (gives : A → Tree → A → Type 0) w
   ready_as old new new2 s (to_look v) same e = same ∙ e
   ready_as old new new2 s (to_prune p side i) same e = same ∙ e
   ready_as old new new2 s (to_refuse f) same e = same ∙ e
-
-module _ {A : Type 0} (place : A → At) (gives more : A → Tree → A → Type 0) (lift : (a : A) (v : Tree) (c : A) → gives a v c → more a v c) where
-  -- where an answer gives more than is said of it
-  ready_more : (old new : Held A) (s : Option (Task A)) (q : Planned) → ReadyBy place gives old new s q → ReadyBy place more old new s q
-  ready_more old new s (to_meet k b alts w o) e = wakes_more place gives more lift (whole (waits_held old.shards) w) (port_of b) (told (other_side (side_of b)) (passing (whole (channels_held old.banks) (port_of b)) b)) (ready_in old.ready) (ready_in new.ready) e
-  ready_more old new s (to_spawn kind r) e = e
-  ready_more old new s (to_do k b alts) e = e
-  ready_more old new s (to_park bs) e = e
-  ready_more old new s (to_post bs) e = e
-  ready_more old new s (to_default v) e = e
-  ready_more old new s (to_make what) e = e
-  ready_more old new s (to_close p) e = e
-  ready_more old new s (to_register name args) e = e
-  ready_more old new s (to_print line) e = e
-  ready_more old new s (to_look v) e = e
-  ready_more old new s (to_prune p side i) e = e
-  ready_more old new s (to_refuse f) e = e
-
-  runs_more : (held : Held A) (t : Task A) (q : Planned) (o : Option (Task A)) → RunsBy gives held t q o → RunsBy more held t q o
-  runs_more held t (to_park bs) o e = e
-  runs_more held t (to_do k b alts) None e = e
-  runs_more held t (to_do k b alts) (Some c) e = (e.0, (e.1.0, e.1.1, lift _ _ _ e.1.2))
-  runs_more held t (to_meet k b alts w o) None e = e
-  runs_more held t (to_meet k b alts w o) (Some c) e = (e.0, (e.1.0, e.1.1, lift _ _ _ e.1.2))
-  runs_more held t (to_post bs) None e = e
-  runs_more held t (to_post bs) (Some c) e = (e.0, (e.1.0, e.1.1, lift _ _ _ e.1.2))
-  runs_more held t (to_default v) None e = e
-  runs_more held t (to_default v) (Some c) e = (e.0, (e.1.0, e.1.1, lift _ _ _ e.1.2))
-  runs_more held t (to_make what) None e = e
-  runs_more held t (to_make what) (Some c) e = (e.0, (e.1.0, e.1.1, lift _ _ _ e.1.2))
-  runs_more held t (to_spawn kind r) None e = e
-  runs_more held t (to_spawn kind r) (Some c) e = (e.0, (e.1.0, e.1.1, lift _ _ _ e.1.2))
-  runs_more held t (to_close p) None e = e
-  runs_more held t (to_close p) (Some c) e = (e.0, (e.1.0, e.1.1, lift _ _ _ e.1.2))
-  runs_more held t (to_register name args) None e = e
-  runs_more held t (to_register name args) (Some c) e = (e.0, (e.1.0, e.1.1, lift _ _ _ e.1.2))
-  runs_more held t (to_print line) None e = e
-  runs_more held t (to_print line) (Some c) e = (e.0, (e.1.0, e.1.1, lift _ _ _ e.1.2))
-  runs_more held t (to_look v) None e = e
-  runs_more held t (to_look v) (Some c) e = (e.0, (e.1.0, e.1.1, lift _ _ _ e.1.2))
-  runs_more held t (to_prune p side i) None e = e
-  runs_more held t (to_prune p side i) (Some c) e = (e.0, (e.1.0, e.1.1, lift _ _ _ e.1.2))
-  runs_more held t (to_refuse f) None e = e
-  runs_more held t (to_refuse f) (Some c) e = (e.0, (e.1.0, e.1.1, lift _ _ _ e.1.2))
 
 module _ {A : Type 0} (gives : A → Tree → A → Type 0) (P : A → Type 0) (stays : (a c : A) (v : Tree) → gives a v c → P a → P c) (held : Held A) (t : Task A) (has : P t.agent) where
   -- whoever runs on is as the task was

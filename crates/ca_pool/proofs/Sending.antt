@@ -8,7 +8,6 @@ use Rattle.ca_term.specs.contracts.program.Program as Program
 use Rattle.ca_value.proofs.Crosses.{value_send, value_sync}
 use Rattle.ca_value.proofs.seq.Seq.TheSendSync as seq
 use Rattle.ca_value.proofs.value.PortId.TheSendSync as port
-use Rattle.ca_value.proofs.builtin.Builtin.TheSendSync as builtin
 use Rattle.ca_term.proofs.event.Ending.TheSendSync as ending
 use Rattle.ca_term.proofs.event.Side.TheSendSync as side
 use Rattle.ca_term.proofs.event.WaitId.TheSendSync as wait
@@ -43,14 +42,6 @@ use Rattle.ca_commit.specs.contracts.held.HeldShard as HeldShard
 use Rattle.ca_commit.specs.contracts.task.Ready as Ready
 use Rattle.ca_commit.specs.contracts.task.Task as Task
 use Rattle.ca_timers.proofs.Sending.{timers_send}
-use Rattle.ca_states.proofs.code.EntryPoint.TheSendSync as entry_point
-use Rattle.ca_states.proofs.code.Exit.TheSendSync as exit
-use Rattle.ca_states.proofs.code.Mark.TheSendSync as code_mark
-use Rattle.ca_states.proofs.code.SlotSet.TheSendSync as slots
-use Rattle.ca_states.specs.contracts.code.Block as Block
-use Rattle.ca_states.specs.contracts.code.Code as Code
-use Rattle.ca_states.specs.contracts.code.Instr as Instr
-use Rattle.ca_states.specs.contracts.valid_code.ValidCode as ValidCode
 use Rattle.ca_turns.specs.contracts.table.Table as Table
 use Rattle.ca_turns.specs.declared.object.Object.{Ghosts}
 use Rattle.ca_turns.proofs.Sending.{hand_send, table_sync}
@@ -125,19 +116,6 @@ bank_send = declared_send Bank.the_type (search (sendable, crosses, map.the_send
 
 held_bank_send : IsSend HeldBank.the_row
 held_bank_send = declared_send HeldBank.the_type (search (sendable, bank_send) depth 20)
-
--- the code, which all workers see
-instr_sync : IsSync Instr.the_row
-instr_sync = variants_sync Instr.enum (search (sendable, crosses, value_sync, builtin.the_sync, place.the_sync) depth 20)
-
-block_sync : IsSync Block.the_row
-block_sync = declared_sync Block.the_type (search (sendable, crosses, seq.the_sync, slots.the_sync, instr_sync, exit.the_sync) depth 20)
-
-code_sync : IsSync Code.the_row
-code_sync = declared_sync Code.the_type (search (sendable, crosses, seq.the_sync, block_sync, entry_point.the_sync, code_mark.the_sync) depth 20)
-
-pub valid_code_sync : IsSync ValidCode.the_row
-valid_code_sync = declared_sync ValidCode.the_type (search (sendable, code_sync) depth 20)
 
 -- the program, with no bytes
 pub text_sync : IsSync (Snapshot.the_row Program.the_row)

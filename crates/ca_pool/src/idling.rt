@@ -12,10 +12,11 @@ ghost use Rattle.ca_pool.specs.Desk.{IsBare, taken};
 ghost use Rattle.ca_pool.specs.Leaving.{TaskOver};
 ghost use Rattle.ca_pool.specs.Surveys.{is_stuck};
 
-use crate::clocking::{Asked, answer_late, draw_clock, is_marked, pass, ready_to_ask, with_mark};
+use crate::clocking::{Asked, answer_late, draw_clock, is_marked, ready_to_ask, with_mark};
 use crate::laying::put_off;
 use crate::stalling::{Surveyed, survey};
 use crate::taking::try_clock;
+use crate::ticking::pass;
 use ca_agent::agent::Agent;
 use ca_commit::held::Held;
 use ca_states::valid_code::ValidCode;

@@ -7,7 +7,7 @@
 //! Stands on `ca_table`, for the table that they share and what may be drawn on it, and on `ca_commit`, for what an
 //! operation becomes. Start with `pool_run`, a whole run; then `rounds`, all workers at once, and `working`, one of them,
 //! with `visiting` and `stepping` below it. A task's event: `operation` with `resolving` and `committing`, and `ending`. What
-//! comes by itself: `settling`, `pruning`, `clocking`, and `idling` where no task can run. All of them hold parts by
+//! comes by itself: `settling`, `pruning`, `clocking` with `ticking`, and `idling` where no task can run. All of them hold parts by
 //! `taking`, and let them go by `laying` and `drawing`.
 #![tactic(auto)]
 
@@ -31,10 +31,10 @@ pub mod rounds;
 pub mod run_end;
 mod settling;
 mod stalling;
-pub mod starting;
 mod stepping;
 mod stirring;
 mod surveying;
 mod taking;
+mod ticking;
 mod visiting;
 pub mod working;

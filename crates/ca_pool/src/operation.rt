@@ -16,7 +16,7 @@ use crate::committing::commit;
 use crate::ending::refuse;
 use crate::limits::{check_apart, set_numbers};
 use crate::resolving::resolve;
-use crate::starting::Starting;
+use ca_agent::starting::Starting;
 use ca_commit::held::Held;
 use ca_commit::planned::Plan;
 use ca_commit::task::Task;

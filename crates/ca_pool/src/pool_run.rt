@@ -2,11 +2,13 @@
 ghost use Rattle.std.specs.Prelude.{◌≡◌, ◌+◌, ◌*◌, ◌<◌, ◌≤◌, All, IfOk, OnOk, None, length, false, true};
 ghost use Rattle.ca_term.specs.Program.{program_view};
 ghost use Rattle.ca_meaning.specs.Body.{new_body};
+ghost use Rattle.ca_meaning.specs.ChannelLaw.{ChannelLaw};
 ghost use Rattle.ca_meaning.specs.Ends.{HasEnd};
 ghost use Rattle.ca_meaning.specs.EndsLaw.{IsQuiet};
 ghost use Rattle.ca_meaning.specs.Legal.{Legal, Reaches};
 ghost use Rattle.ca_meaning.specs.State.{State};
 ghost use Rattle.ca_meaning.specs.Task.{BodyRest, TaskBody, script};
+ghost use Rattle.ca_meaning.specs.WaitLaw.{WaitLaw};
 ghost use Rattle.ca_states.specs.ValidCode.{valid_code};
 ghost use Rattle.ca_lower.specs.Gos.{SameGos};
 ghost use Rattle.ca_lower.specs.Lowered.{Lowered};
@@ -22,7 +24,7 @@ use crate::fitting::all_fit;
 use crate::gate::Gate;
 use crate::rounds::round;
 use crate::run_end::{PoolRun, end_run};
-use crate::starting::Starting;
+use ca_agent::starting::Starting;
 use ca_journal::entry::Journal;
 use ca_states::valid_code::ValidCode;
 use ca_table::answer::{PoolStop, WorkEnd};
@@ -39,12 +41,7 @@ use std::sync::Wait;
 use std::thread::Threads;
 
 // All workers at once.
-fn round_of<
-    R: Threads + Wait + Sync,
-    A: Starting + Send + Sync,
-    C: Clock + Drop + Send + Sync,
-    G: Gate + Sync,
->(
+fn round_of<R: Threads + Wait + Sync, A: Starting + Send, C: Clock + Drop + Send, G: Gate + Sync>(
     rt: &R,
     alloc: Global,
     table: &Table<Pool<A, C>>,
@@ -80,8 +77,8 @@ fn round_of<
 // The whole journal of workers whose allowances are the budget together.
 fn work_through<
     R: Threads + Wait + Sync,
-    A: Starting + Send + Sync,
-    C: Clock + Drop + Send + Sync,
+    A: Starting + Send,
+    C: Clock + Drop + Send,
     G: Gate + Sync,
 >(
     rt: &R,
@@ -114,12 +111,13 @@ fn work_through<
 }
 
 /// Runs the program with 1 to 16 workers, until an end. `main` is the agent of the program's main text, over the code
-/// that the program was lowered to. The journal is a run of the program, and has the end for the budget. Where a
+/// that the program was lowered to. The journal is a run of the program, and has the end for the budget; each channel in
+/// it keeps its order, and each operation has one event. Where a
 /// worker wants memory that there isn't, or the clock fails, the run is given up.
 pub fn run_pool<
     R: Threads + Wait + Sync,
-    A: Starting + Send + Sync,
-    C: Clock + Drop + Send + Sync,
+    A: Starting + Send,
+    C: Clock + Drop + Send,
     G: Gate + Sync,
 >(
     rt: &R,
@@ -140,6 +138,8 @@ pub fn run_pool<
     requires gos { SameGos (program_view program.now) (valid_code code.now) }
     ensures legal { IfOk result (λ run. Legal (program_view program.now) (events run.journal)) }
     ensures end { IfOk result (λ run. HasEnd (program_view program.now) budget (events run.journal) (end_view run.end)) }
+    ensures channels { IfOk result (λ run. ChannelLaw (events run.journal)) }
+    ensures waits { IfOk result (λ run. WaitLaw (program_view program.now) (events run.journal)) }
 {
     let journal = work_through(rt, alloc, program, code, main, workers, budget, clock, gate)?;
     if all_fit(&journal) {

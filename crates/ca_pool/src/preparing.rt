@@ -27,11 +27,12 @@ ghost use Rattle.ca_pool.specs.AtEvent.{HasTaken, SameNext};
 ghost use Rattle.ca_pool.specs.Desk.{ButReady, ClockBox};
 ghost use Rattle.ca_pool.specs.Preparing.{AskedFor, ButTimers, HasRest, IsTimely, StartsFor, clock_seen, clock_with, in_place};
 
-use crate::starting::Starting;
 use crate::taking::{take_clock, take_ready};
 use ca_agent::agent::Agent;
+use ca_agent::starting::Starting;
 use ca_commit::applying::reserve;
 use ca_commit::held::Held;
+use ca_commit::making::result_of;
 use ca_commit::planned::Plan;
 use ca_commit::task::Task;
 use ca_states::valid_code::ValidCode;
@@ -45,7 +46,6 @@ use ca_timers::clock::Clock;
 use ca_timers::timers::Timers;
 use ca_turns::Table;
 use ca_value::memory::OutOfMemory;
-use ca_value::value::PortId;
 use std::alloc::Global;
 use std::mem;
 use std::sync::Wait;
@@ -259,20 +259,7 @@ fn ask_moment<C: Clock + Drop>(
     }
 }
 
-// The port of the result of a seed's task. No run starts a system task yet: a machine has none.
-fn result_of<R: Wait>(rt: &R, seed: &Seed) -> Option<PortId>
-    ensures { option_map port_number result ≡ result_of (seed_view seed.now) }
-{
-    match seed {
-        Seed::Go(seed) => Some(seed.result),
-        Seed::System(_) => {
-            wait_for_good(rt);
-            unreachable!()
-        }
-    }
-}
-
-// The new task of a seed. Each seed of a run is of a go block that the code has.
+// The new task of a seed. Each seed of a run is of a task whose text or function the code has.
 fn start_task<R: Wait, A: Starting>(
     rt: &R,
     alloc: Global,
@@ -289,7 +276,7 @@ fn start_task<R: Wait, A: Starting>(
     match A::start(alloc, code, seed)? {
         Some(agent) => Ok(Task {
             number,
-            result: result_of(rt, seed),
+            result: result_of(seed),
             alts: 0,
             agent,
         }),

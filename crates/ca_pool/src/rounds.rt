@@ -11,9 +11,9 @@ ghost use Rattle.ca_table.specs.Workers.{IsReady, stands_for};
 ghost use Rattle.ca_table.specs.declared.answer.WorkEnd.TheVariants.{Over, Spent};
 
 use crate::gate::Gate;
-use crate::starting::Starting;
 use crate::working::work;
 use ca_agent::agent::Agent;
+use ca_agent::starting::Starting;
 use ca_states::valid_code::ValidCode;
 use ca_table::answer::{PoolStop, WorkEnd};
 use ca_table::pool::Pool;
@@ -48,12 +48,7 @@ fn work_once<R: Wait, A: Starting, C: Clock + Drop, G: Gate>(
 }
 
 // All workers, each in a thread of its own.
-fn work_all<
-    R: Threads + Wait + Sync,
-    A: Starting + Send + Sync,
-    C: Clock + Drop + Send + Sync,
-    G: Gate + Sync,
->(
+fn work_all<R: Threads + Wait + Sync, A: Starting + Send, C: Clock + Drop + Send, G: Gate + Sync>(
     rt: &R,
     alloc: Global,
     table: &Table<Pool<A, C>>,
@@ -89,12 +84,7 @@ fn work_all<
 
 /// Each worker with that allowance, in a thread of its own. It is spent where each of them spent it, and over where
 /// some worker found the run's end and none gave up.
-pub fn round<
-    R: Threads + Wait + Sync,
-    A: Starting + Send + Sync,
-    C: Clock + Drop + Send + Sync,
-    G: Gate + Sync,
->(
+pub fn round<R: Threads + Wait + Sync, A: Starting + Send, C: Clock + Drop + Send, G: Gate + Sync>(
     rt: &R,
     alloc: Global,
     table: &Table<Pool<A, C>>,

@@ -14,7 +14,7 @@ use Rattle.ca_run.specs.declared.answer.Answer.{Answer}
 use Rattle.ca_run.specs.declared.answer.Answer.TheVariants.{Usage, Refused, Accepted, Ran}
 use Rattle.ca_journal.specs.Events.{events}
 use Rattle.ca_run.specs.Top.{Refused as RefusedFrom, Accepted as AcceptedFrom, Completed, CompletedFor, Partly, RunText, runs, shows_journal, usage}
-use Rattle.ca_run.specs.Answers.{answer_text, status_of, status_of_end, journal_of, refusal_line, end_of, line_of_end, AnswersTo}
+use Rattle.ca_run.specs.Answers.{answer_text, status_of, status_of_end, journal_of, refusal_line, end_of, line_of_end, AnswersTo, RunsNothing}
 
 on_ok : {T E : Type 0} (r : Result T E) (P : Type 0) → OnOk r P → is_ok r ≡ true → P
 on_ok (Ok x) P h e = h
@@ -160,6 +160,20 @@ end_not Ended n a b s = omega (arith, a, s)
 end_not (Faulted f p) n a b s = omega (arith, b, s)
 end_not Limit n a b s = omega (arith, b, s)
 end_not Stuck n a b s = omega (arith, b, s)
+
+-- an answer at status 1, 2 or 6 is none of a run
+nothing : (a : Answer) (n : ℕ) → status_of a ≡ n → (n ≡ 1) ⊎ ((n ≡ 2) ⊎ (n ≡ 6)) → RunsNothing a
+nothing Usage n e k = tt
+nothing (Refused r) n e k = tt
+nothing Accepted n e k = tt
+nothing (Ran m shown) n e (inl q) = absurd (end_not m.end 1 (omega arith) (omega arith) (e ∙ q))
+nothing (Ran m shown) n e (inr (inl q)) = absurd (end_not m.end 2 (omega arith) (omega arith) (e ∙ q))
+nothing (Ran m shown) n e (inr (inr q)) = let u : status_of_end m.end < 6 = end_under_six m.end in let k : status_of_end m.end ≡ 6 = e ∙ q in absurd (omega (arith, u, k))
+
+pub runs_nothing : (a : Answer) (w : Bool) (s : ℕ) → (w ≡ false → s ≡ 7) → (w ≡ true → s ≡ status_of a) → (s ≡ 1) ⊎ ((s ≡ 2) ⊎ (s ≡ 6)) → RunsNothing a
+runs_nothing a w s lost done (inl e) = nothing a 1 (sym (done (written_when w s 1 lost e (differ 1 7 (omega arith)))) ∙ e) (inl refl)
+runs_nothing a w s lost done (inr (inl e)) = nothing a 2 (sym (done (written_when w s 2 lost e (differ 2 7 (omega arith)))) ∙ e) (inr (inl refl))
+runs_nothing a w s lost done (inr (inr e)) = nothing a 6 (sym (done (written_when w s 6 lost e (differ 6 7 (omega arith)))) ∙ e) (inr (inr refl))
 
 pub refused_of : (asked : Option Command) (before after held taken : Option (List ℕ)) (a : Answer) → status_of a ≡ 2 → AnswersTo asked before after a → Appends held taken (answer_text a) → IsRefusal asked before after held taken
 refused_of asked before after held taken Usage s h p = absurd (omega (arith, s))

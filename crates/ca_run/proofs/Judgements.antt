@@ -12,7 +12,7 @@ use Rattle.ca_run.specs.Answers.{Judged, JudgedProgram, refusal_line, AnswersTo}
 
 pub judged_by_program : (command : Command) (input : List ℕ) (program : ProgramView) (a : Answer) → ProgramOf input program → JudgedProgram command program a → Judged command input a
 judged_by_program command input program Usage p h = h
-judged_by_program command input program (Refused r) p h = inr (inr (h.0, (program, h.1.0, p, h.1.1, ap refusal_line h.1.2)))
+judged_by_program command input program (Refused r) p h = absurd h
 judged_by_program command input program Accepted p h = (h, (program, p))
 judged_by_program command input program (Ran m shown) p h = (h.0, h.1, record { program = program; is_program = p; legal = h.2.legal; has_end = h.2.has_end }, h.2.told)
 

@@ -18,16 +18,14 @@ use Rattle.ca_run.specs.declared.run.ScriptEnd.TheVariants.{Ended, Faulted, Limi
 use Rattle.ca_run.specs.declared.answer.Answer.{Answer}
 use Rattle.ca_run.specs.declared.answer.Answer.TheVariants.{Usage, Refused, Accepted, Ran}
 use Rattle.ca_run.specs.declared.answer.Refusal.{Refusal}
-use Rattle.ca_run.specs.declared.answer.Refusal.TheVariants.{TooLong, Unreadable, Unchecked, NotYet}
+use Rattle.ca_run.specs.declared.answer.Refusal.TheVariants.{TooLong, Unreadable, Unchecked}
 use Rattle.ca_journal.specs.Events.{events}
-use Rattle.ca_run.specs.Served.{first_unserved}
 use Rattle.ca_run.specs.Top.{budget_of, runs, shows_journal, usage, error_line, first_place, ProgramOf, RefusedFor, RunOf, EndLine, Refused as RefusedFrom, Accepted as AcceptedFrom, Ran as RanFrom}
 
 abbrev pub refusal_line : Refusal → List ℕ
 refusal_line TooLong = error_line (codes "TooLong") first_place
 refusal_line (Unreadable k p) = error_line (kind_name k) p
 refusal_line (Unchecked k p) = error_line (check_kind_name k) p
-refusal_line (NotYet p) = error_line (codes "NotYet") p
 
 -- the end that a run has come to, and the line that tells it
 abbrev pub end_of : ScriptEnd → RunEnd
@@ -66,6 +64,13 @@ journal_of (Refused r) = None
 journal_of Accepted = None
 journal_of (Ran m shown) = Some m.journal
 
+-- an answer without a run
+abbrev pub RunsNothing : Answer → Type 0
+RunsNothing Usage = Unit {0}
+RunsNothing (Refused r) = Unit {0}
+RunsNothing Accepted = Unit {0}
+RunsNothing (Ran m shown) = ⊥
+
 -- the run of the program has come to that end for the budget, which its line tells
 pub record IsRun (budget : ℕ) (program : ProgramView) (m : ScriptRun) : Type 0 where
   pub legal : Legal program (events m.journal)
@@ -81,15 +86,14 @@ IsFit (Load n workers) = (0 < workers) × (workers ≤ 16)
 -- what a program comes to under a command
 abbrev pub JudgedProgram : Command → ProgramView → Answer → Type 0
 JudgedProgram command program Usage = ⊥
-JudgedProgram command program (Refused r) =
-    (runs command ≡ true) × ((p : Place) × (first_unserved program ≡ Some p) × (r ≡ NotYet p))
+JudgedProgram command program (Refused r) = ⊥
 JudgedProgram command program Accepted = command ≡ Check
 JudgedProgram command program (Ran m shown) = (runs command ≡ true) × (shown ≡ shows_journal command) × IsRun (budget_of command) program m
 
 -- what a text comes to under a command
 abbrev pub Judged : Command → List ℕ → Answer → Type 0
 Judged command input Usage = ⊥
-Judged command input (Refused r) = RefusedFor command input (refusal_line r)
+Judged command input (Refused r) = RefusedFor input (refusal_line r)
 Judged command input Accepted = (command ≡ Check) × ((program : ProgramView) × ProgramOf input program)
 Judged command input (Ran m shown) = (runs command ≡ true) × (shown ≡ shows_journal command) × RunOf (budget_of command) input (events m.journal) (end_of m.end) × EndLine (events m.journal) (end_of m.end) (line_of_end m.end)
 

@@ -4,5 +4,4 @@ pub mod Standard
 pub mod Generator
 pub mod Top
 pub mod Answers
-pub mod Served
 pub mod Stops

@@ -24,7 +24,6 @@ use Rattle.ca_words.specs.declared.command.Command.{Command}
 use Rattle.ca_words.specs.declared.command.Command.TheVariants.{Check, Load, Run}
 use Rattle.ca_journal.specs.Events.{events}
 use Rattle.ca_run.specs.Generator.{load_text}
-use Rattle.ca_run.specs.Served.{first_unserved}
 
 -- the greatest length of a script, in bytes
 abbrev pub greatest_length : ℕ
@@ -109,15 +108,9 @@ abbrev pub IsMistaken : List ℕ → List ℕ → Type 0
 IsMistaken input line = (forms : FormTrees) × (k : CheckErrorKind) × (p : Place) × Reads input forms × (expansion_of forms ≡ Err (k, p))
     × (line ≡ error_line (check_kind_name k) p)
 
--- the line names the first operation that isn't served yet
-abbrev pub IsUnserved : List ℕ → List ℕ → Type 0
-IsUnserved input line = (program : ProgramView) × (p : Place) × ProgramOf input program × (first_unserved program ≡ Some p)
-    × (line ≡ error_line (codes "NotYet") p)
-
--- the text is refused with this line; where it is only to be checked, all is served
-abbrev pub RefusedFor : Command → List ℕ → List ℕ → Type 0
-RefusedFor command input line =
-    IsUnreadable input line ⊎ (IsMistaken input line ⊎ ((runs command ≡ true) × IsUnserved input line))
+-- the text is refused with this line
+abbrev pub RefusedFor : List ℕ → List ℕ → Type 0
+RefusedFor input line = IsUnreadable input line ⊎ IsMistaken input line
 
 -- the source was longer than a script may be, and was read as far as that shows
 abbrev pub IsTooLong : Option (List ℕ) → Option (List ℕ) → List ℕ → Type 0
@@ -125,7 +118,7 @@ IsTooLong before after line = (input : List ℕ) × Consumes before after input 
 
 -- the command's script is refused with this line
 abbrev pub IsRefused : Command → Option (List ℕ) → Option (List ℕ) → List ℕ → Type 0
-IsRefused command before after line = (input : List ℕ) × Given command before after input × RefusedFor command input line
+IsRefused command before after line = (input : List ℕ) × Given command before after input × RefusedFor input line
 
 -- what was read is refused with this line: it is too long, or it is the whole source, short enough, and is refused
 abbrev pub Refused : Command → Option (List ℕ) → Option (List ℕ) → List ℕ → Type 0

@@ -1,14 +1,13 @@
-ghost use Rattle.std.specs.Prelude.{◌≡◌, ◌++◌, [], cond, IfOk, OnOk};
+ghost use Rattle.std.specs.Prelude.{◌≡◌, ◌++◌, [], cond, false, IfOk, OnOk};
 ghost use Rattle.ca_value.specs.Seq.{list};
 ghost use Rattle.ca_term.specs.Program.{program_view};
 ghost use Rattle.ca_meaning.specs.Journal.{journal_text};
 ghost use Rattle.ca_meaning.specs.Texts.{output};
 ghost use Rattle.ca_journal.specs.Events.{events};
-ghost use Rattle.ca_run.specs.Top.{error_line};
-ghost use Rattle.ca_run.specs.Answers.{answer_text, line_of_end, refusal_line, IsFit, Judged, JudgedProgram};
+ghost use Rattle.ca_run.specs.Top.{error_line, runs};
+ghost use Rattle.ca_run.specs.Answers.{answer_text, line_of_end, refusal_line, IsFit, Judged, JudgedProgram, RunsNothing};
 
 use crate::run::{ScriptEnd, ScriptRun, run_script};
-use crate::served::served;
 use ca_check::check::check;
 use ca_check::error::{CheckError, CheckErrorKind};
 use ca_journal::output::{append_fault, output};
@@ -39,8 +38,6 @@ pub enum Refusal {
     Unreadable(ReadErrorKind, Place),
     /// The first error of its forms.
     Unchecked(CheckErrorKind, Place),
-    /// The first system task, which isn't served yet.
-    NotYet(Place),
 }
 
 /// What the words and the input come to.
@@ -56,7 +53,7 @@ pub enum Answer {
 
 /// The run of a text or that it is accepted, or why it is refused.
 #[tactic(auto, using(crate::proofs::Judgements::judged_by_program))]
-pub fn judge_text<R: Threads + Wait + Sync, C: Clock + Send + Sync, G: Gate + Sync>(
+pub fn judge_text<R: Threads + Wait + Sync, C: Clock + Send, G: Gate + Sync>(
     rt: &R,
     alloc: Global,
     command: Command,
@@ -65,7 +62,9 @@ pub fn judge_text<R: Threads + Wait + Sync, C: Clock + Send + Sync, G: Gate + Sy
     gate: &G,
 ) -> Result<Answer, PoolStop>
     requires { IsFit command }
-    ensures { IfOk result (λ a. Judged command input.now a) }
+    ensures judged { IfOk result (λ a. Judged command input.now a) }
+    ensures unasked { IfOk result (λ a. RunsNothing a → clock.new ≡ clock.old) }
+    ensures idle { runs command ≡ false → clock.new ≡ clock.old }
 {
     let forms = match read(alloc, input) {
         Ok(forms) => forms,
@@ -85,7 +84,7 @@ pub fn judge_text<R: Threads + Wait + Sync, C: Clock + Send + Sync, G: Gate + Sy
 }
 
 // What a program comes to.
-fn answer_of<R: Threads + Wait + Sync, C: Clock + Send + Sync, G: Gate + Sync>(
+fn answer_of<R: Threads + Wait + Sync, C: Clock + Send, G: Gate + Sync>(
     rt: &R,
     alloc: Global,
     command: Command,
@@ -94,7 +93,9 @@ fn answer_of<R: Threads + Wait + Sync, C: Clock + Send + Sync, G: Gate + Sync>(
     gate: &G,
 ) -> Result<Answer, PoolStop>
     requires { IsFit command }
-    ensures { IfOk result (λ a. JudgedProgram command (program_view program.now) a) }
+    ensures judged { IfOk result (λ a. JudgedProgram command (program_view program.now) a) }
+    ensures unasked { IfOk result (λ a. RunsNothing a → clock.new ≡ clock.old) }
+    ensures idle { runs command ≡ false → clock.new ≡ clock.old }
 {
     let (workers, budget, shown) = match command {
         Command::Check => return Ok(Answer::Accepted),
@@ -105,13 +106,8 @@ fn answer_of<R: Threads + Wait + Sync, C: Clock + Send + Sync, G: Gate + Sync>(
         } => (workers, budget, journal),
         Command::Load { workers, .. } => (workers, LOAD_BUDGET, false),
     };
-    match served(program) {
-        Some(place) => Ok(Answer::Refused(Refusal::NotYet(place))),
-        None => Ok(Answer::Ran(
-            run_script(rt, alloc, program, workers, budget, clock, gate)?,
-            shown,
-        )),
-    }
+    let run = run_script(rt, alloc, program, workers, budget, clock, gate)?;
+    Ok(Answer::Ran(run, shown))
 }
 
 /// The text that is written for the answer.
@@ -160,7 +156,6 @@ fn line_of(alloc: Global, refusal: Refusal) -> Result<Text, OutOfMemory>
         Refusal::TooLong => error_line(alloc, "TooLong", Place { line: 1, column: 1 }),
         Refusal::Unreadable(kind, place) => error_line(alloc, kind.name(), place),
         Refusal::Unchecked(kind, place) => error_line(alloc, kind.name(), place),
-        Refusal::NotYet(place) => error_line(alloc, "NotYet", place),
     }
 }
 

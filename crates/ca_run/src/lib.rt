@@ -6,7 +6,7 @@
 //!
 //! Stands on `ca_words` for the command line, on `ca_reader` and `ca_check` for a script's program, on `ca_moves` and
 //! `ca_machine` for its compiled text, on `ca_pool` for its run, on `ca_timers`, `ca_journal` and what these stand on, and on
-//! `itoa`. Start with `top` and `specs/Top.antt`, then `answer` and `run`. Which programs aren't run yet is told by `served`.
+//! `itoa`. Start with `top` and `specs/Top.antt`, then `answer` and `run`.
 #![tactic(auto)]
 
 pub mod answer;
@@ -15,7 +15,6 @@ pub mod failing;
 pub mod generator;
 pub mod memory;
 pub mod run;
-pub mod served;
 pub mod standard;
 #[cfg(test)]
 mod tests;

@@ -13,12 +13,12 @@ ghost use Rattle.ca_run.specs.Answers.{end_of, line_of_end};
 ghost use Rattle.ca_run.specs.Top.{EndLine};
 
 use ca_journal::entry::Journal;
-use ca_machine::machine::Machine;
 use ca_moves::lower::lower_moving;
 use ca_pool::gate::Gate;
 use ca_pool::pool_run::run_pool;
 use ca_pool::run_end::{PoolEnd, PoolRun};
 use ca_table::answer::PoolStop;
+use ca_tasks::task::AnyTask;
 use ca_term::event::{Ending, Event};
 use ca_term::fault::Fault;
 use ca_term::place::Place;
@@ -84,7 +84,7 @@ fn told(run: PoolRun) -> ScriptRun
 }
 
 /// Compiles the program, and runs it with 1 to 16 workers, until an end or until its events cost the budget.
-pub fn run_script<R: Threads + Wait + Sync, C: Clock + Send + Sync, G: Gate + Sync>(
+pub fn run_script<R: Threads + Wait + Sync, C: Clock + Send, G: Gate + Sync>(
     rt: &R,
     alloc: Global,
     program: &Program,
@@ -100,7 +100,7 @@ pub fn run_script<R: Threads + Wait + Sync, C: Clock + Send + Sync, G: Gate + Sy
     ensures line { IfOk result (λ m. EndLine (events m.journal) (end_of m.end) (line_of_end m.end)) }
 {
     let code = lower_moving(alloc, program)?;
-    let main = Machine::main(alloc, &code)?;
+    let main = AnyTask::main(alloc, &code)?;
     let run = run_pool(
         rt, alloc, program, &code, main, workers, budget, clock, gate,
     )?;

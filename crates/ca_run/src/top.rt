@@ -5,7 +5,7 @@ ghost use Rattle.ca_timers.specs.Causes.{Rose};
 ghost use Rattle.ca_words.specs.Words.{command_in};
 ghost use Rattle.ca_words.specs.declared.command.Command.TheVariants.{Check, Load};
 ghost use Rattle.ca_run.specs.Top.{Accepted, Completed, CompletedFor, Refused, Partly, reads, runs, usage};
-ghost use Rattle.ca_run.specs.Answers.{status_of, journal_of, AnswersTo, IsFit};
+ghost use Rattle.ca_run.specs.Answers.{status_of, journal_of, AnswersTo, IsFit, RunsNothing};
 ghost use Rattle.ca_run.specs.declared.answer.Answer.{Answer};
 
 use crate::answer::{Answer, Refusal, judge_text, text_of};
@@ -91,7 +91,7 @@ fn asked(alloc: Global, words: &[String]) -> Result<Option<Command>, memory::Out
 
 // What the source's script comes to.
 #[tactic(auto, using(crate::proofs::Judgements::answers_by_text))]
-fn judge_source<R: Threads + Wait + Sync, S: Source, C: Clock + Send + Sync, G: Gate + Sync>(
+fn judge_source<R: Threads + Wait + Sync, S: Source, C: Clock + Send, G: Gate + Sync>(
     rt: &R,
     alloc: Global,
     command: Command,
@@ -103,7 +103,9 @@ fn judge_source<R: Threads + Wait + Sync, S: Source, C: Clock + Send + Sync, G: 
     requires read { reads command ≡ true }
     ensures answers { (a : Answer) → result ≡ Ok a → AnswersTo (Some command) (S.left source.old) (S.left source.new) a }
     ensures later { S.faults source.old ≤ S.faults source.new }
-    ensures broken { result ≡ Err Stop.SourceFailed → Rose (S.faults source.old) (S.faults source.new) }
+    ensures broken { result ≡ Err Stop.SourceFailed → Rose (S.faults source.old) (S.faults source.new) × (clock.new ≡ clock.old) }
+    ensures unasked { (a : Answer) → result ≡ Ok a → RunsNothing a → clock.new ≡ clock.old }
+    ensures idle { runs command ≡ false → clock.new ≡ clock.old }
 {
     let input = read_all(alloc, source, GREATEST_LENGTH)?;
     if input.len() > GREATEST_LENGTH {
@@ -114,7 +116,7 @@ fn judge_source<R: Threads + Wait + Sync, S: Source, C: Clock + Send + Sync, G: 
 
 // What the generator's script for the number comes to.
 #[tactic(auto, using(crate::proofs::Judgements::answers_by_load))]
-fn judge_load<R: Threads + Wait + Sync, C: Clock + Send + Sync, G: Gate + Sync>(
+fn judge_load<R: Threads + Wait + Sync, C: Clock + Send, G: Gate + Sync>(
     rt: &R,
     alloc: Global,
     n: u64,
@@ -125,6 +127,7 @@ fn judge_load<R: Threads + Wait + Sync, C: Clock + Send + Sync, G: Gate + Sync>(
     requires fit { IsFit (Load n workers) }
     ensures answers { (left : Option (List ℕ)) (a : Answer) → result ≡ Ok a → AnswersTo (Some (Load n workers)) left left a }
     ensures unbroken { result ≢ Err Stop.SourceFailed }
+    ensures unasked { (a : Answer) → result ≡ Ok a → RunsNothing a → clock.new ≡ clock.old }
 {
     let script = load_script(alloc, n)?;
     let command = Command::Load { n, workers };
@@ -132,7 +135,7 @@ fn judge_load<R: Threads + Wait + Sync, C: Clock + Send + Sync, G: Gate + Sync>(
 }
 
 // What the words and the source come to.
-fn judge<R: Threads + Wait + Sync, S: Source, C: Clock + Send + Sync, G: Gate + Sync>(
+fn judge<R: Threads + Wait + Sync, S: Source, C: Clock + Send, G: Gate + Sync>(
     rt: &R,
     alloc: Global,
     asked: Option<Command>,
@@ -145,7 +148,9 @@ fn judge<R: Threads + Wait + Sync, S: Source, C: Clock + Send + Sync, G: Gate + 
     ensures admitted { asked ≡ None → result ≡ Ok Answer.Usage }
     ensures answers { (a : Answer) → result ≡ Ok a → AnswersTo asked (S.left source.old) (S.left source.new) a }
     ensures later { S.faults source.old ≤ S.faults source.new }
-    ensures broken { result ≡ Err Stop.SourceFailed → Rose (S.faults source.old) (S.faults source.new) }
+    ensures broken { result ≡ Err Stop.SourceFailed → Rose (S.faults source.old) (S.faults source.new) × (clock.new ≡ clock.old) }
+    ensures unasked { (a : Answer) → result ≡ Ok a → RunsNothing a → clock.new ≡ clock.old }
+    ensures idle { ((c : Command) → asked ≡ Some c → runs c ≡ false) → clock.new ≡ clock.old }
 {
     let Some(command) = asked else {
         return Ok(Answer::Usage);
@@ -164,13 +169,7 @@ fn judge<R: Threads + Wait + Sync, S: Source, C: Clock + Send + Sync, G: Gate + 
 /// write. Status 0 is a run to the main text's end, or an accepted script, 1 wrong words, 2 a refused script, 3 a fault of
 /// the main text, 4 a run in which nothing can go on, 5 one that reached its budget, 6 a failed source, 7 a failed sink, 8
 /// want of memory and 9 a failed clock.
-pub fn main_call<
-    R: Threads + Wait + Sync,
-    S: Source,
-    K: Sink,
-    C: Clock + Send + Sync,
-    G: Gate + Sync,
->(
+pub fn main_call<R: Threads + Wait + Sync, S: Source, K: Sink, C: Clock + Send, G: Gate + Sync>(
     rt: &R,
     alloc: Global,
     words: &[String],
@@ -194,6 +193,7 @@ pub fn main_call<
     ensures write { result.status ≡ 7 → Rose (K.faults sink.old) (K.faults sink.new) }
     ensures partial { result.status ≡ 7 → Partly (command_in (map string_bytes words.now)) (S.left source.old) (S.left source.new) (K.held sink.old) (K.held sink.new) result.journal }
     ensures admitted { command_in (map string_bytes words.now) ≡ None → (source.new ≡ source.old) × ((result.status ≡ 1) ⊎ ((result.status ≡ 7) ⊎ (result.status ≡ 8))) }
+    ensures unasked { ((result.status ≡ 1) ⊎ ((result.status ≡ 2) ⊎ (result.status ≡ 6))) ⊎ ((c : Command) → command_in (map string_bytes words.now) ≡ Some c → runs c ≡ false) → clock.new ≡ clock.old }
     ensures silent { (result.status ≡ 6) ⊎ ((result.status ≡ 8) ⊎ (result.status ≡ 9)) → K.held sink.new ≡ K.held sink.old }
     ensures known { result.status ≤ 9 }
     ensures done { result.status ≡ 0 → (command : Command) × (command_in (map string_bytes words.now) ≡ Some command) }

@@ -3,3 +3,5 @@ pub mod RowLaws
 pub mod SlotLaws
 pub mod StandingLaws
 pub mod TextLaws
+pub mod Sending
+pub mod Calling

@@ -29,7 +29,7 @@ use Rattle.ca_value.specs.declared.builtin.Builtin.TheVariants.{Conj, Assoc}
 use Rattle.ca_states.specs.Code.{has_slot, Instruction, constant, copying, moving, clearing, one, two, two_int, pushing, putting, many, BlockView, CodeView, size, block_at, no_block, block_view, instruction, no_entry, function_at}
 use Rattle.ca_states.specs.Machine.{read, write, reads, taken, taken_all, left_by, slots_from, Effect, done, failed, effect, answered, applied, Frame, State, Move, goes, ends, faults, waits, begun, turned, at_block, tested, returned, waiting, entered, leaves, went, runs, move, started, resumed, IsHalt, ComesTo, halts}
 use Rattle.ca_states.specs.Touched.{read_by, emptied_by, written_by, read_at, answered_at, targets}
-use Rattle.ca_states.specs.Valid.{each, are_below, takes, is_counted_exit, is_target, is_instruction_in_range, is_exit_in_range, is_in_range, leads_forward, knows_slots, is_valid_block, are_valid_blocks, are_just, begins_well, main_entry, is_valid}
+use Rattle.ca_states.specs.Valid.{each, are_below, takes, is_counted_exit, is_target, is_instruction_in_range, is_exit_in_range, is_in_range, leads_forward, knows_slots, is_valid_block, are_valid_blocks, are_just, begins_well, main_entry, identity_entry, is_valid}
 use Rattle.ca_states.specs.Runs.{StopsAt, follows, effects}
 use Rattle.ca_states.specs.Standing.{frame_view, frames_view, state_view, HasSlots, AreFrames, Stands, TakesValue, HasRoom, FitsAnyway, FitsExit, FitsHere, HaltedAs, HaltsAs, HaltsNext, Passed, StopsAfter, WaitsAt, IsStart, entry_at}
 use Rattle.ca_states.proofs.RowLaws.{both, drop_item, RangeParts, range_parts, in_range_parts}
@@ -69,17 +69,20 @@ valid_from C n (b ∷ bs) (suc k) h lt =
 pub record ValidParts (C : CodeView) : Type 0 where
   pub blocks : (n : ℕ) → n < size C → IsTrue (is_valid_block C n (block_at C n))
   pub main : IsTrue (begins_well C (main_entry C))
+  pub identity : IsTrue (begins_well C (identity_entry C))
   pub bodies : IsTrue (each (begins_well C) C.bodies)
   pub functions : IsTrue (each (begins_well C) C.functions)
 
 pub valid_parts : (C : CodeView) → is_valid C ≡ true → ValidParts C
 valid_parts C h =
-    let three = both (are_valid_blocks C 0 C.blocks && begins_well C (main_entry C) && each (begins_well C) C.bodies) (each (begins_well C) C.functions) h in
-    let two = both (are_valid_blocks C 0 C.blocks && begins_well C (main_entry C)) (each (begins_well C) C.bodies) three.0 in
-    let first = both (are_valid_blocks C 0 C.blocks) (begins_well C (main_entry C)) two.0 in
+    let three = both (are_valid_blocks C 0 C.blocks && begins_well C (main_entry C) && begins_well C (identity_entry C) && each (begins_well C) C.bodies) (each (begins_well C) C.functions) h in
+    let two = both (are_valid_blocks C 0 C.blocks && begins_well C (main_entry C) && begins_well C (identity_entry C)) (each (begins_well C) C.bodies) three.0 in
+    let one = both (are_valid_blocks C 0 C.blocks && begins_well C (main_entry C)) (begins_well C (identity_entry C)) two.0 in
+    let first = both (are_valid_blocks C 0 C.blocks) (begins_well C (main_entry C)) one.0 in
     record {
       blocks = λ n lt. let e : 0 + n ≡ n = omega arith in subst (λ m. IsTrue (is_valid_block C m (block_at C n))) e (valid_from C 0 C.blocks n first.0 lt);
       main = first.1;
+      identity = one.1;
       bodies = two.1;
       functions = three.1;
     }
@@ -110,7 +113,7 @@ block_parts C n b h =
     }
 
 -- an entry point of valid code has slots for its values
-has_room : (C : CodeView) → ValidParts C → (e : EntryPoint) → IsTrue (begins_well C e) → HasRoom C e e.values
+pub has_room : (C : CodeView) → ValidParts C → (e : EntryPoint) → IsTrue (begins_well C e) → HasRoom C e e.values
 has_room C v e h =
     let parts = both (nat_lt e.block (size C)) (are_just e.values (block_at C e.block).entry) h in
     let lt : e.block < size C = ltb-true e.block (size C) parts.0 in

@@ -53,11 +53,12 @@ pub record BlockView : Type 0 where
   pub instrs : List Instruction
   pub exit : Exit
 
--- the blocks, the main text's first one, where go bodies and functions begin, and how many slots a block
--- may have
+-- the blocks, the main text's first one, that of a text which has the one value that it takes, where go bodies and
+-- functions begin, and how many slots a block may have
 pub record CodeView : Type 0 where
   pub blocks : List BlockView
   pub main : ℕ
+  pub identity : ℕ
   pub bodies : List EntryPoint
   pub functions : List EntryPoint
   pub width : ℕ
@@ -104,6 +105,7 @@ abbrev pub code_view : Code → CodeView
 code_view c = record {
   blocks = map block_view (list c.blocks);
   main = c.main;
+  identity = c.identity;
   bodies = list c.bodies;
   functions = list c.functions;
   width = length (list c.marks);

@@ -163,6 +163,14 @@ move C c = runs C (block_at C c.block).instrs (block_at C c.block).exit c
 abbrev pub started : CodeView → EntryPoint → List Tree → State
 started C e vs = record { block = e.block; slots = begun_at C e vs; frames = []; turns = 0 }
 
+-- What waits for a function that is called by itself: the text that has the value which comes into its first slot.
+abbrev pub outermost : CodeView → Frame
+outermost C = record { next = C.identity; answer = 0; slots = begun (block_at C C.identity).width [] }
+
+-- A new runner that calls a function by itself: the call is a turn, and the function stands in one call.
+abbrev pub calling : CodeView → ℕ → List Tree → State
+calling C n vs = record { block = (function_at C n).block; slots = begun_at C (function_at C n) vs; frames = outermost C ∷ []; turns = 1 }
+
 -- the runner with the answer to its operation in the slot that it named; the turns are 0 again
 abbrev pub resumed : Tree → ℕ → State → State
 resumed v answer c = record c { slots = write c.slots answer v; turns = 0 }

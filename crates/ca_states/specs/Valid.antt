@@ -152,6 +152,9 @@ are_valid_blocks C n (b ∷ bs) = is_valid_block C n b && are_valid_blocks C (su
 abbrev pub main_entry : CodeView → EntryPoint
 main_entry C = record { block = C.main; values = 0 }
 
+abbrev pub identity_entry : CodeView → EntryPoint
+identity_entry C = record { block = C.identity; values = 1 }
+
 -- code by all five rules
 abbrev pub is_valid : CodeView → Bool
-is_valid C = are_valid_blocks C 0 C.blocks && begins_well C (main_entry C) && each (begins_well C) C.bodies && each (begins_well C) C.functions
+is_valid C = are_valid_blocks C 0 C.blocks && begins_well C (main_entry C) && begins_well C (identity_entry C) && each (begins_well C) C.bodies && each (begins_well C) C.functions

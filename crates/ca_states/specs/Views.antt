@@ -15,4 +15,4 @@ numbers (few.Three a b c) = a ∷ b ∷ c ∷ []
 numbers (few.Range from count) = slots_from from count
 
 abbrev pub texts_view : Texts → CodeView
-texts_view t = record { blocks = map block_view (list t.blocks); main = t.main; bodies = list t.bodies; functions = list t.functions; width = t.width }
+texts_view t = record { blocks = map block_view (list t.blocks); main = t.main; identity = t.identity; bodies = list t.bodies; functions = list t.functions; width = t.width }

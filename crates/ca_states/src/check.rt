@@ -215,8 +215,13 @@ impl Texts {
             block: self.main,
             values: 0,
         };
+        let identity = EntryPoint {
+            block: self.identity,
+            values: 1,
+        };
         self.are_valid_blocks(notes)
             && self.begins_well(&main)
+            && self.begins_well(&identity)
             && self.begin_well(self.bodies.as_slice())
             && self.begin_well(self.functions.as_slice())
     }

@@ -10,6 +10,9 @@ use ca_value::value::Value;
 pub struct Code {
     pub blocks: Seq<Block>,
     pub main: u64,
+    /// The first block of a text that takes one value and has that value. A function that is called by itself
+    /// returns to it.
+    pub identity: u64,
     pub bodies: Seq<EntryPoint>,
     pub functions: Seq<EntryPoint>,
     /// One for each slot that a block may use. What they say is no part of the code: `validate` works on

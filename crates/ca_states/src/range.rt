@@ -14,6 +14,7 @@ use ca_value::seq::Seq;
 pub struct Texts {
     pub blocks: Seq<Block>,
     pub main: u64,
+    pub identity: u64,
     pub bodies: Seq<EntryPoint>,
     pub functions: Seq<EntryPoint>,
     pub width: u64,

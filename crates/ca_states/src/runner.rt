@@ -3,9 +3,10 @@ ghost use Rattle.std.specs.Prelude.{◌≡◌, ◌<◌, ◌≤◌, true, length,
 ghost use Rattle.ca_value.specs.Seq.{list};
 ghost use Rattle.ca_value.specs.View.{view, views};
 ghost use Rattle.ca_states.specs.Code.{code_view, CodeView};
-ghost use Rattle.ca_states.specs.Machine.{started, resumed};
+ghost use Rattle.ca_states.specs.Machine.{started, calling, resumed};
 ghost use Rattle.ca_states.specs.Valid.{is_valid};
 ghost use Rattle.ca_states.specs.ValidCode.{valid_code};
+ghost use Rattle.ca_states.specs.declared.runner.Start.TheVariants.{Function};
 ghost use Rattle.ca_states.specs.Standing.{state_view, waiting_slot, entry_at, is_start, IsStart, Stands, HaltsAs, HaltsNext, StopsAfter, WaitsAt};
 
 use crate::code::Code;
@@ -95,6 +96,32 @@ impl Runner {
             answer: 0,
             pool: Seq::new(alloc),
         })
+    }
+
+    /// A new runner that calls the function of that number, with these values, by itself. The call is a turn, and the
+    /// function stands in it.
+    pub fn start_call(
+        alloc: Global,
+        code: &ValidCode,
+        function: u64,
+        values: Items,
+    ) -> Result<Runner, OutOfMemory>
+        requires { IsStart (valid_code code.now) (Function function) (length (list values)) }
+        ensures calling { IfOk result (λ r. state_view r ≡ calling (valid_code code.now) function (views (list values))) }
+        ensures stands { IfOk result (λ r. Stands (valid_code code.now) (state_view r)) }
+    {
+        let mut runner = Runner::start(alloc, code, Start::Function(function), values)?;
+        let code = code.code();
+        let next = code.identity;
+        let slots = begun(Items::new(alloc), block_at(code, next).width)?;
+        runner.frames.reserve(1)?;
+        runner.frames.push(Frame {
+            next,
+            answer: 0,
+            slots: slots.into_vec(),
+        });
+        runner.turns = 1;
+        Ok(runner)
     }
 
     /// Goes on to the next operation, the end or a fault. After `OutOfMemory` the runner is only dropped.

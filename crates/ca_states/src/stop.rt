@@ -13,7 +13,7 @@ pub enum Stop {
 }
 
 /// A builtin's fault, as a task's.
-pub(crate) fn task_fault(fault: ValueFault) -> Fault
+pub fn task_fault(fault: ValueFault) -> Fault
     ensures { result ≡ task_fault fault }
 {
     match fault {

@@ -22,6 +22,7 @@ pub fn validate(code: Code) -> Result<ValidCode, Code>
     let Code {
         blocks,
         main,
+        identity,
         bodies,
         functions,
         marks,
@@ -30,6 +31,7 @@ pub fn validate(code: Code) -> Result<ValidCode, Code>
     let texts = Texts {
         blocks,
         main,
+        identity,
         bodies,
         functions,
         width,
@@ -53,6 +55,7 @@ impl Texts {
         let Texts {
             blocks,
             main,
+            identity,
             bodies,
             functions,
             width: _,
@@ -61,6 +64,7 @@ impl Texts {
         Code {
             blocks,
             main,
+            identity,
             bodies,
             functions,
             marks,

@@ -9,7 +9,9 @@
 //! `call:0:1:2:0:3` (function, first slot, how many, the value's slot, the next block), `return:0`,
 //! `take:0:1:0:3` and `print:0:1:0:3` (first slot, how many, the answer's slot, the next block). `main 3`
 //! says where the main text begins, `go 1 2` and `function 1 2` where such a text does, and how many values
-//! it takes. What may fault in a block stands at the line of the block's number, its column counts words.
+//! it takes; `identity 4` where the text does that has the value which it takes, and where no word says so such a text
+//! is the last block. A start is `main`, `go:0:5:port1`, `function:0:5`, or `call:0:5` for a function that is called by
+//! itself. What may fault in a block stands at the line of the block's number, its column counts words.
 //!
 //! The answer has each operation, and then `ended` with the value, or the fault with its place; `invalid`
 //! where the code breaks a rule, `no start` where it doesn't have the start. Blocks are told in the words of a row.

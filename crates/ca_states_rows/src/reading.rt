@@ -11,16 +11,25 @@ pub fn code(alloc: Global, words: &mut SplitWhitespace<'_>) -> Result<Code, RowE
     let mut code = Code {
         blocks: Seq::new(alloc),
         main: 0,
+        identity: 0,
         bodies: Seq::new(alloc),
         functions: Seq::new(alloc),
         marks: Seq::new(alloc),
     };
+    let mut identity = None;
     for _word in 0..u64::MAX {
         let word = words.next().ok_or(RowError::Unreadable)?;
         match word.as_bytes() {
-            b"run" => return Ok(code),
+            b"run" => {
+                code.identity = match identity {
+                    Some(block) => block,
+                    None => add_identity(alloc, &mut code)?,
+                };
+                return Ok(code);
+            }
             b"block" => add_block(alloc, &mut code, words)?,
             b"main" => code.main = next_number(words)?,
+            b"identity" => identity = Some(next_number(words)?),
             b"go" => add_entry(&mut code.bodies, words)?,
             b"function" => add_entry(&mut code.functions, words)?,
             _ => return Err(RowError::Unreadable),
@@ -42,6 +51,23 @@ fn add_entry(
     entries.reserve(1)?;
     entries.push(EntryPoint { block, values });
     Ok(())
+}
+
+// One more block, of a text that has the value which it takes; its number.
+fn add_identity(alloc: Global, code: &mut Code) -> Result<u64, RowError> {
+    let number = code.blocks.len();
+    add_marks(&mut code.marks, 1)?;
+    code.blocks.reserve(1)?;
+    code.blocks.push(Block {
+        width: 1,
+        entry: SlotSet {
+            below: 1,
+            holes: Seq::new(alloc),
+        },
+        instrs: Seq::new(alloc),
+        exit: Exit::Return { slot: 0 },
+    });
+    Ok(number)
 }
 
 fn add_block(

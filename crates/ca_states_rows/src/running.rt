@@ -1,5 +1,7 @@
 ghost use Rattle.ca_states.specs.ValidCode.{valid_code};
-ghost use Rattle.ca_states.specs.Standing.{state_view, Stands};
+ghost use Rattle.ca_states.specs.Standing.{state_view, IsStart, Stands};
+ghost use Rattle.std.specs.Prelude.{length, IfOk};
+ghost use Rattle.ca_value.specs.Seq.{list};
 
 use crate::printing::{append_value, blocks_text};
 use crate::reading::code;
@@ -11,6 +13,7 @@ use ca_states::runner::{Halt, Runner, Start};
 use ca_states::valid_code::ValidCode;
 use ca_states::validate::validate;
 use ca_term::operation::Op;
+use ca_value::memory::OutOfMemory;
 use ca_value::seq::Seq;
 use ca_value::value::{Items, Value};
 use std::alloc::Global;
@@ -48,18 +51,42 @@ fn run(
     };
     let mut words = words;
     let mut parts = Parts::new(word);
-    let start = match parts.part()?.as_bytes() {
+    let kind = parts.part()?;
+    let start = match kind.as_bytes() {
         b"main" => Start::Main,
         b"go" => Start::Go(parts.number()?),
-        b"function" => Start::Function(parts.number()?),
+        b"function" | b"call" => Start::Function(parts.number()?),
         _ => return Err(RowError::Unreadable),
     };
     let values = values(alloc, parts)?;
     if !code.has_start(start, values.len()) {
         return Ok(String::from_str(alloc, "no start")?);
     }
-    let mut runner = Runner::start(alloc, &code, start, values)?;
+    let mut runner = begin(alloc, &code, start, kind == "call", values)?;
     halts(alloc, &code, &mut runner, &mut words)
+}
+
+// A new runner at the start; where that is a function, one that calls it by itself if that is told.
+fn begin(
+    alloc: Global,
+    code: &ValidCode,
+    start: Start,
+    called: bool,
+    values: Items,
+) -> Result<Runner, OutOfMemory>
+    requires { IsStart (valid_code code.now) start (length (list values)) }
+    ensures { IfOk result (λ r. Stands (valid_code code.now) (state_view r)) }
+{
+    match start {
+        Start::Function(number) => {
+            if called {
+                Runner::start_call(alloc, code, number, values)
+            } else {
+                Runner::start(alloc, code, start, values)
+            }
+        }
+        _ => Runner::start(alloc, code, start, values),
+    }
 }
 
 // The values that a start has behind its colons.

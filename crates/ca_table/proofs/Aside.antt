@@ -1,5 +1,5 @@
 -- An event that leaves the lane alone, which the worker carries too.
-use Rattle.std.proofs.Common.{◌≡◌, ◌∙◌, ℕ, ◌<◌, List, [], ◌∷◌, map, refl, sym, ap, subst, arith, Bool, true, false, cond, Option, Some, None, eqb, eqb-true, eq-eqb, is_some}
+use Rattle.std.proofs.Common.{◌≡◌, ◌∙◌, ℕ, ◌<◌, List, [], ◌∷◌, map, refl, sym, ap, subst, arith, Bool, true, false, cond, Option, Some, None, eqb, eqb-true, is_some}
 use Rattle.ca_value.specs.Tree.{Tree}
 use Rattle.ca_term.specs.Operation.{SeedView}
 use Rattle.ca_term.specs.Program.{ProgramView}
@@ -27,18 +27,9 @@ use Rattle.ca_table.specs.declared.drawn.Drawn.{Drawn}
 use Rattle.ca_table.specs.declared.part.Part.{Part}
 use Rattle.ca_table.specs.declared.worker.Worker.{Worker}
 use Rattle.ca_table.proofs.Carried.{at_each, at_place, each_at, each_settled, each_weaker, each_without, placed, sorted_alike, sorted_settled, sorted_without}
+use Rattle.ca_table.proofs.Carriers.{have_settled, have_values}
 use Rattle.ca_table.proofs.Covered.{covered}
-use Rattle.ca_table.proofs.Moved.{moved}
-
-among_later : (i j : ℕ) (is : List ℕ) → is_among j is ≡ true → is_among j (i ∷ is) ≡ true
-among_later i j is e = by (eqb i j) where
-  by : (b : Bool) → cond b true (is_among j is) ≡ true
-  by true = refl
-  by false = e
-
-all_among : (P : ℕ → Type 0) (is : List ℕ) → ((i : ℕ) → is_among i is ≡ true → P i) → AllIn P is
-all_among P [] h = tt
-all_among P (i ∷ is) h = (h i (ap (λ b. cond b true (is_among i is)) (eq-eqb i i refl)), all_among P is (λ j e. h j (among_later i j is e)))
+use Rattle.ca_table.proofs.Moved.{all_among, moved}
 
 module _ {P C : Type 0} (content : P → C) (d : said.Drawn) (h : Carries (P × C)) (lt : d.worker < d.workers) (c : Covers d (beside_lane h)) where
   abbrev all : ℕ → Option (P × C)
@@ -78,20 +69,6 @@ module _ {P C : Type 0} (content : P → C) (d : said.Drawn) (h : Carries (P × 
     by j true e false s = ap all (sym (eqb-true d.worker j e)) ∙ at_place d.workers d.worker lt lane_place tt h
     by j false e s r = outside (all j) s r
 
-coded_settled : {A C : Type 0} (code : CodeView) (g : ℕ → Option (Part A C × PartSeen A)) (is : List ℕ) → ((i : ℕ) (x : Part A C × PartSeen A) → g i ≡ Some x → HasCode code x) → HaveCode code (settled g is)
-coded_settled code g [] h = tt
-coded_settled {A} {C} code g (i ∷ is) h = by (g i) (h i) (coded_settled code g is h) where
-  by : (o : Option (Part A C × PartSeen A)) → ((x : Part A C × PartSeen A) → o ≡ Some x → HasCode code x) → HaveCode code (settled g is) → HaveCode code (add_settled o (settled g is))
-  by None a r = r
-  by (Some x) a r = ((a x refl).1, r)
-
-coded_values : {A C : Type 0} (least faults : C → ℕ) (readings : C → Option (List ℕ)) (code : CodeView) (g : ℕ → Option (Part A C × PartSeen A)) (is : List ℕ) → ((i : ℕ) (x : Part A C × PartSeen A) → g i ≡ Some x → HasCode code x) → HaveCode code (map (part_seen least faults readings) (values g is))
-coded_values least faults readings code g [] h = tt
-coded_values {A} {C} least faults readings code g (i ∷ is) h = by (g i) (h i) (coded_values least faults readings code g is h) where
-  by : (o : Option (Part A C × PartSeen A)) → ((x : Part A C × PartSeen A) → o ≡ Some x → HasCode code x) → HaveCode code (map (part_seen least faults readings) (values g is)) → HaveCode code (map (part_seen least faults readings) (add_value o (values g is)))
-  by None a r = r
-  by (Some x) a r = ((a x refl).0, r)
-
 module _ {A C : Type 0} (over : CodeView → A → Type 0) (place : A → At) (advances : ProgramView → A → A → Type 0) (gives : A → Tree → A → Type 0) (starts : ProgramView → SeedView → A → Type 0) (least faults : C → ℕ) (readings : C → Option (List ℕ))
     (stands_as : ProgramView → A → TaskBody → Type 0) (program : ProgramView) (code : ValidCode) (id : TableId) (n : ℕ) (w : Worker A C) (d : Drawn) (h : Carries (Part A C × PartSeen A))
     (s : IsCarrying over stands_as program code id n w h) (m : IsMoved over place advances gives starts (part_seen least faults readings) code n w.number (drawn_view d) (beside_lane h)) (of_code : drawn_code d ≡ valid_code code) where
@@ -127,7 +104,7 @@ module _ {A C : Type 0} (over : CodeView → A → Type 0) (place : A → At) (a
   pub may_draw_aside : (g : ℕ → Option (Part A C × PartSeen A)) × Grips w.hand g × HasAll g (drawn_touches d) × drawn_moves over place advances gives starts d (settled g (drawn_touches d)) (map seen (values g (drawn_touches d)))
   may_draw_aside = let K = valid_code code in
       let r = moved place (advances_over over K advances) (gives_over over K gives) (starts_over over K starts) content_of seen (drawn_view d) (beside_lane h) below m.covers sorted_rest m.alike m.moves at (same_touched seen (drawn_view d) h below m.covers) in
-      (at, gripped, r.0, subst MovedOver (sym of_code) ((coded_settled K at (drawn_touches d) has_code, coded_values least faults readings K at (drawn_touches d) has_code), r.1))
+      (at, gripped, r.0, subst MovedOver (sym of_code) ((have_settled K at (drawn_touches d) has_code, have_values least faults readings K at (drawn_touches d) has_code), r.1))
 
   sorted_after : AreSorted was (each_by (settled_one seen) (beside_lane h))
   sorted_after = sorted_settled content_of seen (beside_lane h) (sorted_alike was (is_now seen) (beside_lane h) sorted_rest (each_weaker (λ x. Alike d.workers (was x) (is_now seen x)) (λ x. kind_of_part (is_now seen x).held ≡ kind_of_part (was x).held) (λ x a. a.2) (beside_lane h) m.alike))

@@ -124,14 +124,14 @@ module _ {A C : Type 0} (over : CodeView → A → Type 0) (stands_as : ProgramV
     pub is_held : IsHolding w.hand at
     is_held = (x.0, in_hand.0)
 
-have_settled : {A C : Type 0} (code : CodeView) (g : ℕ → Option (Part A C × PartSeen A)) (is : List ℕ) → ((i : ℕ) (x : Part A C × PartSeen A) → g i ≡ Some x → HasCode code x) → HaveCode code (settled g is)
+pub have_settled : {A C : Type 0} (code : CodeView) (g : ℕ → Option (Part A C × PartSeen A)) (is : List ℕ) → ((i : ℕ) (x : Part A C × PartSeen A) → g i ≡ Some x → HasCode code x) → HaveCode code (settled g is)
 have_settled code g [] h = tt
 have_settled {A} {C} code g (i ∷ is) h = by (g i) (h i) (have_settled code g is h) where
   by : (o : Option (Part A C × PartSeen A)) → ((x : Part A C × PartSeen A) → o ≡ Some x → HasCode code x) → HaveCode code (settled g is) → HaveCode code (add_settled o (settled g is))
   by None a r = r
   by (Some x) a r = ((a x refl).1, r)
 
-have_values : {A C : Type 0} (least faults : C → ℕ) (readings : C → Option (List ℕ)) (code : CodeView) (g : ℕ → Option (Part A C × PartSeen A)) (is : List ℕ) → ((i : ℕ) (x : Part A C × PartSeen A) → g i ≡ Some x → HasCode code x) → HaveCode code (map (part_seen least faults readings) (values g is))
+pub have_values : {A C : Type 0} (least faults : C → ℕ) (readings : C → Option (List ℕ)) (code : CodeView) (g : ℕ → Option (Part A C × PartSeen A)) (is : List ℕ) → ((i : ℕ) (x : Part A C × PartSeen A) → g i ≡ Some x → HasCode code x) → HaveCode code (map (part_seen least faults readings) (values g is))
 have_values least faults readings code g [] h = tt
 have_values {A} {C} least faults readings code g (i ∷ is) h = by (g i) (h i) (have_values least faults readings code g is h) where
   by : (o : Option (Part A C × PartSeen A)) → ((x : Part A C × PartSeen A) → o ≡ Some x → HasCode code x) → HaveCode code (map (part_seen least faults readings) (values g is)) → HaveCode code (map (part_seen least faults readings) (add_value o (values g is)))

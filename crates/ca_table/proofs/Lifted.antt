@@ -19,7 +19,7 @@ module _ {A : Type 0} (place : A → At) (gives more : A → Tree → A → Type
   wakes_more (Some nobody) p v old new e = e
   wakes_more (Some (owner u a)) p v old new e = (e.0, e.1, e.2, lift _ _ _ e.3, e.4)
 
-  ready_more : (old new : Held A) (s : Option (Task A)) (q : Planned) → ReadyBy place gives old new s q → ReadyBy place more old new s q
+  pub ready_more : (old new : Held A) (s : Option (Task A)) (q : Planned) → ReadyBy place gives old new s q → ReadyBy place more old new s q
   ready_more old new s (to_meet k b alts w o) e = wakes_more (whole (waits_held old.shards) w) (port_of b) (told (other_side (side_of b)) (passing (whole (channels_held old.banks) (port_of b)) b)) (ready_in old.ready) (ready_in new.ready) e
   ready_more old new s (to_spawn kind r) e = e
   ready_more old new s (to_do k b alts) e = e
@@ -34,7 +34,7 @@ module _ {A : Type 0} (place : A → At) (gives more : A → Tree → A → Type
   ready_more old new s (to_prune p side i) e = e
   ready_more old new s (to_refuse f) e = e
 
-  runs_more : (held : Held A) (t : Task A) (q : Planned) (o : Option (Task A)) → RunsBy gives held t q o → RunsBy more held t q o
+  pub runs_more : (held : Held A) (t : Task A) (q : Planned) (o : Option (Task A)) → RunsBy gives held t q o → RunsBy more held t q o
   runs_more held t (to_park bs) o e = e
   runs_more held t (to_do k b alts) None e = e
   runs_more held t (to_do k b alts) (Some c) e = (e.0, (e.1.0, e.1.1, lift _ _ _ e.1.2))

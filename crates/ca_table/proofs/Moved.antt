@@ -26,7 +26,7 @@ among_later i j is e = by (eqb i j) where
   by true = refl
   by false = e
 
-all_among : (P : ℕ → Type 0) (is : List ℕ) → ((i : ℕ) → is_among i is ≡ true → P i) → AllIn P is
+pub all_among : (P : ℕ → Type 0) (is : List ℕ) → ((i : ℕ) → is_among i is ≡ true → P i) → AllIn P is
 all_among P [] h = tt
 all_among P (i ∷ is) h = (h i (ap (λ b. cond b true (is_among i is)) (eq-eqb i i refl)), all_among P is (λ j e. h j (among_later i j is e)))
 

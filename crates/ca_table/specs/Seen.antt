@@ -49,7 +49,7 @@ abbrev pub content_of : {A : Type 0} → PartSeen A → Content (TaskAgent A)
 content_of p = record { workers = p.workers; held = held_of p.held }
 
 abbrev pub no_code : CodeView
-no_code = record { blocks = []; main = 0; bodies = []; functions = []; width = 0 }
+no_code = record { blocks = []; main = 0; identity = 0; bodies = []; functions = []; width = 0 }
 
 -- stands where no value is made
 abbrev pub nothing_seen : {A : Type 0} → PartSeen A

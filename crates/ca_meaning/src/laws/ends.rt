@@ -4,16 +4,14 @@ ghost use Rattle.ca_term.specs.Event.{EventView};
 ghost use Rattle.ca_meaning.specs.State.{State, Task, running};
 ghost use Rattle.ca_meaning.specs.Legal.{Reaches};
 ghost use Rattle.ca_meaning.specs.Ends.{IsPossible};
-ghost use Rattle.ca_meaning.specs.EndsLaw.{HasEvent, IsScript, IsQuiet};
+ghost use Rattle.ca_meaning.specs.EndsLaw.{HasEvent, IsQuiet};
 
-/// In the state of every legal journal of a checked program each running task of a script's text has a possible
-/// event. (The tables of system tasks aren't told yet.)
+/// In the state of every legal journal of a checked program each running task has a possible event.
 pub fn running_tasks_have_events()
-    ensures { (program : ProgramView) (journal : List EventView) (s : State) (t : ℕ) (x : Task) → IsProgram program → Reaches program journal s → s.tasks t ≡ Some x → x.mode ≡ running → IsScript x.body → HasEvent program s t }
+    ensures { (program : ProgramView) (journal : List EventView) (s : State) (t : ℕ) (x : Task) → IsProgram program → Reaches program journal s → s.tasks t ≡ Some x → x.mode ≡ running → HasEvent program s t }
 {}
 
-/// A run of a checked program is stuck exactly where no task of a script's text runs, no channel settles and no
-/// deadline is open.
+/// A run of a checked program is stuck exactly where no task runs, no channel settles and no deadline is open.
 pub fn stuck_runs_are_quiet()
     ensures { (program : ProgramView) (journal : List EventView) (s : State) → IsProgram program → Reaches program journal s → (IsPossible program s → ⊥) ↔ IsQuiet s }
 {}

@@ -4,7 +4,8 @@ use denote.Param.Send.{IsSync, sendable}
 use Rattle.std.proofs.Crossing.{sync}
 use Rattle.ca_table.specs.contracts.pool.Pool as Pool
 use Rattle.ca_table.specs.contracts.pool.PoolObject.TheImpl.{ghosts, no_dict}
-use Rattle.ca_pool.proofs.Sending.{pool_sync, text_sync, valid_code_sync, worker_send}
+use Rattle.ca_states.proofs.Sending.{valid_code_sync}
+use Rattle.ca_pool.proofs.Sending.{pool_sync, text_sync, worker_send}
 use Rattle.ca_pool.proofs.rounds.work_all.Goals as goal
 
 pub for_each_mut-requires-send-T : goal.for_each_mut-requires-send-T

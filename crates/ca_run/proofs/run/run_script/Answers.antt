@@ -7,14 +7,11 @@ use Rattle.ca_meaning.specs.Task.{script}
 use Rattle.ca_meaning.proofs.Possible.{body_rests}
 use Rattle.ca_journal.specs.Events.{events}
 use Rattle.ca_run.specs.Answers.{end_of}
-use Rattle.ca_run.proofs.Sending.{machine_send, machine_sync}
+use Rattle.ca_tasks.proofs.Sending.{task_send}
 use Rattle.ca_run.proofs.run.run_script.Goals as goal
 
 pub run_pool-requires-send-A : goal.run_pool-requires-send-A
-run_pool-requires-send-A g c κs within = search (sendable, machine_send) depth 20
-
-pub run_pool-requires-sync-A : goal.run_pool-requires-sync-A
-run_pool-requires-sync-A g c κs within = search (sendable, machine_sync) depth 20
+run_pool-requires-send-A g c κs within = search (sendable, task_send) depth 20
 
 pub run_pool-requires-clause-main : goal.run_pool-requires-clause-main
 run_pool-requires-clause-main g c κs within =

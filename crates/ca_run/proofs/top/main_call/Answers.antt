@@ -1,4 +1,4 @@
-use Rattle.std.proofs.Common.{◌≡◌, rules, map, refl, sym, subst, arith, IsSome}
+use Rattle.std.proofs.Common.{◌≡◌, ◌∙◌, ⊎_elim, rules, map, refl, sym, subst, arith, IsSome}
 use Rattle.std.specs.Prelude.{string_bytes}
 use Rattle.ca_value.specs.declared.seq.Seq.{Seq}
 use Rattle.ca_term.specs.declared.event.Event.{Event}
@@ -6,7 +6,7 @@ use Rattle.ca_words.specs.Words.{command_in}
 use Rattle.ca_run.specs.Answers.{answer_text, AnswersTo}
 use Rattle.ca_run.specs.Top.{Completed, CompletedFor, Partly}
 use Rattle.ca_meaning.specs.Ends.{ended, faulted, limit, stuck}
-use Rattle.ca_run.proofs.Finishes.{whole_text, part_text, ended_of, ends_of, accepted_of, refused_of, usage_of, partly_of, close_journal, close_asked}
+use Rattle.ca_run.proofs.Finishes.{whole_text, part_text, ended_of, ends_of, accepted_of, refused_of, usage_of, partly_of, close_journal, close_asked, runs_nothing}
 use Rattle.ca_run.proofs.top.main_call.Goals as goal
 
 pub returns-clause-ended : goal.returns-clause-ended
@@ -134,3 +134,8 @@ returns-clause-journal g c = λ j.
     let asked = command_in (map string_bytes c.args.words.now) in
     let answers : AnswersTo asked left after a = subst (λ q. AnswersTo q left after a) c.in-Ok.ensures.command (c.in-Ok-judge.ensures.answers a refl) in
     close_journal asked left after a c.is_ok-written.result c.close.result.status c.close.ensures.lost c.close.ensures.done answers (subst (IsSome {T = Seq Event}) c.close.ensures.journal j)
+
+pub returns-clause-unasked : goal.returns-clause-unasked
+returns-clause-unasked g c =
+    ⊎_elim (λ e. c.in-Ok-judge.ensures.unasked c.in-Ok-judge.answer refl (runs_nothing c.in-Ok-judge.answer c.is_ok-written.result c.close.result.status c.close.ensures.lost c.close.ensures.done e))
+    (λ k. c.in-Ok-judge.ensures.idle (λ x is. k x (sym c.in-Ok.ensures.command ∙ is)))

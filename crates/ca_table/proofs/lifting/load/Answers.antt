@@ -32,7 +32,7 @@ load_one-requires-clause-ascending g c = let l = c.loop-number.invariant.1 in λ
 pub loop-number-preserved : goal.loop-number-preserved
 loop-number-preserved g c = let a = g.A.Agent in let K = g.C.Clock in let seen = part_seen K.least K.faults K.readings in let code = c.args.code.now in let id = c.args.table.now.id in let group = g.T.Sixteen.group in let contents = g.T.Sixteen.as_contents in let number = g.T.Numbered.number in
     let has = has_home c.args.homes.now in let w0 = c.args.worker.now in let w = c.loop-number.worker in let k = c.loop-number.number in let lt : k < 16 = omega (arith, c.loop-number-test.true) in
-    let known = sym (ap has (own k lt)) ∙ sym c.has.ensures in let l = c.loop-number.invariant in let K1 = valid_code code in let n = w0.workers in let first = first_of group n in
+    let known = sym (ap has (own k lt)) ∙ sym c.has.ensures in let l = c.loop-number.invariant in let valid = valid_code code in let n = w0.workers in let first = first_of group n in
     elim c.if-has.branch [
       | then-has b ↦ let q = b.load_one.ensures in let room = l.0 in let kept = q.room in let fits = l.2 in let longer = ap length q.list.1 ∙ length-append (parts c.loop-number.list) (q.list.0 ∷ []) in (
         subst (λ (ls : Listing g.row.T.Denot). 16 ≤ spare ls + (k + 1)) (sym b.list-is) (omega (arith, room, kept)),
@@ -40,9 +40,9 @@ loop-number-preserved g c = let a = g.A.Agent in let K = g.C.Clock in let seen =
             (subst (λ (ls : Listing g.row.T.Denot). IsLoading a.over a.stands code id seen group contents number has w0 b.load_one.new.worker (parts ls) (k + 1)) (sym b.list-is)
             (one_loaded a.over a.stands code id seen group contents number has w0 w (parts c.loop-number.list) k l.1 b.load_one.new.worker (parts b.load_one.new.list) q.list.0 (known ∙ b.if-has.true) q.same q.turns q.entries q.list.1 q.list.2 q.ascending q.carries)),
         subst (λ (ls : Listing g.row.T.Denot). spare c.args.list.now ≤ spare ls + length (parts ls)) (sym b.list-is) (omega (arith, fits, kept, longer)),
-        subst (λ (ls : Listing g.row.T.Denot). AreSound a.over a.place K1 K.least K.faults K.readings contents number n first (parts ls)) (sym b.list-is)
-            (one_sound a.over a.place K1 K.least K.faults K.readings contents number n first (parts c.loop-number.list) (parts b.load_one.new.list) q.list.0 k l.3 q.list.1 q.list.2 (l.1.none k (omega arith))
-            (subst (λ (m : ℕ). IsSound a.over a.place K1 m (first_of group m + k) (held_of (contents_seen K.least K.faults K.readings (contents q.list.0)))) l.1.same.workers q.list.3)),
+        subst (λ (ls : Listing g.row.T.Denot). AreSound a.over a.place valid K.least K.faults K.readings contents number n first (parts ls)) (sym b.list-is)
+            (one_sound a.over a.place valid K.least K.faults K.readings contents number n first (parts c.loop-number.list) (parts b.load_one.new.list) q.list.0 k l.3 q.list.1 q.list.2 (l.1.none k (omega arith))
+            (subst (λ (m : ℕ). IsSound a.over a.place valid m (first_of group m + k) (held_of (contents_seen K.least K.faults K.readings (contents q.list.0)))) l.1.same.workers q.list.3)),
       )
       | else-has b ↦ let room = l.0 in let fits = l.2 in (
         subst (λ (ls : Listing g.row.T.Denot). 16 ≤ spare ls + (k + 1)) (sym b.list-is) (omega (arith, room)),
@@ -50,7 +50,7 @@ loop-number-preserved g c = let a = g.A.Agent in let K = g.C.Clock in let seen =
             (subst (λ (ls : Listing g.row.T.Denot). IsLoading a.over a.stands code id seen group contents number has w0 w (parts ls) (k + 1)) (sym b.list-is)
             (not_wanted a.over a.stands code id seen group contents number has w0 w (parts c.loop-number.list) k l.1 (known ∙ b.if-has.false))),
         subst (λ (ls : Listing g.row.T.Denot). spare c.args.list.now ≤ spare ls + length (parts ls)) (sym b.list-is) fits,
-        subst (λ (ls : Listing g.row.T.Denot). AreSound a.over a.place K1 K.least K.faults K.readings contents number n first (parts ls)) (sym b.list-is) l.3,
+        subst (λ (ls : Listing g.row.T.Denot). AreSound a.over a.place valid K.least K.faults K.readings contents number n first (parts ls)) (sym b.list-is) l.3,
       )
     ]
 

@@ -13,7 +13,7 @@ use Rattle.ca_agent.specs.Seeds.{HasGo, go_body}
 use Rattle.ca_agent.proofs.SeedLaws.{values_pushed, count_pushed}
 use Rattle.ca_machine.specs.Machines.{Begins}
 use Rattle.ca_machine.specs.View.{machine_view}
-use Rattle.ca_machine.proofs.Starting.{if_ok}
+use Rattle.ca_machine.proofs.Results.{if_ok}
 use Rattle.ca_machine.proofs.machine.Machine.from_seed.Goals as goal
 
 pub returns-clause-starts : goal.returns-clause-starts

@@ -11,7 +11,7 @@ use Rattle.ca_lower.specs.Lowered.{Lowered, StandsFor}
 use Rattle.ca_machine.specs.Machines.{Begins, StandsAs}
 use Rattle.ca_machine.specs.MachineLaws.{begun}
 use Rattle.ca_machine.specs.View.{machine_view}
-use Rattle.ca_machine.proofs.Starting.{if_ok}
+use Rattle.ca_machine.proofs.Results.{if_ok}
 use Rattle.ca_machine.proofs.machine.Machine.main.Goals as goal
 
 pub returns-clause-begins : goal.returns-clause-begins

@@ -1,0 +1,90 @@
+//! Plain functions of any kind.
+ghost use Rattle.std.specs.Prelude.{◌≡◌, IfOk, IsTrue};
+ghost use Rattle.ca_value.specs.View.{view};
+ghost use Rattle.ca_value.specs.Builtins.{admits, builtin_result};
+ghost use Rattle.ca_value.specs.declared.builtin.Builtin.TheVariants.{Get};
+ghost use Rattle.ca_term.specs.Program.{ProgramView};
+ghost use Rattle.ca_meaning.specs.Applied.{Applied, of_builtin};
+ghost use Rattle.ca_meaning.specs.Asks.{one_of, two_of};
+ghost use Rattle.ca_states.specs.Valid.{is_applied};
+ghost use Rattle.ca_states.specs.ValidCode.{valid_code};
+ghost use Rattle.ca_lower.specs.Lowered.{Lowered};
+ghost use Rattle.ca_applying.specs.Returned.{returned_view};
+
+use crate::call::call;
+use crate::returned::Returned;
+use ca_states::runner::Start;
+use ca_states::stop::task_fault;
+use ca_states::valid_code::ValidCode;
+use ca_term::head::PlainFunction;
+use ca_term::place::Place;
+use ca_value::builtin::Builtin;
+use ca_value::builtin::direct::{apply_one, apply_two};
+use ca_value::fault::ApplyError;
+use ca_value::memory::OutOfMemory;
+use ca_value::value::Value;
+use std::alloc::Global;
+
+// A builtin of the value; its fault is the form's, at the place.
+fn apply_builtin(
+    alloc: Global,
+    builtin: Builtin,
+    value: &Value,
+    place: Place,
+) -> Result<Returned, OutOfMemory>
+    requires { IsTrue (admits builtin 1) }
+    ensures { IfOk result (λ r. returned_view r ≡ of_builtin place (builtin_result builtin (one_of (view value.now)))) }
+{
+    match apply_one(alloc, builtin, value) {
+        Ok(value) => Ok(Returned::Value(value)),
+        Err(ApplyError::Fault(fault)) => Ok(Returned::Fault(task_fault(fault), place)),
+        Err(ApplyError::OutOfMemory) => Err(OutOfMemory),
+    }
+}
+
+// What the value has under the keyword.
+fn look_up(
+    alloc: Global,
+    value: &Value,
+    keyword: &Value,
+    place: Place,
+) -> Result<Returned, OutOfMemory>
+    ensures { IfOk result (λ r. returned_view r ≡ of_builtin place (builtin_result Get (two_of (view value.now) (view keyword.now)))) }
+{
+    match apply_two(alloc, Builtin::Get, value, keyword) {
+        Ok(value) => Ok(Returned::Value(value)),
+        Err(ApplyError::Fault(fault)) => Ok(Returned::Fault(task_fault(fault), place)),
+        Err(ApplyError::OutOfMemory) => Err(OutOfMemory),
+    }
+}
+
+/// Whether the code has the function, and it takes one value.
+pub fn has_function(code: &ValidCode, function: PlainFunction) -> bool
+    ensures { result ≡ is_applied (valid_code code.now) function }
+{
+    match function {
+        PlainFunction::Defined(number) => code.has_start(Start::Function(number), 1),
+        PlainFunction::Builtin(builtin) => builtin.admits(1),
+        PlainFunction::Keyword => true,
+    }
+}
+
+/// The function applied to the value by a form at the place; the keyword is looked up where the function is one. The
+/// code has a function of the program that is named, and it takes one value.
+pub fn apply(
+    alloc: Global,
+    code: &ValidCode,
+    function: PlainFunction,
+    keyword: &Value,
+    value: &Value,
+    place: Place,
+) -> Result<Returned, OutOfMemory>
+    requires { IsTrue (is_applied (valid_code code.now) function) }
+    ensures { IfOk result (λ r. (program : ProgramView) → Lowered program (valid_code code.now) → Applied program function (view keyword.now) place (view value.now) (returned_view r)) }
+{
+    match function {
+        PlainFunction::Defined(number) => call(alloc, code, number, value.copy(alloc)?, place),
+        PlainFunction::Builtin(builtin) => apply_builtin(alloc, builtin, value, place),
+        PlainFunction::Keyword => look_up(alloc, value, keyword, place),
+    }
+}

@@ -1,0 +1,137 @@
+//! What a pipeline makes of a value. (Clojure reference: `map`, `filter`, `mapcat`.)
+ghost use Rattle.std.specs.Prelude.{◌≡◌, cond, IfOk, IsTrue};
+ghost use Rattle.ca_value.specs.Seq.{list};
+ghost use Rattle.ca_value.specs.Tree.{none};
+ghost use Rattle.ca_value.specs.View.{view, views, vector_trees, trees};
+ghost use Rattle.ca_value.specs.Builtins.{builtin_result};
+ghost use Rattle.ca_value.specs.Tree.{trees_of};
+ghost use Rattle.ca_value.specs.declared.builtin.Builtin.TheVariants.{Items as items_of};
+ghost use Rattle.ca_meaning.specs.Applied.{has_nil, items_output, outputs_by, outputs_of, without_nil};
+ghost use Rattle.ca_meaning.specs.Asks.{one_of, trees_in};
+ghost use Rattle.ca_meaning.specs.Operands.{truth};
+ghost use Rattle.ca_applying.specs.Returned.{returned_view};
+ghost use Rattle.ca_jobs.specs.Outputs.{outputs_view};
+
+use ca_applying::returned::Returned;
+use ca_states::stop::task_fault;
+use ca_system::operand::{is_nil, is_true};
+use ca_term::fault::Fault;
+use ca_term::head::Transform;
+use ca_term::place::Place;
+use ca_value::builtin::Builtin;
+use ca_value::builtin::direct::apply_one;
+use ca_value::fault::ApplyError;
+use ca_value::memory::OutOfMemory;
+use ca_value::seq::Seq;
+use ca_value::value::{Items, Value, Vector};
+use std::alloc::Global;
+
+// The outputs of a value, or the fault that the job ends with.
+#[derive(Drop)]
+pub(crate) enum Outputs {
+    All(Vector),
+    None(Fault, Place),
+}
+
+#[tactic(auto, using(crate::proofs::OutputLaws::nil_past))]
+fn has_nil(values: &[Value]) -> bool
+    ensures { result ≡ has_nil (trees values.now) }
+{
+    for value in values {
+        if is_nil(value) {
+            return true;
+        }
+    }
+    false
+}
+
+// The outputs, unless one of them is nil.
+fn without_nil(outputs: Vector, place: Place) -> Outputs
+    ensures { outputs_view result ≡ without_nil place (trees_of (vector_trees outputs)) }
+{
+    if has_nil(outputs.as_slice()) {
+        Outputs::None(Fault::NilPut, place)
+    } else {
+        Outputs::All(outputs)
+    }
+}
+
+// One output.
+fn one(alloc: Global, value: Value) -> Result<Vector, OutOfMemory>
+    ensures { IfOk result (λ v. trees_of (vector_trees v) ≡ one_of (view value)) }
+{
+    let items = Seq::from_vec(vec![in alloc; value]?);
+    Vector::of(alloc, items)
+}
+
+// None.
+fn nothing(alloc: Global) -> Result<Vector, OutOfMemory>
+    ensures { IfOk result (λ v. trees_of (vector_trees v) ≡ none) }
+{
+    Vector::of(alloc, Items::new(alloc))
+}
+
+// The value itself, where the function's value is true.
+fn kept(alloc: Global, value: &Value, test: &Value) -> Result<Vector, OutOfMemory>
+    ensures { IfOk result (λ v. trees_of (vector_trees v) ≡ cond (truth (view test.now)) (one_of (view value.now)) none) }
+{
+    if is_true(test) {
+        one(alloc, value.copy(alloc)?)
+    } else {
+        nothing(alloc)
+    }
+}
+
+// The items of a vector; of another value none.
+fn vector_in(alloc: Global, value: Value) -> Result<Vector, OutOfMemory>
+    ensures { IfOk result (λ v. trees_of (vector_trees v) ≡ trees_in (view value)) }
+{
+    match value {
+        Value::Vector(items) => Ok(items),
+        _ => nothing(alloc),
+    }
+}
+
+// The items of what the function gave.
+fn joined(alloc: Global, given: &Value, place: Place) -> Result<Outputs, OutOfMemory>
+    ensures { IfOk result (λ o. outputs_view o ≡ items_output place (builtin_result items_of (one_of (view given.now)))) }
+{
+    match apply_one(alloc, Builtin::Items, given) {
+        Ok(items) => Ok(without_nil(vector_in(alloc, items)?, place)),
+        Err(ApplyError::Fault(fault)) => Ok(Outputs::None(task_fault(fault), place)),
+        Err(ApplyError::OutOfMemory) => Err(OutOfMemory),
+    }
+}
+
+// The outputs of the value, where the function gave this.
+fn outputs_of(
+    alloc: Global,
+    transform: Transform,
+    value: &Value,
+    given: Value,
+    place: Place,
+) -> Result<Outputs, OutOfMemory>
+    ensures { IfOk result (λ o. outputs_view o ≡ outputs_of place transform (view value.now) (view given)) }
+{
+    match transform {
+        Transform::Map => Ok(without_nil(one(alloc, given)?, place)),
+        Transform::Filter => Ok(without_nil(kept(alloc, value, &given)?, place)),
+        Transform::Mapcat => joined(alloc, &given, place),
+    }
+}
+
+/// The outputs of the value, where the function came to this.
+pub(crate) fn outputs_by(
+    alloc: Global,
+    transform: Transform,
+    value: &Value,
+    returned: Returned,
+    place: Place,
+) -> Result<Outputs, OutOfMemory>
+    ensures { IfOk result (λ o. outputs_view o ≡ outputs_by place transform (view value.now) (returned_view returned)) }
+{
+    match returned {
+        Returned::Value(given) => outputs_of(alloc, transform, value, given, place),
+        Returned::Fault(fault, place) => Ok(Outputs::None(fault, place)),
+    }
+}

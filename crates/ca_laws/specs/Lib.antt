@@ -1,0 +1,10 @@
+pub mod Deeds
+pub mod Taken
+pub mod Rules
+pub mod SpawnLaw
+pub mod MixLaw
+pub mod MultRules
+pub mod PipelineRules
+pub mod PipeRules
+pub mod MergeRules
+pub mod PubRules

@@ -1,0 +1,22 @@
+-- The task of a mix as a body of its table.
+use Rattle.ca_value.specs.View.{view}
+use Rattle.ca_meaning.specs.MixTable.{MixPorts, MixState, mix_reads, mix_chooses, mix_drops, mix_puts}
+use Rattle.ca_meaning.specs.System.{SystemBody, a_mix}
+use Rattle.ca_system.specs.Stands.{next_view}
+use Rattle.ca_mix.specs.declared.mix.Mix.{Mix}
+use Rattle.ca_mix.specs.declared.mix.Ports.{Ports}
+use Rattle.ca_mix.specs.declared.mix.State.{State}
+use Rattle.ca_mix.specs.declared.mix.State.TheVariants.{Reads, Chooses, Drops, Puts}
+use Rattle.ca_mix.specs.Readings.{reading_view}
+
+abbrev pub ports_view : Ports → MixPorts
+ports_view p = record { mix = p.mix.n; out = p.out.n; changes = p.changes.n }
+
+abbrev pub state_view : State → MixState
+state_view Reads = mix_reads
+state_view (Chooses r) = mix_chooses (reading_view r).0 (reading_view r).1
+state_view (Drops c) = mix_drops c.n
+state_view (Puts r v) = mix_puts (reading_view r).0 (reading_view r).1 (view v)
+
+abbrev pub mix_view : Mix → SystemBody
+mix_view m = a_mix (ports_view m.ports) m.place (next_view state_view m.state)

@@ -1,0 +1,2 @@
+pub mod TapLaws
+pub mod Sending

@@ -1,0 +1,26 @@
+-- The task of a mult as a body of its table.
+use Rattle.std.specs.Prelude.{map as each_of}
+use Rattle.std.specs.Vec.Iter.{into_iter_items}
+use Rattle.ca_value.specs.View.{view}
+use Rattle.ca_meaning.specs.MultTable.{MultPorts, MultState, mult_takes, mult_reads, mult_spawns, mult_waits, mult_reads_last, mult_closes}
+use Rattle.ca_meaning.specs.System.{SystemBody, a_mult}
+use Rattle.ca_system.specs.Stands.{next_view}
+use Rattle.ca_mult.specs.declared.mult.Mult.{Mult}
+use Rattle.ca_mult.specs.declared.mult.Ports.{Ports}
+use Rattle.ca_mult.specs.declared.mult.State.{State}
+use Rattle.ca_mult.specs.declared.mult.State.TheVariants.{Takes, Reads, Spawns, Waits, ReadsLast, Closes}
+use Rattle.ca_mult.specs.Taps.{tap_view}
+
+abbrev pub ports_view : Ports → MultPorts
+ports_view p = record { mult = p.mult.n; source = p.source.n; acks = p.acks.n }
+
+abbrev pub state_view : State → MultState
+state_view Takes = mult_takes
+state_view (Reads v) = mult_reads (view v)
+state_view (Spawns v w) = mult_spawns (view v) (tap_view w.tap) (each_of tap_view (into_iter_items w.left)) w.before
+state_view (Waits n) = mult_waits n
+state_view ReadsLast = mult_reads_last
+state_view (Closes c left) = mult_closes c.n (each_of (λ p. p.n) (into_iter_items left))
+
+abbrev pub mult_view : Mult → SystemBody
+mult_view m = a_mult (ports_view m.ports) m.place (next_view state_view m.state)

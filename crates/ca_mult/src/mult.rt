@@ -1,0 +1,243 @@
+//! The task of a mult: each value that it takes from the source goes to all taps.
+ghost use Rattle.std.specs.Prelude.{◌≡◌, ◌+◌, ◌^◌, ◌<◌, map, IfOk, OnOk};
+ghost use Rattle.std.specs.Vec.Iter.{into_iter_items, into_iter_len};
+ghost use Rattle.ca_value.specs.Seq.{list};
+ghost use Rattle.ca_value.specs.Tree.{item, port};
+ghost use Rattle.ca_value.specs.View.{view, trees};
+ghost use Rattle.ca_term.specs.declared.head.SystemTask.TheVariants.{Mult as mult_task, Deliver as deliver_task};
+ghost use Rattle.ca_meaning.specs.Asks.{closes_due, spawns, two_of};
+ghost use Rattle.ca_meaning.specs.MultTable.{mult_asks, mult_next, mult_takes, mult_reads, mult_reads_last, mult_closes, acks_due, spawns_due};
+ghost use Rattle.ca_meaning.specs.System.{new_system};
+ghost use Rattle.ca_system.specs.Stands.{stand_at, next_view};
+ghost use Rattle.ca_mult.specs.Taps.{tap_view};
+ghost use Rattle.ca_mult.specs.Mults.{mult_view, ports_view, state_view};
+
+use crate::taps::{Tap, Walk, closing_of, taps_in};
+use ca_states::valid_code::ValidCode;
+use ca_system::asks::{closes, four, one, registers, spawns, takes};
+use ca_system::operand::{is_nil, port_at};
+use ca_system::stand::{Next, Stand};
+use ca_system::table::Table;
+use ca_term::fault::Fault;
+use ca_term::head::{RegisterName, SystemTask};
+use ca_term::place::Place;
+use ca_value::memory::OutOfMemory;
+use ca_value::value::{Items, PortId, Value};
+use std::alloc::Global;
+use std::mem;
+use std::vec::IntoIter;
+
+/// The task of a mult.
+#[derive(Drop)]
+pub struct Mult {
+    ports: Ports,
+    place: Place,
+    state: Next<State>,
+}
+
+// The mult, its source, and where its deliveries answer.
+#[derive(Clone, Copy, Drop)]
+struct Ports {
+    mult: PortId,
+    source: PortId,
+    acks: PortId,
+}
+
+#[derive(Drop)]
+enum State {
+    // It takes the next value.
+    Takes,
+    // It reads the taps, which this value goes to.
+    Reads(Value),
+    // It starts the delivery of this value to the tap where the walk stands.
+    Spawns(Value, Walk),
+    // It waits for so many answers.
+    Waits(u64),
+    // The source is closed: it reads the taps once more.
+    ReadsLast,
+    // It closes this channel, and then those that are left.
+    Closes {
+        channel: PortId,
+        left: IntoIter<PortId, Global>,
+    },
+}
+
+impl Mult {
+    /// The task with these values: the mult, its source, and the channel of its deliveries' answers.
+    pub fn new(values: Items, place: Place) -> Mult
+        ensures { mult_view result ≡ new_system mult_task (trees (list values)) place }
+    {
+        let values = values.as_slice();
+        Mult {
+            ports: Ports {
+                mult: port_at(values, 0),
+                source: port_at(values, 1),
+                acks: port_at(values, 2),
+            },
+            place,
+            state: Next::To(State::Takes),
+        }
+    }
+}
+
+impl Table for Mult {
+    ghost body = { mult_view };
+
+    ghost over = { λ code m. Unit {0} };
+
+    fn stand(&self, alloc: Global) -> Result<Stand, OutOfMemory> {
+        match &self.state {
+            Next::To(state) => state.asks(alloc, &self.ports, self.place),
+            Next::Stop => Ok(Stand::Ended),
+            Next::Fail(fault) => Ok(Stand::Faulted(*fault, self.place)),
+            Next::FailAt(fault, place) => Ok(Stand::Faulted(*fault, *place)),
+        }
+    }
+
+    fn follow(
+        &mut self,
+        alloc: Global,
+        _code: &ValidCode,
+        answer: Value,
+    ) -> Result<(), OutOfMemory> {
+        let was = mem::replace(&mut self.state, Next::Stop);
+        self.state = match was {
+            Next::To(state) => state.next(alloc, answer)?,
+            over => over,
+        };
+        Ok(())
+    }
+}
+
+impl State {
+    // What it asks for.
+    fn asks(&self, alloc: Global, ports: &Ports, place: Place) -> Result<Stand, OutOfMemory>
+        ensures { IfOk result (λ s. stand_at s ≡ mult_asks (ports_view ports.now) (state_view self.now) place) }
+    {
+        match self {
+            State::Takes => Ok(takes(ports.source, place)),
+            State::Reads(_) => ports.taps(alloc, place),
+            State::Spawns(value, walk) => ports.delivery(alloc, value, walk.tap.channel, place),
+            State::Waits(_) => Ok(takes(ports.acks, place)),
+            State::ReadsLast => ports.taps(alloc, place),
+            State::Closes { channel, .. } => Ok(closes(*channel, place)),
+        }
+    }
+
+    // What follows on the answer.
+    fn next(self, alloc: Global, answer: Value) -> Result<Next<State>, OutOfMemory>
+        ensures { IfOk result (λ n. next_view state_view n ≡ mult_next (view answer) (state_view self)) }
+    {
+        match self {
+            State::Takes => Ok(taken(answer)),
+            State::Reads(value) => deliveries(alloc, value, &answer),
+            State::Spawns(value, walk) => Ok(next_delivery(value, walk)),
+            State::Waits(more) => Ok(acks_due(more)),
+            State::ReadsLast => closings(alloc, &answer),
+            State::Closes { left, .. } => Ok(closes_due(left)),
+        }
+    }
+}
+
+impl Ports {
+    // It reads the taps.
+    fn taps(&self, alloc: Global, place: Place) -> Result<Stand, OutOfMemory>
+        ensures { IfOk result (λ s. stand_at s ≡ mult_asks (ports_view self.now) mult_reads_last place) }
+    {
+        let values = one(alloc, Value::Port(self.mult))?;
+        Ok(registers(RegisterName::Taps, values, place))
+    }
+
+    // It starts the delivery of the value to the channel.
+    fn delivery(
+        &self,
+        alloc: Global,
+        value: &Value,
+        channel: PortId,
+        place: Place,
+    ) -> Result<Stand, OutOfMemory>
+        ensures { IfOk result (λ s. stand_at s ≡ spawns deliver_task (item (port self.now.mult.n) (item (port channel.n) (two_of (view value.now) (port self.now.acks.n)))) place) }
+    {
+        let mult = Value::Port(self.mult);
+        let acks = Value::Port(self.acks);
+        let values = four(alloc, mult, Value::Port(channel), value.copy(alloc)?, acks)?;
+        Ok(spawns(SystemTask::Deliver, values, place))
+    }
+}
+
+// The delivery to the tap after it, or the wait for the answers of all.
+fn next_delivery(value: Value, walk: Walk) -> Next<State>
+    ensures { next_view state_view result ≡ spawns_due (view value) (map tap_view (into_iter_items walk.left)) (walk.before + 1) }
+{
+    let Walk {
+        tap: _,
+        left,
+        before,
+    } = walk;
+    spawns_due(value, left, before + 1)
+}
+
+// The end of the source, or the deliveries of its value.
+fn taken(answer: Value) -> Next<State>
+    ensures { next_view state_view result ≡ mult_next (view answer) mult_takes }
+{
+    if is_nil(&answer) {
+        Next::To(State::ReadsLast)
+    } else {
+        Next::To(State::Reads(answer))
+    }
+}
+
+// The deliveries to the taps that the answer tells.
+fn deliveries(alloc: Global, value: Value, answer: &Value) -> Result<Next<State>, OutOfMemory>
+    ensures { IfOk result (λ n. next_view state_view n ≡ mult_next (view answer.now) (mult_reads (view value))) }
+{
+    match taps_in(alloc, answer)? {
+        None => Ok(Next::Fail(Fault::WrongKind)),
+        Some(taps) => Ok(spawns_due(value, taps.into_vec().into_iter(), 0)),
+    }
+}
+
+// The delivery to the first of these, with how many stand before it; after the last one the wait for the answers.
+fn spawns_due(value: Value, left: IntoIter<Tap, Global>, before: u64) -> Next<State>
+    requires { before + into_iter_len left < 2 ^ 64 }
+    ensures { next_view state_view result ≡ spawns_due (view value) (map tap_view (into_iter_items left)) before }
+{
+    let mut left = left;
+    match left.next() {
+        None => acks_due(before),
+        Some(tap) => Next::To(State::Spawns(value, Walk { tap, left, before })),
+    }
+}
+
+// The wait for so many answers.
+fn acks_due(more: u64) -> Next<State>
+    ensures { next_view state_view result ≡ acks_due more }
+{
+    if more == 0 {
+        Next::To(State::Takes)
+    } else {
+        Next::To(State::Waits(more - 1))
+    }
+}
+
+// The channels that close with the source, of the taps that the answer tells.
+fn closings(alloc: Global, answer: &Value) -> Result<Next<State>, OutOfMemory>
+    ensures { IfOk result (λ n. next_view state_view n ≡ mult_next (view answer.now) mult_reads_last) }
+{
+    match taps_in(alloc, answer)? {
+        None => Ok(Next::Fail(Fault::WrongKind)),
+        Some(taps) => Ok(closes_due(closing_of(alloc, taps.as_slice())?.into_iter())),
+    }
+}
+
+// The first of these channels closes next; after the last one the task ends.
+fn closes_due(left: IntoIter<PortId, Global>) -> Next<State>
+    ensures { next_view state_view result ≡ closes_due mult_closes (map (λ p. p.n) (into_iter_items left)) }
+{
+    let mut left = left;
+    match left.next() {
+        None => Next::Stop,
+        Some(channel) => Next::To(State::Closes { channel, left }),
+    }
+}

@@ -1,0 +1,3 @@
+mod WalkLaws
+mod MergeLaws
+pub mod Sending

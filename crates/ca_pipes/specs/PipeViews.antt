@@ -1,0 +1,20 @@
+-- Which body of the meaning a `Pipe` is.
+use Rattle.ca_value.specs.View.{view}
+use Rattle.ca_meaning.specs.PipeTable.{PipePorts, PipeState, pipe_takes, pipe_puts, pipe_closes}
+use Rattle.ca_meaning.specs.System.{SystemBody, a_pipe}
+use Rattle.ca_system.specs.Stands.{next_view}
+use Rattle.ca_pipes.specs.declared.pipe.Pipe.{Pipe}
+use Rattle.ca_pipes.specs.declared.pipe.Ports.{Ports}
+use Rattle.ca_pipes.specs.declared.pipe.State.{State}
+use Rattle.ca_pipes.specs.declared.pipe.State.TheVariants.{Takes, Puts, Closes}
+
+abbrev pub pipe_ports : Ports → PipePorts
+pipe_ports p = record { source = p.source.n; target = p.target.n; closes = p.closes }
+
+abbrev pub pipe_state : State → PipeState
+pipe_state Takes = pipe_takes
+pipe_state (Puts v) = pipe_puts (view v)
+pipe_state Closes = pipe_closes
+
+abbrev pub pipe_view : Pipe → SystemBody
+pipe_view p = a_pipe (pipe_ports p.ports) p.place (next_view pipe_state p.state)

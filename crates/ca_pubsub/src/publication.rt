@@ -1,0 +1,278 @@
+//! The task of a publication: each value that it takes from the source goes to the channel of its topic.
+ghost use Rattle.std.specs.Prelude.{◌≡◌, map, IfOk, OnOk, IsTrue, cond};
+ghost use Rattle.std.specs.Vec.Iter.{into_iter_items};
+ghost use Rattle.ca_value.specs.Seq.{list};
+ghost use Rattle.ca_value.specs.View.{view, trees};
+ghost use Rattle.ca_term.specs.declared.head.SystemTask.TheVariants.{Pub as pub_task};
+ghost use Rattle.ca_term.specs.Program.{ProgramView};
+ghost use Rattle.ca_meaning.specs.Asks.{to, needing, closes_due, follows, registers, one_of, two_of};
+ghost use Rattle.ca_term.specs.declared.head.RegisterName.TheVariants.{Find, Topics};
+ghost use Rattle.ca_value.specs.Tree.{port};
+ghost use Rattle.ca_meaning.specs.Operands.{is_nil};
+ghost use Rattle.ca_meaning.specs.PubTable.{pub_asks, pub_next, pub_takes, pub_sorts, pub_puts, pub_reads_last, pub_closes, channel_of_pair, sorted_by};
+ghost use Rattle.ca_meaning.specs.System.{new_system};
+ghost use Rattle.ca_states.specs.Code.{CodeView};
+ghost use Rattle.ca_states.specs.Valid.{is_applied};
+ghost use Rattle.ca_states.specs.ValidCode.{valid_code};
+ghost use Rattle.ca_lower.specs.Lowered.{Lowered};
+ghost use Rattle.ca_applying.specs.Returned.{returned_view};
+ghost use Rattle.ca_system.specs.Stands.{stand_at, next_view};
+ghost use Rattle.ca_pubsub.specs.Publications.{pub_over, Rests, pub_body, ports_view, state_view};
+
+use crate::answers::{channel_of, ports_in};
+use ca_applying::apply::apply;
+use ca_applying::returned::Returned;
+use ca_states::valid_code::ValidCode;
+use ca_system::asks::{closes, one, puts, registers, takes, two};
+use ca_system::operand::{is_nil, port_at, value_at};
+use ca_system::stand::{Next, Stand};
+use ca_system::table::Table;
+use ca_term::fault::Fault;
+use ca_term::head::{PlainFunction, RegisterName};
+use ca_term::place::Place;
+use ca_value::memory::OutOfMemory;
+use ca_value::value::{Items, PortId, Value};
+use std::alloc::Global;
+use std::mem;
+use std::vec::IntoIter;
+
+/// The task of a publication.
+#[derive(Drop)]
+pub struct Pub {
+    ports: Ports,
+    place: Place,
+    state: Next<State>,
+}
+
+// The publication, its source, its topic function, and the keyword where that is the function.
+#[derive(Drop)]
+struct Ports {
+    publication: PortId,
+    source: PortId,
+    topic: PlainFunction,
+    keyword: Value,
+}
+
+#[derive(Drop)]
+enum State {
+    // It takes the next value.
+    Takes,
+    // It asks for the channel of this topic, for the value.
+    Finds {
+        topic: Value,
+        value: Value,
+    },
+    // It puts the value on the topic's channel.
+    Puts {
+        channel: PortId,
+        value: Value,
+    },
+    // The source is closed: it reads the topics' channels.
+    ReadsLast,
+    // It closes this channel, and then those that are left.
+    Closes {
+        channel: PortId,
+        left: IntoIter<PortId, Global>,
+    },
+}
+
+impl Pub {
+    /// The task with this topic function and these values: the publication, its source, and the keyword where that is
+    /// the function.
+    pub fn new(topic: PlainFunction, values: Items, place: Place) -> Pub
+        ensures new { pub_body result ≡ new_system (pub_task topic) (trees (list values)) place }
+        ensures topic { (code : CodeView) → IsTrue (is_applied code topic) → pub_over code result }
+    {
+        let publication = port_at(values.as_slice(), 0);
+        let source = port_at(values.as_slice(), 1);
+        Pub {
+            ports: Ports {
+                publication,
+                source,
+                topic,
+                keyword: value_at(values, 2),
+            },
+            place,
+            state: Next::To(State::Takes),
+        }
+    }
+}
+
+impl Table for Pub {
+    ghost body = { pub_body };
+
+    ghost over = { pub_over };
+
+    fn stand(&self, alloc: Global) -> Result<Stand, OutOfMemory> {
+        match &self.state {
+            Next::To(state) => state.asks(alloc, &self.ports, self.place),
+            Next::Stop => Ok(Stand::Ended),
+            Next::Fail(fault) => Ok(Stand::Faulted(*fault, self.place)),
+            Next::FailAt(fault, place) => Ok(Stand::Faulted(*fault, *place)),
+        }
+    }
+
+    fn follow(
+        &mut self,
+        alloc: Global,
+        code: &ValidCode,
+        answer: Value,
+    ) -> Result<(), OutOfMemory> {
+        let was = mem::replace(&mut self.state, Next::Stop);
+        self.state = self.ports.follow(alloc, code, was, answer, self.place)?;
+        Ok(())
+    }
+}
+
+impl State {
+    // What it asks for.
+    fn asks(&self, alloc: Global, ports: &Ports, place: Place) -> Result<Stand, OutOfMemory>
+        ensures { IfOk result (λ s. stand_at s ≡ pub_asks (ports_view ports.now) (state_view self.now) place) }
+    {
+        match self {
+            State::Takes => Ok(takes(ports.source, place)),
+            State::Finds { topic, value: _ } => ports.find(alloc, topic, place),
+            State::Puts { channel, value } => Ok(puts(*channel, value.copy(alloc)?, place)),
+            State::ReadsLast => ports.topics(alloc, place),
+            State::Closes { channel, .. } => Ok(closes(*channel, place)),
+        }
+    }
+}
+
+impl Ports {
+    // It asks for the channel of the topic.
+    fn find(&self, alloc: Global, topic: &Value, place: Place) -> Result<Stand, OutOfMemory>
+        ensures { IfOk result (λ s. stand_at s ≡ registers Find (two_of (port self.now.publication.n) (view topic.now)) place) }
+    {
+        let values = two(alloc, Value::Port(self.publication), topic.copy(alloc)?)?;
+        Ok(registers(RegisterName::Find, values, place))
+    }
+
+    // It reads the topics' channels.
+    fn topics(&self, alloc: Global, place: Place) -> Result<Stand, OutOfMemory>
+        ensures { IfOk result (λ s. stand_at s ≡ registers Topics (one_of (port self.now.publication.n)) place) }
+    {
+        let values = one(alloc, Value::Port(self.publication))?;
+        Ok(registers(RegisterName::Topics, values, place))
+    }
+
+    // The topic of the value is made.
+    fn sort(
+        &self,
+        alloc: Global,
+        code: &ValidCode,
+        value: Value,
+        place: Place,
+    ) -> Result<Next<State>, OutOfMemory>
+        requires { IsTrue (is_applied (valid_code code.now) self.now.topic) }
+        ensures { IfOk result (λ n. (program : ProgramView) → Lowered program (valid_code code.now) → Rests program (ports_view self.now) place (to (pub_sorts (view value))) (next_view state_view n)) }
+    {
+        let topic = apply(alloc, code, self.topic, &self.keyword, &value, place)?;
+        Ok(sorted(value, topic))
+    }
+
+    // What follows on a value of the source, or on its end.
+    fn taken(
+        &self,
+        alloc: Global,
+        code: &ValidCode,
+        answer: Value,
+        place: Place,
+    ) -> Result<Next<State>, OutOfMemory>
+        requires { IsTrue (is_applied (valid_code code.now) self.now.topic) }
+        ensures { IfOk result (λ n. (program : ProgramView) → Lowered program (valid_code code.now) → Rests program (ports_view self.now) place (pub_next (view answer) pub_takes) (next_view state_view n)) }
+    {
+        if is_nil(&answer) {
+            Ok(Next::To(State::ReadsLast))
+        } else {
+            self.sort(alloc, code, answer, place)
+        }
+    }
+
+    // What follows on the answer.
+    #[tactic(auto, using(crate::proofs::Resting::at_rest))]
+    fn next(
+        &self,
+        alloc: Global,
+        code: &ValidCode,
+        state: State,
+        answer: Value,
+        place: Place,
+    ) -> Result<Next<State>, OutOfMemory>
+        requires { IsTrue (is_applied (valid_code code.now) self.now.topic) }
+        ensures { IfOk result (λ n. (program : ProgramView) → Lowered program (valid_code code.now) → Rests program (ports_view self.now) place (pub_next (view answer) (state_view state)) (next_view state_view n)) }
+    {
+        match state {
+            State::Takes => self.taken(alloc, code, answer, place),
+            State::Finds { topic: _, value } => Ok(found(&answer, value)),
+            State::Puts { .. } => Ok(Next::To(State::Takes)),
+            State::ReadsLast => closings(alloc, &answer),
+            State::Closes { left, .. } => Ok(closes_due(left)),
+        }
+    }
+
+    // What follows on the answer, where the task isn't over.
+    #[tactic(auto, using(crate::proofs::Resting::at_rest))]
+    fn follow(
+        &self,
+        alloc: Global,
+        code: &ValidCode,
+        state: Next<State>,
+        answer: Value,
+        place: Place,
+    ) -> Result<Next<State>, OutOfMemory>
+        requires { IsTrue (is_applied (valid_code code.now) self.now.topic) }
+        ensures { IfOk result (λ n. (program : ProgramView) → Lowered program (valid_code code.now) → Rests program (ports_view self.now) place (follows (pub_next (view answer)) (next_view state_view state)) (next_view state_view n)) }
+    {
+        match state {
+            Next::To(state) => self.next(alloc, code, state, answer, place),
+            Next::Stop => Ok(Next::Stop),
+            Next::Fail(fault) => Ok(Next::Fail(fault)),
+            Next::FailAt(fault, at) => Ok(Next::FailAt(fault, at)),
+        }
+    }
+}
+
+// The topic that the function came to, or its fault.
+fn sorted(value: Value, topic: Returned) -> Next<State>
+    ensures { next_view state_view result ≡ sorted_by (view value) (returned_view topic) }
+{
+    match topic {
+        Returned::Value(topic) => Next::To(State::Finds { topic, value }),
+        Returned::Fault(fault, place) => Next::FailAt(fault, place),
+    }
+}
+
+// The value goes to the channel that the answer tells; where nobody has the topic, it is dropped.
+fn found(answer: &Value, value: Value) -> Next<State>
+    ensures { next_view state_view result ≡ cond (is_nil (view answer.now)) (to pub_takes) (needing (channel_of_pair (view answer.now)) (λ c. to (pub_puts c (view value)))) }
+{
+    if is_nil(answer) {
+        return Next::To(State::Takes);
+    }
+    match channel_of(answer) {
+        None => Next::Fail(Fault::WrongKind),
+        Some(channel) => Next::To(State::Puts { channel, value }),
+    }
+}
+
+// The topics' channels close, which the answer tells.
+fn closings(alloc: Global, answer: &Value) -> Result<Next<State>, OutOfMemory>
+    ensures { IfOk result (λ n. next_view state_view n ≡ pub_next (view answer.now) pub_reads_last) }
+{
+    match ports_in(alloc, answer)? {
+        None => Ok(Next::Fail(Fault::WrongKind)),
+        Some(ports) => Ok(closes_due(ports.into_vec().into_iter())),
+    }
+}
+
+// The first of these channels closes next; after the last one the task ends.
+fn closes_due(left: IntoIter<PortId, Global>) -> Next<State>
+    ensures { next_view state_view result ≡ closes_due pub_closes (map (λ p. p.n) (into_iter_items left)) }
+{
+    let mut left = left;
+    match left.next() {
+        None => Next::Stop,
+        Some(channel) => Next::To(State::Closes { channel, left }),
+    }
+}

@@ -1,0 +1,3 @@
+pub mod Stands
+pub mod Systems
+pub mod SystemLaws

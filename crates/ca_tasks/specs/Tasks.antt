@@ -1,0 +1,48 @@
+-- A task of a run is an agent as its machine is, or its system task.
+use Rattle.std.specs.Prelude.{◌≡◌}
+use Rattle.ca_value.specs.Tree.{Tree}
+use Rattle.ca_term.specs.Operation.{SeedView}
+use Rattle.ca_term.specs.Program.{ProgramView}
+use Rattle.ca_meaning.specs.Body.{At}
+use Rattle.ca_meaning.specs.Task.{TaskBody}
+use Rattle.ca_states.specs.Code.{CodeView}
+use Rattle.ca_machine.specs.Machines as M
+use Rattle.ca_machine.specs.View.{machine_view}
+use Rattle.ca_system.specs.Systems as S
+use Rattle.ca_system.specs.Systems.{SystemView, system_view}
+use Rattle.ca_system.specs.declared.task.SystemTask.{SystemTask}
+use Rattle.ca_tasks.specs.declared.kind.Kind.{Kind}
+use Rattle.ca_tasks.specs.declared.task.AnyTask.{AnyTask}
+use Rattle.ca_tasks.specs.declared.task.AnyTask.TheVariants.{Text, System}
+use Rattle.ca_tasks.specs.Kinds.{kind_body, kind_over}
+
+abbrev pub seen : SystemTask Kind → SystemView
+seen t = system_view kind_body t
+
+abbrev pub over : CodeView → AnyTask → Type 0
+over C (Text m) = M.IsOver C (machine_view m)
+over C (System t) = kind_over C t.table
+
+abbrev pub stands : ProgramView → AnyTask → TaskBody → Type 0
+stands P (Text m) b = M.StandsAs P (machine_view m) b
+stands P (System t) b = S.StandsAs P (seen t) b
+
+abbrev pub place : AnyTask → At
+place (Text m) = (machine_view m).place
+place (System t) = (seen t).place
+
+abbrev pub advances : ProgramView → AnyTask → AnyTask → Type 0
+advances P (Text m) (Text n) = M.Advances (machine_view m) (machine_view n)
+advances P (Text m) (System t) = ⊥
+advances P (System t) (Text m) = ⊥
+advances P (System t) (System u) = S.Advances P (seen t) (seen u)
+
+abbrev pub gives : AnyTask → Tree → AnyTask → Type 0
+gives (Text m) v (Text n) = M.Gives (machine_view m) v (machine_view n)
+gives (Text m) v (System t) = ⊥
+gives (System t) v (Text m) = ⊥
+gives (System t) v (System u) = S.Gives (seen t) v (seen u) × (u.table ≡ t.table)
+
+abbrev pub starts : ProgramView → SeedView → AnyTask → Type 0
+starts P seed (Text m) = M.Starts P seed (machine_view m)
+starts P seed (System t) = S.Starts seed (seen t)

@@ -1,0 +1,65 @@
+//! New tasks of the seeds that a run starts.
+ghost use Rattle.std.specs.Prelude.{◌≡◌, IfOk, IfSome, true};
+ghost use Rattle.ca_value.specs.Seq.{list};
+ghost use Rattle.ca_value.specs.View.{trees};
+ghost use Rattle.ca_states.specs.ValidCode.{valid_code};
+ghost use Rattle.ca_meaning.specs.System.{new_system};
+ghost use Rattle.ca_system.specs.Systems.{rests};
+ghost use Rattle.ca_tasks.specs.Kinds.{HasFunction, kind_over};
+ghost use Rattle.ca_tasks.specs.Tasks.{seen};
+
+use crate::kind::Kind;
+use crate::task::AnyTask;
+use ca_agent::starting::Starting;
+use ca_applying::apply::has_function;
+use ca_machine::machine::Machine;
+use ca_states::valid_code::ValidCode;
+use ca_system::task::SystemTask as Running;
+use ca_term::copy::copy_values;
+use ca_term::head::SystemTask;
+use ca_term::operation::{Seed, SystemSeed};
+use ca_value::memory::OutOfMemory;
+use std::alloc::Global;
+
+// Whether the code has the function that the task applies, if it applies one.
+fn has_function_of(code: &ValidCode, task: SystemTask) -> bool
+    ensures { result ≡ true → HasFunction (valid_code code.now) task }
+{
+    match task {
+        SystemTask::Pub(function) | SystemTask::Job(_, function) => has_function(code, function),
+        SystemTask::Mult | SystemTask::Deliver | SystemTask::Mix => true,
+        SystemTask::Pipe | SystemTask::Merge | SystemTask::Onto => true,
+        SystemTask::Feed | SystemTask::Collect => true,
+    }
+}
+
+// The system task of a seed that stays; None where the code lacks its function.
+fn system_for(
+    alloc: Global,
+    code: &ValidCode,
+    seed: &SystemSeed,
+) -> Result<Option<Running<Kind>>, OutOfMemory>
+    ensures starts { IfOk result (λ o. IfSome o (λ t. seen t ≡ rests (new_system seed.now.kind (trees (list seed.now.values)) seed.now.place))) }
+    ensures over { IfOk result (λ o. IfSome o (λ t. kind_over (valid_code code.now) t.table)) }
+{
+    if !has_function_of(code, seed.kind) {
+        return Ok(None);
+    }
+    let values = copy_values(alloc, seed.values.as_slice())?;
+    Ok(Some(Running::new(Kind::new(seed.kind, values, seed.place))))
+}
+
+impl Starting for AnyTask {
+    fn start(alloc: Global, code: &ValidCode, seed: &Seed) -> Result<Option<AnyTask>, OutOfMemory> {
+        match seed {
+            Seed::Go(_) => match <Machine as Starting>::start(alloc, code, seed)? {
+                Some(machine) => Ok(Some(AnyTask::Text(machine))),
+                None => Ok(None),
+            },
+            Seed::System(system) => match system_for(alloc, code, system)? {
+                Some(task) => Ok(Some(AnyTask::System(task))),
+                None => Ok(None),
+            },
+        }
+    }
+}
