@@ -1,7 +1,6 @@
 -- What a runner halts as, the body that it stands for comes to rest as.
 use Rattle.std.proofs.Common.{◌≡◌, ◌≢◌, sym, ap, ◌∙◌, subst}
 use Rattle.ca_value.specs.View.{view}
-use Rattle.ca_term.specs.declared.place.Place.{Place}
 use Rattle.ca_term.specs.Operation.{WantView, want_view}
 use Rattle.ca_term.specs.Program.{ProgramView}
 use Rattle.ca_meaning.specs.Applied.{returned}
@@ -28,17 +27,17 @@ IsOff nowhere = Unit {0}
 off : (a b : At) → a ≡ b → IsOff b → a ≢ local
 off a b e o l = subst IsOff (sym e ∙ l) o
 
-module _ (P : ProgramView) (C : CodeView) (b : BodyView) (p : Place) where
-  halted : (m : Move) (h : Halt) (r : Runner) → HaltedAs m h r → After P (StandsFor P C) m b → (c : BodyView) × Rest P b c × (halt_returned p h ≡ returned p (at c))
+module _ (P : ProgramView) (C : CodeView) (b : BodyView) where
+  halted : (m : Move) (h : Halt) (r : Runner) → HaltedAs m h r → After P (StandsFor P C) m b → (c : BodyView) × Rest P b c × (halt_returned h ≡ returned (at c))
   halted m (Ended v) r e g =
       let z = subst (λ x. After P (StandsFor P C) x b) e g in
-      (z.0, record { reached = z.1; over = off (at z.0) (ended (view v)) z.2 tt }, sym (ap (returned p) z.2))
+      (z.0, record { reached = z.1; over = off (at z.0) (ended (view v)) z.2 tt }, sym (ap returned z.2))
   halted m (Faulted f q) r e g =
       let z = subst (λ x. After P (StandsFor P C) x b) e g in
-      (z.0, record { reached = z.1; over = off (at z.0) (faulted f q) z.2 tt }, sym (ap (returned p) z.2))
+      (z.0, record { reached = z.1; over = off (at z.0) (faulted f q) z.2 tt }, sym (ap returned z.2))
   halted m (Cut w) r e g =
       let z = subst (λ x. After P (StandsFor P C) x b) e g in
-      (z.0, record { reached = z.1; over = off (at z.0) (at_op (want_view w)) z.2 tt }, sym (ap (returned p) z.2))
+      (z.0, record { reached = z.1; over = off (at z.0) (at_op (want_view w)) z.2 tt }, sym (ap returned z.2))
 
-  pub came_to : (c : State) (h : Halt) (r : Runner) → StandsFor P C c b → HaltsAs C c h r → (d : BodyView) × Rest P b d × (halt_returned p h ≡ returned p (at d))
+  pub came_to : (c : State) (h : Halt) (r : Runner) → StandsFor P C c b → HaltsAs C c h r → (d : BodyView) × Rest P b d × (halt_returned h ≡ returned (at d))
   came_to c h r g (m, k, e) = halted m h r e (comes P C b g k)

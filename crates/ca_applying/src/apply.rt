@@ -4,6 +4,7 @@ ghost use Rattle.ca_value.specs.View.{view};
 ghost use Rattle.ca_value.specs.Builtins.{admits, builtin_result};
 ghost use Rattle.ca_value.specs.declared.builtin.Builtin.TheVariants.{Get};
 ghost use Rattle.ca_term.specs.Program.{ProgramView};
+ghost use Rattle.ca_term.specs.declared.place.Place.{Place};
 ghost use Rattle.ca_meaning.specs.Applied.{Applied, of_builtin};
 ghost use Rattle.ca_meaning.specs.Asks.{one_of, two_of};
 ghost use Rattle.ca_states.specs.Valid.{is_applied};
@@ -17,7 +18,6 @@ use ca_states::runner::Start;
 use ca_states::stop::task_fault;
 use ca_states::valid_code::ValidCode;
 use ca_term::head::PlainFunction;
-use ca_term::place::Place;
 use ca_value::builtin::Builtin;
 use ca_value::builtin::direct::{apply_one, apply_two};
 use ca_value::fault::ApplyError;
@@ -25,35 +25,25 @@ use ca_value::memory::OutOfMemory;
 use ca_value::value::Value;
 use std::alloc::Global;
 
-// A builtin of the value; its fault is the form's, at the place.
-fn apply_builtin(
-    alloc: Global,
-    builtin: Builtin,
-    value: &Value,
-    place: Place,
-) -> Result<Returned, OutOfMemory>
+// A builtin of the value.
+fn apply_builtin(alloc: Global, builtin: Builtin, value: &Value) -> Result<Returned, OutOfMemory>
     requires { IsTrue (admits builtin 1) }
-    ensures { IfOk result (λ r. returned_view r ≡ of_builtin place (builtin_result builtin (one_of (view value.now)))) }
+    ensures { IfOk result (λ r. returned_view r ≡ of_builtin (builtin_result builtin (one_of (view value.now)))) }
 {
     match apply_one(alloc, builtin, value) {
         Ok(value) => Ok(Returned::Value(value)),
-        Err(ApplyError::Fault(fault)) => Ok(Returned::Fault(task_fault(fault), place)),
+        Err(ApplyError::Fault(fault)) => Ok(Returned::Fault(task_fault(fault))),
         Err(ApplyError::OutOfMemory) => Err(OutOfMemory),
     }
 }
 
 // What the value has under the keyword.
-fn look_up(
-    alloc: Global,
-    value: &Value,
-    keyword: &Value,
-    place: Place,
-) -> Result<Returned, OutOfMemory>
-    ensures { IfOk result (λ r. returned_view r ≡ of_builtin place (builtin_result Get (two_of (view value.now) (view keyword.now)))) }
+fn look_up(alloc: Global, value: &Value, keyword: &Value) -> Result<Returned, OutOfMemory>
+    ensures { IfOk result (λ r. returned_view r ≡ of_builtin (builtin_result Get (two_of (view value.now) (view keyword.now)))) }
 {
     match apply_two(alloc, Builtin::Get, value, keyword) {
         Ok(value) => Ok(Returned::Value(value)),
-        Err(ApplyError::Fault(fault)) => Ok(Returned::Fault(task_fault(fault), place)),
+        Err(ApplyError::Fault(fault)) => Ok(Returned::Fault(task_fault(fault))),
         Err(ApplyError::OutOfMemory) => Err(OutOfMemory),
     }
 }
@@ -69,7 +59,7 @@ pub fn has_function(code: &ValidCode, function: PlainFunction) -> bool
     }
 }
 
-/// The function applied to the value by a form at the place; the keyword is looked up where the function is one. The
+/// The function applied to the value; the keyword is looked up where the function is one. The
 /// code has a function of the program that is named, and it takes one value.
 pub fn apply(
     alloc: Global,
@@ -77,14 +67,13 @@ pub fn apply(
     function: PlainFunction,
     keyword: &Value,
     value: &Value,
-    place: Place,
 ) -> Result<Returned, OutOfMemory>
     requires { IsTrue (is_applied (valid_code code.now) function) }
-    ensures { IfOk result (λ r. (program : ProgramView) → Lowered program (valid_code code.now) → Applied program function (view keyword.now) place (view value.now) (returned_view r)) }
+    ensures { IfOk result (λ r. (program : ProgramView) (place : Place) → Lowered program (valid_code code.now) → Applied program function (view keyword.now) place (view value.now) (returned_view r)) }
 {
     match function {
-        PlainFunction::Defined(number) => call(alloc, code, number, value.copy(alloc)?, place),
-        PlainFunction::Builtin(builtin) => apply_builtin(alloc, builtin, value, place),
-        PlainFunction::Keyword => look_up(alloc, value, keyword, place),
+        PlainFunction::Defined(number) => call(alloc, code, number, value.copy(alloc)?),
+        PlainFunction::Builtin(builtin) => apply_builtin(alloc, builtin, value),
+        PlainFunction::Keyword => look_up(alloc, value, keyword),
     }
 }

@@ -5,6 +5,7 @@ ghost use Rattle.ca_value.specs.Tree.{Tree};
 ghost use Rattle.ca_value.specs.View.{view, views};
 ghost use Rattle.ca_term.specs.declared.head.PlainFunction.TheVariants.{Defined};
 ghost use Rattle.ca_term.specs.Program.{ProgramView};
+ghost use Rattle.ca_term.specs.declared.place.Place.{Place};
 ghost use Rattle.ca_meaning.specs.Applied.{Applied};
 ghost use Rattle.ca_states.specs.declared.runner.Start.TheVariants.{Function};
 ghost use Rattle.ca_states.specs.Standing.{IsStart};
@@ -16,7 +17,6 @@ use crate::returned::Returned;
 use ca_states::runner::{Halt, Runner};
 use ca_states::valid_code::ValidCode;
 use ca_term::fault::Fault;
-use ca_term::place::Place;
 use ca_value::memory::OutOfMemory;
 use ca_value::seq::Seq;
 use ca_value::value::{Items, Value};
@@ -32,31 +32,30 @@ fn alone(alloc: Global, value: Value) -> Result<Items, OutOfMemory>
     Ok(values)
 }
 
-// What a call comes to that halted so. At an operation it is a fault of the form that called.
-fn returned(halt: Halt, place: Place) -> Returned
-    ensures { returned_view result ≡ halt_returned place halt }
+// What a call comes to that halted so. A plain function has no operations.
+fn returned(halt: Halt) -> Returned
+    ensures { returned_view result ≡ halt_returned halt }
 {
     match halt {
         Halt::Ended(value) => Returned::Value(value),
-        Halt::Faulted(fault, place) => Returned::Fault(fault, place),
-        Halt::Cut(_) => Returned::Fault(Fault::WrongKind, place),
+        Halt::Faulted(fault, _) => Returned::Fault(fault),
+        Halt::Cut(_) => Returned::Fault(Fault::WrongKind),
     }
 }
 
-/// The function of that number, called by itself with the value by a form at the place. Its turns and calls are counted
-/// from 0, and the call is one of each.
+/// The function of that number, called by itself with the value. Its turns and calls are counted from 0, and the call is
+/// one of each.
 pub fn call(
     alloc: Global,
     code: &ValidCode,
     function: u64,
     value: Value,
-    place: Place,
 ) -> Result<Returned, OutOfMemory>
     requires { IsStart (valid_code code.now) (Function function) 1 }
-    ensures { IfOk result (λ r. (program : ProgramView) (keyword : Tree) → Lowered program (valid_code code.now) → Applied program (Defined function) keyword place (view value) (returned_view r)) }
+    ensures { IfOk result (λ r. (program : ProgramView) (keyword : Tree) (place : Place) → Lowered program (valid_code code.now) → Applied program (Defined function) keyword place (view value) (returned_view r)) }
 {
     let values = alone(alloc, value)?;
     let mut runner = Runner::start_call(alloc, code, function, values)?;
     let halt = runner.run(alloc, code)?;
-    Ok(returned(halt, place))
+    Ok(returned(halt))
 }

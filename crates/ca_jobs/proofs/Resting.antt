@@ -5,7 +5,7 @@ use Rattle.ca_meaning.specs.Applied.{Work}
 use Rattle.ca_meaning.specs.Asks.{Next}
 use Rattle.ca_meaning.specs.PipelineTable.{JobState}
 use Rattle.ca_system.specs.declared.stand.Next.{Next as NextCode}
-use Rattle.ca_system.specs.declared.stand.Next.TheVariants.{To, Stop, Fail, FailAt}
+use Rattle.ca_system.specs.declared.stand.Next.TheVariants.{To, Stop, Fail}
 use Rattle.ca_system.specs.Stands.{next_view}
 use Rattle.ca_jobs.specs.declared.job.State.{State}
 use Rattle.ca_jobs.specs.declared.job.State.TheVariants.{Takes, Replies}
@@ -16,7 +16,6 @@ stays program jobs w (To Takes) = refl
 stays program jobs w (To (Replies p ys)) = refl
 stays program jobs w Stop = refl
 stays program jobs w (Fail f) = refl
-stays program jobs w (FailAt f q) = refl
 
 pub at_rest : (program : ProgramView) (jobs : ℕ) (w : Work) (n : NextCode State) (m : Next JobState) → next_view state_view n ≡ m → Rests program jobs w m (next_view state_view n)
 at_rest program jobs w n m e = subst (λ k. Rests program jobs w k (next_view state_view n)) e (stays program jobs w n)

@@ -7,4 +7,4 @@ use Rattle.ca_jobs.specs.declared.outputs.Outputs.TheVariants.{All, None}
 
 abbrev pub outputs_view : OutputsCode → Outputs
 outputs_view (All ys) = outputs (trees_of (vector_trees ys))
-outputs_view (None f p) = no_outputs f p
+outputs_view (None f) = no_outputs f

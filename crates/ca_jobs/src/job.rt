@@ -86,7 +86,6 @@ impl Table for Job {
             Next::To(state) => state.asks(self.jobs, self.work.place),
             Next::Stop => Ok(Stand::Ended),
             Next::Fail(fault) => Ok(Stand::Faulted(*fault, self.work.place)),
-            Next::FailAt(fault, place) => Ok(Stand::Faulted(*fault, *place)),
         }
     }
 
@@ -128,8 +127,8 @@ impl Work {
         requires { IsTrue (is_applied (valid_code code.now) self.now.function) }
         ensures { IfOk result (λ n. (program : ProgramView) (jobs : ℕ) → Lowered program (valid_code code.now) → Rests program jobs (work_view self.now) (to (job_works (view value.now) reply.n)) (next_view state_view n)) }
     {
-        let returned = apply(alloc, code, self.function, &self.keyword, value, self.place)?;
-        let outputs = outputs_by(alloc, self.transform, value, returned, self.place)?;
+        let returned = apply(alloc, code, self.function, &self.keyword, value)?;
+        let outputs = outputs_by(alloc, self.transform, value, returned)?;
         Ok(worked(reply, outputs))
     }
 
@@ -170,7 +169,6 @@ impl Work {
             Next::To(State::Replies(_, _)) => Ok(Next::To(State::Takes)),
             Next::Stop => Ok(Next::Stop),
             Next::Fail(fault) => Ok(Next::Fail(fault)),
-            Next::FailAt(fault, place) => Ok(Next::FailAt(fault, place)),
         }
     }
 }
@@ -181,6 +179,6 @@ fn worked(reply: PortId, outputs: Outputs) -> Next<State>
 {
     match outputs {
         Outputs::All(outputs) => Next::To(State::Replies(reply, outputs)),
-        Outputs::None(fault, place) => Next::FailAt(fault, place),
+        Outputs::None(fault) => Next::Fail(fault),
     }
 }

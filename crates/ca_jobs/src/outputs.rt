@@ -17,7 +17,6 @@ use ca_states::stop::task_fault;
 use ca_system::operand::{is_nil, is_true};
 use ca_term::fault::Fault;
 use ca_term::head::Transform;
-use ca_term::place::Place;
 use ca_value::builtin::Builtin;
 use ca_value::builtin::direct::apply_one;
 use ca_value::fault::ApplyError;
@@ -30,7 +29,7 @@ use std::alloc::Global;
 #[derive(Drop)]
 pub(crate) enum Outputs {
     All(Vector),
-    None(Fault, Place),
+    None(Fault),
 }
 
 #[tactic(auto, using(crate::proofs::OutputLaws::nil_past))]
@@ -46,11 +45,11 @@ fn has_nil(values: &[Value]) -> bool
 }
 
 // The outputs, unless one of them is nil.
-fn without_nil(outputs: Vector, place: Place) -> Outputs
-    ensures { outputs_view result ≡ without_nil place (trees_of (vector_trees outputs)) }
+fn without_nil(outputs: Vector) -> Outputs
+    ensures { outputs_view result ≡ without_nil (trees_of (vector_trees outputs)) }
 {
     if has_nil(outputs.as_slice()) {
-        Outputs::None(Fault::NilPut, place)
+        Outputs::None(Fault::NilPut)
     } else {
         Outputs::All(outputs)
     }
@@ -93,12 +92,12 @@ fn vector_in(alloc: Global, value: Value) -> Result<Vector, OutOfMemory>
 }
 
 // The items of what the function gave.
-fn joined(alloc: Global, given: &Value, place: Place) -> Result<Outputs, OutOfMemory>
-    ensures { IfOk result (λ o. outputs_view o ≡ items_output place (builtin_result items_of (one_of (view given.now)))) }
+fn joined(alloc: Global, given: &Value) -> Result<Outputs, OutOfMemory>
+    ensures { IfOk result (λ o. outputs_view o ≡ items_output (builtin_result items_of (one_of (view given.now)))) }
 {
     match apply_one(alloc, Builtin::Items, given) {
-        Ok(items) => Ok(without_nil(vector_in(alloc, items)?, place)),
-        Err(ApplyError::Fault(fault)) => Ok(Outputs::None(task_fault(fault), place)),
+        Ok(items) => Ok(without_nil(vector_in(alloc, items)?)),
+        Err(ApplyError::Fault(fault)) => Ok(Outputs::None(task_fault(fault))),
         Err(ApplyError::OutOfMemory) => Err(OutOfMemory),
     }
 }
@@ -109,14 +108,13 @@ fn outputs_of(
     transform: Transform,
     value: &Value,
     given: Value,
-    place: Place,
 ) -> Result<Outputs, OutOfMemory>
-    ensures { IfOk result (λ o. outputs_view o ≡ outputs_of place transform (view value.now) (view given)) }
+    ensures { IfOk result (λ o. outputs_view o ≡ outputs_of transform (view value.now) (view given)) }
 {
     match transform {
-        Transform::Map => Ok(without_nil(one(alloc, given)?, place)),
-        Transform::Filter => Ok(without_nil(kept(alloc, value, &given)?, place)),
-        Transform::Mapcat => joined(alloc, &given, place),
+        Transform::Map => Ok(without_nil(one(alloc, given)?)),
+        Transform::Filter => Ok(without_nil(kept(alloc, value, &given)?)),
+        Transform::Mapcat => joined(alloc, &given),
     }
 }
 
@@ -126,12 +124,11 @@ pub(crate) fn outputs_by(
     transform: Transform,
     value: &Value,
     returned: Returned,
-    place: Place,
 ) -> Result<Outputs, OutOfMemory>
-    ensures { IfOk result (λ o. outputs_view o ≡ outputs_by place transform (view value.now) (returned_view returned)) }
+    ensures { IfOk result (λ o. outputs_view o ≡ outputs_by transform (view value.now) (returned_view returned)) }
 {
     match returned {
-        Returned::Value(given) => outputs_of(alloc, transform, value, given, place),
-        Returned::Fault(fault, place) => Ok(Outputs::None(fault, place)),
+        Returned::Value(given) => outputs_of(alloc, transform, value, given),
+        Returned::Fault(fault) => Ok(Outputs::None(fault)),
     }
 }

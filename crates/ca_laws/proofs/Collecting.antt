@@ -12,7 +12,7 @@ use Rattle.ca_meaning.specs.Operands.{is_nil, truth}
 use Rattle.ca_meaning.specs.Choice.{branches_of}
 use Rattle.ca_meaning.specs.State.{State}
 use Rattle.ca_meaning.specs.Legal.{Reaches}
-use Rattle.ca_meaning.specs.Asks.{Next, to, stop, fail, fail_at, needing, port_in, items_in, trees_in, too_large_here}
+use Rattle.ca_meaning.specs.Asks.{Next, to, stop, fail, needing, port_in, items_in, trees_in, too_large_here}
 use Rattle.ca_meaning.specs.PipelineTable.{CollectPorts, CollectState, collect_takes, collect_opens, collect_puts, collect_closes, collect_ends, outputs_left, collect_asks, collect_next}
 use Rattle.ca_meaning.specs.System.{SystemBody, a_collect}
 use Rattle.ca_laws.specs.Deeds.{Deed, did_take, did_wait, did_end}
@@ -54,7 +54,6 @@ module _ (c : CollectPorts) where
   CollectsAt (to collect_ends) us vs q o = Unit {0}
   CollectsAt stop us vs q o = Unit {0}
   CollectsAt (fail g) us vs q o = Unit {0}
-  CollectsAt (fail_at g p) us vs q o = Unit {0}
 
   abbrev CollectAt : Next CollectState → List Deed → Type 0
   CollectAt n ds = CollectsAt n (sent ds) (collected ds) (awaited ds) (last_answer ds)

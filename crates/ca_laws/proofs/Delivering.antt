@@ -13,7 +13,7 @@ use Rattle.ca_meaning.specs.Operands.{truth}
 use Rattle.ca_meaning.specs.Choice.{branches_of}
 use Rattle.ca_meaning.specs.State.{State}
 use Rattle.ca_meaning.specs.Legal.{Reaches}
-use Rattle.ca_meaning.specs.Asks.{Next, to, stop, fail, fail_at, two_of, too_large_here}
+use Rattle.ca_meaning.specs.Asks.{Next, to, stop, fail, two_of, too_large_here}
 use Rattle.ca_meaning.specs.MultTable.{Delivery, DeliverState, deliver_puts, deliver_untaps, deliver_answers, deliver_asks, deliver_next}
 use Rattle.ca_meaning.specs.System.{SystemBody, a_delivery}
 use Rattle.ca_laws.specs.Deeds.{Deed, did_wait, did_end}
@@ -49,7 +49,6 @@ module _ (program : ProgramView) (x : Delivery) (place : Place) where
   DeliversAt (to deliver_answers) us = us ≡ (x.channel, x.value) ∷ []
   DeliversAt stop us = Unit {0}
   DeliversAt (fail g) us = Unit {0}
-  DeliversAt (fail_at g q) us = Unit {0}
 
   abbrev DeliverAt : Next DeliverState → List Deed → Type 0
   DeliverAt n ds = DeliversAt n (put_in ds)

@@ -12,7 +12,7 @@ use Rattle.ca_meaning.specs.Operands.{is_nil}
 use Rattle.ca_meaning.specs.Choice.{branches_of}
 use Rattle.ca_meaning.specs.State.{State}
 use Rattle.ca_meaning.specs.Legal.{Reaches}
-use Rattle.ca_meaning.specs.Asks.{Next, to, stop, fail, fail_at, pair_of, too_large_here}
+use Rattle.ca_meaning.specs.Asks.{Next, to, stop, fail, pair_of, too_large_here}
 use Rattle.ca_meaning.specs.PipelineTable.{FeedPorts, FeedState, feed_takes, feed_makes, feed_puts, feed_queues, feed_closes_jobs, feed_closes_replies, feed_asks, feed_next}
 use Rattle.ca_meaning.specs.System.{SystemBody, a_feed}
 use Rattle.ca_laws.specs.Deeds.{Deed, did_take, did_wait, did_end}
@@ -58,7 +58,6 @@ module _ (f : FeedPorts) where
   FeedsAt (to feed_closes_replies) ts ms us o = Passed ts ms us × Ends o
   FeedsAt stop ts ms us o = Unit {0}
   FeedsAt (fail g) ts ms us o = Unit {0}
-  FeedsAt (fail_at g q) ts ms us o = Unit {0}
 
   abbrev FeedAt : Next FeedState → List Deed → Type 0
   FeedAt n ds = FeedsAt n (taken ds) (made_in ds) (put_in ds) (last_answer ds)

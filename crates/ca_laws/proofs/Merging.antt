@@ -13,7 +13,7 @@ use Rattle.ca_meaning.specs.Asking.{too_large_branches}
 use Rattle.ca_meaning.specs.Choice.{branches_of}
 use Rattle.ca_meaning.specs.State.{State}
 use Rattle.ca_meaning.specs.Legal.{Reaches}
-use Rattle.ca_meaning.specs.Asks.{Next, to, stop, fail, fail_at, trees_in, too_large_here}
+use Rattle.ca_meaning.specs.Asks.{Next, to, stop, fail, trees_in, too_large_here}
 use Rattle.ca_meaning.specs.PipeTable.{MergeState, merge_chooses, merge_puts, merge_closes, without_port, inputs_left, merge_asks, merge_next}
 use Rattle.ca_meaning.specs.System.{SystemBody, a_merge}
 use Rattle.ca_laws.specs.Deeds.{Deed, did_take, did_put, did_wait, did_end}
@@ -59,7 +59,6 @@ module _ (program : ProgramView) (inputs : Trees) (output : ℕ) (place : Place)
   MergesAt (to merge_closes) o ws = ws ≡ none
   MergesAt stop o ws = Unit {0}
   MergesAt (fail g) o ws = Unit {0}
-  MergesAt (fail_at g q) o ws = Unit {0}
 
   abbrev MergeAt : Next MergeState → List Deed → Type 0
   MergeAt n ds = MergesAt n (last_choice ds) (left_from inputs ds)

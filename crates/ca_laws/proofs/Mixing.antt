@@ -14,7 +14,7 @@ use Rattle.ca_meaning.specs.Asking.{too_large_branches}
 use Rattle.ca_meaning.specs.Choice.{branches_of}
 use Rattle.ca_meaning.specs.State.{State}
 use Rattle.ca_meaning.specs.Legal.{Reaches}
-use Rattle.ca_meaning.specs.Asks.{Next, to, stop, fail, fail_at, needing, pair_of, one_of, two_of, too_large_here}
+use Rattle.ca_meaning.specs.Asks.{Next, to, stop, fail, needing, pair_of, one_of, two_of, too_large_here}
 use Rattle.ca_meaning.specs.MixTable.{MixPorts, MixState, mix_reads, mix_chooses, mix_drops, mix_puts, mix_asks, mix_next, ModesRead, modes_in, read_of, heard_of, any_of, port_trees}
 use Rattle.ca_meaning.specs.System.{SystemBody, a_mix}
 use Rattle.ca_laws.specs.Deeds.{Deed, did_take, did_put, did_register, did_wait, did_end}
@@ -52,7 +52,6 @@ module _ (x : MixPorts) where
   MixesAt (to (mix_puts reads heard v)) o q = AreRead o reads heard × ((p : ℕ) × (q ≡ Some (p, v)) × (any_of (eqb p) heard ≡ true))
   MixesAt stop o q = Unit {0}
   MixesAt (fail f) o q = Unit {0}
-  MixesAt (fail_at f p) o q = Unit {0}
 
   abbrev MixAt : Next MixState → List Deed → Type 0
   MixAt n ds = MixesAt n (last_reading x ds) (last_answer ds)

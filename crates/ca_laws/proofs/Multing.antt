@@ -15,7 +15,7 @@ use Rattle.ca_meaning.specs.Registry.{TapView}
 use Rattle.ca_meaning.specs.Choice.{branches_of}
 use Rattle.ca_meaning.specs.State.{State}
 use Rattle.ca_meaning.specs.Legal.{Reaches}
-use Rattle.ca_meaning.specs.Asks.{Next, to, stop, fail, fail_at, needing, closes_due, taps_in, one_of, two_of}
+use Rattle.ca_meaning.specs.Asks.{Next, to, stop, fail, needing, closes_due, taps_in, one_of, two_of}
 use Rattle.ca_meaning.specs.MultTable.{MultPorts, MultState, mult_takes, mult_reads, mult_spawns, mult_waits, mult_reads_last, mult_closes, acks_due, spawns_due, closing_of, mult_asks, mult_next}
 use Rattle.ca_meaning.specs.System.{SystemBody, a_mult}
 use Rattle.ca_laws.specs.Deeds.{Deed, did_take, did_wait, did_end}
@@ -43,7 +43,6 @@ module _ (x : MultPorts) where
   MultsAt (to (mult_closes c cs)) ts k m z o = (begun : List ℕ) × (closing_of ts ≡ begun ++ c ∷ cs) × (length begun ≡ z) × Ends o
   MultsAt stop ts k m z o = Unit {0}
   MultsAt (fail g) ts k m z o = Unit {0}
-  MultsAt (fail_at g q) ts k m z o = Unit {0}
 
   abbrev MultAt : Next MultState → List Deed → Type 0
   MultAt n ds = MultsAt n (taps_read ds) (takes_since ds) (starts_since ds) (closes_since ds) (last_answer ds)

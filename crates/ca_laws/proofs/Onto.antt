@@ -12,7 +12,7 @@ use Rattle.ca_meaning.specs.Operands.{truth, second_of}
 use Rattle.ca_meaning.specs.Choice.{branches_of}
 use Rattle.ca_meaning.specs.State.{State}
 use Rattle.ca_meaning.specs.Legal.{Reaches}
-use Rattle.ca_meaning.specs.Asks.{Next, to, stop, fail, fail_at, trees_in, too_large_here}
+use Rattle.ca_meaning.specs.Asks.{Next, to, stop, fail, trees_in, too_large_here}
 use Rattle.ca_meaning.specs.PipeTable.{OntoPorts, OntoState, onto_puts, onto_closes, onto_ends, onto_over, items_left, onto_asks, onto_next}
 use Rattle.ca_meaning.specs.System.{SystemBody, an_onto}
 use Rattle.ca_laws.specs.Deeds.{Deed, did_wait, did_end}
@@ -48,7 +48,6 @@ module _ (program : ProgramView) (x : OntoPorts) (items : List Tree) (place : Pl
   OntosAt (to onto_ends) us = Unit {0}
   OntosAt stop us = Unit {0}
   OntosAt (fail g) us = Unit {0}
-  OntosAt (fail_at g q) us = Unit {0}
 
   abbrev OntoAt : Next OntoState → List Deed → Type 0
   OntoAt n ds = OntosAt n (sent ds)

@@ -12,7 +12,7 @@ use Rattle.ca_meaning.specs.Operands.{is_nil, truth}
 use Rattle.ca_meaning.specs.Choice.{branches_of}
 use Rattle.ca_meaning.specs.State.{State}
 use Rattle.ca_meaning.specs.Legal.{Reaches}
-use Rattle.ca_meaning.specs.Asks.{Next, to, stop, fail, fail_at, too_large_here}
+use Rattle.ca_meaning.specs.Asks.{Next, to, stop, fail, too_large_here}
 use Rattle.ca_meaning.specs.PipeTable.{PipePorts, PipeState, pipe_takes, pipe_puts, pipe_closes, pipe_asks, pipe_next}
 use Rattle.ca_meaning.specs.System.{SystemBody, a_pipe}
 use Rattle.ca_laws.specs.Deeds.{Deed, did_take, did_wait, did_end}
@@ -51,7 +51,6 @@ module _ (program : ProgramView) (x : PipePorts) (place : Place) where
   PipesAt (to pipe_closes) ts us o = (x.closes ≡ true) × (us ≡ ts) × Ends o
   PipesAt stop ts us o = Unit {0}
   PipesAt (fail g) ts us o = Unit {0}
-  PipesAt (fail_at g q) ts us o = Unit {0}
 
   abbrev PipeAt : Next PipeState → List Deed → Type 0
   PipeAt n ds = PipesAt n (taken ds) (sent ds) (last_answer ds)

@@ -16,7 +16,7 @@ use Rattle.ca_meaning.specs.State.{State}
 use Rattle.ca_meaning.specs.Legal.{Reaches}
 use Rattle.ca_meaning.specs.Task.{system_task}
 use Rattle.ca_meaning.specs.Going.{IsAtOp}
-use Rattle.ca_meaning.specs.Asks.{Next, to, stop, fail, fail_at, needing, closes_due, ports_in, one_of, two_of, too_large_here}
+use Rattle.ca_meaning.specs.Asks.{Next, to, stop, fail, needing, closes_due, ports_in, one_of, two_of, too_large_here}
 use Rattle.ca_meaning.specs.Applied.{Returned, Applied}
 use Rattle.ca_meaning.specs.PubTable.{PubPorts, PubState, pub_takes, pub_sorts, pub_finds, pub_puts, pub_reads_last, pub_closes, channel_of_pair, sorted_by}
 use Rattle.ca_meaning.specs.System.{SystemBody, a_pub, system_fill, SystemRest}
@@ -55,7 +55,6 @@ module _ (program : ProgramView) (x : PubPorts) (place : Place) where
   pub_body (to (closes c cs)) = a_pub x place (to (pub_closes c cs))
   pub_body stop = a_pub x place stop
   pub_body (fail g) = a_pub x place (fail g)
-  pub_body (fail_at g q) = a_pub x place (fail_at g q)
 
   abbrev pub_op : Rests → OpView
   pub_op takes = taking (port x.source)
@@ -72,7 +71,6 @@ module _ (program : ProgramView) (x : PubPorts) (place : Place) where
   only (to (closes c cs)) op at = (closes c cs, refl, asked place None (pub_op (closes c cs)) (record { op = op; place = at.0 }) at.1)
   only stop op at = absurd (let e : ended nil ≡ at_op (record { op = op; place = at.0 }) = at.1 in cc)
   only (fail g) op at = absurd (let e : faulted g place ≡ at_op (record { op = op; place = at.0 }) = at.1 in cc)
-  only (fail_at g q) op at = absurd (let e : faulted g q ≡ at_op (record { op = op; place = at.0 }) = at.1 in cc)
 
   abbrev Ends : Option (ℕ × Tree) → Type 0
   Ends o = (a : Tree) × (o ≡ Some (x.source, a)) × (is_nil a ≡ true)
@@ -86,7 +84,6 @@ module _ (program : ProgramView) (x : PubPorts) (place : Place) where
   PubsAt (to (closes c cs)) o f z = Ends o × ((a : Tree) × (f ≡ Some a) × (begun : List ℕ) × (unwrap_or (ports_in a) [] ≡ begun ++ c ∷ cs) × (length begun ≡ z))
   PubsAt stop o f z = Unit {0}
   PubsAt (fail g) o f z = Unit {0}
-  PubsAt (fail_at g q) o f z = Unit {0}
 
   abbrev PubAt : Next Rests → List Deed → Type 0
   PubAt n ds = PubsAt n (last_answer ds) (last_found ds) (closes_since ds)
@@ -117,7 +114,7 @@ module _ (program : ProgramView) (x : PubPorts) (place : Place) where
   answered takes ds d a c k (got is) r = by (is_nil a) refl r where
     sorts : (t : Returned) → Applied program x.topic x.keyword place a t → c ≡ a_pub x place (sorted_by a t) → Goes (ds ++ d ∷ []) c
     sorts (Ok topic) f e = (to (finds topic a), e, by_deed (to (finds topic a)) ds d _ is (refl, refl, f))
-    sorts (Err g) f e = (fail_at g.0 g.1, e, tt)
+    sorts (Err g) f e = (fail g, e, tt)
 
     by : (b : Bool) → is_nil a ≡ b → SystemRest program (a_pub x place (cond b (to pub_reads_last) (to (pub_sorts a)))) c → Goes (ds ++ d ∷ []) c
     by true e r = (to reads_last, r, by_deed (to reads_last) ds d _ is (a, refl, e))

@@ -14,7 +14,7 @@ use Rattle.ca_term.specs.Event.{EventView, spawned}
 use Rattle.ca_meaning.specs.Body.{At, at_op, faulted, ended, asking}
 use Rattle.ca_meaning.specs.TaskSteps.{kind_of}
 use Rattle.ca_meaning.specs.Choice.{branches_of, parks as may_park}
-use Rattle.ca_meaning.specs.Asks.{Ask, Next, to, stop, fail, fail_at, stands_at}
+use Rattle.ca_meaning.specs.Asks.{Ask, Next, to, stop, fail, stands_at}
 use Rattle.ca_meaning.specs.System.{SystemBody, new_system, system_fill, SystemRest}
 use Rattle.ca_meaning.specs.Task.{system_task, body_fill, BodyRest, new_task}
 use Rattle.ca_meaning.specs.State.{State, Task, Tasks, runs}
@@ -67,7 +67,6 @@ pub stands_only : {S : Type 0} (place : Place) (asks : S → Ask) (op_of : S →
 stands_only place asks op_of fault_of rows (to x) op p e = (x, refl, asked place (fault_of x) (op_of x) (record { op = op; place = p }) (sym (rows x) ∙ e))
 stands_only place asks op_of fault_of rows stop op p e = absurd (let j : ended nil ≡ at_op (record { op = op; place = p }) = e in cc)
 stands_only place asks op_of fault_of rows (fail f) op p e = absurd (let j : faulted f place ≡ at_op (record { op = op; place = p }) = e in cc)
-stands_only place asks op_of fault_of rows (fail_at f q) op p e = absurd (let j : faulted f q ≡ at_op (record { op = op; place = p }) = e in cc)
 
 -- What is to be shown of a table: At tells what its deeds are where it stands in a state.
 pub record Keeps (program : ProgramView) {S : Type 0} (body : Next S → SystemBody) (op_of : S → OpView) (At : Next S → List Deed → Type 0) (Rule : List Deed → OpView → Type 0) : Type 0 where

@@ -13,7 +13,7 @@ use Rattle.ca_meaning.specs.State.{State}
 use Rattle.ca_meaning.specs.Legal.{Reaches}
 use Rattle.ca_meaning.specs.Task.{system_task}
 use Rattle.ca_meaning.specs.Going.{IsAtOp}
-use Rattle.ca_meaning.specs.Asks.{Next, to, stop, fail, fail_at, needing, value_and_port, too_large_here}
+use Rattle.ca_meaning.specs.Asks.{Next, to, stop, fail, needing, value_and_port, too_large_here}
 use Rattle.ca_meaning.specs.Applied.{Work, Outputs, outputs, no_outputs, Outs}
 use Rattle.ca_meaning.specs.PipelineTable.{job_takes, job_works, job_replies, worked_by}
 use Rattle.ca_meaning.specs.System.{SystemBody, a_job, system_fill, SystemRest}
@@ -35,7 +35,6 @@ module _ (program : ProgramView) (j : ℕ) (w : Work) where
   job_body (to (replies p ys)) = a_job j w (to (job_replies p ys))
   job_body stop = a_job j w stop
   job_body (fail g) = a_job j w (fail g)
-  job_body (fail_at g q) = a_job j w (fail_at g q)
 
   abbrev job_op : Rests → OpView
   job_op takes = taking (port j)
@@ -46,7 +45,6 @@ module _ (program : ProgramView) (j : ℕ) (w : Work) where
   only (to (replies p ys)) op at = (replies p ys, refl, asked w.place (too_large_here (vector ys)) (putting (port p) (vector ys)) (record { op = op; place = at.0 }) at.1)
   only stop op at = absurd (let e : ended nil ≡ at_op (record { op = op; place = at.0 }) = at.1 in cc)
   only (fail g) op at = absurd (let e : faulted g w.place ≡ at_op (record { op = op; place = at.0 }) = at.1 in cc)
-  only (fail_at g q) op at = absurd (let e : faulted g q ≡ at_op (record { op = op; place = at.0 }) = at.1 in cc)
 
   -- it owes the outputs of the value that it took
   abbrev Owes : ℕ → Trees → Option (ℕ × Tree) → Type 0
@@ -57,7 +55,6 @@ module _ (program : ProgramView) (j : ℕ) (w : Work) where
   JobsAt (to (replies p ys)) o = Owes p ys o
   JobsAt stop o = Unit {0}
   JobsAt (fail g) o = Unit {0}
-  JobsAt (fail_at g q) o = Unit {0}
 
   abbrev JobAt : Next Rests → List Deed → Type 0
   JobAt n ds = JobsAt n (last_answer ds)
@@ -77,7 +74,7 @@ module _ (program : ProgramView) (j : ℕ) (w : Work) where
   answered takes ds d a c k (got is) r = by (is_nil a) (value_and_port a) refl r where
     works : (v : Tree) (p : ℕ) → value_and_port a ≡ Some (v, p) → (o : Outputs) → Outs program w v o → c ≡ a_job j w (worked_by p o) → Goes (ds ++ d ∷ []) c
     works v p e (outputs ys) out is' = (to (replies p ys), is', by_deed (to (replies p ys)) ds d _ is (a, v, refl, e, out))
-    works v p e (no_outputs g q) out is' = (fail_at g q, is', tt)
+    works v p e (no_outputs g) out is' = (fail g, is', tt)
 
     by : (b : Bool) (o : Option (Tree × ℕ)) → value_and_port a ≡ o → SystemRest program (a_job j w (cond b stop (needing o (λ c. to (job_works c.0 c.1))))) c → Goes (ds ++ d ∷ []) c
     by true o e r = (stop, r, tt)

@@ -13,7 +13,7 @@ use Rattle.ca_term.specs.Operation.{OpView, taking, putting, choosing, making, s
 use Rattle.ca_term.specs.Program.{ProgramView}
 use Rattle.ca_meaning.specs.Asking.{too_large_branches}
 use Rattle.ca_meaning.specs.Body.{At, local, at_op, ended, faulted, nowhere, at, asking, new_body}
-use Rattle.ca_meaning.specs.Asks.{pair_of, Ask, too_large_here, puts, chooses, Next, stands_at, to, stop, fail, fail_at}
+use Rattle.ca_meaning.specs.Asks.{pair_of, Ask, too_large_here, puts, chooses, Next, stands_at, to, stop, fail}
 use Rattle.ca_meaning.specs.Applied.{Returned, returned, Applied, Work, Outputs, outputs, no_outputs, outputs_by, Outs}
 use Rattle.ca_meaning.specs.MultTable.{MultPorts, mult_asks, mult_takes, mult_reads, mult_spawns, mult_waits, mult_reads_last, mult_closes, Delivery, deliver_asks, deliver_puts, deliver_untaps, deliver_answers}
 use Rattle.ca_meaning.specs.MixTable.{port_trees, MixPorts, mix_asks, mix_reads, mix_chooses, mix_drops, mix_puts}
@@ -54,7 +54,6 @@ stands_firm : {S : Type 0} (p : Place) (asks : S → Ask) → AllFirm asks → (
 stands_firm p asks all (to x) = all x p
 stands_firm p asks all stop = refl
 stands_firm p asks all (fail f) = refl
-stands_firm p asks all (fail_at f q) = refl
 
 puts_firm : (c : ℕ) (v : Tree) (p : Place) → is_firm (puts c v p) ≡ true
 puts_firm c v p = asks_firmly p (too_large_here v) (putting (port c) v) refl
@@ -121,7 +120,7 @@ sorted_firm t p v (Err f) = refl
 
 worked_firm : (j : ℕ) (w : Work) (r : ℕ) (o : Outputs) → IsFirm (a_job j w (worked_by r o))
 worked_firm j w r (outputs ys) = puts_firm r (vector ys) w.place
-worked_firm j w r (no_outputs f q) = refl
+worked_firm j w r (no_outputs f) = refl
 
 pub system_firm : (program : ProgramView) (b c : SystemBody) → SystemRest program b c → IsFirm c
 system_firm program (a_mult t p x) c e = subst IsFirm (sym e) (stands_firm p (mult_asks t) (mult_firm t) x)
@@ -135,7 +134,6 @@ system_firm program (a_pub t p (to pub_reads_last)) c e = subst IsFirm (sym e) r
 system_firm program (a_pub t p (to (pub_closes q qs))) c e = subst IsFirm (sym e) refl
 system_firm program (a_pub t p stop) c e = subst IsFirm (sym e) refl
 system_firm program (a_pub t p (fail f)) c e = subst IsFirm (sym e) refl
-system_firm program (a_pub t p (fail_at f q)) c e = subst IsFirm (sym e) refl
 system_firm program (a_pipe t p x) c e = subst IsFirm (sym e) (stands_firm p (pipe_asks t) (pipe_firm t) x)
 system_firm program (a_merge t p x) c e = subst IsFirm (sym e) (stands_firm p (merge_asks t) (merge_firm t) x)
 system_firm program (an_onto t p x) c e = subst IsFirm (sym e) (stands_firm p (onto_asks t) (onto_firm t) x)
@@ -145,7 +143,6 @@ system_firm program (a_job t p (to job_takes)) c e = subst IsFirm (sym e) refl
 system_firm program (a_job t p (to (job_replies r ys))) c e = subst IsFirm (sym e) (puts_firm r (vector ys) p.place)
 system_firm program (a_job t p stop) c e = subst IsFirm (sym e) refl
 system_firm program (a_job t p (fail f)) c e = subst IsFirm (sym e) refl
-system_firm program (a_job t p (fail_at f q)) c e = subst IsFirm (sym e) refl
 system_firm program (a_collect t p x) c e = subst IsFirm (sym e) (stands_firm p (collect_asks t) (collect_firm t) x)
 
 pub system_rested : (program : ProgramView) (b c : SystemBody) → SystemRest program b c → system_at c ≢ local
@@ -156,17 +153,17 @@ never_nowhere program b c r e = let k : false ≡ true = sym (ap is_firm e) ∙ 
 
 -- a function that is applied comes to one thing
 applies : (program : ProgramView) (f : PlainFunction) (keyword : Tree) (p : Place) (v : Tree) → (r : Returned) × Applied program f keyword p v r
-applies program (Defined n) keyword p v = let r = rests program (new_body (apply (Call n) (term_item (const v) no_terms) p)) in (returned p (at r.0), (r.0, r.1, refl))
+applies program (Defined n) keyword p v = let r = rests program (new_body (apply (Call n) (term_item (const v) no_terms) p)) in (returned (at r.0), (r.0, r.1, refl))
 applies program (PlainFunction.Builtin b) keyword p v = (_, refl)
 applies program Keyword keyword p v = (_, refl)
 
 applies_once : (program : ProgramView) (f : PlainFunction) (keyword : Tree) (p : Place) (v : Tree) (r s : Returned) → Applied program f keyword p v r → Applied program f keyword p v s → r ≡ s
-applies_once program (Defined n) keyword p v r s a b = a.2 ∙ ap (λ c. returned p (at c)) (one_rest program _ a.0 b.0 a.1 b.1) ∙ sym b.2
+applies_once program (Defined n) keyword p v r s a b = a.2 ∙ ap (λ c. returned (at c)) (one_rest program _ a.0 b.0 a.1 b.1) ∙ sym b.2
 applies_once program (PlainFunction.Builtin c) keyword p v r s a b = a ∙ sym b
 applies_once program Keyword keyword p v r s a b = a ∙ sym b
 
 pub outs_once : (program : ProgramView) (w : Work) (v : Tree) (o q : Outputs) → Outs program w v o → Outs program w v q → o ≡ q
-outs_once program w v o q a b = a.2 ∙ ap (outputs_by w.place w.transform v) (applies_once program w.function w.keyword w.place v a.0 b.0 a.1 b.1) ∙ sym b.2
+outs_once program w v o q a b = a.2 ∙ ap (outputs_by w.transform v) (applies_once program w.function w.keyword w.place v a.0 b.0 a.1 b.1) ∙ sym b.2
 
 pub system_rests : (program : ProgramView) (b : SystemBody) → (c : SystemBody) × SystemRest program b c
 system_rests program (a_mult t p x) = (_, refl)
@@ -180,7 +177,6 @@ system_rests program (a_pub t p (to pub_reads_last)) = (_, refl)
 system_rests program (a_pub t p (to (pub_closes q qs))) = (_, refl)
 system_rests program (a_pub t p stop) = (_, refl)
 system_rests program (a_pub t p (fail f)) = (_, refl)
-system_rests program (a_pub t p (fail_at f q)) = (_, refl)
 system_rests program (a_pipe t p x) = (_, refl)
 system_rests program (a_merge t p x) = (_, refl)
 system_rests program (an_onto t p x) = (_, refl)
@@ -190,7 +186,6 @@ system_rests program (a_job t p (to job_takes)) = (_, refl)
 system_rests program (a_job t p (to (job_replies r ys))) = (_, refl)
 system_rests program (a_job t p stop) = (_, refl)
 system_rests program (a_job t p (fail f)) = (_, refl)
-system_rests program (a_job t p (fail_at f q)) = (_, refl)
 system_rests program (a_collect t p x) = (_, refl)
 
 pub system_once : (program : ProgramView) (b c d : SystemBody) → SystemRest program b c → SystemRest program b d → c ≡ d
@@ -205,7 +200,6 @@ system_once program (a_pub t p (to pub_reads_last)) c d r q = r ∙ sym q
 system_once program (a_pub t p (to (pub_closes z zs))) c d r q = r ∙ sym q
 system_once program (a_pub t p stop) c d r q = r ∙ sym q
 system_once program (a_pub t p (fail f)) c d r q = r ∙ sym q
-system_once program (a_pub t p (fail_at f z)) c d r q = r ∙ sym q
 system_once program (a_pipe t p x) c d r q = r ∙ sym q
 system_once program (a_merge t p x) c d r q = r ∙ sym q
 system_once program (an_onto t p x) c d r q = r ∙ sym q
@@ -215,7 +209,6 @@ system_once program (a_job t p (to job_takes)) c d r q = r ∙ sym q
 system_once program (a_job t p (to (job_replies z ys))) c d r q = r ∙ sym q
 system_once program (a_job t p stop) c d r q = r ∙ sym q
 system_once program (a_job t p (fail f)) c d r q = r ∙ sym q
-system_once program (a_job t p (fail_at f z)) c d r q = r ∙ sym q
 system_once program (a_collect t p x) c d r q = r ∙ sym q
 
 -- a new task does nothing before it asks for its first operation

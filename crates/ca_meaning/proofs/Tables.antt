@@ -37,14 +37,14 @@ merge-empty : (p : Place) → new_system SystemTask.Merge (item (vector none) (i
 merge-empty p = refl
 
 -- a nil among the outputs
-job-nil : (p : Place) → outputs_of p Mapcat seven (vector (item nil none)) ≡ no_outputs NilPut p
+job-nil : outputs_of Mapcat seven (vector (item nil none)) ≡ no_outputs NilPut
 unfolding builtin_result
-job-nil p = refl
+job-nil = refl
 
 -- a mapcat's function gave nil
-job-none : (p : Place) → outputs_of p Mapcat seven nil ≡ outputs none
+job-none : outputs_of Mapcat seven nil ≡ outputs none
 unfolding builtin_result
-job-none p = refl
+job-none = refl
 
 -- Each table followed from a new task to its end.
 pub mult_worked : (program : ProgramView) (p : Place) → Works program p SystemTask.Mult (port 1 ∷ port 2 ∷ port 3 ∷ []) (mult_rows p)

@@ -21,28 +21,28 @@ use Rattle.ca_meaning.specs.Body.{BodyView, At, local, at_op, ended, faulted, no
 use Rattle.ca_meaning.specs.Rest.{Rest}
 use Rattle.ca_meaning.specs.Asks.{one_of, two_of, trees_in}
 
--- a value, or a fault with its place
+-- A value, or a fault. The fault is one of the form that applies the function, wherever in the function it arose.
 abbrev pub Returned : Type 0
-Returned = Result Tree (Fault × Place)
+Returned = Result Tree Fault
 
 -- a plain function has no operations, and its text no free names
-abbrev pub returned : Place → At → Returned
-returned p (ended v) = Ok v
-returned p (faulted f q) = Err (f, q)
-returned p (at_op w) = Err (WrongKind, p)
-returned p local = Err (WrongKind, p)
-returned p nowhere = Err (WrongKind, p)
+abbrev pub returned : At → Returned
+returned (ended v) = Ok v
+returned (faulted f q) = Err f
+returned (at_op w) = Err WrongKind
+returned local = Err WrongKind
+returned nowhere = Err WrongKind
 
-abbrev pub of_builtin : Place → Outcome → Returned
-of_builtin p (Ok v) = Ok v
-of_builtin p (Err f) = Err (task_fault f, p)
+abbrev pub of_builtin : Outcome → Returned
+of_builtin (Ok v) = Ok v
+of_builtin (Err f) = Err (task_fault f)
 
--- The function applied to v comes to r: a function of the program is called by itself, its turns and its depth
--- counted from 0; a builtin, and a keyword, which gets from a map, have their faults at the task's place.
+-- The function applied to v by a form at the place comes to r: a function of the program is called by itself, its turns
+-- and its depth counted from 0; a keyword gets from a map.
 abbrev pub Applied : ProgramView → PlainFunction → Tree → Place → Tree → Returned → Type 0
-Applied program (Defined n) keyword p v r = (c : BodyView) × Rest program (new_body (apply (Call n) (term (const v) no_terms) p)) c × (r ≡ returned p (at c))
-Applied program (PlainFunction.Builtin b) keyword p v r = r ≡ of_builtin p (builtin_result b (one_of v))
-Applied program Keyword keyword p v r = r ≡ of_builtin p (builtin_result Builtin.Get (two_of v keyword))
+Applied program (Defined n) keyword p v r = (c : BodyView) × Rest program (new_body (apply (Call n) (term (const v) no_terms) p)) c × (r ≡ returned (at c))
+Applied program (PlainFunction.Builtin b) keyword p v r = r ≡ of_builtin (builtin_result b (one_of v))
+Applied program Keyword keyword p v r = r ≡ of_builtin (builtin_result Builtin.Get (two_of v keyword))
 
 -- what a pipeline's jobs do: the transform, its function, the keyword where that is the function, and the place of
 -- the pipeline
@@ -54,30 +54,30 @@ pub record Work : Type 0 where
 
 pub data Outputs : Type 0 where
   outputs : Trees → Outputs
-  no_outputs : Fault → Place → Outputs
+  no_outputs : Fault → Outputs
 
 abbrev pub has_nil : Trees → Bool
 has_nil none = false
 has_nil (item v vs) = is_nil v || has_nil vs
 
 -- a nil among the outputs is a fault
-abbrev pub without_nil : Place → Trees → Outputs
-without_nil p ys = cond (has_nil ys) (no_outputs NilPut p) (outputs ys)
+abbrev pub without_nil : Trees → Outputs
+without_nil ys = cond (has_nil ys) (no_outputs NilPut) (outputs ys)
 
-abbrev pub items_output : Place → Outcome → Outputs
-items_output p (Ok ys) = without_nil p (trees_in ys)
-items_output p (Err f) = no_outputs (task_fault f) p
+abbrev pub items_output : Outcome → Outputs
+items_output (Ok ys) = without_nil (trees_in ys)
+items_output (Err f) = no_outputs (task_fault f)
 
 -- of the value v, where the function gave w
-abbrev pub outputs_of : Place → Transform → Tree → Tree → Outputs
-outputs_of p Map v w = without_nil p (one_of w)
-outputs_of p Filter v w = without_nil p (cond (truth w) (one_of v) none)
-outputs_of p Mapcat v w = items_output p (builtin_result Builtin.Items (one_of w))
+abbrev pub outputs_of : Transform → Tree → Tree → Outputs
+outputs_of Map v w = without_nil (one_of w)
+outputs_of Filter v w = without_nil (cond (truth w) (one_of v) none)
+outputs_of Mapcat v w = items_output (builtin_result Builtin.Items (one_of w))
 
-abbrev pub outputs_by : Place → Transform → Tree → Returned → Outputs
-outputs_by p x v (Ok w) = outputs_of p x v w
-outputs_by p x v (Err f) = no_outputs f.0 f.1
+abbrev pub outputs_by : Transform → Tree → Returned → Outputs
+outputs_by x v (Ok w) = outputs_of x v w
+outputs_by x v (Err f) = no_outputs f
 
 -- the job makes these outputs of the value
 abbrev pub Outs : ProgramView → Work → Tree → Outputs → Type 0
-Outs program w v o = (r : Returned) × Applied program w.function w.keyword w.place v r × (o ≡ outputs_by w.place w.transform v r)
+Outs program w v o = (r : Returned) × Applied program w.function w.keyword w.place v r × (o ≡ outputs_by w.transform v r)

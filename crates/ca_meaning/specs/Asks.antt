@@ -51,22 +51,17 @@ applies p = local
 pub data Next (S : Type 0) : Type 0 where
   to : S → Next S
   stop : Next S
-  -- at the task's own place
   fail : Fault → Next S
-  -- at a place of the function that it applied
-  fail_at : Fault → Place → Next S
 
 abbrev pub stands_at : {S : Type 0} → Place → (S → Ask) → Next S → At
 stands_at p asks (to x) = asks x p
 stands_at p asks stop = ended nil
 stands_at p asks (fail f) = faulted f p
-stands_at p asks (fail_at f q) = faulted f q
 
 abbrev pub follows : {S : Type 0} → (S → Next S) → Next S → Next S
 follows next (to x) = next x
 follows next stop = stop
 follows next (fail f) = fail f
-follows next (fail_at f q) = fail_at f q
 
 -- an answer has the form that its row needs, or the task faults
 abbrev pub needing : {A S : Type 0} → Option A → (A → Next S) → Next S

@@ -5,7 +5,7 @@ use Rattle.std.specs.Prelude.{ℕ, Bool, cond}
 use Rattle.ca_value.specs.Tree.{Tree, Trees, vector, port, none, item}
 use Rattle.ca_term.specs.Operation.{fixed}
 use Rattle.ca_meaning.specs.Operands.{is_nil, truth}
-use Rattle.ca_meaning.specs.Asks.{Ask, takes, puts, makes, closes, applies, Next, to, stop, fail_at, needing, port_in, items_in, value_and_port, pair_of}
+use Rattle.ca_meaning.specs.Asks.{Ask, takes, puts, makes, closes, applies, Next, to, stop, fail, needing, port_in, items_in, value_and_port, pair_of}
 use Rattle.ca_meaning.specs.Applied.{Outputs, outputs, no_outputs}
 
 -- the source, the jobs' channel, and the queue of reply ports
@@ -60,7 +60,7 @@ job_next a (job_replies p ys) = to job_takes
 -- where the outputs are made
 abbrev pub worked_by : ℕ → Outputs → Next JobState
 worked_by p (outputs ys) = to (job_replies p ys)
-worked_by p (no_outputs f q) = fail_at f q
+worked_by p (no_outputs f) = fail f
 
 -- the queue of reply ports, the target, whether the target closes with the source, and the result port
 pub record CollectPorts : Type 0 where

@@ -5,7 +5,7 @@ use Rattle.ca_value.specs.Tree.{Tree, vector, port, none, item}
 use Rattle.ca_term.specs.declared.head.PlainFunction.{PlainFunction}
 use Rattle.ca_term.specs.declared.head.RegisterName.TheVariants.{Find, Topics}
 use Rattle.ca_meaning.specs.Operands.{is_nil}
-use Rattle.ca_meaning.specs.Asks.{Ask, takes, puts, closes, registers, applies, Next, to, fail_at, needing, closes_due, ports_in, one_of, two_of}
+use Rattle.ca_meaning.specs.Asks.{Ask, takes, puts, closes, registers, applies, Next, to, fail, needing, closes_due, ports_in, one_of, two_of}
 use Rattle.ca_meaning.specs.Applied.{Returned}
 
 -- the publication, its source, its topic function, and the keyword where that is the function
@@ -53,4 +53,4 @@ pub_next a (pub_closes c cs) = closes_due pub_closes cs
 -- where the topic is made
 abbrev pub sorted_by : Tree → Returned → Next PubState
 sorted_by v (Ok topic) = to (pub_finds topic v)
-sorted_by v (Err f) = fail_at f.0 f.1
+sorted_by v (Err f) = fail f

@@ -76,7 +76,6 @@ impl Table for Deliver {
             Next::To(step) => self.delivery.asks(alloc, step, self.place),
             Next::Stop => Ok(Stand::Ended),
             Next::Fail(fault) => Ok(Stand::Faulted(fault, self.place)),
-            Next::FailAt(fault, place) => Ok(Stand::Faulted(fault, place)),
         }
     }
 

@@ -90,7 +90,6 @@ impl Table for Mult {
             Next::To(state) => state.asks(alloc, &self.ports, self.place),
             Next::Stop => Ok(Stand::Ended),
             Next::Fail(fault) => Ok(Stand::Faulted(*fault, self.place)),
-            Next::FailAt(fault, place) => Ok(Stand::Faulted(*fault, *place)),
         }
     }
 

@@ -5,11 +5,11 @@ use Rattle.ca_value.specs.View.{view}
 use Rattle.ca_value.specs.declared.value.Value.{Value}
 use Rattle.ca_value.specs.declared.value.PortId.{PortId}
 use Rattle.ca_meaning.specs.Operands.{is_nil}
-use Rattle.ca_meaning.specs.Asks.{Next, to, stop, fail, fail_at, trees_in}
+use Rattle.ca_meaning.specs.Asks.{Next, to, stop, fail, trees_in}
 use Rattle.ca_meaning.specs.PipeTable.{MergeState, merge_puts, inputs_left, without_port}
 use Rattle.ca_meaning.specs.System.{SystemBody, a_merge}
 use Rattle.ca_system.specs.declared.stand.Next.{Next as NextState}
-use Rattle.ca_system.specs.declared.stand.Next.TheVariants.{To, Stop, Fail, FailAt}
+use Rattle.ca_system.specs.declared.stand.Next.TheVariants.{To, Stop, Fail}
 use Rattle.ca_pipes.specs.declared.merge.Merge.{Merge}
 use Rattle.ca_pipes.specs.declared.merge.State.{State}
 use Rattle.ca_pipes.specs.declared.merge.State.TheVariants.{Chooses, Puts}
@@ -23,7 +23,6 @@ abbrev pub merge_at : NextState State → Next MergeState
 merge_at (To x) = merge_state x
 merge_at Stop = stop
 merge_at (Fail f) = fail f
-merge_at (FailAt f p) = fail_at f p
 
 abbrev pub merge_view : Merge → SystemBody
 merge_view m = a_merge m.out.n m.place (merge_at m.state)

@@ -138,7 +138,6 @@ fn followed(answer: Value, state: Next<State>) -> Next<State>
         Next::To(state) => next(answer, state),
         Next::Stop => Next::Stop,
         Next::Fail(fault) => Next::Fail(fault),
-        Next::FailAt(fault, place) => Next::FailAt(fault, place),
     }
 }
 
@@ -152,7 +151,6 @@ impl Table for Feed {
             Next::To(state) => self.ports.ask(alloc, self.place, state),
             Next::Stop => Ok(Stand::Ended),
             Next::Fail(fault) => Ok(Stand::Faulted(*fault, self.place)),
-            Next::FailAt(fault, place) => Ok(Stand::Faulted(*fault, *place)),
         }
     }
 

@@ -173,7 +173,6 @@ fn followed(alloc: Global, answer: &Value, state: Next<State>) -> Result<Next<St
         Next::To(state) => next(alloc, answer, state),
         Next::Stop => Ok(Next::Stop),
         Next::Fail(fault) => Ok(Next::Fail(fault)),
-        Next::FailAt(fault, place) => Ok(Next::FailAt(fault, place)),
     }
 }
 
@@ -187,7 +186,6 @@ impl Table for Merge {
             Next::To(state) => asked(alloc, self.out, self.place, state),
             Next::Stop => Ok(Stand::Ended),
             Next::Fail(fault) => Ok(Stand::Faulted(*fault, self.place)),
-            Next::FailAt(fault, place) => Ok(Stand::Faulted(*fault, *place)),
         }
     }
 

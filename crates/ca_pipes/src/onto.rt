@@ -127,7 +127,6 @@ impl Ports {
             Next::To(state) => self.next(answer, state),
             Next::Stop => Next::Stop,
             Next::Fail(fault) => Next::Fail(fault),
-            Next::FailAt(fault, place) => Next::FailAt(fault, place),
         }
     }
 }
@@ -142,7 +141,6 @@ impl Table for Onto {
             Next::To(state) => self.ports.ask(alloc, self.place, state),
             Next::Stop => Ok(Stand::Ended),
             Next::Fail(fault) => Ok(Stand::Faulted(*fault, self.place)),
-            Next::FailAt(fault, place) => Ok(Stand::Faulted(*fault, *place)),
         }
     }
 

@@ -5,7 +5,7 @@ use Rattle.ca_term.specs.Program.{ProgramView}
 use Rattle.ca_meaning.specs.Asks.{Next}
 use Rattle.ca_meaning.specs.PubTable.{PubPorts, PubState}
 use Rattle.ca_system.specs.declared.stand.Next.{Next as NextCode}
-use Rattle.ca_system.specs.declared.stand.Next.TheVariants.{To, Stop, Fail, FailAt}
+use Rattle.ca_system.specs.declared.stand.Next.TheVariants.{To, Stop, Fail}
 use Rattle.ca_system.specs.Stands.{next_view}
 use Rattle.ca_pubsub.specs.declared.publication.State.{State}
 use Rattle.ca_pubsub.specs.declared.publication.State.TheVariants.{Takes, Finds, Puts, ReadsLast, Closes}
@@ -19,7 +19,6 @@ stays program t p (To ReadsLast) = refl
 stays program t p (To (Closes c left)) = refl
 stays program t p Stop = refl
 stays program t p (Fail f) = refl
-stays program t p (FailAt f q) = refl
 
 pub at_rest : (program : ProgramView) (t : PubPorts) (p : Place) (n : NextCode State) (m : Next PubState) → next_view state_view n ≡ m → Rests program t p m (next_view state_view n)
 at_rest program t p n m e = subst (λ k. Rests program t p k (next_view state_view n)) e (stays program t p n)

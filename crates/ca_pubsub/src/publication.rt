@@ -3,6 +3,7 @@ ghost use Rattle.std.specs.Prelude.{◌≡◌, map, IfOk, OnOk, IsTrue, cond};
 ghost use Rattle.std.specs.Vec.Iter.{into_iter_items};
 ghost use Rattle.ca_value.specs.Seq.{list};
 ghost use Rattle.ca_value.specs.View.{view, trees};
+ghost use Rattle.ca_term.specs.declared.place.Place.{Place};
 ghost use Rattle.ca_term.specs.declared.head.SystemTask.TheVariants.{Pub as pub_task};
 ghost use Rattle.ca_term.specs.Program.{ProgramView};
 ghost use Rattle.ca_meaning.specs.Asks.{to, needing, closes_due, follows, registers, one_of, two_of};
@@ -108,7 +109,6 @@ impl Table for Pub {
             Next::To(state) => state.asks(alloc, &self.ports, self.place),
             Next::Stop => Ok(Stand::Ended),
             Next::Fail(fault) => Ok(Stand::Faulted(*fault, self.place)),
-            Next::FailAt(fault, place) => Ok(Stand::Faulted(*fault, *place)),
         }
     }
 
@@ -119,7 +119,7 @@ impl Table for Pub {
         answer: Value,
     ) -> Result<(), OutOfMemory> {
         let was = mem::replace(&mut self.state, Next::Stop);
-        self.state = self.ports.follow(alloc, code, was, answer, self.place)?;
+        self.state = self.ports.follow(alloc, code, was, answer)?;
         Ok(())
     }
 }
@@ -162,12 +162,11 @@ impl Ports {
         alloc: Global,
         code: &ValidCode,
         value: Value,
-        place: Place,
     ) -> Result<Next<State>, OutOfMemory>
         requires { IsTrue (is_applied (valid_code code.now) self.now.topic) }
-        ensures { IfOk result (λ n. (program : ProgramView) → Lowered program (valid_code code.now) → Rests program (ports_view self.now) place (to (pub_sorts (view value))) (next_view state_view n)) }
+        ensures { IfOk result (λ n. (program : ProgramView) (place : Place) → Lowered program (valid_code code.now) → Rests program (ports_view self.now) place (to (pub_sorts (view value))) (next_view state_view n)) }
     {
-        let topic = apply(alloc, code, self.topic, &self.keyword, &value, place)?;
+        let topic = apply(alloc, code, self.topic, &self.keyword, &value)?;
         Ok(sorted(value, topic))
     }
 
@@ -177,15 +176,14 @@ impl Ports {
         alloc: Global,
         code: &ValidCode,
         answer: Value,
-        place: Place,
     ) -> Result<Next<State>, OutOfMemory>
         requires { IsTrue (is_applied (valid_code code.now) self.now.topic) }
-        ensures { IfOk result (λ n. (program : ProgramView) → Lowered program (valid_code code.now) → Rests program (ports_view self.now) place (pub_next (view answer) pub_takes) (next_view state_view n)) }
+        ensures { IfOk result (λ n. (program : ProgramView) (place : Place) → Lowered program (valid_code code.now) → Rests program (ports_view self.now) place (pub_next (view answer) pub_takes) (next_view state_view n)) }
     {
         if is_nil(&answer) {
             Ok(Next::To(State::ReadsLast))
         } else {
-            self.sort(alloc, code, answer, place)
+            self.sort(alloc, code, answer)
         }
     }
 
@@ -197,13 +195,12 @@ impl Ports {
         code: &ValidCode,
         state: State,
         answer: Value,
-        place: Place,
     ) -> Result<Next<State>, OutOfMemory>
         requires { IsTrue (is_applied (valid_code code.now) self.now.topic) }
-        ensures { IfOk result (λ n. (program : ProgramView) → Lowered program (valid_code code.now) → Rests program (ports_view self.now) place (pub_next (view answer) (state_view state)) (next_view state_view n)) }
+        ensures { IfOk result (λ n. (program : ProgramView) (place : Place) → Lowered program (valid_code code.now) → Rests program (ports_view self.now) place (pub_next (view answer) (state_view state)) (next_view state_view n)) }
     {
         match state {
-            State::Takes => self.taken(alloc, code, answer, place),
+            State::Takes => self.taken(alloc, code, answer),
             State::Finds { topic: _, value } => Ok(found(&answer, value)),
             State::Puts { .. } => Ok(Next::To(State::Takes)),
             State::ReadsLast => closings(alloc, &answer),
@@ -219,16 +216,14 @@ impl Ports {
         code: &ValidCode,
         state: Next<State>,
         answer: Value,
-        place: Place,
     ) -> Result<Next<State>, OutOfMemory>
         requires { IsTrue (is_applied (valid_code code.now) self.now.topic) }
-        ensures { IfOk result (λ n. (program : ProgramView) → Lowered program (valid_code code.now) → Rests program (ports_view self.now) place (follows (pub_next (view answer)) (next_view state_view state)) (next_view state_view n)) }
+        ensures { IfOk result (λ n. (program : ProgramView) (place : Place) → Lowered program (valid_code code.now) → Rests program (ports_view self.now) place (follows (pub_next (view answer)) (next_view state_view state)) (next_view state_view n)) }
     {
         match state {
-            Next::To(state) => self.next(alloc, code, state, answer, place),
+            Next::To(state) => self.next(alloc, code, state, answer),
             Next::Stop => Ok(Next::Stop),
             Next::Fail(fault) => Ok(Next::Fail(fault)),
-            Next::FailAt(fault, at) => Ok(Next::FailAt(fault, at)),
         }
     }
 }
@@ -239,7 +234,7 @@ fn sorted(value: Value, topic: Returned) -> Next<State>
 {
     match topic {
         Returned::Value(topic) => Next::To(State::Finds { topic, value }),
-        Returned::Fault(fault, place) => Next::FailAt(fault, place),
+        Returned::Fault(fault) => Next::Fail(fault),
     }
 }
 

@@ -2,11 +2,11 @@
 use Rattle.ca_value.specs.Tree.{nil}
 use Rattle.ca_term.specs.Operation.{want_view}
 use Rattle.ca_meaning.specs.Body.{At, at_op, ended, faulted}
-use Rattle.ca_meaning.specs.Asks.{Next, to, stop, fail, fail_at}
+use Rattle.ca_meaning.specs.Asks.{Next, to, stop, fail}
 use Rattle.ca_system.specs.declared.stand.Stand.{Stand}
 use Rattle.ca_system.specs.declared.stand.Stand.TheVariants.{AtOp, Ended, Faulted}
 use Rattle.ca_system.specs.declared.stand.Next.{Next as NextState}
-use Rattle.ca_system.specs.declared.stand.Next.TheVariants.{To, Stop, Fail, FailAt}
+use Rattle.ca_system.specs.declared.stand.Next.TheVariants.{To, Stop, Fail}
 
 abbrev pub stand_at : Stand → At
 stand_at (AtOp w) = at_op (want_view w)
@@ -17,4 +17,3 @@ abbrev pub next_view : {S T : Type 0} → (S → T) → NextState S → Next T
 next_view state (To s) = to (state s)
 next_view state Stop = stop
 next_view state (Fail f) = fail f
-next_view state (FailAt f p) = fail_at f p

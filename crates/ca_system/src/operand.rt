@@ -71,6 +71,7 @@ pub fn is_true(value: &Value) -> bool
     }
 }
 
+/// Whether it is nil.
 pub fn is_nil(value: &Value) -> bool
     ensures { result ≡ is_nil (view value.now) }
 {

@@ -10,12 +10,10 @@ pub enum Stand {
     Faulted(Fault, Place),
 }
 
-/// What follows on an answer: the next state, the end, or a fault, at the task's own place or at one of the function
-/// that it applied.
+/// What follows on an answer: the next state, the end, or a fault.
 #[derive(Drop)]
 pub enum Next<S> {
     To(S),
     Stop,
     Fail(Fault),
-    FailAt(Fault, Place),
 }
