@@ -19,7 +19,7 @@ stage_send = variants_send Stage.enum (search (sendable, value_send, stand_send)
 
 -- what follows on an answer, where a state may
 pub next_send : (S : RattleType) → IsSend S → IsSend (Next.the_row S)
-next_send S s = variants_send (Next.enum S) (search (sendable, s), (tt, (search (sendable, fault.the_send) depth 20, (search (sendable, fault.the_send, place.the_send) depth 20, tt))))
+next_send S s = variants_send (Next.enum S) (search (sendable, s), (tt, (search (sendable, fault.the_send) depth 20, tt)))
 
 pub task_send : (T : RattleType) → IsSend T → IsSend (SystemTask.the_row T)
 task_send T t = declared_send (SystemTask.the_type T) (search (sendable, t), (search (sendable, stage_send), tt))

@@ -1,0 +1,5 @@
+(defn producer [id] (let [c (chan)] (go (dotimes [i 20] (>! c (+ id i)))) c))
+(defn block [k] (loop [i 0 v []] (if (< i 250) (recur (inc i) (conj v (producer (+ (* 250 k) i)))) v)))
+(defn fan [cs] (let [o (chan)] (go-loop [n 5000] (if (> n 0) (let [[v c] (alts! cs)] (if (nil? v) (recur n) (do (>! o v) (recur (dec n))))))) o))
+(def fs [(fan (block 0)) (fan (block 1)) (fan (block 2)) (fan (block 3))])
+(println (loop [n 0 s 0] (if (< n 20000) (let [[v c] (alts!! fs)] (if (nil? v) (recur n s) (recur (inc n) (+ s v)))) [n s])))
