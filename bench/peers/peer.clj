@@ -25,9 +25,9 @@
   (let [cs (mapv alts-producer (range 16))]
     (<!! (go-loop [n 0 s 0] (if (< n 100000) (let [[v c] (alts! cs)] (recur (inc n) (+ s v))) s)))))
 (defn timeouts []
-  (let [out (chan 1024)]
-    (dotimes [i 100000] (go (<! (timeout (mod i 100))) (>! out 1)))
-    (loop [n 0] (if (< n 100000) (recur (+ n (<!! out))) n))))
+  (let [c (chan 16)]
+    (go (dotimes [i 100000] (>! c i)))
+    (<!! (go-loop [n 0 s 0] (if (< n 100000) (let [[v p] (alts! [c (timeout 1000)])] (recur (inc n) (+ s v))) s)))))
 (defn work [k] (loop [i 0 s k] (if (< i 400000) (recur (inc i) (mod (+ (* s 37) i) 1000)) s)))
 (defn compute []
   (let [out (chan 16)]

@@ -158,18 +158,21 @@ func alts() int64 {
 }
 
 func timeouts() int64 {
-	out := make(chan int64, 1024)
-	for i := 0; i < 100000; i++ {
-		go func(i int) {
-			<-time.After(time.Duration(i%100) * time.Millisecond)
-			out <- 1
-		}(i)
+	c := make(chan int64, 16)
+	go func() {
+		for i := int64(0); i < 100000; i++ {
+			c <- i
+		}
+	}()
+	var sum int64
+	for n := 0; n < 100000; n++ {
+		select {
+		case v := <-c:
+			sum += v
+		case <-time.After(time.Second):
+		}
 	}
-	var n int64
-	for n < 100000 {
-		n += <-out
-	}
-	return n
+	return sum
 }
 
 func compute() int64 {

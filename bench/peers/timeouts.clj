@@ -1,3 +1,4 @@
-(def out (chan 1024))
-(dotimes [i 100000] (go (<! (timeout (mod i 100))) (>! out 1)))
-(println (loop [n 0] (if (< n 100000) (recur (+ n (<!! out))) n)))
+(def c (chan 16))
+(go (dotimes [i 100000] (>! c i)))
+(def g (go-loop [n 0 s 0] (if (< n 100000) (let [[v p] (alts! [c (timeout 1000)])] (recur (inc n) (+ s v))) s)))
+(println (<!! g))
