@@ -1,10 +1,13 @@
 ghost use Rattle.std.specs.Prelude.{◌≡◌, ◌≢◌, ◌⊎◌, ◌≤◌, ℕ, List, Option, map, string_bytes, true, false, codes, None, Some, Ok, Err, IfOk, IsSome};
 ghost use Rattle.std.specs.Io.KnownBytes.{Appends};
+ghost use Rattle.ca_value.specs.declared.seq.Seq.{Seq};
+ghost use Rattle.ca_term.specs.declared.event.Event.{Event};
+ghost use Rattle.ca_journal.specs.Events.{events};
 ghost use Rattle.ca_meaning.specs.Ends.{ended, faulted, limit, stuck};
 ghost use Rattle.ca_timers.specs.Causes.{Rose};
 ghost use Rattle.ca_words.specs.Words.{command_in};
 ghost use Rattle.ca_words.specs.declared.command.Command.TheVariants.{Check, Load};
-ghost use Rattle.ca_run.specs.Top.{Accepted, Completed, CompletedFor, Refused, Partly, reads, runs, usage};
+ghost use Rattle.ca_run.specs.Top.{Accepted, Completed, CompletedFor, IsLawful, Refused, Partly, reads, runs, usage};
 ghost use Rattle.ca_run.specs.Answers.{status_of, journal_of, AnswersTo, IsFit, RunsNothing};
 ghost use Rattle.ca_run.specs.declared.answer.Answer.{Answer};
 
@@ -14,6 +17,7 @@ use crate::generator::load_script;
 use crate::run::ScriptEnd;
 use ca_journal::entry::Journal;
 use ca_pool::gate::Gate;
+use ca_sealed::journals::journals_of_scripts_keep_the_laws;
 use ca_table::answer::PoolStop;
 use ca_timers::clock::Clock;
 use ca_value::memory;
@@ -185,6 +189,9 @@ pub fn main_call<R: Threads + Wait + Sync, S: Source, K: Sink, C: Clock + Send, 
     ensures stuck { result.status ≡ 4 → CompletedFor (command_in (map string_bytes words.now)) (S.left source.old) (S.left source.new) (K.held sink.old) (K.held sink.new) result.journal stuck }
     ensures limit { result.status ≡ 5 → CompletedFor (command_in (map string_bytes words.now)) (S.left source.old) (S.left source.new) (K.held sink.old) (K.held sink.new) result.journal limit }
 
+    // And each such run keeps the laws of channels, waits, mixes, mults and pipelines.
+    ensures laws { (j : Seq Event) → result.journal ≡ Some j → IsLawful (command_in (map string_bytes words.now)) (S.left source.old) (S.left source.new) (events j) }
+
     // When each other status comes.
     ensures accepted { command_in (map string_bytes words.now) ≡ Some Check → result.status ≡ 0 → Accepted (S.left source.old) (S.left source.new) × Appends (K.held sink.old) (K.held sink.new) (codes "ok\n") }
     ensures usage { result.status ≡ 1 → (command_in (map string_bytes words.now) ≡ None) × Appends (K.held sink.old) (K.held sink.new) usage }
@@ -199,6 +206,7 @@ pub fn main_call<R: Threads + Wait + Sync, S: Source, K: Sink, C: Clock + Send, 
     ensures done { result.status ≡ 0 → (command : Command) × (command_in (map string_bytes words.now) ≡ Some command) }
     ensures journal { IsSome result.journal → ((command : Command) × (command_in (map string_bytes words.now) ≡ Some command) × (runs command ≡ true)) × ((result.status ≡ 0) ⊎ ((3 ≤ result.status × result.status ≤ 5) ⊎ (result.status ≡ 7))) }
 {
+    journals_of_scripts_keep_the_laws();
     let Ok(asked) = asked(alloc, words) else {
         return without_journal(8);
     };

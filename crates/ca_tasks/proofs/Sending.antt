@@ -1,6 +1,7 @@
 -- A task of a run may go to another thread.
 use denote.Param.Send.{IsSend, sendable}
 use denote.Param.SendFields.{variants_send}
+use Rattle.std.proofs.Crossing.{crosses}
 use Rattle.ca_jobs.proofs.Sending.{job_send}
 use Rattle.ca_machine.proofs.Sending.{machine_send}
 use Rattle.ca_mix.proofs.Sending.{mix_send}
@@ -15,4 +16,4 @@ kind_send : IsSend Kind.the_row
 kind_send = variants_send Kind.enum (search (sendable, mult_send, deliver_send, mix_send, pub_send, pipe_send, merge_send, onto_send, feed_send, job_send, collect_send) depth 20)
 
 pub task_send : IsSend AnyTask.the_row
-task_send = variants_send AnyTask.enum (search (sendable, machine_send, kind_send, system_send) depth 20)
+task_send = variants_send AnyTask.enum (search (sendable, crosses, machine_send, kind_send, system_send) depth 20)

@@ -15,23 +15,23 @@ use Rattle.ca_tasks.specs.Kinds.{kind_over}
 use Rattle.ca_tasks.specs.Tasks.{advances, gives, over, place, seen, stands, starts}
 
 pub advanced : (P : ProgramView) (a c : AnyTask) (b : TaskBody) → stands P a b → advances P a c → stands P c b × (place c ≡ body_at b)
-advanced P (Text m) (Text n) b st go_on = M.advanced P (machine_view m) (machine_view n) b st go_on
+advanced P (Text m) (Text n) b st go_on = M.advanced P (machine_view m.value) (machine_view n.value) b st go_on
 advanced P (Text m) (System t) b st go_on = absurd go_on
 advanced P (System t) (Text m) b st go_on = absurd go_on
-advanced P (System t) (System u) b st go_on = S.advanced P (seen t) (seen u) b st go_on
+advanced P (System t) (System u) b st go_on = S.advanced P (seen t.value) (seen u.value) b st go_on
 
 pub answered : (P : ProgramView) (a c : AnyTask) (b : TaskBody) (w : WantView) (v : Tree) → stands P a b → place a ≡ body_at b → place a ≡ at_op w → gives a v c → (d : TaskBody) × BodyRest P (body_fill v b) d × stands P c d
-answered P (Text m) (Text n) b w v st at is g = M.answered P (machine_view m) (machine_view n) b w v st is g
+answered P (Text m) (Text n) b w v st at is g = M.answered P (machine_view m.value) (machine_view n.value) b w v st is g
 answered P (Text m) (System t) b w v st at is g = absurd g
 answered P (System t) (Text m) b w v st at is g = absurd g
-answered P (System t) (System u) b w v st at is g = S.answered P (seen t) (seen u) b w v st is g.0
+answered P (System t) (System u) b w v st at is g = S.answered P (seen t.value) (seen u.value) b w v st is g.0
 
 pub stays : (C : CodeView) (a c : AnyTask) (v : Tree) → gives a v c → over C a → over C c
-stays C (Text m) (Text n) v g = M.stays_over C (machine_view m) (machine_view n) v g
+stays C (Text m) (Text n) v g = M.stays_over C (machine_view m.value) (machine_view n.value) v g
 stays C (Text m) (System t) v g = absurd g
 stays C (System t) (Text m) v g = absurd g
 stays C (System t) (System u) v g = subst (kind_over C) (sym g.1)
 
 pub started : (P : ProgramView) (seed : SeedView) (a : AnyTask) → starts P seed a → (b : TaskBody) × BodyRest P (new_task P seed) b × stands P a b
-started P seed (Text m) s = M.started P seed (machine_view m) s
-started P seed (System t) s = S.started P seed (seen t) s
+started P seed (Text m) s = M.started P seed (machine_view m.value) s
+started P seed (System t) s = S.started P seed (seen t.value) s

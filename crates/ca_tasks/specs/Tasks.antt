@@ -20,29 +20,29 @@ abbrev pub seen : SystemTask Kind → SystemView
 seen t = system_view kind_body t
 
 abbrev pub over : CodeView → AnyTask → Type 0
-over C (Text m) = M.IsOver C (machine_view m)
-over C (System t) = kind_over C t.table
+over C (Text m) = M.IsOver C (machine_view m.value)
+over C (System t) = kind_over C t.value.table
 
 abbrev pub stands : ProgramView → AnyTask → TaskBody → Type 0
-stands P (Text m) b = M.StandsAs P (machine_view m) b
-stands P (System t) b = S.StandsAs P (seen t) b
+stands P (Text m) b = M.StandsAs P (machine_view m.value) b
+stands P (System t) b = S.StandsAs P (seen t.value) b
 
 abbrev pub place : AnyTask → At
-place (Text m) = (machine_view m).place
-place (System t) = (seen t).place
+place (Text m) = (machine_view m.value).place
+place (System t) = (seen t.value).place
 
 abbrev pub advances : ProgramView → AnyTask → AnyTask → Type 0
-advances P (Text m) (Text n) = M.Advances (machine_view m) (machine_view n)
+advances P (Text m) (Text n) = M.Advances (machine_view m.value) (machine_view n.value)
 advances P (Text m) (System t) = ⊥
 advances P (System t) (Text m) = ⊥
-advances P (System t) (System u) = S.Advances P (seen t) (seen u)
+advances P (System t) (System u) = S.Advances P (seen t.value) (seen u.value)
 
 abbrev pub gives : AnyTask → Tree → AnyTask → Type 0
-gives (Text m) v (Text n) = M.Gives (machine_view m) v (machine_view n)
+gives (Text m) v (Text n) = M.Gives (machine_view m.value) v (machine_view n.value)
 gives (Text m) v (System t) = ⊥
 gives (System t) v (Text m) = ⊥
-gives (System t) v (System u) = S.Gives (seen t) v (seen u) × (u.table ≡ t.table)
+gives (System t) v (System u) = S.Gives (seen t.value) v (seen u.value) × (u.value.table ≡ t.value.table)
 
 abbrev pub starts : ProgramView → SeedView → AnyTask → Type 0
-starts P seed (Text m) = M.Starts P seed (machine_view m)
-starts P seed (System t) = S.Starts seed (seen t)
+starts P seed (Text m) = M.Starts P seed (machine_view m.value)
+starts P seed (System t) = S.Starts seed (seen t.value)

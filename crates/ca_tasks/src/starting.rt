@@ -53,11 +53,11 @@ impl Starting for AnyTask {
     fn start(alloc: Global, code: &ValidCode, seed: &Seed) -> Result<Option<AnyTask>, OutOfMemory> {
         match seed {
             Seed::Go(_) => match <Machine as Starting>::start(alloc, code, seed)? {
-                Some(machine) => Ok(Some(AnyTask::Text(machine))),
+                Some(machine) => Ok(Some(AnyTask::Text(Box::new(alloc, machine)?))),
                 None => Ok(None),
             },
             Seed::System(system) => match system_for(alloc, code, system)? {
-                Some(task) => Ok(Some(AnyTask::System(task))),
+                Some(task) => Ok(Some(AnyTask::System(Box::new(alloc, task)?))),
                 None => Ok(None),
             },
         }

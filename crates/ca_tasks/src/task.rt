@@ -13,11 +13,12 @@ use ca_system::task::SystemTask;
 use ca_value::memory::OutOfMemory;
 use std::alloc::Global;
 
-/// A task of a run: the main text or a go block, compiled, or a system task.
+/// A task of a run: the main text or a go block, compiled, or a system task. It is two words, since a run moves its tasks
+/// at every event.
 #[derive(Drop)]
 pub enum AnyTask {
-    Text(Machine),
-    System(SystemTask<Kind>),
+    Text(Box<Machine>),
+    System(Box<SystemTask<Kind>>),
 }
 
 impl AnyTask {
@@ -26,6 +27,6 @@ impl AnyTask {
         ensures stands { IfOk result (λ t. (program : ProgramView) (b : TaskBody) → Lowered program (valid_code code.now) → BodyRest program (script (new_body program.main)) b → stands program t b) }
         ensures over { IfOk result (λ t. over (valid_code code.now) t) }
     {
-        Ok(AnyTask::Text(Machine::main(alloc, code)?))
+        Ok(AnyTask::Text(Box::new(alloc, Machine::main(alloc, code)?)?))
     }
 }

@@ -6,6 +6,7 @@ use Rattle.ca_words.specs.Words.{command_in}
 use Rattle.ca_run.specs.Answers.{answer_text, AnswersTo}
 use Rattle.ca_run.specs.Top.{Completed, CompletedFor, Partly}
 use Rattle.ca_meaning.specs.Ends.{ended, faulted, limit, stuck}
+use Rattle.ca_run.proofs.Lawful.{lawful_of}
 use Rattle.ca_run.proofs.Finishes.{whole_text, part_text, ended_of, ends_of, accepted_of, refused_of, usage_of, partly_of, close_journal, close_asked, runs_nothing}
 use Rattle.ca_run.proofs.top.main_call.Goals as goal
 
@@ -139,3 +140,12 @@ pub returns-clause-unasked : goal.returns-clause-unasked
 returns-clause-unasked g c =
     ⊎_elim (λ e. c.in-Ok-judge.ensures.unasked c.in-Ok-judge.answer refl (runs_nothing c.in-Ok-judge.answer c.is_ok-written.result c.close.result.status c.close.ensures.lost c.close.ensures.done e))
     (λ k. c.in-Ok-judge.ensures.idle (λ x is. k x (sym c.in-Ok.ensures.command ∙ is)))
+
+pub returns-clause-laws : goal.returns-clause-laws
+returns-clause-laws g c = λ j e.
+    let a = c.in-Ok-judge.answer in
+    let left = g.S.Source.left c.args.source.now in
+    let after = g.S.Source.left c.judge.new.source in
+    let asked = command_in (map string_bytes c.args.words.now) in
+    let answers : AnswersTo asked left after a = subst (λ q. AnswersTo q left after a) c.in-Ok.ensures.command (c.in-Ok-judge.ensures.answers a refl) in
+    lawful_of c.journals_of_scripts_keep_the_laws.ensures asked left after a j answers (sym c.close.ensures.journal ∙ e)

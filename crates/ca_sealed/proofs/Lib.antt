@@ -1,0 +1,17 @@
+pub mod Used
+pub mod Outcomes
+pub mod Tidy
+pub mod Scopes
+pub mod Secrets
+pub mod Sealing
+pub mod SecretsOnce
+pub mod Once
+pub mod Words
+pub mod Goes
+pub mod Rows
+pub mod Names
+pub mod ChannelRows
+pub mod Walks
+pub mod TopForms
+pub mod Scripts
+pub mod Accepted

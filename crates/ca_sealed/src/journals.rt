@@ -1,0 +1,19 @@
+ghost use Rattle.std.specs.Prelude.{◌≡◌, Ok, List};
+ghost use Rattle.ca_term.specs.Program.{ProgramView};
+ghost use Rattle.ca_term.specs.Event.{EventView};
+ghost use Rattle.ca_reader.specs.Form.{FormTrees};
+ghost use Rattle.ca_check.specs.Expansion.{expansion_of};
+ghost use Rattle.ca_meaning.specs.Legal.{Legal};
+ghost use Rattle.ca_sealed.specs.KeepsLaws.{KeepsLaws};
+
+use crate::networks::{
+    mults_of_scripts_deliver_before_they_go_on, pipelines_of_scripts_put_in_order,
+};
+
+/// Each legal journal of an accepted script keeps the laws of channels, waits, mixes, mults and pipelines.
+pub fn journals_of_scripts_keep_the_laws()
+    ensures { (forms : FormTrees) (program : ProgramView) → expansion_of forms ≡ Ok program → (journal : List EventView) → Legal program journal → KeepsLaws program journal }
+{
+    mults_of_scripts_deliver_before_they_go_on();
+    pipelines_of_scripts_put_in_order();
+}
