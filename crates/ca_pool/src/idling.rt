@@ -32,6 +32,11 @@ use ca_turns::Table;
 use ca_value::value::PortId;
 use std::alloc::Global;
 use std::sync::Wait;
+use std::sync::atomic::AtomicU64;
+use std::time::Duration;
+
+// How long a worker sleeps that found the others at work, in microseconds.
+const NAP: u64 = 50;
 
 // Moments are below it.
 const MOMENTS: u64 = 4_611_686_018_427_387_904;
@@ -205,6 +210,13 @@ fn name_port(ports: &mut Vec<u64>, port: PortId) -> Result<Rested, PoolStop>
     }
 }
 
+// Where others were found at work the worker sleeps for a moment, since each of its looks holds them up.
+fn stand_aside<R: Wait>(rt: &R, found: Surveyed) {
+    if let Surveyed::Busy = found {
+        AtomicU64::new(0).park_timeout(rt, 0, Duration::from_micros(NAP));
+    }
+}
+
 // Gives the lane back, so that others may find the worker idle, looks at all parts, and takes the lane again.
 fn look_round<R: Wait, A: Agent, C: Clock + Drop>(
     rt: &R,
@@ -221,6 +233,7 @@ fn look_round<R: Wait, A: Agent, C: Clock + Drop>(
 {
     rise(table, code, worker, lane);
     let found = survey(rt, table, code, worker);
+    stand_aside(rt, found);
     (sit(rt, table, code, worker), found)
 }
 

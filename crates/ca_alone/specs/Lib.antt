@@ -1,0 +1,5 @@
+pub mod Reading
+pub mod Standing
+pub mod Lone
+pub mod Answers
+pub mod OwnTurn

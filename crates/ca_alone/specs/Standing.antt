@@ -1,0 +1,55 @@
+-- When the contents of a lone worker's parts stand for a position of the schedule.
+use Rattle.std.specs.Prelude.{◌≡◌, ℕ, ◌<◌, List, [], ◌∷◌, Option, Some, None}
+use Rattle.ca_term.specs.Event.{EventView, made, spawned, done, met, parked, posted, settled, defaulted, closed, registered, printed, ticked, over}
+use Rattle.ca_term.specs.Program.{ProgramView}
+use Rattle.ca_meaning.specs.Body.{At}
+use Rattle.ca_meaning.specs.Task.{TaskBody}
+use Rattle.ca_meaning.specs.State.{State}
+use Rattle.ca_meaning.specs.Sound.{Sound}
+use Rattle.ca_meaning.specs.Solo.{Lane, Desk, Chooses, patience}
+use Rattle.ca_commit.specs.Agents.{TaskAgent}
+use Rattle.ca_commit.specs.Contents.{Content}
+use Rattle.ca_commit.specs.Gathered.{parts_of}
+use Rattle.ca_commit.specs.Running.{RunStands}
+use Rattle.ca_solo.specs.Positions.{Position}
+use Rattle.ca_solo.specs.Seats.{Uncounted}
+use Rattle.ca_alone.specs.Reading.{Reads}
+
+-- The contents stand for its state, its desk is read off them, and no answer of the clock is left.
+pub record IsPosition {A : Type 0} (place : A → At) (stands : ProgramView → A → TaskBody → Type 0) (program : ProgramView) (now : ℕ → Option (Content (TaskAgent A))) (w : Position) : Type 0 where
+  pub run : RunStands place stands program 1 now w.state
+  pub sound : Sound w.state
+  pub reads : Reads (parts_of 1 now) w.desk
+  pub uncounted : Uncounted w
+  pub used : w.desk.readings ≡ []
+
+-- a task is in the lane and may make an event
+abbrev pub IsOn : Option Lane → Type 0
+IsOn None = ⊥
+IsOn (Some lane) = lane.events < patience
+
+abbrev pub moment_list : Option ℕ → List ℕ
+moment_list None = []
+moment_list (Some m) = m ∷ []
+
+-- the answers of the clock that an event of a task took
+abbrev pub asked : EventView → List ℕ
+asked (made t p what moment) = moment_list moment
+asked (spawned t u kind result) = []
+asked (done t k b v) = []
+asked (met t k side p v w o) = []
+asked (parked t w bs) = []
+asked (posted t w p v) = []
+asked (settled w k side p v) = []
+asked (defaulted t v) = []
+asked (closed t p) = []
+asked (registered t name args v) = []
+asked (printed t line) = []
+asked (ticked m ports) = []
+asked (over t how) = []
+
+-- without priority the branch that the event took is the first ready one, from the number of earlier alts on
+abbrev pub ChoosesWell : State → Desk → EventView → Type 0
+ChoosesWell s d (done t k b v) = Chooses s d t k
+ChoosesWell s d (met t k side p v w o) = Chooses s d t k
+ChoosesWell s d other = Unit {0}

@@ -1,0 +1,8 @@
+pub mod Stirs
+pub mod Positions
+pub mod Moves
+pub mod Alone
+pub mod Rounds
+pub mod Seats
+pub mod Kinds
+pub mod Calls
