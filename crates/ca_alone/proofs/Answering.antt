@@ -1,6 +1,6 @@
 -- With each turn of a lone worker the clock gave just the answers that the turn took.
 use Rattle.std.proofs.Common.{⊎_elim, ◌≡◌, ℕ, ◌≤◌, List, [], ◌∷◌, ◌++◌, refl, sym, ap, ◌∙◌, subst, arith, Bool, true, false, Option, Some, None, eqb}
-use Rattle.std.proofs.lemmas.List.{append_assoc}
+use Rattle.std.proofs.lemmas.List.{append-nil, append_assoc}
 use Rattle.ca_value.specs.Tree.{Tree}
 use Rattle.ca_term.specs.declared.event.Ending.TheVariants.{Ended, Faulted}
 use Rattle.ca_term.specs.Program.{ProgramView}
@@ -31,17 +31,13 @@ went_more ms m (Some told) p q w g = subst (λ z. GoOnBy m z q) w g ∙ ap Some 
 pub gave_more : (first c c2 : TimersPart) (ms : List ℕ) (m : ℕ) → Gave first ms c → c.least ≤ m → c2.least ≡ m → GoOnBy m c.readings c2.readings → Gave first (ms ++ m ∷ []) c2
 gave_more first c c2 ms m g le is on = record { rise = fall_more first.least m c.least c2.least ms g.rise le (omega (arith, is)); told = went_more ms m first.readings c.readings c2.readings g.told on }
 
-no_more : (ms : List ℕ) → ms ≡ ms ++ []
-no_more [] = refl
-no_more (m ∷ ms) = ap (λ l. m ∷ l) (no_more ms)
-
 module _ {A : Type 0} (first : TimersPart) (ms : List ℕ) (now old new : Parts (TaskAgent A)) (part : IsPart old now) (c : TimersPart) (there : now.timers ≡ Some c) (g : Gave first ms c) where
   -- the timers after a turn that took these answers
   abbrev Given : List ℕ → Type 0
   Given rs = (c2 : TimersPart) × ((laid_parts now new).timers ≡ Some c2) × Gave first (ms ++ rs) c2
 
   with_none : (c2 : TimersPart) → c2.least ≡ c.least → c2.readings ≡ c.readings → Gave first (ms ++ []) c2
-  with_none c2 l e = subst (λ rs. Gave first rs c2) (no_more ms) (record { rise = subst (NeverFall first.least ms) (sym l) g.rise; told = subst (WentOn ms first.readings) (sym e) g.told })
+  with_none c2 l e = subst (λ rs. Gave first rs c2) (sym (append-nil ms)) (record { rise = subst (NeverFall first.least ms) (sym l) g.rise; told = subst (WentOn ms first.readings) (sym e) g.told })
 
   as_before : new.timers ≡ old.timers → Given []
   as_before e = (c, timers_as_before now old new part e ∙ there, with_none c refl refl)
@@ -107,4 +103,4 @@ pub gave_none : (c : TimersPart) → Gave c [] c
 gave_none c = record { rise = let z : c.least ≤ c.least = omega arith in z; told = by c.readings } where
   by : (o : Option (List ℕ)) → WentOn [] o o
   by None = tt
-  by (Some told) = ap Some (no_more told)
+  by (Some told) = ap Some (sym (append-nil told))

@@ -1,11 +1,10 @@
 -- What a lone worker holds tells its part of the position.
-use Rattle.std.proofs.Common.{◌≡◌, ◌∙◌, ℕ, ◌<◌, ◌≤◌, List, sym, ap, subst, Some, map}
+use Rattle.std.proofs.Common.{◌≡◌, ◌∙◌, ℕ, ◌≤◌, List, sym, ap, Some, map}
 use Rattle.std.specs.Prelude.{option_map}
 use mathlib.Core.Option as core
 use lib.ListN.{get_elem?}
 use Rattle.ca_term.specs.Program.{ProgramView}
 use Rattle.ca_meaning.specs.Body.{At}
-use Rattle.ca_meaning.specs.Solo.{patience}
 use Rattle.ca_meaning.specs.Task.{TaskBody}
 use Rattle.ca_states.specs.Code.{CodeView}
 use Rattle.ca_turns.specs.declared.rule.View.{View}
@@ -20,7 +19,6 @@ use Rattle.ca_table.specs.declared.drawn.Drawn.{Drawn}
 use Rattle.ca_solo.specs.Positions.{Position}
 use Rattle.ca_alone.specs.Lone.{HoldsLeft, StandsAlone, left_now}
 use Rattle.ca_alone.specs.Reading.{lane_read, number_of}
-use Rattle.ca_alone.specs.Standing.{IsOn}
 
 module _ {A : Type 0} (v : View (PartSeen A) Drawn) (h : HoldsLeft drawn_touches v) where
   -- a part that is held lies among all parts as it was settled
@@ -34,10 +32,6 @@ module _ {A : Type 0} (over : CodeView → A → Type 0) (place : A → At) (sta
       let there : (parts_of 1 (contents_at (left_now drawn_touches v))).lane 0 ≡ Some (lane_of_seen l) = ap (sorted lane_of) (held_there v h 0 c e) ∙ ap (λ (x : HeldSeen A). lane_of (held_of x)) is in
       let r = a.position.reads in
       r.reads.lane_is ∙ ap (λ (z : LaneView (TaskAgent A)). lane_read z.task z.since) (some_same r.lane (lane_of_seen l) (sym r.in_lane ∙ there))
-
-  -- its task may make an event where it made fewer than 64 since it was picked
-  pub held_is_on : (c : PartSeen A) (l : LaneSeen A) (t : ℕ) (x : TaskAgent A) → get_elem? v.held 0 ≡ core.some (Some c) → c.held ≡ seen_lane l → l.task ≡ Some (t, x) → l.since < patience → IsOn w.desk.lane
-  held_is_on c l t x e is on lt = subst IsOn (sym (held_lane c l e is ∙ ap (λ o. lane_read o l.since) on)) lt
 
   -- the ready part, which is part 34
   pub held_ready : (c : PartSeen A) (q : List (ℕ × TaskAgent A)) → get_elem? v.held 34 ≡ core.some (Some c) → c.held ≡ seen_ready q → w.desk.ready ≡ map number_of q

@@ -39,9 +39,6 @@ due_asks [] m readings e le = absurd le
 due_asks (d ∷ ds) m readings e le = (e, le)
 
 module _ {A : Type 0} (place : A → At) (stands : ProgramView → A → TaskBody → Type 0) (program : ProgramView) (now : ℕ → Option (Content (TaskAgent A))) (w : Position) (p : IsPosition place stands program now w) where
-  abbrev Is : Position → Type 0
-  Is w2 = IsPosition place stands program now w2
-
   -- Where no deadline is open the clock isn't asked.
   pub untimed_is_move : w.phase ≡ picked → w.state.deadlines ≡ [] → (w2 : Position) × IsInTime w w2 × IsPosition place stands program now w2
   untimed_is_move phase none = (

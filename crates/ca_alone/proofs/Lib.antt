@@ -19,7 +19,5 @@ pub mod Picking
 pub mod LoneTurns
 pub mod Idling
 pub mod Waking
-pub mod Chosen
 pub mod Answering
 pub mod CutWhole
-pub mod HeldRests

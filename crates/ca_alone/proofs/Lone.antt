@@ -102,14 +102,6 @@ module _ {A : Type 0} (over : CodeView → A → Type 0) (place : A → At) (sta
   pub lone_between : (w2 : Position) → Move program w w2 [] → IsPosition place (stands_over over code stands) program (contents_at (left_now drawn_touches v)) w2 → StandsAlone over place stands program code v answers w2
   lone_between w2 move is = record { position = is; coded = a.coded; alone = subst (λ es. Alone program answers es w2) (append-nil (shown_by v.turns)) (move_kept program answers (shown_by v.turns) w w2 [] a.alone move) }
 
-  -- other hands of the table, or more held, with the same turns
-  pub lone_same : (v2 : View (PartSeen A) Drawn) → v2.opening ≡ v.opening → v2.turns ≡ v.turns → StandsAlone over place stands program code v2 answers w
-  lone_same v2 opening turns = let same : left_now drawn_touches v2 ≡ left_now drawn_touches v = ap (λ cs. left_by drawn_touches cs v2.turns) opening ∙ ap (left_by drawn_touches v.opening) turns in record {
-    position = subst (λ (cs : List (PartSeen A)). IsPosition place (stands_over over code stands) program (contents_at cs) w) (sym same) a.position;
-    coded = subst (HaveCode code) (sym same) a.coded;
-    alone = subst (λ es. Alone program answers es w) (sym (ap shown_by turns)) a.alone;
-  }
-
   -- what it showed is the run of the schedule
   pub lone_solo : HasUsed w.phase → Solo program answers (shown_by v.turns)
   lone_solo used = ends_solo program answers (shown_by v.turns) w a.alone used a.position.used

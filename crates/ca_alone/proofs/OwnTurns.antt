@@ -1,6 +1,5 @@
 -- The only hand of a table: the history is its own list, and what it holds is what its turns left.
-use Rattle.std.proofs.Common.{◌≡◌, ◌∙◌, ℕ, zero, suc, ◌+◌, ◌<◌, ◌≤◌, List, [], ◌∷◌, ◌++◌, length, map, refl, sym, ap, subst, arith, Option, Some, None, length-set, replicate, set}
-use Rattle.std.proofs.lemmas.List.{length-replicate}
+use Rattle.std.proofs.Common.{◌≡◌, ◌∙◌, ℕ, zero, suc, ◌+◌, ◌<◌, ◌≤◌, List, [], ◌∷◌, ◌++◌, length, map, refl, sym, ap, subst, arith, Option, Some, None, length-set, set}
 use mathlib.Core.Option.{none, some, some-injective}
 use lib.ListN.{get_elem?}
 use Rattle.ca_turns.specs.declared.rule.Turn.{Turn}
@@ -11,7 +10,7 @@ use Rattle.ca_turns.specs.Steps.{Sees, SeesOne}
 use Rattle.ca_turns.specs.Views.{drawing, having_missed, holding, stands, turn}
 use Rattle.ca_turns.specs.Hands.{AllThere, look}
 use Rattle.ca_turns.proofs.Looks.{all_read}
-use Rattle.ca_turns.proofs.Lists.{in_range, no_part, none_some}
+use Rattle.ca_turns.proofs.Lists.{in_range, none_some}
 use Rattle.ca_turns.proofs.Runs.{both_written, length-write, reads_now}
 use Rattle.ca_table.specs.Workers.{AllAbove}
 use Rattle.ca_table.specs.declared.drawn.Drawn.{Drawn}
@@ -79,13 +78,6 @@ held_before (x ∷ h) zero zero c e = absurd (none_some c (some-injective None (
 held_before (x ∷ h) zero (suc i) c e = e
 held_before (x ∷ h) (suc j) zero c e = e
 held_before (x ∷ h) (suc j) (suc i) c e = held_before h j i c e
-
--- a hand that is new holds nothing
-pub fresh_left : {C E : Type 0} (touches : E → List ℕ) (v : View C E) → v.held ≡ replicate (length v.opening) None → HoldsLeft touches v
-fresh_left {C} touches v e = record {
-  long = ap length e ∙ length-replicate (length v.opening) None;
-  held = λ i c f. absurd (no_part (length v.opening) i c (subst (λ h. get_elem? h i ≡ some (Some c)) e f));
-}
 
 module _ {C E : Type 0} (touches : E → List ℕ) where
   -- a draw keeps that what is held is what the turns left ..

@@ -64,10 +64,6 @@ module _ (x : Seen) (alts : Bool) where
   abbrev pub FirstFound : ℕ → List BranchView → ℕ → Type 0
   FirstFound start bs k = (j : ℕ) (o : BranchView) → slice_get bs j ≡ Some o → distance (length bs) start j < distance (length bs) start k → found_of x o ≡ unready
 
-  -- how far they lie from the start
-  far : (n start j : ℕ) (b : Bool) → nat_lt j start ≡ b → (P : ℕ → Type 0) → P (distance n start j) → P (cond b (j + (n - start)) (j - start))
-  far n start j b e P p = subst (λ c. P (cond c (j + (n - start)) (j - start))) e p
-
   after_start : (start : ℕ) (bs : List BranchView) (m : ℕ) → start + m < length bs → UnreadyTo (drop start bs) m → FirstFound start bs (start + m)
   after_start start bs m within u j o at less = by (nat_lt j start) refl (nat_lt (start + m) start) refl less where
     by : (b : Bool) → nat_lt j start ≡ b → (c : Bool) → nat_lt (start + m) start ≡ c → cond b (j + (length bs - start)) (j - start) < cond c (start + m + (length bs - start)) (start + m - start) → found_of x o ≡ unready

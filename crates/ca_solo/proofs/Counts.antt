@@ -11,7 +11,6 @@ use Rattle.ca_meaning.specs.Solo.{Desk, alts_of, joined_by, made_one, ReadsMomen
 use Rattle.ca_solo.specs.Positions.{Position, first_position}
 use Rattle.ca_solo.specs.Moves.{Move, picks, is_in_time, is_late, waits_idle, makes_one, settles_one, passes_one, yields, rests}
 use Rattle.ca_solo.specs.Seats.{Uncounted}
-use Rattle.ca_meaning.proofs.Soundness.{step_sound}
 use Rattle.ca_meaning.proofs.Tasks.{Puts, nothing, one, IsRested, rested_kept, step_puts}
 
 pub not_before : {P : TaskBody → Type 0} (f g : Tasks) → Puts P f g → (u : ℕ) → g u ≡ None → f u ≡ None
@@ -67,17 +66,6 @@ module _ (program : ProgramView) (w : Position) (sound : Sound w.state) where
   move_uncounted all w2 es (passes_one x e) = subst Uncounted (sym x.4) all
   move_uncounted all w2 es (yields x e) = subst Uncounted (sym x.4) all
   move_uncounted all w2 es (rests x e) = subst Uncounted (sym x.2) all
-
-  pub move_sound : (w2 : Position) (es : List EventView) → Move program w w2 es → Sound w2.state
-  move_sound w2 es (picks x e) = subst (λ (z : Position). Sound z.state) (sym x.4) sound
-  move_sound w2 es (is_in_time x e) = subst (λ (z : Position). Sound z.state) (sym x.3) sound
-  move_sound w2 es (is_late m ports x e) = subst (λ (z : Position). Sound z.state) (sym x.7) (step_sound program w.state x.2 (ticked m ports) x.5 sound)
-  move_sound w2 es (waits_idle m ports x e) = subst (λ (z : Position). Sound z.state) (sym x.8) (step_sound program w.state x.2 (ticked m ports) x.6 sound)
-  move_sound w2 es (makes_one h x e) = subst (λ (z : Position). Sound z.state) (sym x.9) (step_sound program w.state x.1 h x.7 sound)
-  move_sound w2 es (settles_one h x e) = subst (λ (z : Position). Sound z.state) (sym x.10) (step_sound program w.state x.6 (settled x.2 x.3 x.4 x.0 x.5) x.9 sound)
-  move_sound w2 es (passes_one x e) = subst (λ (z : Position). Sound z.state) (sym x.4) sound
-  move_sound w2 es (yields x e) = subst (λ (z : Position). Sound z.state) (sym x.4) sound
-  move_sound w2 es (rests x e) = subst (λ (z : Position). Sound z.state) (sym x.2) sound
 
 pub starts_uncounted : (readings : List ℕ) (s : State) → Uncounted (first_position readings s)
 starts_uncounted readings s u n = refl

@@ -2,7 +2,6 @@
 use Rattle.std.proofs.Common.{◌≡◌, ◌⊎◌, inl, inr, ⊎_elim, ℕ, ◌<◌, ◌≤◌, List, [], ◌∷◌, ◌++◌, refl, sym, ap, ap₂, ◌∙◌, subst, arith, Bool, true, false, Option, Some, None, eqb, eq-eqb, nat_lt, ltb-true, ltb-false, append-nil, append_assoc}
 use Rattle.ca_term.specs.Program.{ProgramView}
 use Rattle.ca_term.specs.Event.{EventView, made, spawned, done, met, parked, posted, settled, defaulted, closed, registered, printed, ticked, over as is_over}
-use Rattle.ca_meaning.specs.Row.{unsettled, settles}
 use Rattle.ca_meaning.specs.State.{State}
 use Rattle.ca_meaning.specs.Steps.{Step}
 use Rattle.ca_meaning.specs.Sound.{Each, Sound}
@@ -12,10 +11,11 @@ use Rattle.ca_meaning.proofs.Soundness.{step_sound, opening_sound}
 use Rattle.ca_solo.specs.Stirs.{stirred, In, Ascends, Ordered, OnlyThese}
 use Rattle.ca_solo.specs.Positions.{settling, free, picked, in_time, Position, on_lane, with_readings}
 use Rattle.ca_solo.specs.Moves.{Move, picks, is_in_time, is_late, waits_idle, makes_one, settles_one, passes_one, yields, rests, Runs, stays, goes_on, MadeByMoves}
-use Rattle.ca_solo.proofs.Settling.{settles_later}
+use Rattle.ca_solo.proofs.Settling.{settled_can, settles_later}
 use Rattle.ca_solo.proofs.Eventing.{stirs_one}
 use Rattle.ca_solo.proofs.Following.{no_ready}
 use Rattle.ca_solo.proofs.Sorting.{in_order}
+use Rattle.ca_solo.proofs.Keeping.{none_at_opening}
 
 abbrev pub at_settling : State → Desk → List ℕ → Position
 at_settling s d us = record { state = s; desk = d; phase = settling us }
@@ -131,8 +131,7 @@ module _ (program : ProgramView) where
 
   next_moves : (s : State) (d : Desk) (us : List ℕ) (e : EventView) (s2 : State) (d2 : Desk) → Sound s → Ascends us → OnlyThese s us → Step program s e s2 → IsNext s d e d2 → Then s d us e s2 d2
   next_moves s d us (settled x k side p v) s2 d2 sound up only step next =
-      let can : CanSettle s p = (step.0, step.4, λ n. let i : unsettled ≡ settles side step.2 v step.1 = sym n ∙ step.5 in cc) in
-      let f = pass_to s d p us up only (only p can) next.0 in
+      let f = pass_to s d p us up only (only p (settled_can program s s2 x k p side v step)) next.0 in
       let h = settled x k side p v in (
         p ∷ f.0,
         run_more (at_settling s d us) (at_settling s d (p ∷ f.0)) [] f.1 (at_settling s2 d2 (p ∷ f.0)) (h ∷ [])
@@ -162,6 +161,5 @@ module _ (program : ProgramView) where
 
 pub schedule_moves : (program : ProgramView) (readings : List ℕ) (journal : List EventView) → Solo program readings journal → MadeByMoves program readings journal
 schedule_moves program readings journal x =
-    let no_channel : (q : ℕ) → CanSettle x.opening q → In q [] = (λ q can. let k : None ≡ Some can.0 = sym (ap (λ (z : State). z.channels q) x.opens.2) ∙ can.1 in absurd cc) in
-    let r = steps_move program journal x.opening (opening_desk readings) [] x.state x.desk (opening_sound program x.opening x.opens) tt no_channel x.steps in
+    let r = steps_move program journal x.opening (opening_desk readings) [] x.state x.desk (opening_sound program x.opening x.opens) tt (none_at_opening program x.opening x.opens) x.steps in
     (x.opening, at_settling x.state x.desk r.0, x.opens, r.1, tt, x.none_left)

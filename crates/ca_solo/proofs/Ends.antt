@@ -1,23 +1,19 @@
 -- Where the one worker is free, nobody runs and no deadline is open, nothing can go on.
-use Rattle.std.proofs.Common.{◌≡◌, ℕ, ◌<◌, List, [], refl, sym, ◌∙◌, subst, Some}
-use Rattle.ca_term.specs.declared.event.Side.{Side}
+use Rattle.std.proofs.Common.{◌≡◌, ℕ, List, [], refl, sym, ◌∙◌, Some}
 use Rattle.ca_term.specs.declared.event.Side.TheVariants.{Take, Put}
 use Rattle.ca_term.specs.Program.{ProgramView}
-use Rattle.ca_term.specs.Event.{EventView, settled}
-use Rattle.ca_value.specs.Tree.{Tree}
+use Rattle.ca_term.specs.Event.{EventView}
 use Rattle.ca_meaning.specs.Channel.{Channel}
 use Rattle.ca_meaning.specs.Wait.{front}
 use Rattle.ca_meaning.specs.Row.{Settling, unsettled, settles, settle_row}
 use Rattle.ca_meaning.specs.State.{State, Task, running}
-use Rattle.ca_meaning.specs.Steps.{Step}
-use Rattle.ca_meaning.specs.Cost.{cost}
-use Rattle.ca_meaning.specs.Ends.{IsStuck, IsOpen, IsWithin, HasEnd, stuck}
+use Rattle.ca_meaning.specs.Ends.{IsStuck}
 use Rattle.ca_meaning.specs.EndsLaw.{IsQuiet}
 use Rattle.ca_meaning.specs.Solo.{NoneSettles}
 use Rattle.ca_solo.specs.Positions.{free, Position}
-use Rattle.ca_solo.specs.Alone.{Follows, Alone}
+use Rattle.ca_solo.specs.Alone.{Alone}
 use Rattle.ca_meaning.proofs.Possible.{quiet_stuck}
-use Rattle.ca_solo.proofs.Following.{alone_reaches}
+use Rattle.ca_solo.proofs.Following.{alone_reaches, follows_in}
 
 -- nothing is possible where nobody runs, nothing settles and no deadline is open
 pub quiet_by : (s : State) → NoneSettles s → ((t : ℕ) (x : Task) → s.tasks t ≡ Some x → x.mode ≡ running → ⊥) → s.deadlines ≡ [] → IsQuiet s
@@ -32,15 +28,5 @@ quiet_by s none nobody dated = record {
 
 pub stuck_there : (program : ProgramView) (readings : List ℕ) (journal : List EventView) (w : Position) → Alone program readings journal w → w.phase ≡ free → ((t : ℕ) (x : Task) → w.state.tasks t ≡ Some x → x.mode ≡ running → ⊥) → w.state.deadlines ≡ [] → IsStuck program journal
 stuck_there program readings journal w a f nobody dated =
-    let g : Follows w.state a.desk w.desk free = subst (Follows w.state a.desk w.desk) f a.follows in
+    let g = follows_in program readings journal w free a f in
     (w.state, alone_reaches program readings journal w a, λ p. quiet_stuck program w.state p.1 p.0 (quiet_by w.state g.1 nobody dated) p.2)
-
-pub stuck_end : (program : ProgramView) (readings : List ℕ) (journal : List EventView) (w : Position) (budget : ℕ) → Alone program readings journal w → w.phase ≡ free → ((t : ℕ) (x : Task) → w.state.tasks t ≡ Some x → x.mode ≡ running → ⊥) → w.state.deadlines ≡ []
-    → IsWithin budget journal → IsOpen journal → cost journal < budget → HasEnd program budget journal stuck
-stuck_end program readings journal w budget a f nobody dated within opened less = (within, opened, less, stuck_there program readings journal w a f nobody dated)
-
--- a free worker has no channel to settle
-pub none_settles : (program : ProgramView) (readings : List ℕ) (journal : List EventView) (w : Position) (x k p : ℕ) (side : Side) (v : Tree) (s2 : State) → Alone program readings journal w → w.phase ≡ free → Step program w.state (settled x k side p v) s2 → ⊥
-none_settles program readings journal w x k p side v s2 a f step =
-    let g : Follows w.state a.desk w.desk free = subst (Follows w.state a.desk w.desk) f a.follows in
-    g.1 p (step.0, step.4, λ n. let i : unsettled ≡ settles side step.2 v step.1 = sym n ∙ step.5 in cc)

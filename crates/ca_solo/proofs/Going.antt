@@ -1,6 +1,6 @@
 -- Going round the branches of an alts from the number of the task's earlier ones comes to the first ready
 -- branch of the schedule.
-use Rattle.std.proofs.Common.{◌≡◌, ℕ, zero, suc, ◌+◌, ◌-◌, ◌%◌, ◌<◌, ◌≤◌, List, [], ◌∷◌, length, refl, sym, subst, arith, Bool, true, false, cond, Some, None, slice_get, nat_lt, ltb-true, ltb-false}
+use Rattle.std.proofs.Common.{◌≡◌, ℕ, ◌+◌, ◌-◌, ◌%◌, ◌<◌, ◌≤◌, List, length, refl, sym, subst, arith, Bool, true, false, cond, Some, slice_get, nat_lt, ltb-true, ltb-false}
 use Rattle.std.proofs.lemmas.Option.{slice_get_within}
 use Rattle.std.proofs.Math.Nat.{mod-lt}
 use Rattle.ca_term.specs.Event.{BranchView}
@@ -46,8 +46,3 @@ first_from s bs turns i lt unready j o at less =
     let jn : j < n = slice_get_within bs j o at in
     unready (distance n start j) o (subst (λ h. distance n start j < h) (round_lies n start i sn lt) less)
     (subst (λ h. slice_get bs h ≡ Some o) (sym (round_comes n start j sn jn)) at)
-
--- a single branch is the first
-pub only_branch : (s : State) (b : BranchView) (turns : ℕ) → IsFirstFrom s (b ∷ []) turns 0
-only_branch s b turns zero o at less = absurd (omega (arith, less))
-only_branch s b turns (suc j) o at less = absurd (let k : None ≡ Some o = at in cc)

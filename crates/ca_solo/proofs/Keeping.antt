@@ -3,8 +3,8 @@ use Rattle.std.proofs.Common.{◌≡◌, ℕ, List, [], ◌++◌, refl, sym, ap,
 use Rattle.ca_term.specs.Program.{ProgramView}
 use Rattle.ca_term.specs.Event.{EventView}
 use Rattle.ca_meaning.specs.State.{State, Opening}
-use Rattle.ca_meaning.specs.Solo.{Desk, opening_desk, CanSettle, Solo}
-use Rattle.ca_solo.specs.Stirs.{In}
+use Rattle.ca_meaning.specs.Solo.{Desk, opening_desk, Solo}
+use Rattle.ca_solo.specs.Stirs.{OnlyThese}
 use Rattle.ca_solo.specs.Positions.{Phase, settling, free, picked, in_time, Position, first_position, HasUsed}
 use Rattle.ca_solo.specs.Moves.{Move, picks, is_in_time, is_late, waits_idle, makes_one, settles_one, passes_one, yields, rests}
 use Rattle.ca_solo.specs.Alone.{Follows, Alone}
@@ -23,11 +23,13 @@ module _ (program : ProgramView) (readings : List ℕ) (journal : List EventView
   move_kept w w2 es a (yields x e) = subst (λ z. Alone program readings (journal ++ z) w2) (sym e) (subst (λ z. Alone program readings z w2) (sym (append-nil journal)) (yields_kept program readings journal w w2 a x))
   move_kept w w2 es a (rests x e) = subst (λ z. Alone program readings (journal ++ z) w2) (sym e) (subst (λ z. Alone program readings z w2) (sym (append-nil journal)) (rests_kept program readings journal w w2 a x))
 
+-- at an opening no channel can settle
+pub none_at_opening : (program : ProgramView) (s : State) → Opening program s → OnlyThese s []
+none_at_opening program s o q can = let k : None ≡ Some can.0 = sym (ap (λ (z : State). z.channels q) o.2) ∙ can.1 in cc
+
 -- the first position, and the last
 pub starts_alone : (program : ProgramView) (readings : List ℕ) (s : State) → Opening program s → Alone program readings [] (first_position readings s)
-starts_alone program readings s o = record { opening = s; opens = o; desk = opening_desk readings; steps = (refl, refl); follows = (refl, tt, λ q can. no_channel q can) } where
-  no_channel : (q : ℕ) → CanSettle s q → In q []
-  no_channel q can = let k : None ≡ Some can.0 = sym (ap (λ (z : State). z.channels q) o.2) ∙ can.1 in cc
+starts_alone program readings s o = record { opening = s; opens = o; desk = opening_desk readings; steps = (refl, refl); follows = (refl, tt, none_at_opening program s o) }
 
 pub ends_solo : (program : ProgramView) (readings : List ℕ) (journal : List EventView) (w : Position) → Alone program readings journal w → HasUsed w.phase → w.desk.readings ≡ [] → Solo program readings journal
 ends_solo program readings journal w a m none = record { opening = a.opening; state = w.state; desk = a.desk; opens = a.opens; steps = a.steps; none_left = by w.phase a.follows m } where

@@ -6,7 +6,6 @@ pub mod Turning
 pub mod Keeping
 pub mod Answers
 pub mod Going
-pub mod Ticking
 pub mod Ends
 pub mod Sitting
 pub mod Seating
@@ -14,6 +13,5 @@ pub mod Runs
 pub mod Counts
 pub mod Counted
 pub mod Still
-pub mod Calling
 pub mod Sorting
 pub mod Covering

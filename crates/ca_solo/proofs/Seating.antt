@@ -10,6 +10,7 @@ use Rattle.ca_solo.specs.Positions.{free, Position, first_position}
 use Rattle.ca_solo.specs.Moves.{Move, picks, is_in_time, is_late, waits_idle, makes_one, settles_one, passes_one, yields, rests}
 use Rattle.ca_solo.specs.Alone.{Follows, Alone}
 use Rattle.ca_solo.specs.Seats.{On, AllSit, Seated}
+use Rattle.ca_solo.proofs.Following.{follows_in}
 use Rattle.ca_solo.proofs.Sitting.{in_more, in_last, with_one, wakes_sits, placed, joined_place, tasks_of, event_sits}
 
 -- the moves
@@ -27,7 +28,7 @@ yields_sits tasks l ready lane e all u x at runs = ⊎_elim (λ o. inr (let is :
 
 pub move_seated : (program : ProgramView) (readings : List ℕ) (journal : List EventView) (w w2 : Position) (es : List EventView) → Alone program readings journal w → Move program w w2 es → Seated w → Seated w2
 move_seated program readings journal w w2 es a (picks x e) all =
-    let f : Follows w.state a.desk w.desk free = subst (Follows w.state a.desk w.desk) x.2 a.follows in
+    let f = follows_in program readings journal w free a x.2 in
     subst Seated (sym x.4) (picked_sits w.state.tasks w.desk.lane w.desk.ready x.1 x.0 (lane_free w.state a.desk w.desk f) x.3 all)
 move_seated program readings journal w w2 es a (is_in_time x e) all = subst Seated (sym x.3) all
 move_seated program readings journal w w2 es a (is_late m ports x e) all = subst Seated (sym x.7) (subst (λ (z : Tasks). AllSit z w.desk.lane w.desk.ready) (sym (tasks_of x.5.4)) all)

@@ -2,6 +2,7 @@
 use Rattle.std.proofs.Common.{◌≡◌, ◌⊎◌, inl, inr, ⊎_elim, ℕ, List, [], ◌∷◌, refl, sym, ap, ◌∙◌, subst, Bool, true, false, cond, Option, Some, None, option_map, eqb}
 use Rattle.std.specs.Map.{update}
 use Rattle.ca_value.specs.Tree.{Tree}
+use Rattle.ca_term.specs.declared.event.Side.{Side}
 use Rattle.ca_term.specs.declared.event.Side.TheVariants.{Take, Put}
 use Rattle.ca_term.specs.declared.event.Ending.TheVariants.{Ended, Faulted}
 use Rattle.ca_term.specs.Program.{ProgramView}
@@ -52,6 +53,10 @@ done_later s b a d q picks k = at_channel (s.channels (port_of b)) refl where
   at_channel None at = absurd (let n : not_ready ≡ completes a d = sym (ap (λ (o : Option Channel). row_at o taker putter b) at) ∙ picks in cc)
   at_channel (Some c) at = by c at (done_stirs c b) refl
 
+-- a channel that settled could
+pub settled_can : (program : ProgramView) (s s2 : State) (w k p : ℕ) (side : Side) (v : Tree) → Step program s (settled w k side p v) s2 → CanSettle s p
+settled_can program s s2 w k p side v x = (x.0, x.4, λ n. let i : unsettled ≡ settles side x.2 v x.1 = sym n ∙ x.5 in cc)
+
 later : (program : ProgramView) (s s2 : State) (e : EventView) → Sound s → Step program s e s2 → (q : ℕ) → CanIn s2.channels s2.waits q → Later s e q
 later program s s2 (made t p what moment) sound x q k = inr (made_can s.channels p q (channel_made what) s.waits (λ side. sound.homes side p x.3) (moved_can s2 _ _ q (channels_of x.7) (waits_of x.7) k))
 later program s s2 (spawned t u kind result) sound x q k = inr (moved_can s2 _ _ q (channels_of x.10) (waits_of x.10) k)
@@ -60,7 +65,7 @@ later program s s2 (met t j side p v w o) sound x q k = inr (fewer_can s.channel
 later program s s2 (parked t w bs) sound x q k = inr (joined_can s (record { number = w; owner = Some t; branches = bs }) q x.6 (moved_can s2 _ _ q (channels_of x.8) (waits_of x.8) k))
 later program s s2 (posted t w p v) sound x q k = inr (joined_can s (record { number = w; owner = None; branches = put_of p v ∷ [] }) q x.3 (moved_can s2 _ _ q (channels_of x.6) (waits_of x.6) k))
 later program s s2 (settled w j side p v) sound x q k =
-    let here : CanIn s.channels s.waits p = can_way s p (x.0, x.4, λ n. let i : unsettled ≡ settles side x.2 v x.1 = sym n ∙ x.5 in cc) in
+    let here : CanIn s.channels s.waits p = can_way s p (settled_can program s s2 w j p side v x) in
     inr (⊎_elim (λ is. subst (CanIn s.channels s.waits) (sym is) here) (λ z. z) (one_can s.channels p q (Some x.1) s.waits (fewer_can (update eqb s.channels p (Some x.1)) w q s.waits (moved_can s2 _ _ q (channels_of x.9) (waits_of x.9) k))))
 later program s s2 (defaulted t v) sound x q k = inr (moved_can s2 _ _ q (channels_of x.7) (waits_of x.7) k)
 later program s s2 (closed t p) sound x q k = shut_can (p ∷ []) s.channels s.waits q (moved_can s2 _ _ q (channels_of x.4) (waits_of x.4) k)
@@ -72,10 +77,6 @@ later program s s2 (is_over t (Faulted fault place result)) sound x q k = shut_i
 
 pub settles_later : (program : ProgramView) (s s2 : State) (e : EventView) → Sound s → Step program s e s2 → (q : ℕ) → CanSettle s2 q → In q (stirred s e) ⊎ CanSettle s q
 settles_later program s s2 e sound x q k = ⊎_elim (λ i. inl i) (λ z. inr (way_can s q z)) (later program s s2 e sound x q (can_way s2 q k))
-
--- of a take or a put that ends at once
-pub done_quiet : (program : ProgramView) (s s2 : State) (t k : ℕ) (b : BranchView) (a : Tree) (c : Channel) → Sound s → Step program s (done t k b a) s2 → s.channels (port_of b) ≡ Some c → done_stirs c b ≡ false → (q : ℕ) → CanSettle s2 q → CanSettle s q
-done_quiet program s s2 t k b a c sound x at quiet q can = ⊎_elim (λ i. absurd (subst (In q) (ap (λ (o : Option Channel). done_stirred o b) at ∙ ap (λ z. cond z (port_of b ∷ []) []) quiet) i)) (λ z. z) (settles_later program s s2 (done t k b a) sound x q can)
 
 pub reached_settles_later : (program : ProgramView) (journal : List EventView) (s s2 : State) (e : EventView) → Reaches program journal s → Step program s e s2 → (q : ℕ) → CanSettle s2 q → In q (stirred s e) ⊎ CanSettle s q
 reached_settles_later program journal s s2 e r x q can = settles_later program s s2 e (reached_sound program journal s r) x q can

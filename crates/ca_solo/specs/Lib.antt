@@ -4,5 +4,3 @@ pub mod Moves
 pub mod Alone
 pub mod Rounds
 pub mod Seats
-pub mod Kinds
-pub mod Calls

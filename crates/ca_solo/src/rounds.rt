@@ -1,3 +1,4 @@
+// Going round the branches of an alts.
 ghost use Rattle.std.specs.Prelude.{ℕ, ◌<◌, ◌%◌, List, length};
 ghost use Rattle.ca_term.specs.Event.{BranchView};
 ghost use Rattle.ca_meaning.specs.State.{State};

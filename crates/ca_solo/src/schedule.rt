@@ -1,3 +1,4 @@
+// The moves of the one worker make the schedule, and keep it.
 ghost use Rattle.std.specs.Prelude.{◌≡◌, ℕ, List, [], ◌++◌};
 ghost use Rattle.ca_term.specs.Program.{ProgramView};
 ghost use Rattle.ca_term.specs.Event.{EventView};

@@ -1,3 +1,4 @@
+// Where running tasks are, and what tasks that weren't started have made.
 ghost use Rattle.std.specs.Prelude.{ℕ, List};
 ghost use Rattle.ca_term.specs.Program.{ProgramView};
 ghost use Rattle.ca_term.specs.Event.{EventView};

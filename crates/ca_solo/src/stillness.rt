@@ -1,3 +1,4 @@
+// When the one worker's run is stuck.
 ghost use Rattle.std.specs.Prelude.{◌≡◌, ℕ, List, [], Some};
 ghost use Rattle.ca_term.specs.Program.{ProgramView};
 ghost use Rattle.ca_term.specs.Event.{EventView};

@@ -1,3 +1,4 @@
+// Which channels can settle after an event.
 ghost use Rattle.std.specs.Prelude.{◌⊎◌, ℕ, List};
 ghost use Rattle.ca_term.specs.Program.{ProgramView};
 ghost use Rattle.ca_term.specs.Event.{EventView};
