@@ -1,12 +1,10 @@
 -- A queue into which nobody put yet is empty.
-use Rattle.std.proofs.Common.{◌≡◌, ℕ, zero, suc, List, [], ◌∷◌, ◌++◌, refl, sym, ap, ◌∙◌, Bool, true, false, cond, Option, Some, None, eqb}
-use Rattle.ca_value.specs.Buffer.{no_buffer, fixed_buffer, dropping_buffer, sliding_buffer, promise_buffer}
+use Rattle.std.proofs.Common.{◌≡◌, ℕ, List, [], ◌∷◌, ◌++◌, refl, sym, ap, ◌∙◌, Bool, true, false, cond, Option, Some, None, eqb}
 use Rattle.ca_value.specs.Tree.{Tree}
-use Rattle.ca_term.specs.Operation.{WhatView, unbuffered, fixed, dropping, sliding, promise, timeout, mult, mix, publication}
 use Rattle.ca_term.specs.Program.{ProgramView}
 use Rattle.ca_term.specs.Event.{EventView, made, spawned, done, met, parked, posted, settled, defaulted, closed, registered, printed, ticked, over as is_over}
 use Rattle.ca_meaning.specs.Applied.{Work}
-use Rattle.ca_meaning.specs.Channel.{Channel, new_channel, channel_made}
+use Rattle.ca_meaning.specs.Channel.{Channel, channel_made}
 use Rattle.ca_meaning.specs.History.{channel_after}
 use Rattle.ca_meaning.specs.State.{State}
 use Rattle.ca_meaning.specs.PipelineTable.{feed_next}
@@ -17,29 +15,13 @@ use Rattle.ca_networks.proofs.Passing.{enters, leaves}
 use Rattle.ca_networks.proofs.Standing.{moved}
 use Rattle.ca_networks.proofs.Tables.{feed_body, feed_op, feed_table}
 use Rattle.ca_networks.proofs.Piping.{NoFeed, none_enters, queue_now}
+use Rattle.ca_meaning.proofs.Channels.{made_empty}
 
 abbrev pub AllEmpty : Roles → State → Type 0
 AllEmpty roles s = (q m : ℕ) (w : Work) → roles q ≡ Some (hidden m (replies w)) → NoFeed s q → (c : Channel) → s.channels q ≡ Some c → c.held ≡ []
 
 pub none_empty : (s : State) → AllEmpty nobody s
 none_empty s q m w role none c at = absurd (let k : None ≡ Some (hidden m (replies w)) = role in cc)
-
-is_empty : (d c : Channel) → d.held ≡ [] → Some d ≡ Some c → c.held ≡ []
-is_empty d c h e = ap (λ (z : Channel). z.held) (sym (let k : d ≡ c = cc in k)) ∙ h
-
-made_empty : (what : WhatView) (c : Channel) → channel_made what ≡ Some c → c.held ≡ []
-made_empty unbuffered c e = is_empty (new_channel no_buffer 0) c refl e
-made_empty (fixed zero) c e = is_empty (new_channel no_buffer 0) c refl e
-made_empty (fixed (suc n)) c e = is_empty (new_channel fixed_buffer (suc n)) c refl e
-made_empty (dropping zero) c e = is_empty (new_channel no_buffer 0) c refl e
-made_empty (dropping (suc n)) c e = is_empty (new_channel dropping_buffer (suc n)) c refl e
-made_empty (sliding zero) c e = is_empty (new_channel no_buffer 0) c refl e
-made_empty (sliding (suc n)) c e = is_empty (new_channel sliding_buffer (suc n)) c refl e
-made_empty promise c e = is_empty (new_channel promise_buffer 1) c refl e
-made_empty (timeout n) c e = is_empty (new_channel no_buffer 0) c refl e
-made_empty (mult source) c e = absurd (let k : None ≡ Some c = e in cc)
-made_empty (mix out changes) c e = absurd (let k : None ≡ Some c = e in cc)
-made_empty (publication source) c e = absurd (let k : None ≡ Some c = e in cc)
 
 -- a channel that comes is empty
 new_empty : (q : ℕ) (e : EventView) (c : Channel) → channel_after q e None ≡ Some c → c.held ≡ []

@@ -39,7 +39,7 @@ use Rattle.ca_networks.specs.MultLaw.{delivery_values}
 use Rattle.ca_networks.specs.Networks.{IsSpawned, started_by, started, AllNew, EachFor}
 use Rattle.ca_networks.proofs.Guarded.{Guard}
 use Rattle.ca_networks.proofs.Passing.{spawned_event}
-use Rattle.ca_networks.proofs.Using.{not_true}
+use Rattle.ca_roles.proofs.Unused.{not_true}
 use Rattle.ca_networks.proofs.Standing.{Standing, Moves, still, waits, ends, answers, moved, deeds_after}
 use Rattle.ca_networks.proofs.Tables.{mult_body, mult_op, mult_table}
 use Rattle.ca_networks.proofs.Acks.{Answered, answered}

@@ -18,6 +18,7 @@ use Rattle.ca_meaning.specs.History.{Mark, accept, give, give_none, pass, no_mar
 use Rattle.ca_meaning.proofs.Histories.{step_tells}
 use Rattle.ca_meaning.proofs.Rows.{TakeDone, gave, nothing_left, take_done, take_meets, put_meets, Settled, moved_in, served, served_nil, settle_does, row_channel}
 use Rattle.ca_networks.proofs.Passing.{entering, leaving, enters, leaves}
+use Rattle.ca_roles.proofs.Channelled.{marked_policy, shut_policy}
 
 abbrev pub is_ordered : Policy → Bool
 is_ordered no_buffer = true
@@ -65,17 +66,6 @@ after_mark q (is_over t how) c ne = refl
 shut_held : (b : Bool) (c : Channel) → (shut_if b c).held ≡ c.held
 shut_held true c = refl
 shut_held false c = refl
-
-shut_policy : (b : Bool) (c : Channel) → (shut_if b c).policy ≡ c.policy
-shut_policy true c = refl
-shut_policy false c = refl
-
-marked_policy : (m : Mark) (c : Channel) → (marked m c).policy ≡ c.policy
-marked_policy (accept v) c = refl
-marked_policy (give v) c = refl
-marked_policy give_none c = refl
-marked_policy (pass v) c = refl
-marked_policy no_mark c = refl
 
 -- a mark that is one
 marked_at : (b : Bool) (m n : Mark) → cond b m no_mark ≡ n → (n ≡ no_mark → ⊥) → (b ≡ true) × (m ≡ n)

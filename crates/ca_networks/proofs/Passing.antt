@@ -1,15 +1,15 @@
 -- What enters a channel and what leaves it at an event, by what the event tells of a task.
-use Rattle.std.proofs.Common.{◌≡◌, ◌⊎◌, inl, inr, ℕ, List, [], ◌∷◌, refl, sym, ap, ◌∙◌, Bool, true, false, cond, Option, Some, None, eqb, eqb-true, eq-eqb}
-use Rattle.ca_value.specs.Tree.{Tree, nil, bool, int, text, key, vector, map, port}
+use Rattle.std.proofs.Common.{◌≡◌, ◌⊎◌, inl, inr, ℕ, List, [], ◌∷◌, refl, ap, ◌∙◌, Bool, true, false, cond, Option, Some, None, eqb, eqb-true, eq-eqb}
+use Rattle.ca_value.specs.Tree.{Tree, nil, bool}
 use Rattle.ca_term.specs.declared.event.Side.{Side}
 use Rattle.ca_term.specs.declared.event.Side.TheVariants.{Take, Put}
 use Rattle.ca_term.specs.Event.{BranchView, take_of, put_of, EventView, made, spawned, done, met, parked, posted, settled, defaulted, closed, registered, printed, ticked, over as is_over}
-use Rattle.ca_term.specs.Operation.{WhatView}
 use Rattle.ca_term.specs.declared.head.SeedKind.{SeedKind}
 use Rattle.ca_meaning.specs.Operands.{is_nil}
 use Rattle.ca_meaning.specs.ChannelSteps.{other_side}
 use Rattle.ca_meaning.specs.History.{Mark, accept, give, give_none, pass, no_mark, mark_on, mark_of_take, mark_of_put, mark_of_settled}
-use Rattle.ca_laws.specs.Deeds.{Deed, did_take, did_put, did_wait, did_post, did_default, did_make, did_spawn, did_close, did_register, did_print, did_end, is_wait, deed_of, deed_on, deed}
+use Rattle.ca_laws.specs.Deeds.{did_take, did_put, did_wait, did_post, did_default, did_make, did_spawn, did_close, did_register, did_print, did_end, is_wait, deed_of, deed_on, deed}
+use Rattle.ca_roles.proofs.Events.{one_deed, no_deed, not_of, not_on, nil_is}
 
 -- the value that enters the channel, and the one that leaves it
 abbrev pub entering : Mark → List Tree
@@ -31,13 +31,6 @@ enters p e = entering (mark_on p e)
 
 abbrev pub leaves : ℕ → EventView → List Tree
 leaves p e = leaving (mark_on p e)
-
-pub one_deed : (b : Bool) (c d : Deed) → cond b (Some c) None ≡ Some d → (b ≡ true) × (c ≡ d)
-one_deed true c d e = (refl, let k : c ≡ d = cc in k)
-one_deed false c d e = absurd (let k : None ≡ Some d = e in cc)
-
-no_deed : {G : Type 0} (b : Bool) (c d : Deed) → (c ≡ d → ⊥) → cond b (Some c) None ≡ Some d → G
-no_deed b c d ne e = absurd (ne (one_deed b c d e).1)
 
 -- a put that was answered by true entered the channel
 side_put : (side : Side) (j q k p : ℕ) (w v : Tree) → deed_on side j q w ≡ did_put k p v (bool true) → (side ≡ Put) × (q ≡ p) × (w ≡ v)
@@ -79,16 +72,6 @@ put_enters t o (is_over u how) k p v is = no_deed (eqb u t) (did_end how) (did_p
 abbrev pub Gets : EventView → ℕ → Tree → Type 0
 Gets e p a = (leaves p e ≡ a ∷ []) ⊎ ((a ≡ nil) × (mark_on p e ≡ give_none))
 
-pub nil_is : (a : Tree) → is_nil a ≡ true → a ≡ nil
-nil_is nil e = refl
-nil_is (bool b) e = absurd (let k : false ≡ true = e in cc)
-nil_is (int z) e = absurd (let k : false ≡ true = e in cc)
-nil_is (text z) e = absurd (let k : false ≡ true = e in cc)
-nil_is (key z) e = absurd (let k : false ≡ true = e in cc)
-nil_is (vector z) e = absurd (let k : false ≡ true = e in cc)
-nil_is (map z) e = absurd (let k : false ≡ true = e in cc)
-nil_is (port z) e = absurd (let k : false ≡ true = e in cc)
-
 taken_mark : (e : EventView) (p : ℕ) (a : Tree) → mark_on p e ≡ mark_of_take a → Gets e p a
 taken_mark e p a is = by (is_nil a) refl where
   by : (b : Bool) → is_nil a ≡ b → Gets e p a
@@ -129,39 +112,7 @@ take_leaves t o (printed u line) k p a is = no_deed (eqb u t) (did_print line) (
 take_leaves t o (ticked m ports) k p a is = absurd (let q : None ≡ Some (did_take k p a) = is in cc)
 take_leaves t o (is_over u how) k p a is = no_deed (eqb u t) (did_end how) (did_take k p a) (λ q. cc) is
 
--- the event of a Make and of a Spawn
-not_of : (b : BranchView) (k : ℕ) (a : Tree) (c : Deed) → ((p : ℕ) → c ≡ did_take k p a → ⊥) → ((p : ℕ) (v : Tree) → c ≡ did_put k p v a → ⊥) → deed_of b k a ≡ c → ⊥
-not_of (take_of p) k a c f g e = f p (sym e)
-not_of (put_of p v) k a c f g e = g p v (sym e)
-
-not_on : (side : Side) (k p : ℕ) (v : Tree) (c : Deed) → (c ≡ did_take k p v → ⊥) → (c ≡ did_put k p v (bool true) → ⊥) → deed_on side k p v ≡ c → ⊥
-not_on Take k p v c f g e = f (sym e)
-not_on Put k p v c f g e = g (sym e)
-
-pub made_event : (t : ℕ) (o : Option ℕ) (e : EventView) (p : ℕ) (what : WhatView) (m : Option ℕ) → deed t o e ≡ Some (did_make p what m) → e ≡ made t p what m
-made_event t o (made u q w n) p what m is =
-    let k = one_deed (eqb u t) (did_make q w n) (did_make p what m) is in
-    let i : did_make q w n ≡ did_make p what m = k.1 in
-    let a : q ≡ p = cc in
-    let b : w ≡ what = cc in
-    let c : n ≡ m = cc in
-    ap (λ z. made z q w n) (eqb-true u t k.0) ∙ ap (λ z. made t z w n) a ∙ ap (λ z. made t p z n) b ∙ ap (made t p what) c
-made_event t o (done u k b a) p what m is = no_deed (eqb u t) (deed_of b k a) (did_make p what m) (not_of b k a (did_make p what m) (λ n q. cc) (λ n v q. cc)) is
-made_event t o (met u k side q v w j) p what m is = by (eqb u t) is where
-  by : (b : Bool) → cond b (Some (deed_on side k q v)) (cond (is_wait w o) (Some (deed_on (other_side side) j q v)) None) ≡ Some (did_make p what m) → met u k side q v w j ≡ made t p what m
-  by true e = no_deed true (deed_on side k q v) (did_make p what m) (not_on side k q v (did_make p what m) (λ q. cc) (λ q. cc)) e
-  by false e = no_deed (is_wait w o) (deed_on (other_side side) j q v) (did_make p what m) (not_on (other_side side) j q v (did_make p what m) (λ q. cc) (λ q. cc)) e
-made_event t o (settled w k side q v) p what m is = no_deed (is_wait w o) (deed_on side k q v) (did_make p what m) (not_on side k q v (did_make p what m) (λ q. cc) (λ q. cc)) is
-made_event t o (spawned u n kind r) p what m is = no_deed (eqb u t) (did_spawn n kind r) (did_make p what m) (λ q. cc) is
-made_event t o (parked u w bs) p what m is = no_deed (eqb u t) (did_wait w bs) (did_make p what m) (λ q. cc) is
-made_event t o (posted u w q i) p what m is = no_deed (eqb u t) (did_post w q i) (did_make p what m) (λ q. cc) is
-made_event t o (defaulted u i) p what m is = no_deed (eqb u t) (did_default i) (did_make p what m) (λ q. cc) is
-made_event t o (closed u q) p what m is = no_deed (eqb u t) (did_close q) (did_make p what m) (λ q. cc) is
-made_event t o (registered u name args i) p what m is = no_deed (eqb u t) (did_register name args i) (did_make p what m) (λ q. cc) is
-made_event t o (printed u line) p what m is = no_deed (eqb u t) (did_print line) (did_make p what m) (λ q. cc) is
-made_event t o (ticked n ports) p what m is = absurd (let q : None ≡ Some (did_make p what m) = is in cc)
-made_event t o (is_over u how) p what m is = no_deed (eqb u t) (did_end how) (did_make p what m) (λ q. cc) is
-
+-- the event of a Spawn
 pub spawned_event : (t : ℕ) (o : Option ℕ) (e : EventView) (u : ℕ) (kind : SeedKind) (r : Option ℕ) → deed t o e ≡ Some (did_spawn u kind r) → e ≡ spawned t u kind r
 spawned_event t o (spawned v n k q) u kind r is =
     let d = one_deed (eqb v t) (did_spawn n k q) (did_spawn u kind r) is in

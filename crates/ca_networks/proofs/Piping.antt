@@ -20,7 +20,8 @@ use Rattle.ca_laws.proofs.Acts.{wait_of}
 use Rattle.ca_laws.proofs.Deeding.{Traced}
 use Rattle.ca_roles.specs.Roles.{Hidden, jobs, replies, reply, hidden, Roles, CarriesAs, Carries, IsReply}
 use Rattle.ca_networks.proofs.Guarded.{Guard, Turn}
-use Rattle.ca_networks.proofs.Passing.{entering, leaving, enters, leaves, made_event}
+use Rattle.ca_networks.proofs.Passing.{entering, leaving, enters, leaves}
+use Rattle.ca_roles.proofs.Events.{made_event}
 use Rattle.ca_networks.proofs.Using.{no_cons, enters_by, leaves_by}
 use Rattle.ca_networks.proofs.Ordered.{is_ordered, gives_first, fifo}
 use Rattle.ca_networks.proofs.Standing.{Standing}

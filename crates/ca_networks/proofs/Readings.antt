@@ -25,7 +25,8 @@ use Rattle.ca_meaning.specs.State.{State, Task}
 use Rattle.ca_meaning.specs.Steps.{Step}
 use Rattle.ca_meaning.specs.Task.{body_at}
 use Rattle.ca_laws.specs.Deeds.{Deed, did_take, did_put, did_wait, did_post, did_default, did_make, did_spawn, did_close, did_register, did_print, did_end, is_wait, deed_of, deed_on, deed}
-use Rattle.ca_networks.proofs.Passing.{one_deed}
+use Rattle.ca_roles.proofs.Events.{one_deed}
+use Rattle.ca_roles.proofs.Recorded.{registries_of}
 
 -- a mult stays one
 mult_answers : (c : ℕ) (taps : List TapView) (name : RegisterName) (args : Trees) (v : Tree) (r : Registry) → mult_row c taps name args ≡ answers v r → is_the_mult (Some r) ≡ true
@@ -56,9 +57,6 @@ was_mult s (Some (a_mult c taps)) name args v r i e = mult_answers c taps name a
 was_mult s (Some (a_mix c g mode xs)) name args v r i e = absurd (let k : false ≡ true = i in cc)
 was_mult s (Some (a_publication c ts)) name args v r i e = absurd (let k : false ≡ true = i in cc)
 was_mult s None name args v r i e = absurd (let k : false ≡ true = i in cc)
-
-registries_of : {s t : State} → s ≡ t → s.registries ≡ t.registries
-registries_of e = ap (λ (z : State). z.registries) e
 
 pub mult_stays : (program : ProgramView) (s s2 : State) (m : ℕ) (e : EventView) → Step program s e s2 → is_the_mult (s.registries m) ≡ true → is_the_mult (s2.registries m) ≡ true
 mult_stays program s s2 m (made t p what moment) x i = ap (λ (f : ℕ → Option Registry). is_the_mult (f m)) (registries_of x.7) ∙ ap is_the_mult (update_apart s.registries p _ m (λ q. let k : false ≡ true = ap is_the_mult (sym (ap s.registries q ∙ x.4)) ∙ i in cc)) ∙ i

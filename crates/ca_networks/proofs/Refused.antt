@@ -14,7 +14,7 @@ use Rattle.ca_meaning.specs.State.{State}
 use Rattle.ca_meaning.specs.Steps.{Step}
 use Rattle.ca_meaning.proofs.Rows.{PutDone, refused, promised, accepted, put_done, row_channel}
 use Rattle.ca_laws.specs.Deeds.{Deed, did_take, did_put, did_wait, did_post, did_default, did_make, did_spawn, did_close, did_register, did_print, did_end, is_wait, deed_of, deed_on, deed}
-use Rattle.ca_networks.proofs.Passing.{one_deed}
+use Rattle.ca_roles.proofs.Events.{one_deed}
 
 abbrev pub IsClosed : State → ℕ → Type 0
 IsClosed s p = (c : Channel) × (s.channels p ≡ Some c) × (c.closed ≡ true)

@@ -1,5 +1,5 @@
 -- Who puts into a hidden channel, and who takes from it.
-use Rattle.std.proofs.Common.{◌≡◌, ℕ, zero, suc, List, [], ◌∷◌, refl, sym, ap, ◌∙◌, subst, Bool, true, false, cond, Option, Some, None, eqb, eqb-true, eq-eqb, slice_get}
+use Rattle.std.proofs.Common.{◌≡◌, ℕ, List, [], ◌∷◌, refl, sym, ap, ◌∙◌, subst, Bool, true, false, cond, Option, Some, None, eqb, eqb-true, eq-eqb, slice_get}
 use Rattle.ca_value.specs.Tree.{Tree, bool}
 use Rattle.ca_term.specs.declared.event.Side.{Side}
 use Rattle.ca_term.specs.declared.event.Side.TheVariants.{Take, Put}
@@ -16,7 +16,6 @@ use Rattle.ca_meaning.specs.Choice.{branches_of}
 use Rattle.ca_meaning.specs.Going.{Stands}
 use Rattle.ca_meaning.specs.ChannelSteps.{other_side}
 use Rattle.ca_meaning.specs.Steps.{Step}
-use Rattle.ca_meaning.specs.Sound.{Each}
 use Rattle.ca_meaning.specs.History.{Mark, accept, give, give_none, pass, no_mark, mark_of_take, mark_of_put, mark_of_done, mark_of_settled, branch_on}
 use Rattle.ca_meaning.proofs.Waits.{each-head}
 use Rattle.ca_meaning.proofs.Rows.{take_meets, put_meets, Settled, moved_in, served, served_nil, settle_does, row_channel}
@@ -25,23 +24,16 @@ use Rattle.ca_laws.proofs.Acts.{wait_of}
 use Rattle.ca_laws.proofs.Stood.{Stood}
 use Rattle.ca_laws.proofs.Deeding.{Traced}
 use Rattle.ca_laws.proofs.Orders.{one_branch, no_branch}
+use Rattle.ca_roles.proofs.Unused.{not_true}
 use Rattle.ca_roles.specs.Roles.{Hidden, public, hidden, Roles, CarriesAs, Carries}
 use Rattle.ca_roles.specs.Users.{Uses, MayUse}
 use Rattle.ca_roles.specs.Typed.{IsPublicBranch, IsTypedPost, MayAsk}
 use Rattle.ca_networks.proofs.Guarded.{Guard}
 use Rattle.ca_networks.proofs.Passing.{entering, leaving, enters, leaves}
+use Rattle.ca_meaning.proofs.Refusals.{each-get}
 
 pub no_cons : {A G : Type 0} (x : A) (xs : List A) → [] ≡ x ∷ xs → G
 no_cons x xs e = absurd cc
-
-pub not_true : (b : Bool) → (b ≡ true → ⊥) → b ≡ false
-not_true true f = absurd (f refl)
-not_true false f = refl
-
-pub each_at : {A : Type 0} (P : A → Type 0) (xs : List A) (k : ℕ) (x : A) → Each P xs → slice_get xs k ≡ Some x → P x
-each_at P [] k x a e = absurd (let j : None ≡ Some x = e in cc)
-each_at P (y ∷ ys) zero x a e = subst P (let j : y ≡ x = cc in j) a.0
-each_at P (y ∷ ys) (suc k) x a e = each_at P ys k x a.1 e
 
 module _ (program : ProgramView) (roles : Roles) where
   -- the task may use the branch's channel so, and the channel carries what is put
@@ -57,7 +49,7 @@ module _ (program : ProgramView) (roles : Roles) where
   suits b (taking x) k c m e = subst (Suits b) (sym (one_branch (take_of (port_number x)) k c e ∙ ap (λ z. take_of (port_number z)) m.1)) m.2
   suits b (putting x v) k c m e = subst (Suits b) (sym (one_branch (put_of (port_number x) v) k c e ∙ ap (λ z. put_of (port_number z) v) m.1)) (m.2, m.3)
   suits b (posting x v) k c m e = subst (Suits b) (sym (one_branch (put_of (port_number x) v) k c e ∙ ap (λ z. put_of (port_number z) v) m.1)) (public_suits b (put_of m.0 v) (m.2, m.3))
-  suits b (choosing ports priority default) k c m e = public_suits b c (each_at (IsPublicBranch roles) (branches_of (choosing ports priority default)) k c m.0 e)
+  suits b (choosing ports priority default) k c m e = public_suits b c (each-get (IsPublicBranch roles) (branches_of (choosing ports priority default)) k c m.0 e)
   suits b (making what) k c m e = no_branch c e
   suits b (spawning seed) k c m e = no_branch c e
   suits b (closing x) k c m e = no_branch c e

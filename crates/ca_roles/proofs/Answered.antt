@@ -25,6 +25,10 @@ use Rattle.ca_roles.proofs.Fewer.{step_count}
 use Rattle.ca_roles.proofs.Onces.{replace_once, step_once}
 use Rattle.ca_roles.proofs.NewPorts.{only_is}
 use Rattle.ca_roles.proofs.Begun.{made_uses}
+use Rattle.ca_meaning.specs.Task.{script}
+
+pub same_script : (b c : BodyView) → script b ≡ script c → b ≡ c
+same_script b c e = cc
 
 -- how often the term can still start such a user of the port
 abbrev pub count : User → ℕ → Kernel → ℕ

@@ -30,7 +30,7 @@ use Rattle.ca_roles.proofs.NewRoles.{IsNewFor, IsNewAs, new_for, GrowsAt, Makes,
 use Rattle.ca_roles.proofs.Closing.{ClosedBy, closed_by, closes_replies, over_stays}
 
 -- what an event leaves of a channel
-marked_policy : (m : Mark) (c : Channel) → (marked m c).policy ≡ c.policy
+pub marked_policy : (m : Mark) (c : Channel) → (marked m c).policy ≡ c.policy
 marked_policy (accept v) c = refl
 marked_policy (give v) c = refl
 marked_policy give_none c = refl
@@ -44,7 +44,7 @@ marked_closed give_none c = refl
 marked_closed (pass v) c = refl
 marked_closed no_mark c = refl
 
-shut_policy : (b : Bool) (c : Channel) → (shut_if b c).policy ≡ c.policy
+pub shut_policy : (b : Bool) (c : Channel) → (shut_if b c).policy ≡ c.policy
 shut_policy true c = refl
 shut_policy false c = refl
 

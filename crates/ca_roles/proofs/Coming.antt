@@ -23,7 +23,7 @@ use Rattle.ca_roles.specs.SoleUsers.{own_of, owns}
 use Rattle.ca_roles.proofs.Rested.{redex_sealed}
 use Rattle.ca_roles.proofs.TypedBodies.{IsChecked, body_asks, rest_typed, start_checked}
 use Rattle.ca_roles.proofs.Onces.{started_once}
-use Rattle.ca_roles.proofs.Answered.{count, not_hidden, maker, steps_once, answered_count}
+use Rattle.ca_roles.proofs.Answered.{same_script, count, not_hidden, maker, steps_once, answered_count}
 use Rattle.ca_roles.proofs.Owning.{rested_owns, system_starts}
 use Rattle.ca_roles.proofs.Spending.{own_none, spends}
 
@@ -62,9 +62,6 @@ module _ (program : ProgramView) (checked : IsProgram program) (sealed : IsSeale
 
   pub new_once : (d : BodyView) → x.3 ≡ script d → UsesOnce d.term
   new_once d is = by x.1 (may.0 n) new_checked x.9 where
-    same_script : (b c : BodyView) → script b ≡ script c → b ≡ c
-    same_script b c e = cc
-
     by : (seed : SeedView) → TypedBody program n roles (new_task program seed) → IsChecked (known_in checked.plain program) (new_task program seed) → BodyRest program (new_task program seed) x.3 → UsesOnce d.term
     by (go number values port_of place) h c r =
         subst (λ (z : BodyView). UsesOnce z.term) (same_script r.0 d (sym r.2 ∙ is))
@@ -92,9 +89,6 @@ module _ (program : ProgramView) (checked : IsProgram program) (sealed : IsSeale
   spawner_spent k q own before y d there is = by u.0 u.1 u.2 u.3 x.8.1 x.4.2 where
     u : (b : BodyView) × (x.0.body ≡ script b) × (1 ≤ count k q (redex b.term)) × Sealed t roles b.term nobody
     u = new_user k q own
-
-    same_script : (b c : BodyView) → script b ≡ script c → b ≡ c
-    same_script b c e = cc
 
     after_is : x.8.0 ≡ script d
     after_is = ap (λ (z : Task). z.body) (let j : Some (runs x.0.result x.8.0) ≡ Some y = sym spawner_after ∙ there in let i : runs x.0.result x.8.0 ≡ y = cc in i) ∙ is

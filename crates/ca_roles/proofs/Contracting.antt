@@ -63,6 +63,10 @@ founds_last : (roles : Roles) (fs : Founds) (s e : Roles) (n : ℕ) (v : Tree) �
 founds_last roles [] s e n v p free h = (p, ap (λ (z : Roles). z n) (sym h) ∙ free, ap (λ (z : Roles). known_as z n public) h)
 founds_last roles (f ∷ fs) s e n v p free h = (h.0, h.1, founds_last roles fs (known_as s f.0 public) e n v p free h.2)
 
+pub is_there : (v : Bool) → not (not v) ≡ true → v ≡ true
+is_there true e = refl
+is_there false e = e
+
 module _ (me : ℕ) (roles : Roles) where
   -- the value of a term that is one; of another it is nil
   pub value_public : (s : Roles) (t : Kernel) → Sealed me roles t s → IsPublic roles (value_of t)
@@ -158,10 +162,6 @@ module _ (program : ProgramView) (sealed : IsSealed program) (S : Option ℕ →
   turned_sealed names text (apply (Register name) ts p) f h g = g
   turned_sealed names text (apply Print ts p) f h g = g
   turned_sealed names text (apply Post ts p) f h g = g
-
-  is_there : (v : Bool) → not (not v) ≡ true → v ≡ true
-  is_there true e = refl
-  is_there false e = e
 
   either : (b : Bool) (x y : Kernel) → Sealed me roles x nobody → Sealed me roles y nobody → Sealed me roles (cond b x y) nobody
   either true x y h g = h

@@ -1,9 +1,12 @@
 -- A value that is put in for a name counts as the name did.
-use Rattle.std.proofs.Common.{◌≡◌, ◌≢◌, ℕ, ◌+◌, refl, sym, ap, ap₂, ◌∙◌, Bool, true, false, cond, ◌==◌, eqb-true}
+use Rattle.std.proofs.Common.{◌≡◌, ◌≢◌, ℕ, ◌+◌, ◌≤◌, arith, refl, sym, ap, ap₂, ◌∙◌, Bool, true, false, cond, ◌==◌, eqb-true}
 use Rattle.ca_value.specs.Tree.{Tree}
 use Rattle.ca_term.specs.declared.head.Head.{Head}
 use Rattle.ca_term.specs.Kernel.{Kernel, Kernels, Bindings, const, var, branch, bind, loop, seq, frame, turn, apply, none, item, empty, binding, put, put_items, put_bindings}
 use Rattle.ca_roles.specs.Once.{User, the_feed, the_collect, the_mult, user_of, is_user, Test, known, is_in, stands_for, first, behind_first, own_operand, one_if, node, uses, uses_all, uses_behind}
+
+pub at_most : (n : ℕ) → n ≡ 0 → n ≤ 1
+at_most n e = omega (arith, e)
 
 -- the term doesn't bind the name
 abbrev mutual

@@ -1,25 +1,36 @@
--- The event of a deed that makes a port.
+-- What a deed tells of its event: where it comes from, and the event of a deed that makes a port.
 use Rattle.std.proofs.Common.{◌≡◌, ℕ, refl, sym, ap, ◌∙◌, Bool, true, false, cond, eqb, eqb-true, Option, Some, None}
-use Rattle.ca_value.specs.Tree.{Tree, bool}
+use Rattle.ca_value.specs.Tree.{Tree, nil, bool, int, text, key, vector, map, port}
 use Rattle.ca_term.specs.declared.event.Side.{Side}
 use Rattle.ca_term.specs.declared.event.Side.TheVariants.{Take, Put}
 use Rattle.ca_term.specs.Operation.{WhatView}
 use Rattle.ca_term.specs.Event.{BranchView, take_of, put_of, EventView, made, spawned, done, met, parked, posted, settled, defaulted, closed, registered, printed, ticked, over as is_over}
+use Rattle.ca_meaning.specs.Operands.{is_nil}
 use Rattle.ca_meaning.specs.ChannelSteps.{other_side}
 use Rattle.ca_laws.specs.Deeds.{Deed, did_take, did_put, did_wait, did_post, did_default, did_make, did_spawn, did_close, did_register, did_print, did_end, is_wait, deed_of, deed_on, deed}
+
+pub nil_is : (a : Tree) → is_nil a ≡ true → a ≡ nil
+nil_is nil e = refl
+nil_is (bool b) e = absurd (let k : false ≡ true = e in cc)
+nil_is (int z) e = absurd (let k : false ≡ true = e in cc)
+nil_is (text z) e = absurd (let k : false ≡ true = e in cc)
+nil_is (key z) e = absurd (let k : false ≡ true = e in cc)
+nil_is (vector z) e = absurd (let k : false ≡ true = e in cc)
+nil_is (map z) e = absurd (let k : false ≡ true = e in cc)
+nil_is (port z) e = absurd (let k : false ≡ true = e in cc)
 
 pub one_deed : (b : Bool) (c d : Deed) → cond b (Some c) None ≡ Some d → (b ≡ true) × (c ≡ d)
 one_deed true c d e = (refl, let k : c ≡ d = cc in k)
 one_deed false c d e = absurd (let k : None ≡ Some d = e in cc)
 
-no_deed : {G : Type 0} (b : Bool) (c d : Deed) → (c ≡ d → ⊥) → cond b (Some c) None ≡ Some d → G
+pub no_deed : {G : Type 0} (b : Bool) (c d : Deed) → (c ≡ d → ⊥) → cond b (Some c) None ≡ Some d → G
 no_deed b c d ne e = absurd (ne (one_deed b c d e).1)
 
-not_of : (b : BranchView) (k : ℕ) (a : Tree) (c : Deed) → ((p : ℕ) → c ≡ did_take k p a → ⊥) → ((p : ℕ) (v : Tree) → c ≡ did_put k p v a → ⊥) → deed_of b k a ≡ c → ⊥
+pub not_of : (b : BranchView) (k : ℕ) (a : Tree) (c : Deed) → ((p : ℕ) → c ≡ did_take k p a → ⊥) → ((p : ℕ) (v : Tree) → c ≡ did_put k p v a → ⊥) → deed_of b k a ≡ c → ⊥
 not_of (take_of p) k a c f g e = f p (sym e)
 not_of (put_of p v) k a c f g e = g p v (sym e)
 
-not_on : (side : Side) (k p : ℕ) (v : Tree) (c : Deed) → (c ≡ did_take k p v → ⊥) → (c ≡ did_put k p v (bool true) → ⊥) → deed_on side k p v ≡ c → ⊥
+pub not_on : (side : Side) (k p : ℕ) (v : Tree) (c : Deed) → (c ≡ did_take k p v → ⊥) → (c ≡ did_put k p v (bool true) → ⊥) → deed_on side k p v ≡ c → ⊥
 not_on Take k p v c f g e = f (sym e)
 not_on Put k p v c f g e = g (sym e)
 

@@ -1,5 +1,5 @@
 -- A local step starts no more than the term could before.
-use Rattle.std.proofs.Common.{◌≡◌, ◌⊎◌, inl, inr, ℕ, ◌+◌, ◌≤◌, List, [], ◌∷◌, refl, sym, ap, ◌∙◌, subst, arith, Bool, true, false, cond, not, Some}
+use Rattle.std.proofs.Common.{◌≡◌, ◌⊎◌, inl, inr, ℕ, ◌+◌, ◌≤◌, List, [], ◌∷◌, refl, sym, ap, ◌∙◌, subst, arith, Bool, true, false, cond, Some}
 use Rattle.std.proofs.lemmas.Map.{update_here}
 use Rattle.ca_value.specs.Builtins.{builtin_result}
 use Rattle.ca_value.specs.Tree.{Tree, nil}
@@ -21,7 +21,7 @@ use Rattle.ca_roles.specs.Sealed.{hides, SealedFounds, Sealed, IsSealed, all_pub
 use Rattle.ca_roles.specs.Once.{User, Test, no_names, known, is_in, stands_for, uses, uses_behind}
 use Rattle.ca_roles.proofs.Starting.{values_public, procedure_sealed}
 use Rattle.ca_roles.proofs.Clean.{builtins_make_no_ports}
-use Rattle.ca_roles.proofs.Contracting.{value_public, operands_public, founds_scope, founds_public}
+use Rattle.ca_roles.proofs.Contracting.{is_there, value_public, operands_public, founds_scope, founds_public}
 use Rattle.ca_roles.proofs.Rested.{redex_sealed}
 use Rattle.ca_roles.proofs.Counted.{Unbound, put_uses, put_uses_behind}
 use Rattle.ca_roles.proofs.Unused.{no_names_hidden, unused}
@@ -146,10 +146,6 @@ module _ (program : ProgramView) (sealed : IsSealed program) (k : User) (me : �
     by : Turned names text now → count (after_turn names text now) ≤ count text + count text + count now
     by (inl e) = subst (λ z. count z ≤ count text + count text + count now) (sym e) (less_behind (count text) (count now))
     by (inr e) = le_more (count (after_turn names text now)) (count text + count text) (count now) (subst (λ z. count (after_turn names text z) ≤ count text + count text) (sym e.2) (again e.0 e.1 (subst (λ z. Sealed me roles z nobody) e.2 g) (first_le (count text + count text) (count now) l)))
-
-  is_there : (v : Bool) → not (not v) ≡ true → v ≡ true
-  is_there true e = refl
-  is_there false e = e
 
   -- what comes in the redex's place stands for none of the ports
   contract_apart : (t : Kernel) → Sealed me roles t nobody → stands_for P no_names (contract program t) ≡ false

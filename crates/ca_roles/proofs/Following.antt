@@ -9,7 +9,7 @@ use Rattle.ca_term.specs.declared.head.RegisterName.TheVariants.{Taps, Modes, Fi
 use Rattle.ca_meaning.specs.Applied.{Work}
 use Rattle.ca_meaning.specs.Asking.{too_large_branches}
 use Rattle.ca_meaning.specs.Asks.{Next, to, stop, fail, needing, closes_due, ports_in, value_and_port, taps_in, one_of, two_of}
-use Rattle.ca_meaning.specs.Body.{local, at_op, ended, faulted, asking}
+use Rattle.ca_meaning.specs.Body.{local, at_op, asking}
 use Rattle.ca_meaning.specs.Operands.{is_nil, truth, port_number}
 use Rattle.ca_meaning.specs.Registry.{TapView}
 use Rattle.ca_meaning.specs.MultTable.{MultPorts, MultState, mult_takes, mult_reads, mult_spawns, mult_waits, mult_reads_last, mult_closes, acks_due, spawns_due, closing_of, mult_next}
@@ -21,9 +21,9 @@ use Rattle.ca_meaning.specs.System.{SystemBody, a_mult, a_delivery, a_mix, a_pub
 use Rattle.ca_meaning.specs.Task.{system_task}
 use Rattle.ca_meaning.specs.Going.{IsAtOp}
 use Rattle.ca_meaning.specs.Sound.{Each}
-use Rattle.ca_roles.specs.Roles.{jobs, replies, reply, Role, public, hidden, Roles, IsPublic, ArePublic, CarriesAs, Carries}
+use Rattle.ca_roles.specs.Roles.{jobs, replies, reply, Role, hidden, Roles, IsPublic, ArePublic, CarriesAs, Carries}
 use Rattle.ca_roles.specs.Typed.{IsPublicPort, IsTypedTap, TypedMult, TypedMix, TypedPub, TypedPipe, TypedMerge, TypedOnto, TypedFeed, TypedJob, TypedCollect, TypedNext, TypedSystem}
-use Rattle.ca_roles.proofs.Ports.{asked}
+use Rattle.ca_roles.proofs.Ports.{asked, got_public}
 use Rattle.ca_roles.proofs.AnswerForms.{pair_public, channel_public, ports_public, taps_public, closing_public, read_public}
 
 -- What may answer an operation: a take gets nil or what its channel carries, the others public values. The answer of a
@@ -41,21 +41,9 @@ module _ (program : ProgramView) (roles : Roles) where
   not_local : {G : Type 0} (op : OpView) (p : Place) → local ≡ at_op (record { op = op; place = p }) → G
   not_local op p e = absurd cc
 
-  not_ended : {G : Type 0} (v : Tree) (op : OpView) (p : Place) → ended v ≡ at_op (record { op = op; place = p }) → G
-  not_ended v op p e = absurd cc
-
-  not_faulted : {G : Type 0} (f : Fault) (l : Place) (op : OpView) (p : Place) → faulted f l ≡ at_op (record { op = op; place = p }) → G
-  not_faulted f l op p e = absurd cc
-
   got_as : (p : ℕ) (r : Role) (a : Tree) → roles p ≡ Some r → (a ≡ nil) ⊎ Carries program roles p a → (a ≡ nil) ⊎ CarriesAs program roles (Some r) a
   got_as p r a e (inl n) = inl n
   got_as p r a e (inr k) = inr (subst (λ o. CarriesAs program roles o a) e k)
-
-  got_public : (p : ℕ) (a : Tree) → IsPublicPort roles p → (a ≡ nil) ⊎ Carries program roles p a → IsPublic roles a
-  got_public p a e g = by (got_as p public a e g) where
-    by : (a ≡ nil) ⊎ IsPublic roles a → IsPublic roles a
-    by (inl n) = subst (IsPublic roles) (sym n) tt
-    by (inr k) = k
 
   needed : {A S : Type 0} (P : S → Type 0) (o : Option A) (next : A → Next S) → ((x : A) → o ≡ Some x → TypedNext P (next x)) → TypedNext P (needing o next)
   needed P None next k = tt
@@ -79,7 +67,7 @@ module _ (program : ProgramView) (roles : Roles) where
   spawns_typed v (t ∷ ts) n h k = (h, k.0, k.1)
 
   mult_goes : (t : MultPorts) (l : Place) (x : MultState) (op : OpView) (a : Tree) → TypedSystem program roles (a_mult t l (to x)) → IsAtOp (system_task (a_mult t l (to x))) op → IsAnswer program roles op a → TypedNext (TypedMult roles) (mult_next a x)
-  mult_goes t l mult_takes op a h at k = either (TypedMult roles) (is_nil a) (to mult_reads_last) (to (mult_reads a)) tt (got_public t.source a h.1 (answered l None (taking (port t.source)) op at.0 a at.1 k))
+  mult_goes t l mult_takes op a h at k = either (TypedMult roles) (is_nil a) (to mult_reads_last) (to (mult_reads a)) tt (got_public roles program t.source a h.1 (answered l None (taking (port t.source)) op at.0 a at.1 k))
   mult_goes t l (mult_reads v) op a h at k = needed (TypedMult roles) (taps_in a) (λ ts. spawns_due v ts 0) (λ ts e. spawns_typed v ts 0 h.3 (taps_public roles a ts (answered l None (registering Taps (one_of (port t.mult))) op at.0 a at.1 k) e))
   mult_goes t l (mult_spawns v x xs n) op a h at k = spawns_typed v xs (suc n) h.3.0 h.3.2
   mult_goes t l (mult_waits n) op a h at k = acks_typed n
@@ -105,7 +93,7 @@ module _ (program : ProgramView) (roles : Roles) where
 
   -- a publication
   pub_goes : (t : PubPorts) (l : Place) (x : PubState) (op : OpView) (a : Tree) → TypedSystem program roles (a_pub t l (to x)) → IsAtOp (system_task (a_pub t l (to x))) op → IsAnswer program roles op a → TypedNext (TypedPub roles) (pub_next a x)
-  pub_goes t l pub_takes op a h at k = either (TypedPub roles) (is_nil a) (to pub_reads_last) (to (pub_sorts a)) tt (got_public t.source a h.1 (answered l None (taking (port t.source)) op at.0 a at.1 k))
+  pub_goes t l pub_takes op a h at k = either (TypedPub roles) (is_nil a) (to pub_reads_last) (to (pub_sorts a)) tt (got_public roles program t.source a h.1 (answered l None (taking (port t.source)) op at.0 a at.1 k))
   pub_goes t l (pub_sorts v) op a h at k = not_local op at.0 at.1
   pub_goes t l (pub_finds topic v) op a h at k =
       either (TypedPub roles) (is_nil a) (to pub_takes) (needing (channel_of_pair a) (λ c. to (pub_puts c v))) tt
@@ -118,7 +106,7 @@ module _ (program : ProgramView) (roles : Roles) where
   -- a pipe
   pipe_goes : (t : PipePorts) (l : Place) (x : PipeState) (op : OpView) (a : Tree) → TypedSystem program roles (a_pipe t l (to x)) → IsAtOp (system_task (a_pipe t l (to x))) op → IsAnswer program roles op a → TypedNext (TypedPipe roles) (pipe_next t a x)
   pipe_goes t l pipe_takes op a h at k =
-      either (TypedPipe roles) (is_nil a) (cond t.closes (to pipe_closes) stop) (to (pipe_puts a)) (either (TypedPipe roles) t.closes (to pipe_closes) stop tt tt) (got_public t.source a h.0 (answered l None (taking (port t.source)) op at.0 a at.1 k))
+      either (TypedPipe roles) (is_nil a) (cond t.closes (to pipe_closes) stop) (to (pipe_puts a)) (either (TypedPipe roles) t.closes (to pipe_closes) stop tt tt) (got_public roles program t.source a h.0 (answered l None (taking (port t.source)) op at.0 a at.1 k))
   pipe_goes t l (pipe_puts v) op a h at k = either (TypedPipe roles) (truth a) (to pipe_takes) stop tt tt
   pipe_goes t l pipe_closes op a h at k = tt
 
@@ -143,10 +131,10 @@ module _ (program : ProgramView) (roles : Roles) where
   merge_goes o l merge_closes op a h at k = tt
 
   -- a collection that goes onto a channel
-  over_typed : (o : OntoPorts) → TypedNext (TypedOnto roles) (onto_over o)
+  pub over_typed : (o : OntoPorts) → TypedNext (TypedOnto roles) (onto_over o)
   over_typed o = either (TypedOnto roles) o.closes (to onto_closes) (to onto_ends) tt tt
 
-  items_typed : (o : OntoPorts) (vs : Trees) → ArePublic roles vs → TypedNext (TypedOnto roles) (items_left o vs)
+  pub items_typed : (o : OntoPorts) (vs : Trees) → ArePublic roles vs → TypedNext (TypedOnto roles) (items_left o vs)
   items_typed o none h = over_typed o
   items_typed o (item v vs) h = h
 
@@ -157,7 +145,7 @@ module _ (program : ProgramView) (roles : Roles) where
 
   -- a pipeline's tasks
   feed_goes : (f : FeedPorts) (l : Place) (x : FeedState) (op : OpView) (a : Tree) (h : TypedSystem program roles (a_feed f l (to x))) → IsAtOp (system_task (a_feed f l (to x))) op → IsAnswer program roles op a → TypedNext (TypedFeed roles h.1) (feed_next a x)
-  feed_goes f l feed_takes op a h at k = either (TypedFeed roles h.1) (is_nil a) (to feed_closes_jobs) (to (feed_makes a)) tt (got_public f.source a h.2 (answered l None (taking (port f.source)) op at.0 a at.1 k))
+  feed_goes f l feed_takes op a h at k = either (TypedFeed roles h.1) (is_nil a) (to feed_closes_jobs) (to (feed_makes a)) tt (got_public roles program f.source a h.2 (answered l None (taking (port f.source)) op at.0 a at.1 k))
   feed_goes f l (feed_makes v) op a h at k = absurd (answered l None (making (fixed 1)) op at.0 a at.1 k)
   feed_goes f l (feed_puts v p) op a h at k = (v, h.5.1)
   feed_goes f l (feed_queues p) op a h at k = tt

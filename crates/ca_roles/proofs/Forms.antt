@@ -16,7 +16,8 @@ use Rattle.ca_meaning.specs.declared.body.FaultAt.{FaultAt}
 use Rattle.ca_meaning.specs.Operands.{first_of, second_of}
 use Rattle.ca_meaning.specs.Asking.{too_large, bad_alts, alts_of, made_of, bad_operands, seed_of, bad_arguments}
 use Rattle.ca_meaning.specs.Redex.{redex, values_of}
-use Rattle.ca_meaning.specs.Body.{BodyView, At, local, at_op, faulted, asking, asking_to_make, at_or, at, standing, standing_turn, line_of}
+use Rattle.ca_meaning.specs.Body.{BodyView, At, local, at_op, faulted, asking_to_make, at_or, at, standing, standing_turn, line_of}
+use Rattle.ca_roles.proofs.Ports.{asked}
 
 -- the redex is a form of this operation
 pub data Form : Kernel → OpView → Type 0 where
@@ -30,12 +31,8 @@ pub data Form : Kernel → OpView → Type 0 where
   registers : {name : RegisterName} {ts : Kernels} {p : Place} → bad_arguments name (values_of ts) ≡ None → Form (apply (Register name) ts p) (registering name (values_of ts))
   prints : {ts : Kernels} {p : Place} → Form (apply Print ts p) (printing (line_of (values_of ts)))
 
-asked : (p : Place) (f : Option Fault) (op : OpView) (want : WantView) → asking p f op ≡ at_op want → (f ≡ None) × (op ≡ want.op)
-asked p None op want e = (refl, cc)
-asked p (Some f) op want e = absurd (let k : faulted f p ≡ at_op want = e in cc)
-
 asked_to_make : (p : Place) (r : Result WhatView Fault) (want : WantView) → asking_to_make p r ≡ at_op want → (what : WhatView) × (r ≡ Ok what) × (making what ≡ want.op)
-asked_to_make p (Ok what) want e = (what, refl, (asked p None (making what) want e).1)
+asked_to_make p (Ok what) want e = (what, refl, (asked p None (making what) want e).0)
 asked_to_make p (Err f) want e = absurd (let k : faulted f p ≡ at_op want = e in cc)
 
 either : {G : Type 0} (b : Bool) (f : Fault) (p : Place) (a : At) (want : WantView) → (a ≡ at_op want → G) → cond b (faulted f p) a ≡ at_op want → G
@@ -80,15 +77,15 @@ module _ (turns depth : ℕ) where
   form_of (apply Recur ts p) want e = cc
   form_of (apply (Builtin b) ts p) want e = local_not want e
   form_of (apply (Call n) ts p) want e = either (nat_le 999_999 turns) Spun p (cond (nat_le 256 depth) (faulted TooDeep p) local) want (either (nat_le 256 depth) TooDeep p local want (local_not want)) e
-  form_of (apply Take ts p) want e = subst (Form (apply Take ts p)) (asked p None (taking (first_of (values_of ts))) want e).1 takes
-  form_of (apply Put ts p) want e = subst (Form (apply Put ts p)) (asked p (too_large (second_of (values_of ts))) (putting (first_of (values_of ts)) (second_of (values_of ts))) want e).1 puts
-  form_of (apply Post ts p) want e = subst (Form (apply Post ts p)) (asked p (too_large (second_of (values_of ts))) (posting (first_of (values_of ts)) (second_of (values_of ts))) want e).1 posts
-  form_of (apply (Alts o) ts p) want e = subst (Form (apply (Alts o) ts p)) (asked p (bad_alts o (values_of ts)) (alts_of o (values_of ts)) want e).1 chooses
+  form_of (apply Take ts p) want e = subst (Form (apply Take ts p)) (asked p None (taking (first_of (values_of ts))) want e).0 takes
+  form_of (apply Put ts p) want e = subst (Form (apply Put ts p)) (asked p (too_large (second_of (values_of ts))) (putting (first_of (values_of ts)) (second_of (values_of ts))) want e).0 puts
+  form_of (apply Post ts p) want e = subst (Form (apply Post ts p)) (asked p (too_large (second_of (values_of ts))) (posting (first_of (values_of ts)) (second_of (values_of ts))) want e).0 posts
+  form_of (apply (Alts o) ts p) want e = subst (Form (apply (Alts o) ts p)) (asked p (bad_alts o (values_of ts)) (alts_of o (values_of ts)) want e).0 chooses
   form_of (apply (Make kind) ts p) want e = let k = asked_to_make p (made_of kind (values_of ts)) want e in subst (Form (apply (Make kind) ts p)) k.2 (makes k.0 k.1)
-  form_of (apply (Spawn kind) ts p) want e = let k = asked p (bad_operands kind (values_of ts)) (spawning (seed_of kind (values_of ts) p)) want e in subst (Form (apply (Spawn kind) ts p)) k.1 (spawns k.0)
-  form_of (apply Close ts p) want e = subst (Form (apply Close ts p)) (asked p None (closing (first_of (values_of ts))) want e).1 closes
-  form_of (apply (Register name) ts p) want e = let k = asked p (bad_arguments name (values_of ts)) (registering name (values_of ts)) want e in subst (Form (apply (Register name) ts p)) k.1 (registers k.0)
-  form_of (apply Print ts p) want e = subst (Form (apply Print ts p)) (asked p (too_large (line_text (line_of (values_of ts)))) (printing (line_of (values_of ts))) want e).1 prints
+  form_of (apply (Spawn kind) ts p) want e = let k = asked p (bad_operands kind (values_of ts)) (spawning (seed_of kind (values_of ts) p)) want e in subst (Form (apply (Spawn kind) ts p)) k.0 (spawns k.1)
+  form_of (apply Close ts p) want e = subst (Form (apply Close ts p)) (asked p None (closing (first_of (values_of ts))) want e).0 closes
+  form_of (apply (Register name) ts p) want e = let k = asked p (bad_arguments name (values_of ts)) (registering name (values_of ts)) want e in subst (Form (apply (Register name) ts p)) k.0 (registers k.1)
+  form_of (apply Print ts p) want e = subst (Form (apply Print ts p)) (asked p (too_large (line_text (line_of (values_of ts)))) (printing (line_of (values_of ts))) want e).0 prints
 
 without_fault : (f : Option FaultAt) (a : At) (want : WantView) → at_or f a ≡ at_op want → a ≡ at_op want
 without_fault None a want e = e

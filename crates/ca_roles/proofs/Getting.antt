@@ -1,7 +1,7 @@
 -- In a typed state scripts get public answers, but for the ports of their Makes; and the port that a feed makes is a reply
 -- port for its value.
-use Rattle.std.proofs.Common.{◌≡◌, ◌⊎◌, inl, inr, ℕ, refl, sym, ap, ◌∙◌, subst, Option, Some, None}
-use Rattle.ca_value.specs.Tree.{Tree, Trees, nil, port}
+use Rattle.std.proofs.Common.{◌≡◌, ℕ, refl, sym, ap, ◌∙◌, subst, Option, Some, None}
+use Rattle.ca_value.specs.Tree.{Tree, Trees, port}
 use Rattle.ca_term.specs.declared.place.Place.{Place}
 use Rattle.ca_term.specs.declared.event.Side.TheVariants.{Take}
 use Rattle.ca_term.specs.declared.head.RegisterName.{RegisterName}
@@ -25,19 +25,16 @@ use Rattle.ca_laws.specs.Deeds.{Deed, did_take, did_register, deed}
 use Rattle.ca_laws.proofs.Acts.{wait_of, Replies, got, gave, chose, chose_put, chose_default, posts, posts_late, creates, starts, shuts, enrols, prints}
 use Rattle.ca_laws.proofs.Stood.{AllStood}
 use Rattle.ca_meaning.proofs.Single.{same_op}
-use Rattle.ca_roles.specs.Roles.{replies, hidden, Roles, Grows, IsPublic, IsReply, CarriesAs, Carries}
+use Rattle.ca_roles.specs.Roles.{replies, hidden, Roles, Grows, IsPublic, IsReply}
 use Rattle.ca_roles.specs.Users.{MayUse}
 use Rattle.ca_roles.specs.Typed.{IsPublicPort, IsPublicBranch, IsPublicOption, TypedBody, MayAsk, Typed}
 use Rattle.ca_roles.proofs.TypedBodies.{script_use}
 use Rattle.ca_roles.proofs.TypedTasks.{Acting, stands, waits, ends, acting, no_end, put_answer}
 use Rattle.ca_roles.proofs.Moving.{ScriptsGetPublic}
 use Rattle.ca_roles.proofs.Passed.{got_fits}
+use Rattle.ca_roles.proofs.Ports.{got_public}
 
 module _ (program : ProgramView) (roles : Roles) (s s2 : State) (e : EventView) (typed : Typed program roles s) (sound : Sound s) (stood : AllStood s) (asks : (t : ℕ) (op : OpView) (x : Task) → Stands s t op x → MayAsk program roles x.body op) (step : Step program s e s2) (registers : (t : ℕ) (o : Option ℕ) (name : RegisterName) (args : Trees) (a : Tree) → deed t o e ≡ Some (did_register name args a) → IsPublic roles a) where
-  got_public : (p : ℕ) (a : Tree) → IsPublicPort roles p → (a ≡ nil) ⊎ Carries program roles p a → IsPublic roles a
-  got_public p a i (inl k) = subst (IsPublic roles) (sym k) tt
-  got_public p a i (inr k) = subst (λ o. CarriesAs program roles o a) i k
-
   -- what a task's deed answers, it might ask for
   may_ask : (t : ℕ) (x : Task) (op : OpView) (c : Deed) (a : Tree) → s.tasks t ≡ Some x → deed t (wait_of x.mode) e ≡ Some c → IsAtOp x.body op → Replies op c a → MayAsk program roles x.body op
   may_ask t x op c a there is at rep = by (acting program s s2 t x there c e step is) where
@@ -48,7 +45,7 @@ module _ (program : ProgramView) (roles : Roles) (s s2 : State) (e : EventView) 
 
   module _ (t : ℕ) (x : Task) (b : BodyView) where
     takes : (k p : ℕ) (a : Tree) → deed t (wait_of x.mode) e ≡ Some (did_take k p a) → IsPublicPort roles p → IsPublic roles a
-    takes k p a is i = got_public p a i (got_fits program roles s s2 typed sound stood asks t (wait_of x.mode) e k p a step is)
+    takes k p a is i = got_public roles program p a i (got_fits program roles s s2 typed sound stood asks t (wait_of x.mode) e k p a step is)
 
     default_public : (o : Option Tree) (v : Tree) → o ≡ Some v → IsPublicOption roles o → IsPublic roles v
     default_public None v i h = absurd (let k : None ≡ Some v = i in cc)

@@ -18,8 +18,9 @@ use Rattle.ca_roles.specs.Roles.{Hidden, public, hidden, Roles, nobody, IsPublic
 use Rattle.ca_roles.specs.Sealed.{Sealed, IsSealed}
 use Rattle.ca_roles.specs.Once.{User, UsesOnce, StartsOnce}
 use Rattle.ca_roles.specs.Typed.{Typed}
-use Rattle.ca_roles.proofs.Answered.{count, not_hidden, IsOfProgram, answered_once, answered_count, made_once, made_count, made_new}
+use Rattle.ca_roles.proofs.Answered.{same_script, count, not_hidden, IsOfProgram, answered_once, answered_count, made_once, made_count, made_new}
 use Rattle.ca_roles.proofs.Events.{made_event}
+use Rattle.ca_roles.proofs.Counted.{at_most}
 
 -- what answers the operations of scripts is public, but the ports of Makes
 abbrev pub ScriptsGetPublic : Roles → State → EventView → Type 0
@@ -57,12 +58,6 @@ module _ (program : ProgramView) (roles : Roles) (s s2 : State) (e : EventView) 
 
   abbrev pub Was : Task → BodyView → Type 0
   Was x d = (b : BodyView) × (x.body ≡ script b) × Moved program roles b d
-
-  same_script : (c d : BodyView) → script c ≡ script d → c ≡ d
-  same_script c d e = cc
-
-  same_deed : (c d : Deed) → Some c ≡ Some d → c ≡ d
-  same_deed c d e = cc
 
   -- by an answer
   gone_script : (t : ℕ) (x : Task) (b d : BodyView) (op : OpView) (c : Deed) (a : Tree) → s.tasks t ≡ Some x → x.body ≡ script b → deed t (wait_of x.mode) e ≡ Some c → IsAtOp x.body op → Replies op c a → Rest program (fill a b) d → Moved program roles b d
@@ -111,9 +106,6 @@ module _ (program : ProgramView) (checked : IsProgram program) (sealed : IsSeale
   moved_new k q new = by where
     zero_is : count k q b.term ≡ 0
     zero_is = not_hidden k q me roles b.term (λ x j. let i : None ≡ Some (hidden me x) = sym new ∙ j in cc) h
-
-    at_most : (n : ℕ) → n ≡ 0 → n ≤ 1
-    at_most n e = omega (arith, e)
 
     less : (n m : ℕ) → n ≤ m → m ≡ 0 → n ≤ 1
     less n m l e = omega (arith, l, e)

@@ -62,9 +62,6 @@ module _ (k : User) (me : ℕ) (P : Test) (roles : Roles) (new : NoRole P roles)
   own_same the_collect (item t ts) N a = a.0
   own_same the_mult ts N a = third_same ts N a
 
-  plus : (a b c d : ℕ) → a ≡ c → b ≡ d → a + b ≡ c + d
-  plus a b c d e f = ap₂ (λ x y. x + y) e f
-
   bound_uses : (r : Role) (t : Kernel) (N : Test) (s : Roles) → (Sealed me roles t s → uses k P t N ≡ uses k no_ports t N) → Bound me roles r t (Sealed me roles t s) → uses k P t N ≡ uses k no_ports t N
   bound_uses public t N s f b = f b
   bound_uses (hidden u x) t N s f (q, inl m) = f m.1

@@ -1,7 +1,7 @@
 -- In a typed state channels carry what their roles say: what a take gets, what a wait offers, and what is held after an
 -- event.
 use Rattle.std.proofs.Common.{◌≡◌, ◌⊎◌, inl, inr, ℕ, List, [], ◌∷◌, refl, sym, ap, ◌∙◌, subst, Bool, true, false, cond, Option, Some, None, eqb, eq-eqb}
-use Rattle.ca_value.specs.Tree.{Tree, nil, bool, int, text, key, vector, map, port}
+use Rattle.ca_value.specs.Tree.{Tree, nil, bool}
 use Rattle.ca_term.specs.declared.event.Side.{Side}
 use Rattle.ca_term.specs.declared.event.Side.TheVariants.{Take, Put}
 use Rattle.ca_term.specs.Operation.{OpView, taking, putting, choosing, posting, making, spawning, closing, registering, printing}
@@ -21,8 +21,10 @@ use Rattle.ca_meaning.proofs.Waits.{each-weaker}
 use Rattle.ca_meaning.proofs.Refusals.{each-get}
 use Rattle.ca_laws.specs.Deeds.{Deed, did_take, did_put, did_wait, did_post, did_default, did_make, did_spawn, did_close, did_register, did_print, did_end, is_wait, deed_on, deed}
 use Rattle.ca_laws.proofs.Stood.{Stood, AllStood}
-use Rattle.ca_roles.specs.Roles.{Roles, IsPublic, CarriesAs, Carries}
-use Rattle.ca_roles.specs.Typed.{IsPublicPort, IsPublicBranch, IsTypedPost, MayAsk, Typed}
+use Rattle.ca_roles.specs.Roles.{Roles, Carries}
+use Rattle.ca_roles.specs.Typed.{IsPublicBranch, IsTypedPost, MayAsk, Typed}
+use Rattle.ca_roles.proofs.Ports.{carries_public}
+use Rattle.ca_roles.proofs.Events.{nil_is}
 use Rattle.ca_roles.proofs.Carried.{BranchFits, AllHeldFit, AllOfferedFit, AllPutsFit, Got, MarkFits, marks_fit, held_fits}
 
 -- what the event tells of a take, by what it does to the channel
@@ -38,16 +40,6 @@ module _ (P : ℕ → Tree → Type 0) where
   two_deeds : (b c : Bool) (d f : Deed) → DeedGot (Some d) → DeedGot (Some f) → DeedGot (cond b (Some d) (cond c (Some f) None))
   two_deeds true c d f h g = h
   two_deeds false c d f h g = one_deed c f g
-
-  nil_is : (a : Tree) → is_nil a ≡ true → a ≡ nil
-  nil_is nil e = refl
-  nil_is (bool b) e = absurd (let k : false ≡ true = e in cc)
-  nil_is (int z) e = absurd (let k : false ≡ true = e in cc)
-  nil_is (text z) e = absurd (let k : false ≡ true = e in cc)
-  nil_is (key z) e = absurd (let k : false ≡ true = e in cc)
-  nil_is (vector z) e = absurd (let k : false ≡ true = e in cc)
-  nil_is (map z) e = absurd (let k : false ≡ true = e in cc)
-  nil_is (port z) e = absurd (let k : false ≡ true = e in cc)
 
   taken : (p : ℕ) (a : Tree) → MarkFits P p (mark_of_take a) → Got P p a
   taken p a f = by (is_nil a) refl f where
@@ -80,17 +72,14 @@ module _ (P : ℕ → Tree → Type 0) where
 
 -- what a task may ask for fits
 module _ (program : ProgramView) (roles : Roles) where
-  pub carries_public : (p : ℕ) (v : Tree) → IsPublicPort roles p → IsPublic roles v → Carries program roles p v
-  carries_public p v h k = subst (λ o. CarriesAs program roles o v) (sym h) k
-
   public_fits : (b : BranchView) → IsPublicBranch roles b → BranchFits (Carries program roles) b
   public_fits (take_of q) h = tt
-  public_fits (put_of q v) h = carries_public q v h.0 h.1
+  public_fits (put_of q v) h = carries_public roles program q v h.0 h.1
 
   pub asked_fits : (b : TaskBody) (op : OpView) → MayAsk program roles b op → Each (BranchFits (Carries program roles)) (branches_of op)
   asked_fits b (taking c) h = (tt, tt)
   asked_fits b (putting c v) h = (subst (λ d. Carries program roles (port_number d) v) (sym h.1) h.3, tt)
-  asked_fits b (posting c v) h = (subst (λ d. Carries program roles (port_number d) v) (sym h.1) (carries_public h.0 v h.2 h.3), tt)
+  asked_fits b (posting c v) h = (subst (λ d. Carries program roles (port_number d) v) (sym h.1) (carries_public roles program h.0 v h.2 h.3), tt)
   asked_fits b (choosing ports priority default) h = each-weaker (IsPublicBranch roles) (BranchFits (Carries program roles)) (branches_of (choosing ports priority default)) public_fits h.0
   asked_fits b (making what) h = tt
   asked_fits b (spawning seed) h = tt
@@ -106,7 +95,7 @@ module _ (program : ProgramView) (roles : Roles) (s s2 : State) (typed : Typed p
   handler_fits : (p : ℕ) (h : Handler) → IsTypedPost roles s p h → Stood s Put p h → Carries program roles p h.value
   handler_fits p h post at = by (owner_of h.wait s.waits) refl where
     by : (o : Option ℕ) → owner_of h.wait s.waits ≡ o → Carries program roles p h.value
-    by None e = let k = post e in carries_public program roles p h.value k.0 k.1
+    by None e = let k = post e in carries_public roles program p h.value k.0 k.1
     by (Some u) e =
         let i = at u e in
         let j = sound.owned h.wait u e in

@@ -1,5 +1,5 @@
 -- Operands that are judged to be ports, and operations over public values.
-use Rattle.std.proofs.Common.{◌≡◌, ℕ, List, ◌∷◌, refl, sym, ap, ◌∙◌, subst, Bool, true, false, cond, Option, Some, None, map, nat_lt}
+use Rattle.std.proofs.Common.{◌≡◌, ◌⊎◌, inl, inr, ℕ, List, ◌∷◌, refl, sym, ap, ◌∙◌, subst, Bool, true, false, cond, Option, Some, None, map, nat_lt}
 use Rattle.ca_value.specs.Tree.{Tree, Trees, nil, bool, int, text, key, vector, map as map_of, port, none, item}
 use Rattle.ca_term.specs.declared.place.Place.{Place}
 use Rattle.ca_term.specs.declared.fault.Fault.{Fault}
@@ -88,6 +88,13 @@ module _ (roles : Roles) where
   pub port_public : (v : Tree) → (n : ℕ) × (v ≡ port n) → IsPublic roles v → IsPublicPort roles (port_number v)
   port_public v n h = ap (λ z. roles (port_number z)) n.1 ∙ subst (IsPublic roles) n.1 h
 
+  pub carries_public : (program : ProgramView) (p : ℕ) (v : Tree) → IsPublicPort roles p → IsPublic roles v → Carries program roles p v
+  carries_public program p v h k = subst (λ o. CarriesAs program roles o v) (sym h) k
+
+  pub got_public : (program : ProgramView) (p : ℕ) (a : Tree) → IsPublicPort roles p → (a ≡ nil) ⊎ Carries program roles p a → IsPublic roles a
+  got_public program p a i (inl k) = subst (IsPublic roles) (sym k) tt
+  got_public program p a i (inr k) = subst (λ o. CarriesAs program roles o a) i k
+
   module _ (s : State) where
     pub channel_public : (v : Tree) → IsPublic roles v → not_a_channel s v ≡ None → IsPublicPort roles (port_number v)
     channel_public v h e = port_public v (a_port s v e) h
@@ -120,9 +127,6 @@ module _ (roles : Roles) where
       pub use_public : (side : Side) (p : ℕ) → IsPublicPort roles p → MayUse (roles p) side p b
       use_public side p h = subst (λ o. MayUse o side p b) (sym h) tt
 
-      pub carries_public : (p : ℕ) (v : Tree) → IsPublicPort roles p → IsPublic roles v → Carries program roles p v
-      carries_public p v h k = subst (λ o. CarriesAs program roles o v) (sym h) k
-
       -- operations over public values
       pub takes_public : (c : Tree) → IsPublic roles c → unfit s (taking c) ≡ None → MayAsk program roles b (taking c)
       takes_public c h e = let n = a_port s c e in (n.0, n.1, use_public Side.Take n.0 (subst (IsPublic roles) n.1 h))
@@ -131,7 +135,7 @@ module _ (roles : Roles) where
       puts_public c v h k e =
           let n = a_port s c (or_none (not_a_channel s c) (nil_put v) e).0 in
           let o : IsPublicPort roles n.0 = subst (IsPublic roles) n.1 h in
-          (n.0, n.1, use_public Side.Put n.0 o, carries_public n.0 v o k)
+          (n.0, n.1, use_public Side.Put n.0 o, carries_public program n.0 v o k)
 
       pub posts_public : (c v : Tree) → IsPublic roles c → IsPublic roles v → unfit s (posting c v) ≡ None → MayAsk program roles b (posting c v)
       posts_public c v h k e = let n = a_port s c (or_none (not_a_channel s c) (nil_put v) e).0 in (n.0, n.1, subst (IsPublic roles) n.1 h, k)

@@ -43,11 +43,8 @@ mapped_none f None e = refl
 mapped_none f (Some c) e = absurd (let k : Some (f c) ≡ None = e in cc)
 
 -- the registries after an event
-registries_of : {s t : State} → s ≡ t → s.registries ≡ t.registries
+pub registries_of : {s t : State} → s ≡ t → s.registries ≡ t.registries
 registries_of e = ap (λ (z : State). z.registries) e
-
-same_registries : (s s2 : State) (p : ℕ) → s2.registries ≡ s.registries → s2.registries p ≡ s.registries p
-same_registries s s2 p e = ap (λ (f : ℕ → Option Registry). f p) e
 
 -- an event that changes a registry, or none
 data Changes (program : ProgramView) (s s2 : State) : EventView → Type 0 where

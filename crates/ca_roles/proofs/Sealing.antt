@@ -28,10 +28,6 @@ mutual
   pairs_public_more roles more g no_pairs h = tt
   pairs_public_more roles more g (pair k v ps) h = (public_more roles more g k h.0, public_more roles more g v h.1, pairs_public_more roles more g ps h.2)
 
-pub is_more : (roles more : Roles) → Grows roles more → (r : Role) (v : Tree) → Is roles r v → Is more r v
-is_more roles more g public v h = public_more roles more g v h
-is_more roles more g (hidden u x) v h = (h.0, h.1, g h.0 (hidden u x) h.2)
-
 pub founds_more : (roles more : Roles) → Grows roles more → (fs : Founds) (s e : Roles) → SealedFounds roles fs s e → SealedFounds more fs s e
 founds_more roles more g [] s e h = h
 founds_more roles more g (x ∷ fs) s e h = (public_more roles more g x.1 h.0, h.1, founds_more roles more g fs (known_as s x.0 public) e h.2)

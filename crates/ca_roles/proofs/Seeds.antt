@@ -1,5 +1,5 @@
 -- The tasks that a sealed script spawns are typed.
-use Rattle.std.proofs.Common.{◌≡◌, inl, inr, ℕ, suc, List, [], ◌∷◌, refl, ap, ◌∙◌, arith, Bool, true, false, cond, not, ◌==◌, eqb-true, Some, None}
+use Rattle.std.proofs.Common.{◌≡◌, inl, inr, ℕ, suc, List, [], ◌∷◌, refl, ap, ◌∙◌, arith, Bool, true, false, not, ◌==◌, eqb-true, Some, None}
 use Rattle.ca_value.specs.Tree.{Tree, Trees, nil, none as no_trees, item as tree}
 use Rattle.ca_term.specs.declared.place.Place.{Place}
 use Rattle.ca_term.specs.declared.fault.Fault.{Fault}
@@ -12,9 +12,9 @@ use Rattle.ca_term.specs.Kernel.{Kernel, Kernels, apply, none, item}
 use Rattle.ca_term.specs.Fits.{count_terms}
 use Rattle.ca_term.specs.Program.{ProgramView}
 use Rattle.ca_meaning.specs.Applied.{Work}
-use Rattle.ca_meaning.specs.Asks.{to, trees_in}
+use Rattle.ca_meaning.specs.Asks.{trees_in}
 use Rattle.ca_meaning.specs.Operands.{port_number, truth, first_of, second_of, third_of, rest_of}
-use Rattle.ca_meaning.specs.PipeTable.{OntoPorts, inputs_left, items_left, onto_over, onto_closes, onto_ends}
+use Rattle.ca_meaning.specs.PipeTable.{OntoPorts, inputs_left}
 use Rattle.ca_meaning.specs.Redex.{value_of, values_of}
 use Rattle.ca_meaning.specs.State.{State}
 use Rattle.ca_meaning.specs.System.{new_system, fourth_of}
@@ -22,9 +22,10 @@ use Rattle.ca_meaning.specs.TaskSteps.{result_of_system}
 use Rattle.ca_meaning.specs.Refusal.{Need, a_channel, the_mult, the_mix, the_publication, anything, not_needed, unmet, needs_of_system}
 use Rattle.ca_roles.specs.Roles.{Hidden, jobs, replies, acks, Role, hidden, Roles, nobody, IsPublic, ArePublic}
 use Rattle.ca_roles.specs.Sealed.{IsNamed, KeywordIs, no_keyword, a_keyword, HasMask, plain, of_job, of_feed, of_collect, of_mult, Sealed, AllSealed}
-use Rattle.ca_roles.specs.Typed.{IsPublicPort, TypedNext, TypedMerge, TypedOnto, TypedSystem, IsTypedResult}
+use Rattle.ca_roles.specs.Typed.{IsPublicPort, TypedNext, TypedMerge, TypedSystem, IsTypedResult}
 use Rattle.ca_roles.proofs.Contracting.{value_public, operands_public}
 use Rattle.ca_roles.proofs.Ports.{first_public, second_public, third_public, items_in_public, needs_port, met, port_public}
+use Rattle.ca_roles.proofs.Following.{items_typed}
 
 module _ (program : ProgramView) (me : ℕ) (roles : Roles) (s : State) where
   hidden_role : (o : ℕ) (x : Hidden) (t : Kernel) → IsNamed me roles nobody (hidden o x) t → roles (port_number (value_of t)) ≡ Some (hidden me x)
@@ -117,16 +118,6 @@ module _ (program : ProgramView) (me : ℕ) (roles : Roles) (s : State) where
       at true i k = eqb-true n 4 i
       at false i k = absurd (let j : true ≡ false = k in cc)
 
-    over : (o : OntoPorts) → TypedNext (TypedOnto roles) (onto_over o)
-    over o = at o.closes where
-      at : (b : Bool) → TypedNext (TypedOnto roles) (cond b (to onto_closes) (to onto_ends))
-      at true = tt
-      at false = tt
-
-    left : (o : OntoPorts) (vs : Trees) → ArePublic roles vs → TypedNext (TypedOnto roles) (items_left o vs)
-    left o no_trees a = over o
-    left o (tree v vs) a = a
-
     by : (ts : Kernels) (mask : List Role) → HasMask me (Spawn (System SystemTask.Onto)) p ts mask → AllSealed me roles mask ts nobody → not_needed s a_channel (first_of (values_of ts)) ≡ None → not_needed s a_channel (fourth_of (values_of ts)) ≡ None
         → TypedSystem program roles (new_system SystemTask.Onto (values_of ts) p) × IsTypedResult roles (result_of_system SystemTask.Onto (values_of ts))
     by none mask (plain k) a e f = absurd (let j : true ≡ false = k in cc)
@@ -137,7 +128,7 @@ module _ (program : ProgramView) (me : ℕ) (roles : Roles) (s : State) where
     by (item x (item y (item z (item r none)))) mask (plain k) a e f =
         let result = channel (value_of r) (value_public me roles nobody r a.1.1.1.0) f in
         let o : OntoPorts = record { target = port_number (value_of x); closes = truth (value_of z); result = port_number (value_of r) } in
-        ((channel (value_of x) (value_public me roles nobody x a.0) e, result, left o (trees_in (value_of y)) (items_in_public roles (value_of y) (value_public me roles nobody y a.1.0))), result)
+        ((channel (value_of x) (value_public me roles nobody x a.0) e, result, items_typed program roles o (trees_in (value_of y)) (items_in_public roles (value_of y) (value_public me roles nobody y a.1.0))), result)
 
   -- the others have no hidden operands
   mix_seed : (vs : Trees) (p : Place) → ArePublic roles vs → unmet s (needs_of_system SystemTask.Mix) vs ≡ None → TypedSystem program roles (new_system SystemTask.Mix vs p)

@@ -1,5 +1,5 @@
 -- Along every run of a checked program the users of ports are sole.
-use Rattle.std.proofs.Common.{◌≡◌, ℕ, ◌≤◌, List, [], ◌∷◌, ◌++◌, sym, ap, ◌∙◌, subst, arith, Some, None}
+use Rattle.std.proofs.Common.{◌≡◌, ℕ, ◌≤◌, List, [], ◌∷◌, ◌++◌, sym, ap, ◌∙◌, subst, Some, None}
 use Rattle.ca_term.specs.declared.place.Place.{Place}
 use Rattle.ca_term.specs.Fits.{Suits}
 use Rattle.ca_term.specs.Program.{ProgramView, IsProgram, known_in}
@@ -23,10 +23,11 @@ use Rattle.ca_roles.specs.SoleUsers.{own_of, owns, IsUser, AreSole, ComeFirst}
 use Rattle.ca_roles.proofs.Rested.{rest_sealed}
 use Rattle.ca_roles.proofs.TypedSteps.{Onward}
 use Rattle.ca_roles.proofs.TypedRuns.{Known, opening_known, bodies_known, step_known}
-use Rattle.ca_roles.proofs.Answered.{count, not_hidden, steps_once}
+use Rattle.ca_roles.proofs.Answered.{same_script, count, not_hidden, steps_once}
 use Rattle.ca_roles.proofs.Spending.{own_none}
 use Rattle.ca_roles.proofs.Sole.{Spent, none_before}
 use Rattle.ca_roles.proofs.SoleSteps.{spent_step}
+use Rattle.ca_roles.proofs.Counted.{at_most}
 
 module _ (program : ProgramView) (checked : IsProgram program) (sealed : IsSealed program) (starts : StartsOnce program) where
   -- the main text alone, which can start no user of a port that is there
@@ -42,12 +43,6 @@ module _ (program : ProgramView) (checked : IsProgram program) (sealed : IsSeale
 
     no_user : {G : Type 0} (k : User) (q t : ℕ) → IsUser s k q t → G
     no_user k q t user = own_none k q (sym (ap (λ (z : Task). own_of z.body) (alone t user.0 user.1) ∙ ap own_of o.1.2) ∙ user.2)
-
-    same_script : (c d : BodyView) → script c ≡ script d → c ≡ d
-    same_script c d e = cc
-
-    at_most : (n : ℕ) → n ≡ 0 → n ≤ 1
-    at_most n e = omega (arith, e)
 
     main : (t : ℕ) (x : Task) (d : BodyView) → s.tasks t ≡ Some x → x.body ≡ script d → UsesOnce d.term × ((k : User) (q : ℕ) → count k q d.term ≤ 1)
     main t x d there is =

@@ -27,6 +27,7 @@ use Rattle.ca_roles.proofs.Owning.{rested_owns}
 use Rattle.ca_roles.proofs.Moving.{ScriptsGetPublic, Moved, was_script, moved_once, moved_count, moved_new}
 use Rattle.ca_roles.proofs.Sole.{Spent, user_hidden, same_task, acts_own, made_by, none_before}
 use Rattle.ca_roles.proofs.Coming.{new_count, new_once, spawner_spent}
+use Rattle.ca_roles.proofs.Counted.{at_most}
 
 module _ (program : ProgramView) (checked : IsProgram program) (sealed : IsSealed program) (starts : StartsOnce program) (roles more : Roles) (s s2 : State) (e : EventView) (typed : Typed program roles s) (after : Typed program more s2) (grows : Grows roles more) (bodies : AllBodies (IsOf (known_in checked.plain program)) s.tasks) (sound : Sound s) (stood : AllStood s) (answers : ScriptsGetPublic roles s e) (step : Step program s e s2) (h : Spent s) where
   -- a task that was there
@@ -66,9 +67,6 @@ module _ (program : ProgramView) (checked : IsProgram program) (sealed : IsSeale
   -- of a hidden port no text can start more than it could
   fewer : (t : ℕ) (x y : Task) (b d : BodyView) (k : User) (q m : ℕ) (i : Hidden) → roles q ≡ Some (hidden m i) → s.tasks t ≡ Some x → x.body ≡ script b → Moved program roles b d → count k q d.term ≤ count k q b.term
   fewer t x y b d k q m i role there is w = moved_count program checked sealed starts t roles b d (fits_of t x b there is) (text_of t x b there is) (h.texts t x b there is) k q m i role (h.once t x b k q there is) w
-
-  at_most : (n : ℕ) → n ≡ 0 → n ≤ 1
-  at_most n e = omega (arith, e)
 
   through : (a b : ℕ) → a ≤ b → b ≤ 1 → a ≤ 1
   through a b l m = omega (arith, l, m)

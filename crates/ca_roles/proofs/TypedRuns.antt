@@ -6,7 +6,7 @@ use Rattle.ca_term.specs.Program.{ProgramView, IsProgram, known_in}
 use Rattle.ca_term.specs.Event.{EventView}
 use Rattle.ca_meaning.specs.Body.{new_body}
 use Rattle.ca_meaning.specs.Task.{script}
-use Rattle.ca_meaning.specs.State.{State, Task, running, waiting, runs, Opening}
+use Rattle.ca_meaning.specs.State.{State, Task, runs, Opening}
 use Rattle.ca_meaning.specs.Going.{Stands}
 use Rattle.ca_meaning.specs.Steps.{Step, Steps}
 use Rattle.ca_meaning.specs.Legal.{Reaches}
@@ -18,6 +18,7 @@ use Rattle.ca_roles.specs.Sealed.{IsSealed}
 use Rattle.ca_roles.specs.Typed.{TypedTask, MayAsk, Typed}
 use Rattle.ca_roles.proofs.TypedBodies.{rest_typed}
 use Rattle.ca_roles.proofs.TypedSteps.{may_ask, Onward, typed_step}
+use Rattle.ca_roles.proofs.TypedTasks.{no_wait}
 
 no_some : {A : Type 0} {G : Type 0} (x : A) → None ≡ Some x → G
 no_some x e = absurd cc
@@ -35,9 +36,6 @@ opening_typed program checked sealed s o = subst (Typed program nobody) (sym o.2
   hidden_channels = λ p m h e. no_some _ e;
   ended = λ p m w c e. no_some _ e;
 }) where
-  no_wait : {G : Type 0} (w : ℕ) → running ≡ waiting w → G
-  no_wait w e = absurd cc
-
   main : TypedTask program nobody 0 (runs None o.0)
   main = record {
     body = rest_typed program checked sealed 0 nobody (script (new_body program.main)) o.0 o.1 (record { bound = checked.main_fits.bound; fits = checked.main_fits.fits }) (sealed.main 0);

@@ -17,7 +17,7 @@ use Rattle.ca_meaning.specs.Asks.{to}
 use Rattle.ca_meaning.specs.PipelineTable.{FeedPorts, feed_makes}
 use Rattle.ca_meaning.specs.System.{a_feed}
 use Rattle.ca_meaning.specs.Task.{TaskBody, script, system_task, body_fill}
-use Rattle.ca_meaning.specs.State.{State, Task, Tasks, running, waiting, runs}
+use Rattle.ca_meaning.specs.State.{State, Task, Tasks, runs}
 use Rattle.ca_meaning.specs.Going.{Stands}
 use Rattle.ca_meaning.specs.Steps.{Step}
 use Rattle.ca_meaning.specs.Sound.{Sound}
@@ -45,6 +45,7 @@ use Rattle.ca_roles.proofs.Posts.{posts_after}
 use Rattle.ca_roles.proofs.Recorded.{registries_after, absent_after, answer_public}
 use Rattle.ca_roles.proofs.Dated.{deadlines_after}
 use Rattle.ca_roles.proofs.Channelled.{channels_after, hidden_after, ended_after}
+use Rattle.ca_roles.proofs.TypedTasks.{no_wait}
 
 pub is_checked : (known : Known) (b : TaskBody) → IsOf known b → IsChecked known b
 is_checked known (script b) k = k
@@ -148,9 +149,6 @@ module _ (program : ProgramView) (checked : IsProgram program) (sealed : IsSeale
     makes = λ p what m is at. made_typed t y p what m there (made_event t (wait_of y.mode) e p what m is);
     registers = λ name args a is. registers t (wait_of y.mode) name args a is;
   }
-
-  no_wait : {G : Type 0} (w : ℕ) → running ≡ waiting w → G
-  no_wait w m = absurd cc
 
   -- a task that was there
   stays : (t : ℕ) (y z : Task) → s.tasks t ≡ Some y → s2.tasks t ≡ Some z → TypedTask program more t z

@@ -17,13 +17,18 @@ use Rattle.ca_meaning.proofs.Refusals.{each-get}
 use Rattle.ca_meaning.proofs.Single.{same_task, same_op}
 use Rattle.ca_laws.specs.Deeds.{Deed, did_take, did_wait, did_post, did_default, did_make, did_spawn, did_close, did_register, did_print, did_end, is_wait, deed_of, deed_on, deed}
 use Rattle.ca_laws.proofs.Acts.{wait_of, IsPutAnswer, Replies, got, gave, chose, chose_put, chose_default, posts, posts_late, creates, starts, shuts, enrols, prints, Acts, idles, parks, stops, goes}
-use Rattle.ca_roles.specs.Roles.{public, Roles, Grows, IsPublic, CarriesAs, Carries}
+use Rattle.ca_roles.specs.Roles.{public, Roles, Grows, IsPublic, Carries}
 use Rattle.ca_roles.specs.Sealed.{IsSealed}
 use Rattle.ca_roles.specs.Typed.{IsPublicPort, IsPublicBranch, TypedBody, TypedTask, MayAsk}
 use Rattle.ca_roles.proofs.Sealing.{public_more}
 use Rattle.ca_roles.proofs.Growing.{carries_more, body_more, ask_more, result_more, task_more}
 use Rattle.ca_roles.proofs.Following.{IsAnswer}
 use Rattle.ca_roles.proofs.TypedBodies.{IsChecked, body_goes, filled_checked, rest_typed}
+use Rattle.ca_roles.proofs.Ports.{got_public}
+
+-- a task that goes on doesn't wait
+pub no_wait : {G : Type 0} (w : ℕ) → running ≡ waiting w → G
+no_wait w e = absurd cc
 
 -- How a task comes to a deed: it stands at its operation, or it waits, or it ends.
 pub data Acting (s : State) (t : ℕ) (x : Task) (c : Deed) : Type 0 where
@@ -115,16 +120,12 @@ module _ (program : ProgramView) (checked : IsProgram program) (sealed : IsSeale
     got_more p a (inl k) = inl k
     got_more p a (inr k) = inr (carries_more program roles more g p a k)
 
-    got_public : (p : ℕ) (a : Tree) → IsPublicPort roles p → (a ≡ nil) ⊎ Carries program roles p a → IsPublic more a
-    got_public p a i (inl k) = subst (IsPublic more) (sym k) tt
-    got_public p a i (inr k) = public_more roles more g a (subst (λ o. CarriesAs program roles o a) i k)
-
     filled : (op : OpView) (c : Deed) (a : Tree) → its ≡ Some c → IsAtOp x.body op → MayAsk program roles x.body op → Replies op c a → TypedBody program t more (body_fill a x.body)
     filled op c a is at may (got {c = ch} d) = fill (taking ch) a at may (got_more (port_number ch) a (answers.takes 0 (port_number ch) a (is ∙ ap (λ z. Some z) d)))
     filled op c a is at may (gave {c = ch} {v} d i) = fill (putting ch v) a at may (put_answer more a i)
     filled op c a is at may (chose {ports} {priority} {default} k p v d i j) =
         let open_port : IsPublicPort roles p = each-get (IsPublicBranch roles) (branches_of (choosing ports priority default)) k (take_of p) may.0 i in
-        fill (choosing ports priority default) a at may (subst (IsPublic more) (sym j) (got_public p v open_port (answers.takes k p v (is ∙ ap (λ z. Some z) d)), (g p public open_port, tt)))
+        fill (choosing ports priority default) a at may (subst (IsPublic more) (sym j) (public_more roles more g v (got_public roles program p v open_port (answers.takes k p v (is ∙ ap (λ z. Some z) d))), (g p public open_port, tt)))
     filled op c a is at may (chose_put {ports} {priority} {default} k p u v d i j q) =
         let open_port = each-get (IsPublicBranch roles) (branches_of (choosing ports priority default)) k (put_of p u) may.0 i in
         fill (choosing ports priority default) a at may (subst (IsPublic more) (sym j) (put_answer more v q, (g p public open_port.0, tt)))
@@ -147,9 +148,6 @@ module _ (program : ProgramView) (checked : IsProgram program) (sealed : IsSeale
       by (stands o st) = subst (MayAsk program roles x.body) (same_op x.body x.body o op refl st.2 at) (answers.asks o st)
       by (waits w m) = typed.waits w op m at
       by (ends how k) = absurd (not how k)
-
-    no_wait : {G : Type 0} (w : ℕ) → running ≡ waiting w → G
-    no_wait w k = absurd cc
 
     no_more : {G : Type 0} (w : ℕ) → over ≡ waiting w → G
     no_more w k = absurd cc

@@ -207,11 +207,3 @@ public_once me roles scope inner n bs body at h b k =
     subst (λ x. x ≤ 1) (sym e) (none_or_one 0) where
       none_or_one : (a : ℕ) → 0 ≤ 1
       none_or_one a = omega arith
-
--- one form starts at most one task
-pub node_once : (k : User) (P N : Test) (h : Head) (ts : Kernels) → node k P N h ts ≤ 1
-node_once k P N h ts = by (is_user k (user_of h)) (own_operand k (stands_for P N) ts) where
-  by : (b c : Bool) → cond b (one_if c) 0 ≤ 1
-  by true true = omega arith
-  by true false = omega arith
-  by false c = omega arith

@@ -10,10 +10,12 @@ use Rattle.ca_term.specs.View.{kernels_of}
 use Rattle.ca_check.specs.Uses.{uses}
 use Rattle.ca_check.specs.Meaning.{Meaning, size, nothing, local, iff, operation, block}
 use Rattle.ca_check.specs.Go.{task, in_task, unmade, go}
+use Rattle.ca_meaning.specs.Sound.{Each}
 use Rattle.ca_sealed.proofs.Used.{Below, below_more, below_append, uses_only, uses_below, in_left, in_right}
-use Rattle.ca_sealed.proofs.Outcomes.{Each, each_append, if_after, size_named}
+use Rattle.ca_sealed.proofs.Outcomes.{if_after, size_named}
 use Rattle.ca_sealed.proofs.Tidy.{Tidy, TidyTerms}
 use Rattle.ca_sealed.proofs.Words.{IsTidyText, Keeps, weaken, at_size, tidy_nothing, tidy_local, tidy_iff, tidy_operation, tidy_block, tidy_name_as, holds_named}
+use Rattle.ca_meaning.proofs.Waits.{each-append}
 
 pub each_set : {A : Type 0} (P : A → Type 0) (xs : List A) (n : ℕ) (v : A) → Each P xs → P v → Each P (slice_set xs n v)
 each_set P [] n v e p = tt
@@ -75,6 +77,6 @@ tidy_go g n body p f = at_size g n (go body p) (λ env s l st.
           (omega arith, tt),
         ),
       ),
-      λ m. each_set IsTidyText s2.bodies (length s.bodies) made (x.1 (each_append IsTidyText s.bodies (unmade ∷ []) m (tidy_unmade, tt)))
+      λ m. each_set IsTidyText s2.bodies (length s.bodies) made (x.1 (each-append IsTidyText s.bodies (unmade ∷ []) m (tidy_unmade, tt)))
           (tidy_made (size env) t (subst (λ k. Tidy k t) (size_named [] env) x.0)),
     )))

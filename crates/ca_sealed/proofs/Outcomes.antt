@@ -1,5 +1,5 @@
 -- Outcomes of walks, and how many names there are. (As in `ca_check`, which shows them to no other crate.)
-use Rattle.std.proofs.Common.{◌≡◌, inl, inr, ⊎_elim, ℕ, zero, suc, ◌+◌, ◌<◌, ◌≤◌, List, [], ◌∷◌, ◌++◌, length, map, refl, ap, ◌∙◌, arith, Option, Some, Bool, true, false, cond, All}
+use Rattle.std.proofs.Common.{◌≡◌, inl, inr, ⊎_elim, ℕ, zero, suc, ◌+◌, ◌<◌, ◌≤◌, List, [], ◌∷◌, length, map, refl, ap, ◌∙◌, arith, Option, Some, Bool, true, false, cond, All}
 use Rattle.std.specs.Str.{bytes_eq}
 use Rattle.std.proofs.lemmas.List.{length-append, length-map}
 use Rattle.std.proofs.lemmas.Bool.{cases_lt}
@@ -14,14 +14,7 @@ use Rattle.ca_check.specs.Plain.{again}
 use Rattle.ca_check.specs.Tops.{Tops, numbers, same_names, names_of}
 use Rattle.ca_check.specs.Binders.{whole_name}
 use Rattle.ca_sealed.proofs.Used.{Below}
-
-abbrev pub Each : {A : Type 0} → (A → Type 0) → List A → Type 0
-Each P [] = Unit {0}
-Each P (x ∷ xs) = P x × Each P xs
-
-pub each_append : {A : Type 0} (P : A → Type 0) (xs ys : List A) → Each P xs → Each P ys → Each P (xs ++ ys)
-each_append P [] ys g h = h
-each_append P (x ∷ xs) ys g h = (g.0, each_append P xs ys g.1 h)
+use Rattle.ca_meaning.specs.Sound.{Each}
 
 pub all_of_each : {A : Type 0} (P : A → Type 0) (xs : List A) → Each P xs → All P xs
 all_of_each P [] e k d l = absurd (omega (arith, l))

@@ -14,11 +14,13 @@ use Rattle.ca_check.specs.Outcome.{Gathered, Outcome, done, refused, after}
 use Rattle.ca_check.specs.Meaning.{Meaning}
 use Rattle.ca_check.specs.Tops.{Tops, Written, Top, definition, function, expression, wrong, top, is_taken, main_env, names_of, judged_body, straight, signature, function_env, with_function, Settled, settled, add_function, shallow, Ended, bound_before, bound_top, one_top, is_past, list_parts}
 use Rattle.ca_check.specs.Expansion.{tops, is_namespace, script, program_of, expansion_of}
+use Rattle.ca_meaning.specs.Sound.{Each}
 use Rattle.ca_sealed.proofs.Used.{uses_only, uses_below}
-use Rattle.ca_sealed.proofs.Outcomes.{Each, each_append, IfDone, if_after, if_cond, any_done, start, untouched}
+use Rattle.ca_sealed.proofs.Outcomes.{IfDone, if_after, if_cond, any_done, start, untouched}
 use Rattle.ca_sealed.proofs.Tidy.{Tidy, TidyBindings}
 use Rattle.ca_sealed.proofs.Words.{IsTidyText, Made, AreBelow, Keeps}
 use Rattle.ca_sealed.proofs.TopForms.{TopKeeps, tidy_top, are_below_more, are_below_behind, function_tidy, Settles, settled_settles}
+use Rattle.ca_meaning.proofs.Waits.{each-append}
 
 -- the functions so far are tidy, and use names of the main text alone
 abbrev pub Fine : Tops → Type 0
@@ -53,7 +55,7 @@ pub with_function_added : (w : Written) (t : Tops) (s : Gathered) (r : Settled) 
 with_function_added w t s r s1 fine made x = (
   (
     are_below_behind (length t.scope) t.functions _ fine.0 x.below,
-    each_append IsTidyText t.procedures _ fine.1 (function_tidy (length t.scope) r.hidden (names_of w.parameters) r.body x.below x.same x.grew.0, tt),
+    each-append IsTidyText t.procedures _ fine.1 (function_tidy (length t.scope) r.hidden (names_of w.parameters) r.body x.below x.same x.grew.0, tt),
   ),
   refl,
   x.grew.1 made,
