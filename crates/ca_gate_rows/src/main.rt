@@ -1,19 +1,26 @@
-//! Runs with two workers that are held at gates, which no contract can speak of: that two workers really work, and that
-//! one goes on while the other is held.
+//! Runs with two workers that are held at gates, which no contract can speak of: that two workers really work, that one
+//! goes on while the other is held, and that an event needs only the parts that it touches.
 //!
-//! Each line of the output names a run, with its exit status and what it wrote, and says whether a wait at a gate was given
-//! up, which a test fails by.
+//! Each line of the output names a run, and says with what status it ended and what it wrote, or how the call of the one
+//! worker that made events ended, and whether a wait at a gate was given up, which a test fails by.
 //!
-//! Stands on `ca_run`, with no claim of its own; start with `passing`.
+//! Stands on `ca_run`, and in `disjoint` on the workers of `ca_pool` and the parts of `ca_table` themselves, with no claim
+//! of its own; start with `passing`.
 #![tactic(auto)]
 
+mod beside;
 mod both;
+mod disjoint;
 mod held;
+mod opened;
 mod passing;
+mod rest;
 mod run;
 
 use crate::both::BothPass;
+use crate::disjoint::Disjoint;
 use crate::held::HeldWorker;
+use crate::opened::end_beside_holder;
 use crate::run::run_text;
 use std::io;
 
@@ -23,11 +30,16 @@ const NETWORK: &str =
 const PUTTERS: &str =
     "(def c (chan (sliding-buffer 1))) (dotimes [i 8] (go (dotimes [k 1000] (>! c k)))) (<!! (chan))";
 
+const ONE_CHANNEL: &str = "(def c (chan 1)) (loop [] (>!! c 1) (<!! c) (recur))";
+
 fn main(rt: HostRuntime) -> io::Result<()> {
     let both = BothPass::new();
     let told = run_text(&rt, NETWORK, &both)?;
     println!(rt; "both workers pass: {told}, {}", both.waits.told())?;
     let held = HeldWorker::new();
     let told = run_text(&rt, PUTTERS, &held)?;
-    println!(rt; "the held worker: {told}, {}", held.waits.told())
+    println!(rt; "the held worker: {told}, {}", held.waits.told())?;
+    let disjoint = Disjoint::new();
+    let end = end_beside_holder(&rt, rt.alloc(), ONE_CHANNEL, &disjoint);
+    println!(rt; "disjoint parts: {end}, {}", disjoint.waits.told())
 }
