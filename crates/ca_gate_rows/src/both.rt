@@ -5,10 +5,12 @@ use ca_pool::gate::{Gate, GatePlace};
 #[derive(Drop)]
 pub struct BothPass {
     passes: Passes,
+    /// Whether a wait was given up.
     pub waits: Waits,
 }
 
 impl BothPass {
+    /// Nobody has passed.
     pub fn new() -> BothPass {
         BothPass {
             passes: Passes::new(),

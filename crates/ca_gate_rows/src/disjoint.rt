@@ -9,10 +9,12 @@ const ENOUGH: u64 = 100;
 pub struct Disjoint {
     advanced: Passes,
     held: Passes,
+    /// Whether a wait was given up.
     pub waits: Waits,
 }
 
 impl Disjoint {
+    /// Nobody has passed, and nothing is held.
     pub fn new() -> Disjoint {
         Disjoint {
             advanced: Passes::new(),

@@ -15,10 +15,12 @@ pub struct HeldWorker {
     to_hold: AtomicU64,
     picked: Passes,
     advanced: Passes,
+    /// Whether a wait was given up.
     pub waits: Waits,
 }
 
 impl HeldWorker {
+    /// Nobody has passed, and nobody is to be held.
     pub fn new() -> HeldWorker {
         HeldWorker {
             all_picked: AtomicU64::new(0),

@@ -4,7 +4,7 @@
 //! Each line of the output names a run, and says with what status it ended and what it wrote, or how the call of the one
 //! worker that made events ended, and whether a wait at a gate was given up, which a test fails by.
 //!
-//! Stands on `ca_run`, and in `disjoint` on the workers of `ca_pool` and the parts of `ca_table` themselves, with no claim
+//! Stands on `ca_run`, and in `beside` on the workers of `ca_pool` and the parts of `ca_table` themselves, with no claim
 //! of its own; start with `passing`.
 #![tactic(auto)]
 

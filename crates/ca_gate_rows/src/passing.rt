@@ -12,6 +12,7 @@ pub struct Passes {
 }
 
 impl Passes {
+    /// None.
     pub fn new() -> Passes {
         Passes {
             first: AtomicU64::new(0),
@@ -32,6 +33,7 @@ impl Passes {
         self.of(worker).fetch_add(1, Ordering::SeqCst);
     }
 
+    /// How often the worker has passed.
     pub fn count(&self, worker: u64) -> u64 {
         self.of(worker).load(Ordering::SeqCst)
     }
@@ -44,6 +46,7 @@ pub struct Waits {
 }
 
 impl Waits {
+    /// No wait was given up.
     pub fn new() -> Waits {
         Waits {
             given_up: AtomicU64::new(0),
@@ -68,6 +71,7 @@ impl Waits {
         self.given_up.store(1, Ordering::SeqCst);
     }
 
+    /// What the output says of them.
     pub fn told(&self) -> &'static str {
         if self.is_given_up() {
             "a wait was given up"

@@ -24,7 +24,7 @@ KeepAll = (forms : FormTrees) (program : ProgramView) → expansion_of forms ≡
 ran : KeepAll → (c : Command) (before after : Option (List ℕ)) (journal : List EventView) (end : RunEnd) → RanFrom c before after journal end → IsLawful (Some c) before after journal
 ran keep c before after journal end r =
     let run = r.2 in
-    (c, r.0, run.program, refl, r.1, run.is_program, keep run.is_program.0 run.program run.is_program.2 journal run.legal)
+    (c, r.0, run.program, refl, r.1, run.is_program, run.legal, keep run.is_program.0 run.program run.is_program.2 journal run.legal)
 
 ran_for : KeepAll → (asked : Option Command) (before after : Option (List ℕ)) (m : ScriptRun) (shown : Bool) → AnswersTo asked before after (Ran m shown) → IsLawful asked before after (events m.journal)
 ran_for keep None before after m shown h = absurd h

@@ -89,10 +89,10 @@ Given (Load n workers) before after input = (after ≡ before) × (input ≡ loa
 abbrev pub Ran : Command → Option (List ℕ) → Option (List ℕ) → List EventView → RunEnd → Type 0
 Ran command before after journal end = (input : List ℕ) × Given command before after input × RunOf (budget_of command) input journal end
 
--- the events are of the command's script, and keep the laws that each run of its program keeps
+-- the events are a run of the command's script, and keep the laws that each run of its program keeps
 abbrev pub IsLawful : Option Command → Option (List ℕ) → Option (List ℕ) → List EventView → Type 0
 IsLawful asked before after journal =
-    (command : Command) × (input : List ℕ) × (program : ProgramView) × (asked ≡ Some command) × Given command before after input × ProgramOf input program × KeepsLaws program journal
+    (command : Command) × (input : List ℕ) × (program : ProgramView) × (asked ≡ Some command) × Given command before after input × ProgramOf input program × Legal program journal × KeepsLaws program journal
 
 -- what was read is a script that has a program
 abbrev pub Accepted : Option (List ℕ) → Option (List ℕ) → Type 0
