@@ -59,13 +59,13 @@ module _ {T : Type 0} (number : T → ℕ) where
   numbered : (xs : List T) (n i : ℕ) (e e2 : T) → IsFirst number xs n i → e ≡ slice_index_or xs i e → number e2 ≡ number e → number e2 ≡ n
   numbered xs n i e e2 first at same = same ∙ ap number at ∙ first.1 e
 
-  -- the same, of parts whose number stays
-  pub part_changes : {X : Type 0} (view : T → ℕ → Option X) (xs : List T) (n i : ℕ) (e e2 : T) (f : Option X → Option X) → IsFirst number xs (home n) i → e ≡ slice_index_or xs i e → number e2 ≡ number e → ((q : ℕ) → view e2 q ≡ update eqb (view e) n (f (view e n)) q)
+  -- the same, of parts whose number stays, where v is what the part showed
+  pub part_changes : {X : Type 0} (view : T → ℕ → Option X) (xs : List T) (n i : ℕ) (e e2 : T) (v : ℕ → Option X) (f : Option X → Option X) → IsFirst number xs (home n) i → e ≡ slice_index_or xs i e → number e2 ≡ number e → v ≡ view e → ((q : ℕ) → view e2 q ≡ update eqb v n (f (v n)) q)
       → (j : ℕ) → option_map view (listed number (slice_set xs i e2) j) ≡ changed_at n f (λ i. option_map view (listed number xs i)) j
-  part_changes view xs n i e e2 f first at same after = changed_in view xs n i e e2 f first at (numbered xs (home n) i e e2 first at same) after
+  part_changes {X} view xs n i e e2 v f first at same was after = changed_in view xs n i e e2 f first at (numbered xs (home n) i e e2 first at same) (λ q. after q ∙ ap (λ (w : ℕ → Option X). update eqb w n (f (w n)) q) was)
 
-  pub part_stays : {X : Type 0} (view : T → ℕ → Option X) (xs : List T) (n i : ℕ) (e e2 : T) → IsFirst number xs n i → e ≡ slice_index_or xs i e → number e2 ≡ number e → ((q : ℕ) → view e2 q ≡ view e q) → (j : ℕ) → option_map view (listed number (slice_set xs i e2) j) ≡ option_map view (listed number xs j)
-  part_stays view xs n i e e2 first at same after = same_in view xs n i e e2 first at (numbered xs n i e e2 first at same) (λ k q. after q k)
+  pub part_stays : {X : Type 0} (view : T → ℕ → Option X) (xs : List T) (n i : ℕ) (e e2 : T) (v : ℕ → Option X) → IsFirst number xs n i → e ≡ slice_index_or xs i e → number e2 ≡ number e → v ≡ view e → ((q : ℕ) → view e2 q ≡ v q) → (j : ℕ) → option_map view (listed number (slice_set xs i e2) j) ≡ option_map view (listed number xs j)
+  part_stays view xs n i e e2 v first at same was after = let now : view e2 ≡ v = λ k q. after q k in same_in view xs n i e e2 first at (numbered xs n i e e2 first at same) (now ∙ was)
 
   -- no place was found
   pub none_first : (xs : List T) (n : ℕ) (o : Option ℕ) → ((i : ℕ) → o ≡ Some i → ⊥) → IfNone o (NoneBefore number xs n (length xs)) → NoneBefore number xs n (length xs)
@@ -73,8 +73,8 @@ module _ {T : Type 0} (number : T → ℕ) where
   none_first xs n (Some i) none f = absurd (none i refl)
 
   -- what the parts show together is what the one that has n shows
-  pub part_is : {X : Type 0} (view : T → ℕ → Option X) (xs : List T) (n i : ℕ) (e : T) → IsFirst number xs (home n) i → e ≡ slice_index_or xs i e → whole (λ i. option_map view (listed number xs i)) n ≡ view e n
-  part_is view xs n i e first at = ap (λ (o : Option T). at_key (option_map view o) n) (listed_at xs (home n) i e first at)
+  pub part_is : {X : Type 0} (view : T → ℕ → Option X) (xs : List T) (n i : ℕ) (e : T) (v : ℕ → Option X) → IsFirst number xs (home n) i → e ≡ slice_index_or xs i e → v ≡ view e → whole (λ i. option_map view (listed number xs i)) n ≡ v n
+  part_is {X} view xs n i e v first at was = ap (λ (o : Option T). at_key (option_map view o) n) (listed_at xs (home n) i e first at) ∙ ap (λ (w : ℕ → Option X). w n) (sym was)
 
   pub part_after : {X : Type 0} (view : T → ℕ → Option X) (xs : List T) (n i : ℕ) (e e2 : T) → IsFirst number xs (home n) i → e ≡ slice_index_or xs i e → number e2 ≡ number e → whole (λ j. option_map view (listed number (slice_set xs i e2) j)) n ≡ view e2 n
   part_after view xs n i e e2 first at same = ap (λ (o : Option T). at_key (option_map view o) n) (listed_set xs (home n) i e2 (numbered xs (home n) i e e2 first at same) first (home n) ∙ ap (λ c. cond c (Some e2) (listed number xs (home n))) (eq-eqb (home n) (home n) refl))

@@ -24,7 +24,7 @@ answer_of o name rest = or_nil (answered (comes_to o name rest))
 
 -- the bank of a registry is held, and the registry has room for what the operation adds
 abbrev pub HasMembersRoom : Listing HeldBank → ℕ → RegisterName → Trees → Type 0
-HasMembersRoom b p name rest = (x : HeldBank) × (listed number_of_bank (parts b) (home p) ≡ Some x) × (members_added name rest ≤ members_spare_at x.bank p)
+HasMembersRoom b p name rest = (x : HeldBank) × (listed number_of_bank (parts b) (home p) ≡ Some x) × (members_added name rest ≤ members_spare_at x.bank.value p)
 
 -- the registry that the arguments name, and what the operation answers
 abbrev pub registry_of : Trees → ℕ

@@ -35,7 +35,7 @@ timed p what m c = record { deadlines = with_deadline p what m c.deadlines; now 
 
 -- the bank of a port is held, and has room for one more
 abbrev pub HasPortRoom : Listing HeldBank → ℕ → Type 0
-HasPortRoom b p = (x : HeldBank) × (listed number_of_bank (parts b) (home p) ≡ Some x) × (0 < channels_spare x.bank) × (0 < registries_spare x.bank)
+HasPortRoom b p = (x : HeldBank) × (listed number_of_bank (parts b) (home p) ≡ Some x) × (0 < channels_spare x.bank.value) × (0 < registries_spare x.bank.value)
 
 -- a timeout needs the timers
 abbrev pub HasTimers : WhatView → Option TimersView → Type 0

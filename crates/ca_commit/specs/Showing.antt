@@ -29,13 +29,13 @@ abbrev pub waits_of : {A : Type 0} → Shard (Task A) → ℕ → Option (Parked
 waits_of s w = option_map parked_view (parked_in s w)
 
 abbrev pub bank_in : HeldBank → ℕ → Option Kept
-bank_in b = kept_at b.bank
+bank_in b = kept_at b.bank.value
 
 abbrev pub registries_in : HeldBank → ℕ → Option Registry
-registries_in b = registry_at b.bank
+registries_in b = registry_at b.bank.value
 
 abbrev pub shard_in : {A : Type 0} → HeldShard A → ℕ → Option (Parked (TaskAgent A))
-shard_in s = waits_of s.shard
+shard_in s = waits_of s.shard.value
 
 -- the channels, the registries and the waits of the parts that are held, by the numbers of these parts
 abbrev pub channels_held : Listing HeldBank → ℕ → Option (ℕ → Option Kept)
@@ -59,7 +59,7 @@ abbrev pub state_held : Listing HeldBank → State
 state_held banks = state_of (whole (channels_held banks)) (whole (registries_held banks))
 
 abbrev pub spares_in : HeldBank → ℕ → Option Spares
-spares_in b = spares_at b.bank
+spares_in b = spares_at b.bank.value
 
 -- the room that a held channel has
 abbrev pub spares_held : Listing HeldBank → ℕ → Option (ℕ → Option Spares)

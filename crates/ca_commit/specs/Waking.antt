@@ -36,7 +36,7 @@ HasReadyRoom (Some r) = 0 < ready_spare r
 
 -- the shard of a wait is held, and has room for one more
 abbrev pub HasShardRoom : {A : Type 0} → Listing (HeldShard A) → ℕ → Type 0
-HasShardRoom {A} s w = (x : HeldShard A) × (listed number_of_shard (parts s) (home w) ≡ Some x) × (0 < shard_spare x.shard)
+HasShardRoom {A} s w = (x : HeldShard A) × (listed number_of_shard (parts s) (home w) ≡ Some x) × (0 < shard_spare x.shard.value)
 
 -- whoever waits is paused at an operation
 abbrev pub IsPaused : {A : Type 0} → (A → At) → Option (Parked (TaskAgent A)) → Type 0

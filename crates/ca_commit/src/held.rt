@@ -13,20 +13,21 @@ use ca_value::seq::Seq;
 use ca_value::value::{PortId, Value};
 use std::alloc::Global;
 
-/// A bank of sixteen, with its number.
+/// A bank of sixteen, with its number. The bank lies in a box, so that a worker moves a few words where it takes the
+/// bank out of its hand or puts it back.
 #[derive(Drop)]
 pub struct HeldBank {
     pub(crate) number: u64,
-    pub(crate) bank: Bank,
-    ghost home: { (bank_number bank ≡ number) × (bank_count bank ≡ 16) },
+    pub(crate) bank: Box<Bank>,
+    ghost home: { (bank_number bank.value ≡ number) × (bank_count bank.value ≡ 16) },
 }
 
-/// A shard of sixteen, with its number.
+/// A shard of sixteen, with its number, in a box as a bank is.
 #[derive(Drop)]
 pub struct HeldShard<A> {
     pub(crate) number: u64,
-    pub(crate) shard: Shard<Task<A>>,
-    ghost home: { (shard_number shard ≡ number) × (shard_count shard ≡ 16) },
+    pub(crate) shard: Box<Shard<Task<A>>>,
+    ghost home: { (shard_number shard.value ≡ number) × (shard_count shard.value ≡ 16) },
 }
 
 /// Banks with their numbers.
@@ -37,48 +38,38 @@ pub type Shards<A> = Listing<HeldShard<A>>;
 
 impl HeldBank {
     /// The bank with its number.
-    pub fn new(number: u64, bank: Bank) -> HeldBank
+    pub fn new(alloc: Global, number: u64, bank: Bank) -> Result<HeldBank, OutOfMemory>
         requires number { bank_number bank ≡ number }
         requires count { bank_count bank ≡ 16 }
-        ensures number { result.number ≡ number }
-        ensures bank { result.bank ≡ bank }
+        ensures number { IfOk result (λ h. h.number ≡ number) }
+        ensures bank { IfOk result (λ h. h.bank.value ≡ bank) }
     {
-        HeldBank { number, bank }
+        let bank = Box::new(alloc, bank)?;
+        Ok(HeldBank { number, bank })
     }
 
     /// The bank, to look at.
     pub fn bank(&self) -> &Bank
-        ensures { result.now ≡ self.now.bank }
+        ensures { result.now ≡ self.now.bank.value }
     {
         &self.bank
     }
-
-    /// The bank.
-    pub fn into_bank(self) -> Bank
-        ensures bank { result ≡ self.bank }
-        ensures number { bank_number result ≡ self.number }
-    {
-        self.bank
-    }
 }
 
-impl<A> HeldShard<A> {
+impl<A: Drop> HeldShard<A> {
     /// The shard with its number.
-    pub fn new(number: u64, shard: Shard<Task<A>>) -> HeldShard<A>
+    pub fn new(
+        alloc: Global,
+        number: u64,
+        shard: Shard<Task<A>>,
+    ) -> Result<HeldShard<A>, OutOfMemory>
         requires number { shard_number shard ≡ number }
         requires count { shard_count shard ≡ 16 }
-        ensures number { result.number ≡ number }
-        ensures shard { result.shard ≡ shard }
+        ensures number { IfOk result (λ h. h.number ≡ number) }
+        ensures shard { IfOk result (λ h. h.shard.value ≡ shard) }
     {
-        HeldShard { number, shard }
-    }
-
-    /// The shard.
-    pub fn into_shard(self) -> Shard<Task<A>>
-        ensures shard { result ≡ self.shard }
-        ensures number { shard_number result ≡ self.number }
-    {
-        self.shard
+        let shard = Box::new(alloc, shard)?;
+        Ok(HeldShard { number, shard })
     }
 }
 

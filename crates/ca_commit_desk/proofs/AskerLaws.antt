@@ -40,5 +40,5 @@ paused (Some (owner u a)) = refl
 -- what is planned of the operation that it stands at is a plan for it
 pub plan_for : (h : Held Asker) (t : Task Asker) (w : Want) (r : Result Plan OutOfMemory) → asker_place t.agent ≡ at_op (want_view w) → IfOk r (λ p. plan_view p ≡ planned (seen h.banks h.shards) (op_view w.op) t.alts)
     → IfOk r (λ p. IsPlanFor asker_place h (plan_view p) (agent_of t))
-plan_for h t w (Ok p) at e = (want_view w, t.alts, at, e)
+plan_for h t w (Ok p) at e = (want_view w, at, e)
 plan_for h t w (Err x) at e = tt

@@ -18,4 +18,4 @@ module _ {A : Type 0} where
   seen_stays old new cs rs ws = λ i. shown (λ n. cs n i) (λ n. rs n i) (λ n. ws n i)
 
   pub plan_stays : (place : A → At) (old new : Held A) (p : Planned) (a : TaskAgent A) → ((i : ℕ) → channels_held new.banks i ≡ channels_held old.banks i) → ((i : ℕ) → registries_held new.banks i ≡ registries_held old.banks i) → ((i : ℕ) → waits_held new.shards i ≡ waits_held old.shards i) → IsPlanFor place old p a → IsPlanFor place new p a
-  plan_stays place old new p a cs rs ws is = (is.0, is.1, is.2, is.3 ∙ ap (λ x. planned x is.0.op is.1) (sym (seen_stays old new cs rs ws)))
+  plan_stays place old new p a cs rs ws is = (is.0, is.1, is.2 ∙ ap (λ x. planned x is.0.op a.alts) (sym (seen_stays old new cs rs ws)))

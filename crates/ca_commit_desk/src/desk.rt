@@ -59,8 +59,8 @@ impl Desk {
     /// Empty banks and shards, with no task.
     pub fn new(alloc: Global) -> Result<Desk, OutOfMemory> {
         let mut held = Held::new(alloc)?;
-        fill_banks(alloc, &mut held.banks);
-        fill_shards(alloc, &mut held.shards);
+        fill_banks(alloc, &mut held.banks)?;
+        fill_shards(alloc, &mut held.shards)?;
         held.timers = Some(Timers::new(alloc));
         held.ready = Some(Ready::new(alloc));
         held.new_task = 1;
@@ -285,20 +285,24 @@ fn count(held: &mut Held<Asker>, gives: Gives) {
     }
 }
 
-fn fill_banks(alloc: Global, banks: &mut Banks)
+fn fill_banks(alloc: Global, banks: &mut Banks) -> Result<(), OutOfMemory>
     requires { 16 ≤ spare banks.old }
 {
     for number in 0..COUNT {
-        banks.push(HeldBank::new(number, Bank::new(alloc, number, COUNT)));
+        let bank = Bank::new(alloc, number, COUNT);
+        banks.push(HeldBank::new(alloc, number, bank)?);
     }
+    Ok(())
 }
 
-fn fill_shards(alloc: Global, shards: &mut Shards<Asker>)
+fn fill_shards(alloc: Global, shards: &mut Shards<Asker>) -> Result<(), OutOfMemory>
     requires { 16 ≤ spare shards.old }
 {
     for number in 0..COUNT {
-        shards.push(HeldShard::new(number, Shard::new(alloc, number, COUNT)));
+        let shard = Shard::new(alloc, number, COUNT);
+        shards.push(HeldShard::new(alloc, number, shard)?);
     }
+    Ok(())
 }
 
 // The parts but that of the number, which is laid aside.

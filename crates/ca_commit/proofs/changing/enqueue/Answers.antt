@@ -1,4 +1,5 @@
-use Rattle.std.proofs.Common.{◌<◌, refl, subst, Option, option_map}
+use Rattle.std.proofs.Common.{◌<◌, refl, subst, Option, option_map, ap}
+use Rattle.ca_bank.specs.Bank.{kept_at, registry_at, spares_at}
 use Rattle.ca_bank.specs.Kept.{Spares, enqueued, one_less, queue_spare}
 use Rattle.ca_bank.specs.Room.{handler_view}
 use Rattle.ca_commit.specs.Contents.{home}
@@ -8,19 +9,19 @@ use Rattle.ca_commit.proofs.Listed.{none_first, part_changes, part_is, part_stay
 use Rattle.ca_commit.proofs.changing.enqueue.Goals as goal
 
 pub returns-in-Some-clause-channels : goal.returns-in-Some-clause-channels
-returns-in-Some-clause-channels c = part_changes number_of_bank bank_in c.args.banks.now.items.items c.args.port.n c.in-Some.place c.index_mut.result.now _ (option_map (enqueued c.args.side (handler_view c.args.handler))) c.in-Some.ensures.found c.index_mut.ensures.value refl (c.enqueue.ensures.kept)
+returns-in-Some-clause-channels c = part_changes number_of_bank bank_in c.args.banks.now.items.items c.args.port.n c.in-Some.place c.index_mut.result.now _ _ (option_map (enqueued c.args.side (handler_view c.args.handler))) c.in-Some.ensures.found c.index_mut.ensures.value refl (ap kept_at c.deref_mut.ensures.value) (c.enqueue.ensures.kept)
 
 pub returns-in_default-clause-channels : goal.returns-in_default-clause-channels
 returns-in_default-clause-channels c = unchanged_in number_of_bank bank_in c.args.banks.now.items.items c.args.port.n (option_map (enqueued c.args.side (handler_view c.args.handler))) (none_first number_of_bank c.args.banks.now.items.items (home c.args.port.n) c.place.result c.in_default.not-Some c.place.ensures.none)
 
 pub returns-in-Some-clause-spares : goal.returns-in-Some-clause-spares
-returns-in-Some-clause-spares c = part_changes number_of_bank spares_in c.args.banks.now.items.items c.args.port.n c.in-Some.place c.index_mut.result.now _ (option_map (one_less c.args.side)) c.in-Some.ensures.found c.index_mut.ensures.value refl (c.enqueue.ensures.spares)
+returns-in-Some-clause-spares c = part_changes number_of_bank spares_in c.args.banks.now.items.items c.args.port.n c.in-Some.place c.index_mut.result.now _ _ (option_map (one_less c.args.side)) c.in-Some.ensures.found c.index_mut.ensures.value refl (ap spares_at c.deref_mut.ensures.value) (c.enqueue.ensures.spares)
 
 pub returns-in_default-clause-spares : goal.returns-in_default-clause-spares
 returns-in_default-clause-spares c = unchanged_in number_of_bank spares_in c.args.banks.now.items.items c.args.port.n (option_map (one_less c.args.side)) (none_first number_of_bank c.args.banks.now.items.items (home c.args.port.n) c.place.result c.in_default.not-Some c.place.ensures.none)
 
 pub returns-in-Some-clause-registries : goal.returns-in-Some-clause-registries
-returns-in-Some-clause-registries c = part_stays number_of_bank registries_in c.args.banks.now.items.items (home c.args.port.n) c.in-Some.place c.index_mut.result.now _ c.in-Some.ensures.found c.index_mut.ensures.value refl (c.enqueue.ensures.others.0)
+returns-in-Some-clause-registries c = part_stays number_of_bank registries_in c.args.banks.now.items.items (home c.args.port.n) c.in-Some.place c.index_mut.result.now _ _ c.in-Some.ensures.found c.index_mut.ensures.value refl (ap registry_at c.deref_mut.ensures.value) (c.enqueue.ensures.others.0)
 
 pub enqueue-requires : goal.enqueue-requires
-enqueue-requires c = subst (λ (o : Option Spares). 0 < queue_spare c.args.side o) (part_is number_of_bank spares_in c.args.banks.now.items.items c.args.port.n c.in-Some.place c.index_mut.result.now c.in-Some.ensures.found c.index_mut.ensures.value) c.requires
+enqueue-requires c = subst (λ (o : Option Spares). 0 < queue_spare c.args.side o) (part_is number_of_bank spares_in c.args.banks.now.items.items c.args.port.n c.in-Some.place c.index_mut.result.now _ c.in-Some.ensures.found c.index_mut.ensures.value (ap spares_at c.deref_mut.ensures.value)) c.requires

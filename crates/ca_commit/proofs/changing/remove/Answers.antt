@@ -1,4 +1,5 @@
-use Rattle.std.proofs.Common.{refl, option_map}
+use Rattle.std.proofs.Common.{refl, option_map, ap}
+use Rattle.ca_bank.specs.Bank.{kept_at, registry_at}
 use Rattle.ca_bank.specs.Kept.{removed}
 use Rattle.ca_commit.specs.Contents.{home}
 use Rattle.ca_commit.specs.Numbers.{number_of_bank}
@@ -7,10 +8,10 @@ use Rattle.ca_commit.proofs.Listed.{none_first, part_changes, part_stays, unchan
 use Rattle.ca_commit.proofs.changing.remove.Goals as goal
 
 pub returns-in-Some-clause-channels : goal.returns-in-Some-clause-channels
-returns-in-Some-clause-channels c = part_changes number_of_bank bank_in c.args.banks.now.items.items c.args.port.n c.in-Some.place c.index_mut.result.now _ (option_map removed) c.in-Some.ensures.found c.index_mut.ensures.value refl (c.remove.ensures.kept)
+returns-in-Some-clause-channels c = part_changes number_of_bank bank_in c.args.banks.now.items.items c.args.port.n c.in-Some.place c.index_mut.result.now _ _ (option_map removed) c.in-Some.ensures.found c.index_mut.ensures.value refl (ap kept_at c.deref_mut.ensures.value) (c.remove.ensures.kept)
 
 pub returns-in_default-clause-channels : goal.returns-in_default-clause-channels
 returns-in_default-clause-channels c = unchanged_in number_of_bank bank_in c.args.banks.now.items.items c.args.port.n (option_map removed) (none_first number_of_bank c.args.banks.now.items.items (home c.args.port.n) c.place.result c.in_default.not-Some c.place.ensures.none)
 
 pub returns-in-Some-clause-registries : goal.returns-in-Some-clause-registries
-returns-in-Some-clause-registries c = part_stays number_of_bank registries_in c.args.banks.now.items.items (home c.args.port.n) c.in-Some.place c.index_mut.result.now _ c.in-Some.ensures.found c.index_mut.ensures.value refl (c.remove.ensures.others.0)
+returns-in-Some-clause-registries c = part_stays number_of_bank registries_in c.args.banks.now.items.items (home c.args.port.n) c.in-Some.place c.index_mut.result.now _ _ c.in-Some.ensures.found c.index_mut.ensures.value refl (ap registry_at c.deref_mut.ensures.value) (c.remove.ensures.others.0)

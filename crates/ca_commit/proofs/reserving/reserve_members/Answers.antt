@@ -1,4 +1,5 @@
 use Rattle.std.proofs.Common.{◌≡◌, refl, sym, ap, ◌∙◌, Option, is_some, true, false}
+use Rattle.ca_bank.specs.Bank.{kept_at, registry_at}
 use Rattle.ca_meaning.specs.Registry.{Registry}
 use Rattle.ca_commit.specs.Contents.{home}
 use Rattle.ca_commit.specs.Numbers.{number_of_bank}
@@ -8,14 +9,14 @@ use Rattle.ca_commit.proofs.Outcomes.{on_ok}
 use Rattle.ca_commit.proofs.reserving.reserve_members.Goals as goal
 
 pub returns-in-Some-clause-channels : goal.returns-in-Some-clause-channels
-returns-in-Some-clause-channels c = part_stays number_of_bank bank_in c.args.banks.now.items.items (home c.args.port.n) c.in-Some.place c.index_mut.result.now _ c.in-Some.ensures.found c.index_mut.ensures.value refl (c.reserve_register.ensures.others.0)
+returns-in-Some-clause-channels c = part_stays number_of_bank bank_in c.args.banks.now.items.items (home c.args.port.n) c.in-Some.place c.index_mut.result.now _ _ c.in-Some.ensures.found c.index_mut.ensures.value refl (ap kept_at c.deref_mut.ensures.value) (c.reserve_register.ensures.others.0)
 
 pub returns-in-Some-clause-registries : goal.returns-in-Some-clause-registries
-returns-in-Some-clause-registries c = part_stays number_of_bank registries_in c.args.banks.now.items.items (home c.args.port.n) c.in-Some.place c.index_mut.result.now _ c.in-Some.ensures.found c.index_mut.ensures.value refl (c.reserve_register.ensures.registered)
+returns-in-Some-clause-registries c = part_stays number_of_bank registries_in c.args.banks.now.items.items (home c.args.port.n) c.in-Some.place c.index_mut.result.now _ _ c.in-Some.ensures.found c.index_mut.ensures.value refl (ap registry_at c.deref_mut.ensures.value) (c.reserve_register.ensures.registered)
 
 pub returns-in-Some-clause-room : goal.returns-in-Some-clause-room
 returns-in-Some-clause-room c =
-    let was = part_is number_of_bank registries_in c.args.banks.now.items.items c.args.port.n c.in-Some.place c.index_mut.result.now c.in-Some.ensures.found c.index_mut.ensures.value in
+    let was = part_is number_of_bank registries_in c.args.banks.now.items.items c.args.port.n c.in-Some.place c.index_mut.result.now _ c.in-Some.ensures.found c.index_mut.ensures.value (ap registry_at c.deref_mut.ensures.value) in
     on_ok c.reserve_register.result (λ f t. (_, part_there number_of_bank c.args.banks.now.items.items (home c.args.port.n) c.in-Some.place c.index_mut.result.now _ c.in-Some.ensures.found c.index_mut.ensures.value refl, f (ap (λ (o : Option Registry). is_some o) (sym was) ∙ t))) c.reserve_register.ensures.spare
 
 pub returns-in-None-clause-room : goal.returns-in-None-clause-room

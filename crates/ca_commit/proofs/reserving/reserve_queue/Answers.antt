@@ -6,18 +6,18 @@ use Rattle.ca_commit.proofs.Listed.{no_part, part_after, part_changes, part_is, 
 use Rattle.ca_commit.proofs.Outcomes.{on_ok}
 use Rattle.ca_commit.proofs.Parkings.{reserved_grows}
 use Rattle.ca_bank.specs.Kept.{Kept, Spares, queue_spare, spare_put_on}
-use Rattle.ca_bank.specs.Bank.{spares_at}
+use Rattle.ca_bank.specs.Bank.{spares_at, kept_at, registry_at}
 use Rattle.ca_commit.proofs.reserving.reserve_queue.Goals as goal
 
 pub returns-in-Some-clause-channels : goal.returns-in-Some-clause-channels
-returns-in-Some-clause-channels c = part_stays number_of_bank bank_in c.args.banks.now.items.items (home c.args.port.n) c.in-Some.place c.index_mut.result.now _ c.in-Some.ensures.found c.index_mut.ensures.value refl (c.reserve.ensures.kept)
+returns-in-Some-clause-channels c = part_stays number_of_bank bank_in c.args.banks.now.items.items (home c.args.port.n) c.in-Some.place c.index_mut.result.now _ _ c.in-Some.ensures.found c.index_mut.ensures.value refl (ap kept_at c.deref_mut.ensures.value) (c.reserve.ensures.kept)
 
 pub returns-in-Some-clause-registries : goal.returns-in-Some-clause-registries
-returns-in-Some-clause-registries c = part_stays number_of_bank registries_in c.args.banks.now.items.items (home c.args.port.n) c.in-Some.place c.index_mut.result.now _ c.in-Some.ensures.found c.index_mut.ensures.value refl (c.reserve.ensures.others.0)
+returns-in-Some-clause-registries c = part_stays number_of_bank registries_in c.args.banks.now.items.items (home c.args.port.n) c.in-Some.place c.index_mut.result.now _ _ c.in-Some.ensures.found c.index_mut.ensures.value refl (ap registry_at c.deref_mut.ensures.value) (c.reserve.ensures.others.0)
 
 pub returns-in-Some-clause-room : goal.returns-in-Some-clause-room
 returns-in-Some-clause-room c =
-    let was = part_is number_of_bank bank_in c.args.banks.now.items.items c.args.port.n c.in-Some.place c.index_mut.result.now c.in-Some.ensures.found c.index_mut.ensures.value in
+    let was = part_is number_of_bank bank_in c.args.banks.now.items.items c.args.port.n c.in-Some.place c.index_mut.result.now _ c.in-Some.ensures.found c.index_mut.ensures.value (ap kept_at c.deref_mut.ensures.value) in
     let is = part_after number_of_bank spares_in c.args.banks.now.items.items c.args.port.n c.in-Some.place c.index_mut.result.now _ c.in-Some.ensures.found c.index_mut.ensures.value refl in
     on_ok c.reserve.result (λ f t. subst (λ (o : Option Spares). c.args.count ≤ queue_spare c.args.side o) (sym is) (f (ap (λ (o : Option Kept). is_some o) (sym was) ∙ t))) c.reserve.ensures.spare
 
@@ -29,7 +29,7 @@ returns-in-None-clause-room c =
 pub returns-in-Some-clause-more : goal.returns-in-Some-clause-more
 returns-in-Some-clause-more c =
     let k = queue_spare c.args.side (spares_at c.reserve.new.self c.args.port.n) in
-    let was = part_is number_of_bank spares_in c.args.banks.now.items.items c.args.port.n c.in-Some.place c.index_mut.result.now c.in-Some.ensures.found c.index_mut.ensures.value in
+    let was = part_is number_of_bank spares_in c.args.banks.now.items.items c.args.port.n c.in-Some.place c.index_mut.result.now _ c.in-Some.ensures.found c.index_mut.ensures.value (ap spares_at c.deref_mut.ensures.value) in
     reserved_grows c.args.port.n c.args.side k (spares_held c.args.banks.now) _
-    (part_changes number_of_bank spares_in c.args.banks.now.items.items c.args.port.n c.in-Some.place c.index_mut.result.now _ (option_map (spare_put_on c.args.side k)) c.in-Some.ensures.found c.index_mut.ensures.value refl (c.reserve.ensures.spares))
+    (part_changes number_of_bank spares_in c.args.banks.now.items.items c.args.port.n c.in-Some.place c.index_mut.result.now _ _ (option_map (spare_put_on c.args.side k)) c.in-Some.ensures.found c.index_mut.ensures.value refl (ap spares_at c.deref_mut.ensures.value) (c.reserve.ensures.spares))
     (subst (λ (o : Option Spares). queue_spare c.args.side o ≤ k) (sym was) c.reserve.ensures.more)
