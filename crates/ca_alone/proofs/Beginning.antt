@@ -26,7 +26,8 @@ use Rattle.ca_table.proofs.Openings.{opens}
 use Rattle.ca_solo.specs.Alone.{Alone}
 use Rattle.ca_solo.specs.Positions.{first_position}
 use Rattle.ca_solo.proofs.Keeping.{starts_alone}
-use Rattle.ca_alone.specs.Lone.{StandsAlone, left_by, left_now}
+use Rattle.ca_table.specs.LoneHands.{left_by, left_now}
+use Rattle.ca_alone.specs.Lone.{StandsAlone}
 use Rattle.ca_alone.specs.Reading.{Reads}
 use Rattle.ca_alone.specs.Standing.{IsPosition}
 

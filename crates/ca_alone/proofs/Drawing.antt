@@ -6,22 +6,18 @@ use lib.ListN.{get_elem?}
 use Rattle.ca_turns.specs.Hands.{Held, look}
 use Rattle.ca_turns.specs.History.{Run}
 use Rattle.ca_turns.specs.Places.{AllIn}
-use Rattle.ca_turns.specs.Steps.{Sees}
-use Rattle.ca_turns.specs.Views.{drawing, stands, turn}
+use Rattle.ca_turns.specs.Views.{drawing, turn}
 use Rattle.ca_turns.specs.declared.rule.Turn.{Turn}
 use Rattle.ca_turns.specs.declared.rule.View.{View}
 use Rattle.ca_turns.proofs.Looks.{all_there, long_look}
-use Rattle.ca_journal.specs.Merge.{events_of, in_order}
 use Rattle.ca_commit.specs.Touched as said
 use Rattle.ca_table.specs.Draws.{drawn_touches, turn_view}
 use Rattle.ca_table.specs.Grips.{Fits, Grips, HasAll}
-use Rattle.ca_table.specs.Running.{shown_by}
 use Rattle.ca_table.specs.Seen.{PartSeen}
-use Rattle.ca_table.specs.Workers.{AllAbove, noted}
 use Rattle.ca_table.specs.declared.drawn.Drawn.{Drawn}
-use Rattle.ca_table.proofs.Gathers.{gathered}
-use Rattle.ca_alone.specs.Lone.{DrewNext, HoldsLeft, IsAfter, left_now}
-use Rattle.ca_alone.proofs.OwnTurns.{draw_goes, draw_left, last_goes, own_log, ran_before}
+use Rattle.ca_table.specs.LoneHands.{HoldsLeft, IsAfter, left_now}
+use Rattle.ca_alone.specs.Lone.{DrewNext}
+use Rattle.ca_table.proofs.OwnTurns.{draw_goes, draw_left, last_goes, ran_before}
 
 module _ {P C E : Type 0} (h : Held P C E) (g : ℕ → Option (P × C)) (grips : Grips h g) where
   fits : (i : ℕ) (x : P × C) → g i ≡ Some x → (get_elem? h.parts i ≡ some (Some x.0)) × (get_elem? h.view.held i ≡ some (Some x.1))
@@ -62,7 +58,3 @@ pub ran_next : {A : Type 0} (moves : Drawn → List (PartSeen A) → List (PartS
 ran_next {A} moves what v v2 t last r more is =
     let run : Run drawn_touches moves v.opening (v.turns ++ t ∷ []) last = subst (λ ts. Run drawn_touches moves v.opening ts last) more.turns (subst (λ cs. Run drawn_touches moves cs v2.turns last) more.opening r) in
     (record { turn = t; is = is; goes = last_goes drawn_touches moves v.opening v.turns t last run; after = more }, ran_before drawn_touches moves v.opening v.turns t last run)
-
--- what the only worker noted, in order, is what its turns show
-pub own_journal : {C : Type 0} (touches : Drawn → List ℕ) (moves : Drawn → List C → List C → Type 0) (v : View C Drawn) (log : List (Turn C Drawn)) (now : List C) → Sees touches moves v log now → stands v ≡ v.hands → AllAbove 0 v.turns → events_of (in_order (noted v.turns)) ≡ shown_by v.turns
-own_journal touches moves v log now sees alone up = gathered v log sees.numbered (sees.alone alone) ∙ ap shown_by (own_log touches moves v log now sees alone up)

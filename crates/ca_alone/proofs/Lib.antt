@@ -4,7 +4,6 @@ pub mod Turned
 pub mod Leaving
 pub mod Laying
 pub mod Making
-pub mod OwnTurns
 pub mod Lone
 pub mod Beginning
 pub mod HeldDesk
@@ -21,3 +20,11 @@ pub mod Idling
 pub mod Waking
 pub mod Answering
 pub mod CutWhole
+pub mod HeldWithin
+pub mod HeldRests
+pub mod Chosen
+pub mod HeldStirs
+pub mod HeldPosition
+pub mod Standings
+pub mod Leading
+pub mod Stopping

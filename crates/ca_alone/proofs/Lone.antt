@@ -35,17 +35,18 @@ use Rattle.ca_solo.specs.Stirs.{stirred}
 use Rattle.ca_solo.proofs.Answers.{alone_later}
 use Rattle.ca_solo.proofs.Following.{alone_reaches}
 use Rattle.ca_solo.proofs.Keeping.{ends_solo, move_kept}
-use Rattle.ca_alone.specs.Lone.{IsAfter, StandsAlone, left_by, left_now}
+use Rattle.ca_table.specs.LoneHands.{IsAfter, left_by, left_now}
+use Rattle.ca_alone.specs.Lone.{StandsAlone}
 use Rattle.ca_alone.specs.Standing.{ChoosesWell, IsOn, IsPosition, asked}
 use Rattle.ca_alone.proofs.Making.{turn_moves}
-use Rattle.ca_alone.proofs.OwnTurns.{left_more}
+use Rattle.ca_table.proofs.OwnTurns.{left_more}
 
 pub shown_more : {C : Type 0} (ts : List (Turn C Drawn)) (t : Turn C Drawn) → shown_by (ts ++ t ∷ []) ≡ shown_by ts ++ visible (turn_view t.event.what)
 shown_more [] t = append-nil (visible (turn_view t.event.what))
 shown_more (u ∷ ts) t = ap (λ es. visible (turn_view u.event.what) ++ es) (shown_more ts t) ∙ sym (append_assoc (visible (turn_view u.event.what)) (shown_by ts) (visible (turn_view t.event.what)))
 
 module _ {A : Type 0} (over : CodeView → A → Type 0) (place : A → At) (stands : ProgramView → A → TaskBody → Type 0) (advances : ProgramView → A → A → Type 0) (gives : A → Tree → A → Type 0) (starts : ProgramView → SeedView → A → Type 0) (program : ProgramView) (code : CodeView)
-    (v v2 : View (PartSeen A) Drawn) (t : Turn (PartSeen A) Drawn) (g : Goes drawn_touches (drawn_moves over place advances gives starts) (left_now drawn_touches v) t) (more : IsAfter v v2 t) (answers : List ℕ) (w : Position) (a : StandsAlone over place stands program code v answers w) where
+    (v v2 : View (PartSeen A) Drawn) (t : Turn (PartSeen A) Drawn) (g : Goes drawn_touches (drawn_moves over place advances gives starts) (left_now drawn_touches v) t) (more : IsAfter v v2 t) where
   abbrev now : List (PartSeen A)
   now = left_now drawn_touches v
 
@@ -60,42 +61,46 @@ module _ {A : Type 0} (over : CodeView → A → Type 0) (place : A → At) (sta
   pub found_at : AreAt (contents_at (left_now drawn_touches v)) (drawn_touches t.event) (map content_of t.before)
   found_at = reads_at now (drawn_touches t.event) t.before g.0
 
-  pub moved_by : Moves place (advances_over over code advances) (gives_over over code gives) (starts_over over code starts) (drawn_view t.event) (map content_of t.before) (map content_of t.after)
-  moved_by = subst (λ K. Moves place (advances_over over K advances) (gives_over over K gives) (starts_over over K starts) (drawn_view t.event) (map content_of t.before) (map content_of t.after)) (drawn_has over place advances gives starts code now t a.coded g) g.1.1
+  pub moved_by : HaveCode code (left_now drawn_touches v) → Moves place (advances_over over code advances) (gives_over over code gives) (starts_over over code starts) (drawn_view t.event) (map content_of t.before) (map content_of t.after)
+  moved_by coded = subst (λ K. Moves place (advances_over over K advances) (gives_over over K gives) (starts_over over K starts) (drawn_view t.event) (map content_of t.before) (map content_of t.after)) (drawn_has over place advances gives starts code now t coded g) g.1.1
 
-  -- the worker goes on to where a move leads whose events are those that the turn shows
-  pub lone_turn : (rs : List ℕ) (w2 : Position) → Move program (also_later rs w) w2 (visible (turn_view t.event.what)) → IsPosition place (stands_over over code stands) program (written (contents_at (left_now drawn_touches v)) (drawn_touches t.event) (map content_of t.after)) w2
-      → StandsAlone over place stands program code v2 (answers ++ rs) w2
-  lone_turn rs w2 move is = record {
-    position = subst (λ (f : ℕ → Option (Content (TaskAgent A))). IsPosition place (stands_over over code stands) program f w2) (sym contents_after) is;
-    coded = subst (HaveCode code) (sym left_after) (leaves_code over place advances gives starts code now t a.coded g);
-    alone = subst (λ es. Alone program (answers ++ rs) es w2) (sym (ap shown_by more.turns ∙ shown_more v.turns t)) (move_kept program (answers ++ rs) (shown_by v.turns) (also_later rs w) w2 (visible (turn_view t.event.what)) (alone_later rs program answers (shown_by v.turns) w a.alone) move);
-  }
+  pub coded_after : HaveCode code (left_now drawn_touches v) → HaveCode code (left_now drawn_touches v2)
+  coded_after coded = subst (HaveCode code) (sym left_after) (leaves_code over place advances gives starts code now t coded g)
 
-  -- .. without an answer of the clock
-  pub lone_shows : (w2 : Position) → Move program w w2 (visible (turn_view t.event.what)) → IsPosition place (stands_over over code stands) program (written (contents_at (left_now drawn_touches v)) (drawn_touches t.event) (map content_of t.after)) w2 → StandsAlone over place stands program code v2 answers w2
-  lone_shows w2 move is = record {
-    position = subst (λ (f : ℕ → Option (Content (TaskAgent A))). IsPosition place (stands_over over code stands) program f w2) (sym contents_after) is;
-    coded = subst (HaveCode code) (sym left_after) (leaves_code over place advances gives starts code now t a.coded g);
-    alone = subst (λ es. Alone program answers es w2) (sym (ap shown_by more.turns ∙ shown_more v.turns t)) (move_kept program answers (shown_by v.turns) w w2 (visible (turn_view t.event.what)) a.alone move);
-  }
+  module _ (answers : List ℕ) (w : Position) (a : StandsAlone over place stands program code v answers w) where
+    -- the worker goes on to where a move leads whose events are those that the turn shows
+    pub lone_turn : (rs : List ℕ) (w2 : Position) → Move program (also_later rs w) w2 (visible (turn_view t.event.what)) → IsPosition place (stands_over over code stands) program (written (contents_at (left_now drawn_touches v)) (drawn_touches t.event) (map content_of t.after)) w2
+        → StandsAlone over place stands program code v2 (answers ++ rs) w2
+    lone_turn rs w2 move is = record {
+      position = subst (λ (f : ℕ → Option (Content (TaskAgent A))). IsPosition place (stands_over over code stands) program f w2) (sym contents_after) is;
+      coded = coded_after a.coded;
+      alone = subst (λ es. Alone program (answers ++ rs) es w2) (sym (ap shown_by more.turns ∙ shown_more v.turns t)) (move_kept program (answers ++ rs) (shown_by v.turns) (also_later rs w) w2 (visible (turn_view t.event.what)) (alone_later rs program answers (shown_by v.turns) w a.alone) move);
+    }
 
-  -- it stays where it is where the turn is silent and no move
-  pub lone_stays : visible (turn_view t.event.what) ≡ [] → IsPosition place (stands_over over code stands) program (written (contents_at (left_now drawn_touches v)) (drawn_touches t.event) (map content_of t.after)) w → StandsAlone over place stands program code v2 answers w
-  lone_stays hidden is = record {
-    position = subst (λ (f : ℕ → Option (Content (TaskAgent A))). IsPosition place (stands_over over code stands) program f w) (sym contents_after) is;
-    coded = subst (HaveCode code) (sym left_after) (leaves_code over place advances gives starts code now t a.coded g);
-    alone = subst (λ es. Alone program answers es w) (sym (ap shown_by more.turns ∙ shown_more v.turns t ∙ ap (λ es. shown_by v.turns ++ es) hidden ∙ append-nil (shown_by v.turns))) a.alone;
-  }
+    -- .. without an answer of the clock
+    pub lone_shows : (w2 : Position) → Move program w w2 (visible (turn_view t.event.what)) → IsPosition place (stands_over over code stands) program (written (contents_at (left_now drawn_touches v)) (drawn_touches t.event) (map content_of t.after)) w2 → StandsAlone over place stands program code v2 answers w2
+    lone_shows w2 move is = record {
+      position = subst (λ (f : ℕ → Option (Content (TaskAgent A))). IsPosition place (stands_over over code stands) program f w2) (sym contents_after) is;
+      coded = coded_after a.coded;
+      alone = subst (λ es. Alone program answers es w2) (sym (ap shown_by more.turns ∙ shown_more v.turns t)) (move_kept program answers (shown_by v.turns) w w2 (visible (turn_view t.event.what)) a.alone move);
+    }
 
-  module _ (advance_law : Advanced stands place advances) (answer_law : Answered stands place gives) (start_law : Started stands place starts) where
-    -- an event of the lane's task
-    pub lone_makes : (u : ℕ) (e : EventView) → turn_view t.event.what ≡ shown e → is_of u e ≡ true → MayMake w.phase → IsOn w.desk.lane → ChoosesWell w.state w.desk e
-        → (w2 : Position) × StandsAlone over place stands program code v2 (answers ++ asked e) w2 × (w2.phase ≡ settling (stirred w.state e))
-    lone_makes u e what is may on well =
-        let k = turn_moves place (stands_over over code stands) (advances_over over code advances) (gives_over over code gives) (starts_over over code starts) (advanced_over over code place stands advances advance_law) (answered_over over code place stands gives answer_law) (started_over over code place stands starts start_law)
-        program (drawn_view t.event) (contents_at now) (map content_of t.before) (map content_of t.after) w u e what is found_at moved_by a.position may on well in
-        (k.0, lone_turn (asked e) k.0 (subst (λ es. Move program (also_later (asked e) w) k.0 es) (sym (ap visible what)) k.1) k.2, k.3)
+    -- it stays where it is where the turn is silent and no move
+    pub lone_stays : visible (turn_view t.event.what) ≡ [] → IsPosition place (stands_over over code stands) program (written (contents_at (left_now drawn_touches v)) (drawn_touches t.event) (map content_of t.after)) w → StandsAlone over place stands program code v2 answers w
+    lone_stays hidden is = record {
+      position = subst (λ (f : ℕ → Option (Content (TaskAgent A))). IsPosition place (stands_over over code stands) program f w) (sym contents_after) is;
+      coded = coded_after a.coded;
+      alone = subst (λ es. Alone program answers es w) (sym (ap shown_by more.turns ∙ shown_more v.turns t ∙ ap (λ es. shown_by v.turns ++ es) hidden ∙ append-nil (shown_by v.turns))) a.alone;
+    }
+
+    module _ (advance_law : Advanced stands place advances) (answer_law : Answered stands place gives) (start_law : Started stands place starts) where
+      -- an event of the lane's task
+      pub lone_makes : (u : ℕ) (e : EventView) → turn_view t.event.what ≡ shown e → is_of u e ≡ true → MayMake w.phase → IsOn w.desk.lane → ChoosesWell w.state w.desk e
+          → (w2 : Position) × StandsAlone over place stands program code v2 (answers ++ asked e) w2 × (w2.phase ≡ settling (stirred w.state e))
+      lone_makes u e what is may on well =
+          let k = turn_moves place (stands_over over code stands) (advances_over over code advances) (gives_over over code gives) (starts_over over code starts) (advanced_over over code place stands advances advance_law) (answered_over over code place stands gives answer_law) (started_over over code place stands starts start_law)
+          program (drawn_view t.event) (contents_at now) (map content_of t.before) (map content_of t.after) w u e what is found_at (moved_by a.coded) a.position may on well in
+          (k.0, lone_turn (asked e) k.0 (subst (λ es. Move program (also_later (asked e) w) k.0 es) (sym (ap visible what)) k.1) k.2, k.3)
 
 module _ {A : Type 0} (over : CodeView → A → Type 0) (place : A → At) (stands : ProgramView → A → TaskBody → Type 0) (program : ProgramView) (code : CodeView) (v : View (PartSeen A) Drawn) (answers : List ℕ) (w : Position) (a : StandsAlone over place stands program code v answers w) where
   -- a move that shows nothing, and is no turn

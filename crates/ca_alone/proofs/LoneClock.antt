@@ -4,7 +4,7 @@ use Rattle.ca_value.specs.Tree.{Tree}
 use Rattle.ca_term.specs.Program.{ProgramView}
 use Rattle.ca_term.specs.Operation.{SeedView}
 use Rattle.ca_meaning.specs.Body.{At}
-use Rattle.ca_meaning.specs.State.{Deadline}
+use Rattle.ca_meaning.specs.State.{Deadline, State}
 use Rattle.ca_meaning.specs.Task.{TaskBody}
 use Rattle.ca_states.specs.Code.{CodeView}
 use Rattle.ca_agent.specs.Agents.{Advanced, Answered, Started}
@@ -18,18 +18,19 @@ use Rattle.ca_commit.specs.Opening.{unasked}
 use Rattle.ca_commit.specs.Running.{written}
 use Rattle.ca_commit.specs.Touched as said
 use Rattle.ca_table.specs.Draws.{drawn_moves, drawn_touches, drawn_view, turn_view}
-use Rattle.ca_table.specs.OneCode.{advances_over, gives_over, starts_over}
-use Rattle.ca_table.specs.Running.{Knows, contents_at}
+use Rattle.ca_table.specs.OneCode.{HaveCode, advances_over, gives_over, stands_over, starts_over}
+use Rattle.ca_table.specs.Running.{Knows, TableStands, contents_at}
 use Rattle.ca_table.specs.Seen.{PartSeen, content_of}
 use Rattle.ca_table.specs.declared.drawn.Drawn.{Drawn}
 use Rattle.ca_table.proofs.Openings.{opens}
 use Rattle.ca_solo.specs.Positions.{Position, in_time, picked}
 use Rattle.ca_alone.specs.Answers.{HasGiven, IsLater, NeverFall, turn_asked}
-use Rattle.ca_alone.specs.Lone.{AloneAt, IsAfter, StandsAlone, left_by, left_now}
+use Rattle.ca_table.specs.LoneHands.{IsAfter, left_by, left_now}
+use Rattle.ca_alone.specs.Lone.{AloneAt, StandsAlone}
 use Rattle.ca_alone.specs.OwnTurn.{IsEarly}
 use Rattle.ca_alone.proofs.Answering.{answers_go_on, gave_none}
 use Rattle.ca_alone.proofs.Lone.{contents_after, found_at, moved_by}
-use Rattle.ca_alone.proofs.LoneMoves.{lone_reads, one}
+use Rattle.ca_alone.proofs.LoneMoves.{lone_reads, one_works}
 
 last_answer : (first : ℕ) (ms : List ℕ) (m last : ℕ) → NeverFall first (ms ++ m ∷ []) last → m ≤ last
 last_answer first [] m last f = f.1
@@ -47,24 +48,23 @@ begins_given {A} over stands program code v k none = subst (λ (f : ℕ → Opti
 
 module _ {A : Type 0} (over : CodeView → A → Type 0) (place : A → At) (stands : ProgramView → A → TaskBody → Type 0) (advances : ProgramView → A → A → Type 0) (gives : A → Tree → A → Type 0) (starts : ProgramView → SeedView → A → Type 0)
     (advance_law : Advanced stands place advances) (answer_law : Answered stands place gives) (start_law : Started stands place starts) (program : ProgramView) (code : CodeView)
-    (v v2 : View (PartSeen A) Drawn) (t : Turn (PartSeen A) Drawn) (g : Goes drawn_touches (drawn_moves over place advances gives starts) (left_now drawn_touches v) t) (more : IsAfter v v2 t) (answers : List ℕ) (w : Position) (a : StandsAlone over place stands program code v answers w)
-    (first : TimersPart) (given : HasGiven first answers (contents_at (left_now drawn_touches v))) where
+    (v v2 : View (PartSeen A) Drawn) (t : Turn (PartSeen A) Drawn) (g : Goes drawn_touches (drawn_moves over place advances gives starts) (left_now drawn_touches v) t) (more : IsAfter v v2 t) (first : TimersPart) (answers : List ℕ) (given : HasGiven first answers (contents_at (left_now drawn_touches v))) where
   -- the answers that the turn took are what the clock gave more
-  pub lone_given : (what : said.Turn) → turn_view t.event.what ≡ what → (what ≡ said.fails → ⊥) → IsLater what given.clock → (least : ℕ) × HasGiven first (answers ++ turn_asked what least) (contents_at (left_now drawn_touches v2))
-  lone_given what is ok later =
+  pub lone_given : HaveCode code (left_now drawn_touches v) → (s : State) → TableStands place (stands_over over code stands) program 1 (left_now drawn_touches v) s → (what : said.Turn) → turn_view t.event.what ≡ what → (what ≡ said.fails → ⊥) → IsLater what given.clock → (least : ℕ) × HasGiven first (answers ++ turn_asked what least) (contents_at (left_now drawn_touches v2))
+  lone_given coded s run what is ok later =
       let k = answers_go_on place (advances_over over code advances) (gives_over over code gives) (starts_over over code starts) (drawn_view t.event) (contents_at (left_now drawn_touches v)) (map content_of t.before) (map content_of t.after)
-      (one over place stands advances gives starts advance_law answer_law start_law program code v v2 t g more answers w a)
-      (found_at over place stands advances gives starts program code v v2 t g more answers w a) (moved_by over place stands advances gives starts program code v v2 t g more answers w a)
+      (one_works over place stands advances gives starts advance_law answer_law start_law program code v v2 t g more coded s run)
+      (found_at over place stands advances gives starts program code v v2 t g more) (moved_by over place stands advances gives starts program code v v2 t g more coded)
       first answers given (λ e. ok (sym is ∙ e)) (subst (λ z. IsLater z given.clock) (sym is) later) in (
         k.0,
-        subst (λ (f : ℕ → Option (Content (TaskAgent A))). HasGiven first (answers ++ turn_asked what k.0) f) (sym (contents_after over place stands advances gives starts program code v v2 t g more answers w a))
+        subst (λ (f : ℕ → Option (Content (TaskAgent A))). HasGiven first (answers ++ turn_asked what k.0) f) (sym (contents_after over place stands advances gives starts program code v v2 t g more))
             (subst (λ z. HasGiven first (answers ++ turn_asked z k.0) (written (contents_at (left_now drawn_touches v)) (drawn_touches t.event) (map content_of t.after))) is k.1),
       )
 
   -- at a pick the clock answers in time: with what the timers say, or less
-  pub lone_reads_given : turn_view t.event.what ≡ said.asks_clock → w.phase ≡ picked → ((c : TimersPart) → (parts_of 1 (contents_at (left_now drawn_touches v2))).timers ≡ Some c → IsEarly w.state.deadlines c.least)
+  pub lone_reads_given : (w : Position) (a : StandsAlone over place stands program code v answers w) → turn_view t.event.what ≡ said.asks_clock → w.phase ≡ picked → ((c : TimersPart) → (parts_of 1 (contents_at (left_now drawn_touches v2))).timers ≡ Some c → IsEarly w.state.deadlines c.least)
       → (m : ℕ) × AloneAt over place stands program code v2 (answers ++ m ∷ []) in_time × HasGiven first (answers ++ m ∷ []) (contents_at (left_now drawn_touches v2))
-  lone_reads_given is phase early =
-      let k = lone_given said.asks_clock is (λ e. (let z : said.asks_clock ≡ said.fails = e in absurd cc)) tt in
+  lone_reads_given w a is phase early =
+      let k = lone_given a.coded w.state a.position.run said.asks_clock is (λ e. (let z : said.asks_clock ≡ said.fails = e in absurd cc)) tt in
       let m = k.0 in
       (m, lone_reads over place stands advances gives starts advance_law answer_law start_law program code v v2 t g more answers w a m is phase (earlier w.state.deadlines m k.1.clock.least (last_answer first.least answers m k.1.clock.least k.1.gave.rise) (early k.1.clock k.1.in_timers)), k.1)

@@ -3,3 +3,5 @@ pub mod Standing
 pub mod Lone
 pub mod Answers
 pub mod OwnTurn
+pub mod Schedule
+pub mod Stirring

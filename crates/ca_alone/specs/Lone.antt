@@ -1,7 +1,5 @@
 -- That a lone worker's turns so far are those of the schedule, and that it stands at a position.
-use Rattle.std.specs.Prelude.{◌≡◌, ℕ, List, [], ◌∷◌, ◌++◌, length, Some}
-use mathlib.Core.Option.{some}
-use lib.ListN.{get_elem?}
+use Rattle.std.specs.Prelude.{◌≡◌, ℕ, List}
 use Rattle.ca_term.specs.Program.{ProgramView}
 use Rattle.ca_meaning.specs.Body.{At}
 use Rattle.ca_meaning.specs.Task.{TaskBody}
@@ -9,9 +7,9 @@ use Rattle.ca_states.specs.Code.{CodeView}
 use Rattle.ca_turns.specs.declared.rule.Turn.{Turn}
 use Rattle.ca_turns.specs.declared.rule.View.{View}
 use Rattle.ca_turns.specs.History.{Goes}
-use Rattle.ca_turns.specs.Places.{write}
 use Rattle.ca_commit.specs.Touched as said
 use Rattle.ca_table.specs.Draws.{drawn_touches, turn_view}
+use Rattle.ca_table.specs.LoneHands.{IsAfter, left_now}
 use Rattle.ca_table.specs.OneCode.{HaveCode, stands_over}
 use Rattle.ca_table.specs.Running.{contents_at, shown_by}
 use Rattle.ca_table.specs.Seen.{PartSeen}
@@ -19,25 +17,6 @@ use Rattle.ca_table.specs.declared.drawn.Drawn.{Drawn}
 use Rattle.ca_solo.specs.Alone.{Alone}
 use Rattle.ca_solo.specs.Positions.{Phase, Position}
 use Rattle.ca_alone.specs.Standing.{IsPosition}
-
--- what a list of turns leaves of the parts
-abbrev pub left_by : {C E : Type 0} → (E → List ℕ) → List C → List (Turn C E) → List C
-left_by touches cs [] = cs
-left_by touches cs (t ∷ ts) = left_by touches (write cs (touches t.event) t.after) ts
-
--- what lies in the parts after all that the hand drew, where it is the only one
-abbrev pub left_now : {C E : Type 0} → (E → List ℕ) → View C E → List C
-left_now touches v = left_by touches v.opening v.turns
-
--- the view with one turn more
-pub record IsAfter {C E : Type 0} (v v2 : View C E) (t : Turn C E) : Type 0 where
-  pub opening : v2.opening ≡ v.opening
-  pub turns : v2.turns ≡ v.turns ++ t ∷ []
-
--- what a hand holds, as last settled, is what its turns left there
-pub record HoldsLeft {C E : Type 0} (touches : E → List ℕ) (v : View C E) : Type 0 where
-  pub long : length v.held ≡ length v.opening
-  pub held : (i : ℕ) (c : C) → get_elem? v.held i ≡ some (Some c) → get_elem? (left_now touches v) i ≡ some c
 
 -- the hand drew one turn more, which moved what those before it left
 pub record DrewNext {A : Type 0} (moves : Drawn → List (PartSeen A) → List (PartSeen A) → Type 0) (what : said.Turn) (v v2 : View (PartSeen A) Drawn) : Type 0 where

@@ -16,7 +16,8 @@ ghost use Rattle.ca_table.specs.Seen.{LaneSeen, PartSeen, seen_lane, seen_ready,
 ghost use Rattle.ca_table.specs.declared.drawn.Drawn.{Drawn};
 ghost use Rattle.ca_solo.specs.Positions.{Position, in_time, picked};
 ghost use Rattle.ca_alone.specs.Answers.{HasGiven, IsLater, turn_asked};
-ghost use Rattle.ca_alone.specs.Lone.{AloneAt, DrewNext, HoldsLeft, StandsAlone, left_now};
+ghost use Rattle.ca_table.specs.LoneHands.{HoldsLeft, left_now};
+ghost use Rattle.ca_alone.specs.Lone.{AloneAt, DrewNext, StandsAlone};
 ghost use Rattle.ca_alone.specs.OwnTurn.{IsEarly};
 ghost use Rattle.ca_alone.specs.Reading.{lane_read, number_of};
 

@@ -7,7 +7,8 @@
 //! far, and where the worker stands. Nothing runs: the laws are contracts of functions that do nothing.
 //!
 //! Stands on `ca_table` and `ca_solo`. Start with `specs/Reading.antt`, `specs/Standing.antt`, `lane_events` and
-//! `turning`; then `specs/Lone.antt` and `lone_hands`.
+//! `turning`; then `specs/Lone.antt` and `lone_hands`; then `specs/Schedule.antt`, where a worker's functions have come
+//! to in the schedule.
 #![tactic(auto)]
 
 pub mod clocks;

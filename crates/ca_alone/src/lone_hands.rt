@@ -28,7 +28,8 @@ ghost use Rattle.ca_table.specs.declared.part.Part.{Part};
 ghost use Rattle.ca_solo.specs.Moves.{MayMake};
 ghost use Rattle.ca_solo.specs.Positions.{HasUsed, Position, first_position, free, in_time, picked, settling};
 ghost use Rattle.ca_solo.specs.Stirs.{Ordered, stirred};
-ghost use Rattle.ca_alone.specs.Lone.{AloneAt, DrewNext, HoldsLeft, IsAfter, StandsAlone, left_now};
+ghost use Rattle.ca_table.specs.LoneHands.{HoldsLeft, IsAfter, left_now};
+ghost use Rattle.ca_alone.specs.Lone.{AloneAt, DrewNext, StandsAlone};
 ghost use Rattle.ca_alone.specs.OwnTurn.{IsDue, IsEarly};
 ghost use Rattle.ca_alone.specs.Standing.{ChoosesWell, IsOn, asked};
 

@@ -15,3 +15,4 @@ pub mod Counted
 pub mod Still
 pub mod Sorting
 pub mod Covering
+pub mod Ticking

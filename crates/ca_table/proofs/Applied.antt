@@ -166,11 +166,11 @@ module _ {A : Type 0} (place : A → At) (advances : ProgramView → A → A →
   applied due did times = record {
     op = due.plan_for.0.op;
     at = due.plan_for.0.place;
-    start = due.plan_for.1;
-    is_plan = sym due.plan_for.3;
+    start = (agent_of task).alts;
+    is_plan = sym due.plan_for.2;
     is_event = due.is_event;
     placed = due.placed;
-    stands = record { lane = lane; lane2 = lane2; agent = due.agent; agent1 = agent_of task; lanes = lane_goes w lane lane2; task = due.has_task; advanced = due.advanced; stood = due.plan_for.2; program_stays = did.program; since = did.since };
+    stands = record { lane = lane; lane2 = lane2; agent = due.agent; agent1 = agent_of task; lanes = lane_goes w lane lane2; task = due.has_task; advanced = due.advanced; stood = due.plan_for.1; program_stays = did.program; since = did.since };
     task_is = λ kind r e. let s = subst (ReadyBy place gives held held2 spawned) e did.ready in ap number_of s.1 ∙ due.new_task s.0 s.1;
     port_is = due.port_is;
     wait_is = due.wait_is;
@@ -180,6 +180,6 @@ module _ {A : Type 0} (place : A → At) (advances : ProgramView → A → A →
     banks = did.channels;
     registries = did.registries;
     shards = did.waits;
-    readys = ready_to place gives starts w (Some lane) (Some lane2) timers timers2 held held2 spawned lane.program due.plan_for.0.op q did.ready (λ s e seed op. due.started s e due.plan_for.0 due.plan_for.2 seed op);
+    readys = ready_to place gives starts w (Some lane) (Some lane2) timers timers2 held held2 spawned lane.program due.plan_for.0.op q did.ready (λ s e seed op. due.started s e due.plan_for.0 due.plan_for.1 seed op);
     timers = times;
   }

@@ -1,5 +1,5 @@
 -- An event that leaves the lane alone, which the worker carries too.
-use Rattle.std.proofs.Common.{◌≡◌, ◌∙◌, ℕ, ◌<◌, List, [], ◌∷◌, map, refl, sym, ap, subst, arith, Bool, true, false, cond, Option, Some, None, eqb, eqb-true, is_some}
+use Rattle.std.proofs.Common.{◌≡◌, ◌∙◌, ℕ, ◌<◌, List, map, refl, sym, ap, subst, arith, Bool, true, false, cond, Option, Some, None, eqb, eqb-true, is_some}
 use Rattle.ca_value.specs.Tree.{Tree}
 use Rattle.ca_term.specs.Operation.{SeedView}
 use Rattle.ca_term.specs.Program.{ProgramView}
@@ -18,8 +18,8 @@ use Rattle.ca_table.specs.Carriers.{HasCode, IsCarrying, IsMoved, is_now, was}
 use Rattle.ca_table.specs.Carrying.{AreSorted, Carries, Each, at_places, each_by, lane_place}
 use Rattle.ca_table.specs.Covering.{Covers}
 use Rattle.ca_table.specs.Draws.{drawn_code, drawn_moves, drawn_touches, drawn_view}
-use Rattle.ca_table.specs.Grips.{Grips, HasAll, add_settled, add_value, is_among, settle, settled, settled_one, values}
-use Rattle.ca_table.specs.OneCode.{AllCoded, HaveCode, advances_over, gives_over, starts_over}
+use Rattle.ca_table.specs.Grips.{Grips, HasAll, is_among, settle, settled, settled_one, values}
+use Rattle.ca_table.specs.OneCode.{AllCoded, advances_over, gives_over, starts_over}
 use Rattle.ca_table.specs.Parts.{part_seen}
 use Rattle.ca_table.specs.Seen.{PartSeen, content_of}
 use Rattle.ca_table.specs.Workers.{IsOne}

@@ -14,6 +14,7 @@ use Rattle.ca_states.specs.ValidCode.{valid_code}
 use Rattle.ca_states.specs.declared.valid_code.ValidCode.{ValidCode}
 use Rattle.ca_turns.specs.Hands.{Held, IsHolding, IsNone, TableId}
 use Rattle.ca_turns.specs.Places.{AllIn}
+use Rattle.ca_turns.specs.Views.{stands}
 use Rattle.ca_commit.specs.Gathered.{Alike, Kind, bank_kind, kind_at, kind_of_part, lane_kind, ready_kind, shard_kind, timers_kind}
 use Rattle.ca_commit.specs.Moving.{Moves}
 use Rattle.ca_commit.specs.Touched as said
@@ -22,10 +23,11 @@ use Rattle.ca_table.specs.Carrying.{AreSorted, Carries, Each, IsPlace, Place, at
 use Rattle.ca_table.specs.Covering.{plain}
 use Rattle.ca_table.specs.Draws.{drawn_allows, drawn_code, drawn_moves, drawn_touches, drawn_view}
 use Rattle.ca_table.specs.Grips.{Grips, HasAll, SameTurns, add_settled, add_value, nothing, settle, settled, settled_one, values}
+use Rattle.ca_table.specs.LoneHands.{left_now}
 use Rattle.ca_table.specs.OneCode.{AllCoded, HaveCode, advances_over, gives_over, starts_over}
 use Rattle.ca_table.specs.Parts.{away, contents_seen, part_of, part_seen}
 use Rattle.ca_table.specs.Seen.{PartSeen, content_of, held_of}
-use Rattle.ca_table.specs.Workers.{IsOne, IsSeated, part_of_lane}
+use Rattle.ca_table.specs.Workers.{IsOne, IsSeated, KeepsLeft, part_of_lane}
 use Rattle.ca_table.specs.declared.drawn.Drawn.{Drawn}
 use Rattle.ca_table.specs.declared.part.Contents.{Contents}
 use Rattle.ca_table.specs.declared.part.Contents.TheVariants as V
@@ -73,7 +75,7 @@ module _ {A C : Type 0} (over : CodeView → A → Type 0) (stands_as : ProgramV
   abbrev Coded : Part A C × PartSeen A → Type 0
   Coded = HasCode (valid_code code)
 
-  module _ (hand : Held (Part A C) (PartSeen A) Drawn) (same : SameTurns w.hand hand) (at : ℕ) (z : Place) (is : IsPlace z) (e : at ≡ number_at n w.number z) where
+  module _ (hand : Held (Part A C) (PartSeen A) Drawn) (same : SameTurns w.hand hand) (keeps : KeepsLeft w.hand.view hand.view) (at : ℕ) (z : Place) (is : IsPlace z) (e : at ≡ number_at n w.number z) where
     at_one : (o : Option (Part A C × PartSeen A)) (h : Carry) → IsOne over stands_as program (valid_code code) id n w → Grips hand (update eqb (at_places n w.number h) at o) → Grips hand (at_places n w.number (with_at z o h))
     at_one o h one g = subst (λ (f : ℕ → Option (Part A C × PartSeen A)). Grips hand f) (sym (placed n w.number one.below z is o h)) (subst (λ (k : ℕ). Grips hand (update eqb (at_places n w.number h) k o)) e g)
 
@@ -81,7 +83,7 @@ module _ {A C : Type 0} (over : CodeView → A → Type 0) (stands_as : ProgramV
     pub held_more : (least faults : C → ℕ) (readings : C → Option (List ℕ)) (x : Contents A C) (h : Carry) → kind_of_part (held_of (contents_seen least faults readings x)) ≡ kind_at w.workers at
         → ((g : ℕ → Option (Part A C × PartSeen A)) → Grips w.hand g → Grips hand (update eqb g at (Some (away w.workers code, part_seen least faults readings (part_of w.workers code x))))) → Has w h → Has (with_hand w hand) (with_at z (Some (away n code, part_seen least faults readings (part_of n code x))) h)
     held_more least faults readings x h kind more s = record {
-      one = same_one over stands_as program (valid_code code) id n w hand same s.one;
+      one = same_one over stands_as program (valid_code code) id n w hand same keeps s.one;
       grips = at_one (Some (away n code, part_seen least faults readings (part_of n code x))) h s.one (subst (λ (k : ℕ). Grips hand (update eqb (at_places n w.number h) at (Some (away k code, part_seen least faults readings (part_of k code x))))) s.one.of (more (at_places n w.number h) s.grips));
       sorted = sorted_with was z (away n code, part_seen least faults readings (part_of n code x)) h is (kind ∙ ap (λ (k : ℕ). kind_at k at) s.one.of ∙ ap (kind_at n) e ∙ kind_placed n w.number s.one.below z is) s.sorted;
       coded = each_with Coded z (away n code, part_seen least faults readings (part_of n code x)) h (refl, refl) s.coded;
@@ -94,7 +96,7 @@ module _ {A C : Type 0} (over : CodeView → A → Type 0) (stands_as : ProgramV
     pub put_there : (x : Contents A C) (h : Carry) (y : Part A C) (c : PartSeen A) → ((g : ℕ → Option (Part A C × PartSeen A)) (x0 : Part A C) (c : PartSeen A) → g at ≡ Some (x0, c) → Grips w.hand g → Grips hand (update eqb g at (Some (part_of w.workers code x, c))))
         → Has w (with_at z (Some (y, c)) h) → Has (with_hand w hand) (with_at z (Some (part_of n code x, c)) h)
     put_there x h y c puts s = subst (λ (k : ℕ). Has (with_hand w hand) (with_at z (Some (part_of k code x, c)) h)) s.one.of (record {
-      one = same_one over stands_as program (valid_code code) id n w hand same s.one;
+      one = same_one over stands_as program (valid_code code) id n w hand same keeps s.one;
       grips = subst (λ (k : Carry). Grips hand (at_places n w.number k)) (with_twice z (Some (y, c)) other h) (at_one other (with_at z (Some (y, c)) h) s.one (puts (at_places n w.number (with_at z (Some (y, c)) h)) y c (there (Some (y, c)) h s) s.grips));
       sorted = subst (λ (k : Carry). AreSorted was k) (with_twice z (Some (y, c)) other h) (sorted_with was z (part_of w.workers code x, c) (with_at z (Some (y, c)) h) is (sorted_at was z (with_at z (Some (y, c)) h) (y, c) s.sorted (part_here z (Some (y, c)) h)) s.sorted);
       coded = subst (λ (k : Carry). Each Coded k) (with_twice z (Some (y, c)) other h) (each_with Coded z (part_of w.workers code x, c) (with_at z (Some (y, c)) h) (refl, (each_there Coded z (with_at z (Some (y, c)) h) (y, c) s.coded (part_here z (Some (y, c)) h)).1) s.coded);
@@ -105,7 +107,7 @@ module _ {A C : Type 0} (over : CodeView → A → Type 0) (stands_as : ProgramV
     -- it is given back
     pub given_there : (h : Carry) (o : Option (Part A C × PartSeen A)) → part_at z h ≡ None → ((g : ℕ → Option (Part A C × PartSeen A)) → Grips w.hand g → Grips hand (update eqb g at None)) → Has w (with_at z o h) → Has (with_hand w hand) h
     given_there h o none gives s = record {
-      one = same_one over stands_as program (valid_code code) id n w hand same s.one;
+      one = same_one over stands_as program (valid_code code) id n w hand same keeps s.one;
       grips = subst (λ (k : Carry). Grips hand (at_places n w.number k)) without (at_one None (with_at z o h) s.one (gives (at_places n w.number (with_at z o h)) s.grips));
       sorted = subst (λ (k : Carry). AreSorted was k) without (sorted_without was z (with_at z o h) is s.sorted);
       coded = subst (λ (k : Carry). Each Coded k) without (each_without Coded z (with_at z o h) s.coded);
@@ -123,6 +125,10 @@ module _ {A C : Type 0} (over : CodeView → A → Type 0) (stands_as : ProgramV
 
     pub is_held : IsHolding w.hand at
     is_held = (x.0, in_hand.0)
+
+    -- and its settled content is what the turns of an only worker left
+    pub in_left : stands w.hand.view ≡ w.hand.view.hands → get_elem? (left_now drawn_touches w.hand.view) at ≡ core.some x.1
+    in_left alone = (s.one.left alone).held at x.1 in_hand.1
 
 pub have_settled : {A C : Type 0} (code : CodeView) (g : ℕ → Option (Part A C × PartSeen A)) (is : List ℕ) → ((i : ℕ) (x : Part A C × PartSeen A) → g i ≡ Some x → HasCode code x) → HaveCode code (settled g is)
 have_settled code g [] h = tt

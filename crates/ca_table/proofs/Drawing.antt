@@ -10,7 +10,9 @@ use Rattle.ca_turns.specs.Views.{turn}
 use Rattle.ca_turns.specs.declared.rule.Turn.{Turn}
 use Rattle.ca_commit.specs.Moving.{visible}
 use Rattle.ca_table.specs.Draws.{turn_view}
+use Rattle.ca_commit.specs.Touched as said
 use Rattle.ca_table.specs.Grips.{SameHand, SameTurns}
+use Rattle.ca_table.specs.LoneHands.{DrewTurn}
 use Rattle.ca_table.specs.Running.{shown_by}
 use Rattle.ca_table.specs.Seen.{PartSeen}
 use Rattle.ca_table.specs.Worked.{Drew, HasWorked, gives_up, has, has_drawn, leaves, spent}
@@ -38,7 +40,7 @@ module _ {A C : Type 0} where
   workers_both : (o m n : Worker A C) → SameWorker o m → SameWorker m n → SameWorker o n
   workers_both o m n p q = record { number = q.number ∙ p.number; workers = q.workers ∙ p.workers; program = q.program ∙ p.program; code = q.code ∙ p.code }
 
-  hands_both : (x y z : Held (Part A C) (PartSeen A) Drawn) → SameHand x y → SameHand y z → SameHand x z
+  pub hands_both : (x y z : Held (Part A C) (PartSeen A) Drawn) → SameHand x y → SameHand y z → SameHand x z
   hands_both x y z p q = record { table = q.table ∙ p.table; opening = q.opening ∙ p.opening; hands = q.hands ∙ p.hands; stands_for = q.stands_for ∙ p.stands_for }
 
   -- nothing
@@ -52,6 +54,16 @@ module _ {A C : Type 0} where
     going = refl;
     finds = λ e. absurd (let z : false ≡ true = e in cc);
   }
+
+  -- one turn, of which is known what it is, and nothing before or after it
+  pub turn_drawn : (o n : Held (Part A C) (PartSeen A) Drawn) (what : said.Turn) (k : ℕ) (d : Drawn) (before after : List (PartSeen A)) → SameHand o n → n.view.turns ≡ o.view.turns ++ turn k d before after ∷ [] → turn_view d.what ≡ what → DrewTurn what o.view n.view
+  turn_drawn o n what k d before after same turns is = record { turn = turn k d before after; is = is; after = record { opening = same.opening; turns = turns } }
+
+  pub turn_later : (o m n : Held (Part A C) (PartSeen A) Drawn) (what : said.Turn) → SameTurns o m → DrewTurn what m.view n.view → DrewTurn what o.view n.view
+  turn_later o m n what same d = record { turn = d.turn; is = d.is; after = record { opening = d.after.opening ∙ same.same.opening; turns = d.after.turns ∙ ap (λ ts. ts ++ d.turn ∷ []) same.turns } }
+
+  pub turn_before : (o m n : Held (Part A C) (PartSeen A) Drawn) (what : said.Turn) → DrewTurn what o.view m.view → SameTurns m n → DrewTurn what o.view n.view
+  turn_before o m n what d same = record { turn = d.turn; is = d.is; after = record { opening = same.same.opening ∙ d.after.opening; turns = same.turns ∙ d.after.turns } }
 
   -- nothing, by a call that changed the hand alone
   pub drew_held : (w : Worker A C) (h : Held (Part A C) (PartSeen A) Drawn) → SameTurns w.hand h → Drew 0 false w (with_hand w h)

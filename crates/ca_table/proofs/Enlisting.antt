@@ -1,6 +1,6 @@
 -- Fresh hands make workers that are ready.
 use Rattle.std.proofs.Common.{◌≡◌, ◌∙◌, ℕ, zero, suc, ◌+◌, ◌-◌, ◌<◌, ◌≤◌, List, [], ◌∷◌, ◌++◌, length, refl, sym, ap, subst, arith}
-use Rattle.std.specs.Prelude.{All, Option, replicate, slice_index_or}
+use Rattle.std.specs.Prelude.{All, None, Option, replicate, slice_index_or}
 use lib.ListN.{get_elem?}
 use Rattle.ca_term.specs.Program.{ProgramParts, ProgramView, program_view}
 use Rattle.ca_meaning.specs.Body.{new_body}
@@ -40,6 +40,7 @@ module _ {A C : Type 0} (over : CodeView → A → Type 0) (stands : ProgramView
       opened_for = new.fresh.opened_for;
       above = subst (λ ts. AllAbove 0 ts) (sym new.fresh.turns) tt;
       notes = new.notes ∙ sym (ap noted new.fresh.turns);
+      left = λ alone. record { long = ap length new.fresh.held ∙ long_replicate (length cs) None ∙ sym (ap length new.fresh.opening); held = λ i c e. absurd (no_part (length cs) i c (sym (ap (λ l. get_elem? l i) new.fresh.held) ∙ e)) };
     };
     nothing = λ i x e. no_part (length cs) i x (sym (ap (λ l. get_elem? l i) new.fresh.parts) ∙ e);
   }
@@ -54,6 +55,9 @@ module _ {A C : Type 0} (over : CodeView → A → Type 0) (stands : ProgramView
 pub one_each : {A C : Type 0} (program : ProgramView) (code : CodeView) (n : ℕ) (id : TableId) (cs : List (PartSeen A)) (hands : ℕ) (ws : List (Worker A C)) → All (IsNew program code n id cs hands) ws → total stands_for ws ≡ length ws
 one_each program code n id cs hands [] h = refl
 one_each program code n id cs hands (w ∷ ws) h = let first = h 0 w (omega arith) in let a = first.fresh.stands_for_one in let b = one_each program code n id cs hands ws (λ k d lt. h (suc k) d (omega (arith, lt))) in omega (arith, a, b)
+
+pub for_one : {A C : Type 0} (program : ProgramView) (code : CodeView) (n : ℕ) (id : TableId) (cs : List (PartSeen A)) (hands : ℕ) (ws : List (Worker A C)) → All (IsNew program code n id cs hands) ws → All (λ w. stands_for w ≡ 1) ws
+for_one program code n id cs hands ws h k d lt = (h k d lt).fresh.stands_for_one
 
 -- so many parts
 pub long_list : {A : Type 0} (code : CodeView) (texts : ProgramParts) (n : ℕ) (main : A) (clock : TimersPart) → 0 < n → length (opening_list n code texts main clock) ≡ part_count n

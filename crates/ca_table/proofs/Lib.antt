@@ -7,12 +7,14 @@ pub mod Knowing
 pub mod Members
 pub mod Ordering
 pub mod Gathers
+pub mod OwnTurns
 pub mod Joining
 pub mod Enlisting
 pub mod Having
 pub mod Spending
 pub mod Marks
 pub mod Endings
+pub mod LoneRun
 pub mod Gripping
 pub mod Whole
 pub mod HomeMembers

@@ -20,11 +20,11 @@ use Rattle.ca_table.proofs.Bearing.{channels_seen, registries_seen, waits_seen}
 use Rattle.ca_table.proofs.MadeOf.{paired_first, paired_second, some_same}
 
 -- a bank and a shard as contracts see them
-pub bank_is : (A : Type 0) (n : ℕ) (b : HeldBank) → content n (held_of {A = A} (seen_bank (bank_seen b.bank))) ≡ bank_content n b
-bank_is A n b = λ t. content n (a_bank (record { channels = channels_seen b.bank t; registries = registries_seen b.bank t }))
+pub bank_is : (A : Type 0) (n : ℕ) (b : HeldBank) → content n (held_of {A = A} (seen_bank (bank_seen b.bank.value))) ≡ bank_content n b
+bank_is A n b = λ t. content n (a_bank (record { channels = channels_seen b.bank.value t; registries = registries_seen b.bank.value t }))
 
-pub shard_is : {A : Type 0} (n : ℕ) (s : HeldShard A) → content n (held_of (seen_shard (shard_seen s.shard))) ≡ shard_content n s
-shard_is n s = λ t. content n (a_shard (waits_seen s.shard t))
+pub shard_is : {A : Type 0} (n : ℕ) (s : HeldShard A) → content n (held_of (seen_shard (shard_seen s.shard.value))) ≡ shard_content n s
+shard_is n s = λ t. content n (a_shard (waits_seen s.shard.value t))
 
 module _ (A : Type 0) (n : ℕ) where
   same_banks : (o z : Option HeldBank) → option_map bank_in z ≡ option_map bank_in o → option_map registries_in z ≡ option_map registries_in o → option_map (bank_content {A = A} n) o ≡ option_map (bank_content {A = A} n) z

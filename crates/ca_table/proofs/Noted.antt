@@ -11,7 +11,9 @@ use Rattle.ca_states.specs.Code.{CodeView}
 use Rattle.ca_turns.specs.Hands.{Held, TableId}
 use Rattle.ca_turns.specs.Views.{turn}
 use Rattle.ca_turns.specs.declared.rule.Turn.{Turn}
+use Rattle.ca_table.specs.Draws.{drawn_touches}
 use Rattle.ca_table.specs.Grips.{SameHand}
+use Rattle.ca_table.specs.LoneHands.{HoldsLeft}
 use Rattle.ca_table.specs.Seen.{PartSeen}
 use Rattle.ca_table.specs.Workers.{AllAbove, IsOne, entries_of, noted}
 use Rattle.ca_table.specs.declared.drawn.Drawn.{Drawn}
@@ -19,6 +21,7 @@ use Rattle.ca_table.specs.declared.part.Part.{Part}
 use Rattle.ca_table.specs.declared.worker.Worker.{Worker}
 use Rattle.ca_table.proofs.Gathers.{noted_append}
 use Rattle.ca_table.proofs.Knowing.{knows_same}
+use Rattle.ca_table.proofs.OwnTurns.{was_alone}
 
 above_snoc : {C : Type 0} (m : ℕ) (ts : List (Turn C Drawn)) (k : ℕ) (d : Drawn) (before after : List C) → m ≤ k → ((i : ℕ) (t : Turn C Drawn) → get_elem? ts i ≡ some t → t.number < k) → AllAbove m ts → AllAbove m (ts ++ turn k d before after ∷ [])
 above_snoc m [] k d before after le later h = (le, tt)
@@ -29,9 +32,9 @@ append_nothing [] = refl
 append_nothing (x ∷ xs) = ap (λ l. x ∷ l) (append_nothing xs)
 
 pub drew_one : {A C : Type 0} (over : CodeView → A → Type 0) (stands_as : ProgramView → A → TaskBody → Type 0) (program : ProgramView) (code : CodeView) (id : TableId) (n : ℕ) (w : Worker A C) (h : Held (Part A C) (PartSeen A) Drawn) (es : Seq Entry) (k : ℕ) (d : Drawn) (before after : List (PartSeen A))
-    → SameHand w.hand h → h.view.turns ≡ w.hand.view.turns ++ turn k d before after ∷ [] → ((i : ℕ) (t : Turn (PartSeen A) Drawn) → get_elem? w.hand.view.turns i ≡ some t → t.number < k) → entries es ≡ entries w.entries ++ entries_of k d.what
+    → SameHand w.hand h → h.view.turns ≡ w.hand.view.turns ++ turn k d before after ∷ [] → ((i : ℕ) (t : Turn (PartSeen A) Drawn) → get_elem? w.hand.view.turns i ≡ some t → t.number < k) → entries es ≡ entries w.entries ++ entries_of k d.what → (HoldsLeft drawn_touches w.hand.view → HoldsLeft drawn_touches h.view)
     → IsOne over stands_as program code id n w → IsOne over stands_as program code id n (record { number = w.number; workers = w.workers; program = w.program; code = w.code; hand = h; entries = es; answer = w.answer })
-drew_one over stands_as program code id n w h es k d before after same drew later notes one = record {
+drew_one over stands_as program code id n w h es k d before after same drew later notes left one = record {
   table = same.table ∙ one.table;
   slots = one.slots;
   of = one.of;
@@ -43,4 +46,5 @@ drew_one over stands_as program code id n w h es k d before after same drew late
   opened_for = same.hands ∙ one.opened_for;
   above = subst (λ ts. AllAbove 0 ts) (sym drew) (above_snoc 0 w.hand.view.turns k d before after (omega arith) later one.above);
   notes = notes ∙ ap (λ l. l ++ entries_of k d.what) one.notes ∙ sym (ap noted drew ∙ noted_append w.hand.view.turns (turn k d before after ∷ []) ∙ ap (λ l. noted w.hand.view.turns ++ l) (append_nothing (entries_of k d.what)));
+  left = λ alone. left (one.left (was_alone w.hand h same alone));
 }

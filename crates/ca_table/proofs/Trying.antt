@@ -11,6 +11,7 @@ use Rattle.ca_table.specs.Carriers.{IsCarrying}
 use Rattle.ca_table.specs.Carrying.{Carries, IsPlace, Place, at_places, number_at, part_at}
 use Rattle.ca_table.specs.Grips.{Grips, SameTurns}
 use Rattle.ca_table.specs.Seen.{PartSeen}
+use Rattle.ca_table.specs.Workers.{KeepsLeft}
 use Rattle.ca_table.specs.declared.drawn.Drawn.{Drawn}
 use Rattle.ca_table.specs.declared.part.Part.{Part}
 use Rattle.ca_table.specs.declared.worker.Worker.{Worker}
@@ -28,9 +29,9 @@ if_busy (Some x) f p = p
 
 module _ {A C : Type 0} (over : CodeView → A → Type 0) (stands_as : ProgramView → A → TaskBody → Type 0) (program : ProgramView) (code : ValidCode) (id : TableId) (n : ℕ) (w : Worker A C) where
   -- a hand that holds the same
-  pub held_same : (hand : Held (Part A C) (PartSeen A) Drawn) → SameTurns w.hand hand → (h : Carries (Part A C × PartSeen A)) → ((g : ℕ → Option (Part A C × PartSeen A)) → Grips w.hand g → Grips hand g)
+  pub held_same : (hand : Held (Part A C) (PartSeen A) Drawn) → SameTurns w.hand hand → KeepsLeft w.hand.view hand.view → (h : Carries (Part A C × PartSeen A)) → ((g : ℕ → Option (Part A C × PartSeen A)) → Grips w.hand g → Grips hand g)
       → IsCarrying over stands_as program code id n w h → IsCarrying over stands_as program code id n (with_hand w hand) h
-  held_same hand same h keeps s = record { one = same_one over stands_as program (valid_code code) id n w hand same s.one; grips = keeps (at_places n w.number h) s.grips; sorted = s.sorted; coded = s.coded }
+  held_same hand same left h keeps s = record { one = same_one over stands_as program (valid_code code) id n w hand same left s.one; grips = keeps (at_places n w.number h) s.grips; sorted = s.sorted; coded = s.coded }
 
   -- where it carries nothing, its hand holds nothing
   pub not_held : (at : ℕ) (z : Place) → IsPlace z → at ≡ number_at n w.number z → (h : Carries (Part A C × PartSeen A)) → part_at z h ≡ None → IsCarrying over stands_as program code id n w h → IsWithout w.hand at

@@ -6,6 +6,7 @@ pub mod Carrying
 pub mod Covering
 pub mod OneCode
 pub mod Draws
+pub mod LoneHands
 pub mod Opening
 pub mod Running
 pub mod Members

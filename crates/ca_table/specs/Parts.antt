@@ -53,8 +53,8 @@ clockwork_seen least faults readings t = record { deadlines = t.timers.deadlines
 module _ {A C : Type 0} (least faults : C → ℕ) (readings : C → Option (List ℕ)) where
   abbrev pub contents_seen : Contents A C → HeldSeen A
   contents_seen (P.Lane l) = seen_lane (lane_seen l.value)
-  contents_seen (P.Bank b) = seen_bank (bank_seen b.bank)
-  contents_seen (P.Shard s) = seen_shard (shard_seen s.shard)
+  contents_seen (P.Bank b) = seen_bank (bank_seen b.bank.value)
+  contents_seen (P.Shard s) = seen_shard (shard_seen s.shard.value)
   contents_seen (P.Timers t) = seen_timers (clockwork_seen least faults readings t.value)
   contents_seen (P.Ready r) = seen_ready (tasks_in r)
   contents_seen P.Away = seen_away

@@ -5,10 +5,12 @@ use Rattle.ca_journal.specs.Merge.{entries, events_of}
 use Rattle.ca_meaning.specs.Cost.{cost}
 use Rattle.ca_meaning.specs.Legal.{is_end_of_main}
 use Rattle.ca_turns.specs.declared.rule.Turn.{Turn}
+use Rattle.ca_turns.specs.History.{Run}
 use Rattle.ca_turns.specs.Views.{stands}
 use Rattle.ca_commit.specs.Touched as said
-use Rattle.ca_table.specs.Draws.{turn_view}
+use Rattle.ca_table.specs.Draws.{drawn_touches, turn_view}
 use Rattle.ca_table.specs.Grips.{SameHand}
+use Rattle.ca_table.specs.LoneHands.{left_now}
 use Rattle.ca_table.specs.Members.{In}
 use Rattle.ca_table.specs.Running.{shown_by}
 use Rattle.ca_table.specs.Seen.{PartSeen}
@@ -72,6 +74,13 @@ module _ {A C : Type 0} where
     pub stays_for : stands new.hand.view ≡ stands old.hand.view
     pub more : List (Turn (PartSeen A) Drawn)
     pub drew : new.hand.view.turns ≡ old.hand.view.turns ++ more
+
+  -- The only worker of a run that gave this journal and left these parts: the journal shows its turns, which are a run,
+  -- and the parts are what they left
+  pub record RanAlone (moves : Drawn → List (PartSeen A) → List (PartSeen A) → Type 0) (journal : List EventView) (parts : List (PartSeen A)) (w : Worker A C) : Type 0 where
+    pub shown : journal ≡ shown_by w.hand.view.turns
+    pub run : Run drawn_touches moves w.hand.view.opening w.hand.view.turns (left_now drawn_touches w.hand.view)
+    pub parts_left : left_now drawn_touches w.hand.view ≡ parts
 
   -- before its first call
   abbrev pub HasDrawnNothing : Worker A C → Type 0

@@ -12,9 +12,11 @@ use Rattle.ca_journal.specs.declared.entry.Entry.{Entry}
 use Rattle.ca_turns.specs.Hands.{Held, HoldsNothing, IsFresh, TableId}
 use Rattle.ca_turns.specs.Views.{stands}
 use Rattle.ca_turns.specs.declared.rule.Turn.{Turn}
+use Rattle.ca_turns.specs.declared.rule.View.{View}
 use Rattle.ca_commit.specs.Moving.{visible}
-use Rattle.ca_table.specs.Draws.{turn_view}
+use Rattle.ca_table.specs.Draws.{drawn_touches, turn_view}
 use Rattle.ca_table.specs.Grips.{Grips, nothing}
+use Rattle.ca_table.specs.LoneHands.{HoldsLeft}
 use Rattle.ca_table.specs.Parts.{away, lane_seen}
 use Rattle.ca_table.specs.Running.{Knows}
 use Rattle.ca_table.specs.Seen.{PartSeen, seen_lane}
@@ -41,6 +43,10 @@ abbrev pub AllAbove : {C : Type 0} → ℕ → List (Turn C Drawn) → Type 0
 AllAbove n [] = Unit {0}
 AllAbove n (t ∷ ts) = (n ≤ t.number) × AllAbove (t.number + 1) ts
 
+-- a hand that was so and is so now: as the only one it holds what its turns left, if it did
+abbrev pub KeepsLeft : {C : Type 0} → View C Drawn → View C Drawn → Type 0
+KeepsLeft old new = stands old ≡ old.hands → AllAbove 0 old.turns → HoldsLeft drawn_touches old → HoldsLeft drawn_touches new
+
 -- a worker's lane, as a part
 abbrev pub part_of_lane : {A : Type 0} → ℕ → ValidCode → Lane A → PartSeen A
 part_of_lane n code l = record { workers = n; code = valid_code code; held = seen_lane (lane_seen l) }
@@ -63,6 +69,8 @@ module _ {A C : Type 0} (over : CodeView → A → Type 0) (stands_as : ProgramV
     pub opened_for : w.hand.view.hands ≡ n
     pub above : AllAbove 0 w.hand.view.turns
     pub notes : entries w.entries ≡ noted w.hand.view.turns
+    -- as the only one it holds what its turns left
+    pub left : stands w.hand.view ≡ w.hand.view.hands → HoldsLeft drawn_touches w.hand.view
 
   -- between two calls it holds nothing
   pub record IsReady (n : ℕ) (w : Worker A C) : Type 0 where

@@ -12,11 +12,12 @@ ghost use Rattle.ca_journal.specs.Merge.{entries, events_of, joined};
 ghost use Rattle.ca_turns.specs.Places.{total};
 ghost use Rattle.ca_turns.specs.Views.{stands};
 ghost use Rattle.ca_commit.specs.Touched.{Turn};
+ghost use Rattle.ca_table.specs.Draws.{drawn_moves};
 ghost use Rattle.ca_table.specs.OneCode.{stands_over};
 ghost use Rattle.ca_table.specs.Parts.{part_seen};
 ghost use Rattle.ca_table.specs.Running.{TableStands};
 ghost use Rattle.ca_table.specs.Workers.{IsJoined, IsReady, stands_for};
-ghost use Rattle.ca_table.specs.Worked.{HasMainEnd, any_drew, ends_main, gives_up, has, has_drawn, obeys_mark, spent, stays_stuck};
+ghost use Rattle.ca_table.specs.Worked.{HasMainEnd, RanAlone, any_drew, ends_main, gives_up, has, has_drawn, obeys_mark, spent, stays_stuck};
 
 use crate::part::Part;
 use crate::pool::Pool;
@@ -51,6 +52,7 @@ fn join_all<A: Agent, C: Clock + Drop>(
     requires none { lists.old.items ≡ [] }
     requires ready { (n : ℕ) × IsReady A.over A.stands (program_view program.now) (valid_code code.now) table.now.id n first × All (IsReady A.over A.stands (program_view program.now) (valid_code code.now) table.now.id n) others.items }
     ensures joined { (n : ℕ) → IsReady A.over A.stands (program_view program.now) (valid_code code.now) table.now.id n first → All (IsReady A.over A.stands (program_view program.now) (valid_code code.now) table.now.id n) others.items → IsJoined A.over A.stands (program_view program.now) (valid_code code.now) table.now.id n (stands_for first + total stands_for others.items) result lists.new.items }
+    ensures alone { others.items ≡ [] → result ≡ first.hand }
     ensures turns { (such : Turn → Bool) → has such result.view.turns ≡ (has_drawn such first || any_drew such others.items) }
     ensures spent { cost (events_of (joined (map entries lists.new.items))) ≡ spent first + total spent others.items }
 {
@@ -83,7 +85,8 @@ fn join_all<A: Agent, C: Clock + Drop>(
 /// Closes the table of these workers, who are all that it was opened with and hold nothing. The journal is what they
 /// drew, in order of number: it is a run of the program, and the parts stand for the state that it leads to,
 /// with each agent over the code. That state is quiet where some worker found that nothing can go on. Where one obeyed
-/// a mark and none gave up, the main text has ended.
+/// a mark and none gave up, the main text has ended. Of an only worker the journal shows its own turns, one after
+/// another, and the parts are what these left.
 pub fn gather<A: Agent, C: Clock + Drop>(
     alloc: Global,
     table: Table<Pool<A, C>>,
@@ -98,6 +101,7 @@ pub fn gather<A: Agent, C: Clock + Drop>(
     ensures main { IfOk result (λ g. any_drew ends_main workers.items ≡ true → HasMainEnd (events g.journal)) }
     ensures marked { IfOk result (λ g. any_drew gives_up workers.items ≡ false → any_drew obeys_mark workers.items ≡ true → HasMainEnd (events g.journal)) }
     ensures spent { IfOk result (λ g. cost (events g.journal) ≡ total spent workers.items) }
+    ensures alone { IfOk result (λ g. length workers.items ≡ 1 → All (RanAlone (drawn_moves A.over A.place A.advances A.gives A.starts) (events g.journal) (map (part_seen C.least C.faults C.readings) g.parts.items)) workers.items) }
 {
     let mut lists = Vec::with_capacity(alloc, workers.len())?;
     let Some(first) = workers.pop() else {

@@ -7,7 +7,7 @@ ghost use Rattle.ca_term.specs.Program.{ProgramView};
 ghost use Rattle.ca_states.specs.ValidCode.{valid_code};
 ghost use Rattle.ca_value.specs.Seq.{spare};
 ghost use Rattle.ca_turns.specs.Hands.{IsHolding, TableId};
-ghost use Rattle.ca_turns.specs.Views.{turn};
+ghost use Rattle.ca_turns.specs.Views.{stands, turn};
 ghost use Rattle.ca_commit.specs.Moving.{visible};
 ghost use Rattle.ca_commit.specs.Gathered.{kind_at, kind_of_part};
 ghost use Rattle.ca_commit.specs.Tasks.{tasks_in};
@@ -67,7 +67,7 @@ pub fn hold_at<R: Wait, A: Agent, C: Clock + Drop>(
 }
 
 /// Tries once to hold a part that the worker doesn't hold, and moves it out of the hand. None where another worker held
-/// it at that moment: then nothing changes.
+/// it at that moment: then nothing changes. The only worker always holds it.
 pub fn try_hold_at<A: Agent, C: Clock + Drop>(
     table: &Table<Pool<A, C>>,
     code: &ValidCode,
@@ -82,6 +82,7 @@ pub fn try_hold_at<A: Agent, C: Clock + Drop>(
     ensures sound { IfSome result (λ x. IsSound A.over A.place (valid_code code.now) worker.old.workers at (held_of (contents_seen C.least C.faults C.readings x))) }
     ensures carries { IfSome result (λ x. (program : ProgramView) (n : ℕ) (h : Carries (Part A C × PartSeen A)) (z : Place) → IsCarrying A.over A.stands program code.now table.now.id n worker.old h → IsPlace z → at ≡ number_at n worker.old.number z → IsCarrying A.over A.stands program code.now table.now.id n worker.new (with_at z (Some (away n code.now, part_seen C.least C.faults C.readings (part_of n code.now x))) h)) }
     ensures busy { IfNone result ((program : ProgramView) (n : ℕ) (h : Carries (Part A C × PartSeen A)) → IsCarrying A.over A.stands program code.now table.now.id n worker.old h → IsCarrying A.over A.stands program code.now table.now.id n worker.new h) }
+    ensures lone { IfNone result (stands worker.old.hand.view < worker.old.hand.view.hands) }
 {
     let workers = worker.workers;
     try_out(table, &mut worker.hand, &worker.program, code, workers, at)

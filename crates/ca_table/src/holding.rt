@@ -7,6 +7,7 @@ ghost use Rattle.ca_term.specs.Program.{program_view};
 ghost use Rattle.ca_states.specs.ValidCode.{valid_code};
 ghost use Rattle.ca_turns.specs.Hands.{IsHolding, IsWithout};
 ghost use Rattle.ca_turns.specs.Steps.{SeesOne};
+ghost use Rattle.ca_turns.specs.Views.{stands};
 ghost use Rattle.ca_commit.specs.Gathered.{kind_at, kind_of_part};
 ghost use Rattle.ca_table.specs.Draws.{drawn_moves, drawn_touches};
 ghost use Rattle.ca_table.specs.Grips.{Grips, SameTurns};
@@ -14,7 +15,7 @@ ghost use Rattle.ca_table.specs.Parts.{away, contents_seen, part_of, part_seen};
 ghost use Rattle.ca_table.specs.Running.{Knows};
 ghost use Rattle.ca_table.specs.Seen.{PartSeen, held_of};
 ghost use Rattle.ca_table.specs.Sound.{IsSound};
-ghost use Rattle.ca_table.specs.Workers.{part_count};
+ghost use Rattle.ca_table.specs.Workers.{KeepsLeft, part_count};
 ghost use Rattle.ca_table.specs.declared.part.Part.{Part};
 
 use crate::moving::{hold, take_part, try_hold};
@@ -85,6 +86,7 @@ pub fn hold_out<R: Wait, A: Agent, C: Clock + Drop>(
     ensures sound { IsSound A.over A.place (valid_code code.now) workers at (held_of (contents_seen C.least C.faults C.readings result)) }
     ensures grips { (g : ℕ → Option (Part A C × PartSeen A)) → Grips hand.old g → Grips hand.new (update eqb g at (Some (away workers code.now, part_seen C.least C.faults C.readings (part_of workers code.now result)))) }
     ensures history { SeesOne drawn_touches (drawn_moves A.over A.place A.advances A.gives A.starts) hand.new.view }
+    ensures left { KeepsLeft hand.old.view hand.new.view }
 {
     hold(rt, table, hand, at);
     move_out(hand, program, code, workers, at)
@@ -109,6 +111,8 @@ pub fn try_out<A: Agent, C: Clock + Drop>(
     ensures sound { IfSome result (λ x. IsSound A.over A.place (valid_code code.now) workers at (held_of (contents_seen C.least C.faults C.readings x))) }
     ensures grips { IfSome result (λ x. (g : ℕ → Option (Part A C × PartSeen A)) → Grips hand.old g → Grips hand.new (update eqb g at (Some (away workers code.now, part_seen C.least C.faults C.readings (part_of workers code.now x))))) }
     ensures kept { IfNone result ((g : ℕ → Option (Part A C × PartSeen A)) → Grips hand.old g → Grips hand.new g) }
+    ensures left { KeepsLeft hand.old.view hand.new.view }
+    ensures lone { IfNone result (stands hand.old.view < hand.old.view.hands) }
 {
     if try_hold(table, hand, at) {
         Some(move_out(hand, program, code, workers, at))

@@ -6,8 +6,9 @@ ghost use Rattle.std.specs.Map.{update};
 ghost use Rattle.ca_turns.specs.declared.rule.Turn.{Turn};
 ghost use Rattle.ca_turns.specs.Hands.{IsHolding, IsNone, IsWithout};
 ghost use Rattle.ca_turns.specs.Steps.{SeesOne};
-ghost use Rattle.ca_turns.specs.Views.{turn};
+ghost use Rattle.ca_turns.specs.Views.{stands, turn};
 ghost use Rattle.ca_table.specs.Grips.{Grips, HasAll, SameHand, SameTurns, settle, settled, values};
+ghost use Rattle.ca_table.specs.LoneHands.{HoldsLeft};
 
 use ca_turns::{Busy, Hand, Object, Table};
 use std::mem;
@@ -33,6 +34,7 @@ pub(crate) fn hold<R: Wait, O: Object>(rt: &R, table: &Table<O>, hand: &mut Hand
     ensures same { SameTurns hand.old hand.new }
     ensures held { (x : O.Part) × (get_elem? hand.new.parts at ≡ some (Some x)) × (get_elem? hand.new.view.held at ≡ some (Some (O.content x))) × ((g : ℕ → Option (O.Part × O.Content)) → Grips hand.old g → Grips hand.new (update eqb g at (Some (x, O.content x)))) }
     ensures history { SeesOne O.touches O.moves hand.new.view }
+    ensures long { length hand.new.view.held ≡ length hand.old.view.held }
 {
     table.hold(rt, hand, at);
 }
@@ -46,6 +48,9 @@ pub(crate) fn try_hold<O: Object>(table: &Table<O>, hand: &mut Hand<O>, at: u64)
     ensures held { result ≡ true → (x : O.Part) × (get_elem? hand.new.parts at ≡ some (Some x)) × (get_elem? hand.new.view.held at ≡ some (Some (O.content x))) × ((g : ℕ → Option (O.Part × O.Content)) → Grips hand.old g → Grips hand.new (update eqb g at (Some (x, O.content x)))) }
     ensures kept { result ≡ false → (g : ℕ → Option (O.Part × O.Content)) → Grips hand.old g → Grips hand.new g }
     ensures history { result ≡ true → SeesOne O.touches O.moves hand.new.view }
+    ensures long { result ≡ true → length hand.new.view.held ≡ length hand.old.view.held }
+    ensures left { result ≡ false → HoldsLeft O.touches hand.old.view → HoldsLeft O.touches hand.new.view }
+    ensures lone { result ≡ false → stands hand.old.view < hand.old.view.hands }
 {
     match table.try_hold(hand, at) {
         Ok(()) => true,
@@ -74,6 +79,7 @@ pub(crate) fn draw<O: Object>(table: &Table<O>, hand: &mut Hand<O>, event: &O::E
     ensures grips { (g : ℕ → Option (O.Part × O.Content)) → Grips hand.old g → Grips hand.new (settle O.content (O.touches event.now) g) }
     ensures drew { (before after : List O.Content) × (hand.new.view.turns ≡ hand.old.view.turns ++ turn result event.now before after ∷ []) }
     ensures later { (k : ℕ) (t : Turn O.Content O.Event) → get_elem? hand.old.view.turns k ≡ some t → t.number < result }
+    ensures left { HoldsLeft O.touches hand.old.view → HoldsLeft O.touches hand.new.view }
 {
     table.draw(hand, event)
 }
@@ -84,6 +90,7 @@ pub(crate) fn give<O: Object>(table: &Table<O>, hand: &mut Hand<O>, at: u64)
     requires settled { (g : ℕ → Option (O.Part × O.Content)) × (x : O.Part) × Grips hand.old g × (g at ≡ Some (x, O.content x)) }
     ensures same { SameTurns hand.old hand.new }
     ensures grips { (g : ℕ → Option (O.Part × O.Content)) → Grips hand.old g → Grips hand.new (update eqb g at None) }
+    ensures left { HoldsLeft O.touches hand.old.view → HoldsLeft O.touches hand.new.view }
 {
     table.give_back(hand, at);
 }

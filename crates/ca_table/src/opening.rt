@@ -64,16 +64,16 @@ fn empty_bank<A: Agent, C: Clock + Drop>(
     code: &ValidCode,
     workers: u64,
     number: u64,
-) -> Part<A, C>
+) -> Result<Part<A, C>, OutOfMemory>
     requires { number < 16 }
-    ensures { part_seen C.least C.faults C.readings result ≡ empty_bank workers (valid_code code.now) }
+    ensures { IfOk result (λ p. part_seen C.least C.faults C.readings p ≡ empty_bank workers (valid_code code.now)) }
 {
     let bank = Bank::new(alloc, number, BANKS);
-    Part {
+    Ok(Part {
         workers,
         code: Snapshot::of(code),
-        contents: Contents::Bank(HeldBank::new(number, bank)),
-    }
+        contents: Contents::Bank(HeldBank::new(alloc, number, bank)?),
+    })
 }
 
 fn empty_shard<A: Agent, C: Clock + Drop>(
@@ -81,16 +81,16 @@ fn empty_shard<A: Agent, C: Clock + Drop>(
     code: &ValidCode,
     workers: u64,
     number: u64,
-) -> Part<A, C>
+) -> Result<Part<A, C>, OutOfMemory>
     requires { number < 16 }
-    ensures { part_seen C.least C.faults C.readings result ≡ empty_shard workers (valid_code code.now) }
+    ensures { IfOk result (λ p. part_seen C.least C.faults C.readings p ≡ empty_shard workers (valid_code code.now)) }
 {
     let shard = Shard::new(alloc, number, BANKS);
-    Part {
+    Ok(Part {
         workers,
         code: Snapshot::of(code),
-        contents: Contents::Shard(HeldShard::new(number, shard)),
-    }
+        contents: Contents::Shard(HeldShard::new(alloc, number, shard)?),
+    })
 }
 
 fn timers<A: Agent, C: Clock + Drop>(
@@ -176,7 +176,7 @@ fn push_banks<A: Agent, C: Clock + Drop>(
     ensures { IfOk result (λ u. map (part_seen C.least C.faults C.readings) parts.new.items ≡ map (part_seen C.least C.faults C.readings) parts.old.items ++ replicate 16 (empty_bank workers (valid_code code.now))) }
 {
     for number in 0..BANKS {
-        parts.push(empty_bank(alloc, code, workers, number))?;
+        parts.push(empty_bank(alloc, code, workers, number)?)?;
     }
     Ok(())
 }
@@ -191,7 +191,7 @@ fn push_shards<A: Agent, C: Clock + Drop>(
     ensures { IfOk result (λ u. map (part_seen C.least C.faults C.readings) parts.new.items ≡ map (part_seen C.least C.faults C.readings) parts.old.items ++ replicate 16 (empty_shard workers (valid_code code.now))) }
 {
     for number in 0..BANKS {
-        parts.push(empty_shard(alloc, code, workers, number))?;
+        parts.push(empty_shard(alloc, code, workers, number)?)?;
     }
     Ok(())
 }
@@ -253,6 +253,7 @@ pub fn open_pool<A: Agent, C: Clock + Drop>(
     ensures workers { IfOk result (λ t. length t.1.items ≡ workers) }
     ensures ready { IfOk result (λ t. All (IsReady A.over A.stands (program_view program.now) (valid_code code.now) t.0.id workers) t.1.items) }
     ensures all { IfOk result (λ t. total stands_for t.1.items ≡ workers) }
+    ensures each { IfOk result (λ t. All (λ w. stands_for w ≡ 1) t.1.items) }
     ensures idle { IfOk result (λ t. All HasDrawnNothing t.1.items) }
     ensures opening { IfOk result (λ t. All (IsOpenedWith (opening_list workers (valid_code code.now) program.now main (unasked (C.least clock) (C.faults clock) (C.readings clock)))) t.1.items) }
 {

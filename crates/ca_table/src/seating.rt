@@ -2,8 +2,9 @@
 ghost use Rattle.std.specs.Prelude.{◌≡◌, ℕ, Some, false};
 ghost use Rattle.ca_term.specs.Program.{ProgramView};
 ghost use Rattle.ca_states.specs.ValidCode.{valid_code};
+ghost use Rattle.ca_table.specs.Grips.{SameTurns};
 ghost use Rattle.ca_table.specs.Worked.{Drew};
-ghost use Rattle.ca_table.specs.Workers.{IsReady, IsSeated};
+ghost use Rattle.ca_table.specs.Workers.{IsReady, IsSeated, SameWorker};
 ghost use Rattle.ca_commit.specs.declared.task.Task.{Task};
 
 use crate::holding::{hold_out, part_with};
@@ -25,6 +26,8 @@ pub fn sit<R: Wait, A: Agent, C: Clock + Drop>(
     worker: &mut Worker<A, C>,
 ) -> Box<Lane<A>>
     requires ready { (program : ProgramView) × (n : ℕ) × IsReady A.over A.stands program (valid_code code.now) table.now.id n worker.old }
+    ensures same { SameWorker worker.old worker.new }
+    ensures turns { SameTurns worker.old.hand worker.new.hand }
     ensures drew { Drew 0 false worker.old worker.new }
     ensures over { (t : Task A) → result.value.task ≡ Some t → A.over (valid_code code.now) t.agent }
     ensures seated { (program : ProgramView) (n : ℕ) → IsReady A.over A.stands program (valid_code code.now) table.now.id n worker.old → IsSeated A.over A.stands program code.now table.now.id n worker.new result.value }
@@ -53,6 +56,8 @@ pub fn rise<A: Agent, C: Clock + Drop>(
     lane: Box<Lane<A>>,
 )
     requires seated { (program : ProgramView) × (n : ℕ) × IsSeated A.over A.stands program code.now table.now.id n worker.old lane.value }
+    ensures same { SameWorker worker.old worker.new }
+    ensures turns { SameTurns worker.old.hand worker.new.hand }
     ensures drew { Drew 0 false worker.old worker.new }
     ensures ready { (program : ProgramView) (n : ℕ) → IsSeated A.over A.stands program code.now table.now.id n worker.old lane.value → IsReady A.over A.stands program (valid_code code.now) table.now.id n worker.new }
 {

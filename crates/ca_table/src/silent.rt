@@ -1,19 +1,24 @@
 // A worker picks a task, and lets its own stand back. No journal shows either.
-ghost use Rattle.std.specs.Prelude.{◌≡◌, ℕ, ◌+◌, ◌^◌, ◌<◌, List, [], Some, None, OnErr, OnOk, length, false};
+ghost use mathlib.Core.Option.{some};
+ghost use lib.ListN.{get_elem?};
+ghost use Rattle.std.specs.Prelude.{◌≡◌, ℕ, ◌+◌, ◌^◌, ◌<◌, IsSome, List, [], Some, None, OnErr, OnOk, length, false};
 ghost use Rattle.ca_term.specs.Program.{ProgramView};
 ghost use Rattle.ca_states.specs.ValidCode.{valid_code};
 ghost use Rattle.ca_turns.specs.Hands.{TableId};
+ghost use Rattle.ca_turns.specs.Views.{stands};
 ghost use Rattle.ca_commit.specs.Agents.{TaskAgent};
 ghost use Rattle.ca_commit.specs.Moving.{visible};
 ghost use Rattle.ca_commit.specs.Tasks.{tasks_in};
+ghost use Rattle.ca_commit.specs.Touched.{picks, yields};
 ghost use Rattle.ca_commit.specs.declared.task.Task.{Task};
 ghost use Rattle.ca_table.specs.Carriers.{IsCarrying, IsMoved, both_back, just_lane, with_ready};
 ghost use Rattle.ca_table.specs.Carrying.{Carries, each_by};
 ghost use Rattle.ca_table.specs.Covering.{plain};
-ghost use Rattle.ca_table.specs.Draws.{drawn_view, turn_view};
-ghost use Rattle.ca_table.specs.Grips.{SameTurns, settled_one};
+ghost use Rattle.ca_table.specs.Draws.{drawn_touches, drawn_view, turn_view};
+ghost use Rattle.ca_table.specs.Grips.{SameHand, SameTurns, settled_one};
+ghost use Rattle.ca_table.specs.LoneHands.{DrewTurn, left_now};
 ghost use Rattle.ca_table.specs.Parts.{part_seen};
-ghost use Rattle.ca_table.specs.Seen.{PartSeen};
+ghost use Rattle.ca_table.specs.Seen.{PartSeen, seen_ready};
 ghost use Rattle.ca_table.specs.Worked.{Drew, gives_up, leaves};
 ghost use Rattle.ca_table.specs.Workers.{IsSeated, SameWorker};
 ghost use Rattle.ca_table.specs.declared.part.Lane.{Lane};
@@ -84,6 +89,8 @@ fn draw_silent<A: Agent, C: Clock + Drop>(
     requires hidden { visible (turn_view what) ≡ [] }
     requires turns { length worker.old.hand.view.turns < 2 ^ 59 }
     ensures same { SameWorker worker.old worker.new }
+    ensures hand { SameHand worker.old.hand worker.new.hand }
+    ensures turn { DrewTurn (turn_view what) worker.old.hand.view worker.new.hand.view }
     ensures drew { gives_up (turn_view what) ≡ false → Drew 0 (leaves (turn_view what)) worker.old worker.new }
     ensures carries { (program : ProgramView) (n : ℕ) (h : Carries (Part A C × PartSeen A)) → IsCarrying A.over A.stands program code.now table.now.id n worker.old h → IsMoved A.over A.place A.advances A.gives A.starts (part_seen C.least C.faults C.readings) code.now n worker.old.number (plain worker.old.number n (turn_view what)) h → IsCarrying A.over A.stands program code.now table.now.id n worker.new (each_by (settled_one (part_seen C.least C.faults C.readings)) h) }
 {
@@ -125,6 +132,8 @@ fn draw_with_ready<A: Agent, C: Clock + Drop>(
     requires turns { length worker.old.hand.view.turns < 2 ^ 59 }
     ensures same { SameWorker worker.old worker.new }
     ensures lane { result ≡ lane }
+    ensures hand { SameHand worker.old.hand worker.new.hand }
+    ensures turn { DrewTurn (turn_view what) worker.old.hand.view worker.new.hand.view }
     ensures drew { gives_up (turn_view what) ≡ false → Drew 0 (leaves (turn_view what)) worker.old worker.new }
     ensures carries { (program : ProgramView) (n : ℕ) (l : Lane A) (q : List (ℕ × TaskAgent A)) → IsCarrying A.over A.stands program code.now table.now.id n worker.old (with_ready n code.now at q (just_lane n code.now l)) → IsMoved A.over A.place A.advances A.gives A.starts (part_seen C.least C.faults C.readings) code.now n worker.old.number (plain worker.old.number n (turn_view what)) (both_back n code.now at l q lane ready) → IsCarrying A.over A.stands program code.now table.now.id n worker.new (just_lane n code.now result.value) }
 {
@@ -159,7 +168,8 @@ fn without_task<A: Agent>(mut lane: Box<Lane<A>>) -> (Box<Lane<A>>, Task<A>)
     }
 }
 
-/// Puts the first task of that ready part into the worker's empty lane, if there is one.
+/// Puts the first task of that ready part into the worker's empty lane, if there is one. Where there is none, the turns of
+/// an only worker left that part empty.
 pub fn pick<R: Wait, A: Agent, C: Clock + Drop>(
     rt: &R,
     table: &Table<Pool<A, C>>,
@@ -172,6 +182,11 @@ pub fn pick<R: Wait, A: Agent, C: Clock + Drop>(
     requires free { lane.value.task ≡ None }
     requires turns { length worker.old.hand.view.turns < 2 ^ 59 }
     ensures same { SameWorker worker.old worker.new }
+    ensures hand { SameHand worker.old.hand worker.new.hand }
+    ensures picked { IsSome result.value.task → DrewTurn (picks at) worker.old.hand.view worker.new.hand.view }
+    ensures none { result.value.task ≡ None → SameTurns worker.old.hand worker.new.hand }
+    ensures since { IsSome result.value.task → result.value.since ≡ 0 }
+    ensures empty { result.value.task ≡ None → stands worker.old.hand.view ≡ worker.old.hand.view.hands → (c : PartSeen A) × (get_elem? (left_now drawn_touches worker.new.hand.view) (worker.old.workers + 33 + at) ≡ some c) × (c.held ≡ seen_ready []) }
     ensures drew { Drew 0 false worker.old worker.new }
     ensures over { (t : Task A) → result.value.task ≡ Some t → A.over (valid_code code.now) t.agent }
     ensures seated { (program : ProgramView) (n : ℕ) → IsSeated A.over A.stands program code.now table.now.id n worker.old lane.value → IsSeated A.over A.stands program code.now table.now.id n worker.new result.value }
@@ -201,6 +216,9 @@ pub fn yield_task<R: Wait, A: Agent, C: Clock + Drop>(
     requires busy { (t : Task A) × (lane.value.task ≡ Some t) }
     requires turns { length worker.old.hand.view.turns < 2 ^ 59 }
     ensures same { SameWorker worker.old worker.new }
+    ensures hand { SameHand worker.old.hand worker.new.hand }
+    ensures yielded { OnOk result.1 (DrewTurn yields worker.old.hand.view worker.new.hand.view) }
+    ensures stays { OnErr result.1 (SameTurns worker.old.hand worker.new.hand) }
     ensures drew { Drew 0 false worker.old worker.new }
     ensures seated { (program : ProgramView) (n : ℕ) → IsSeated A.over A.stands program code.now table.now.id n worker.old lane.value → IsSeated A.over A.stands program code.now table.now.id n worker.new result.0.value }
     ensures free { OnOk result.1 (result.0.value.task ≡ None) }

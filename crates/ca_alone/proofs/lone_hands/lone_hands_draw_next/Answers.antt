@@ -1,7 +1,7 @@
 use Rattle.ca_table.specs.Draws.{drawn_moves, drawn_touches}
 use Rattle.ca_table.specs.Parts.{part_seen}
 use Rattle.ca_alone.proofs.Drawing.{draws_next}
-use Rattle.ca_alone.proofs.OwnTurns.{hold_more}
+use Rattle.ca_table.proofs.OwnTurns.{hold_more}
 use Rattle.ca_alone.proofs.lone_hands.lone_hands_draw_next.Goals as goal
 
 pub returns-clause-draws : goal.returns-clause-draws

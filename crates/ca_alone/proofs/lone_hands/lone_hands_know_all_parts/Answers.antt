@@ -1,4 +1,4 @@
-use Rattle.ca_alone.proofs.OwnTurns.{draw_left, give_left, hold_left, own_run}
+use Rattle.ca_table.proofs.OwnTurns.{draw_left, give_left, hold_left, own_run}
 use Rattle.ca_table.specs.Draws.{drawn_moves, drawn_touches}
 use Rattle.ca_alone.proofs.lone_hands.lone_hands_know_all_parts.Goals as goal
 

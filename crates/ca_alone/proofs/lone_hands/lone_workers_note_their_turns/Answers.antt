@@ -1,5 +1,5 @@
 use Rattle.ca_table.specs.Draws.{drawn_moves, drawn_touches}
-use Rattle.ca_alone.proofs.Drawing.{own_journal}
+use Rattle.ca_table.proofs.OwnTurns.{own_journal}
 use Rattle.ca_alone.proofs.lone_hands.lone_workers_note_their_turns.Goals as goal
 
 pub returns : goal.returns

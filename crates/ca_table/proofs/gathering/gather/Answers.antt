@@ -1,17 +1,22 @@
-use Rattle.std.proofs.Common.{◌∙◌, ◌++◌, length, sym, ap, subst, arith, Some}
+use Rattle.std.proofs.Common.{◌≡◌, ◌∙◌, ◌++◌, length, map, sym, ap, subst, arith, Some}
 use Rattle.std.proofs.lemmas.List.Elements.{All-pop}
 use Rattle.std.specs.Prelude.{option_to_list}
 use Rattle.ca_term.specs.Program.{program_view}
 use Rattle.ca_states.specs.ValidCode.{valid_code}
+use Rattle.ca_journal.specs.Events.{events}
 use Rattle.ca_journal.specs.Merge.{events_of, in_order}
 use Rattle.ca_meaning.specs.Legal.{Reaches}
 use Rattle.ca_turns.specs.Places.{total}
+use Rattle.ca_turns.specs.Views.{stands}
 use Rattle.ca_turns.proofs.Lists.{total-snoc}
+use Rattle.ca_table.specs.Draws.{drawn_moves}
+use Rattle.ca_table.specs.Parts.{part_seen}
 use Rattle.ca_table.specs.Workers.{IsReady, stands_for}
-use Rattle.ca_table.specs.Worked.{HasMainEnd, ends_main, gives_up, obeys_mark, stays_stuck}
+use Rattle.ca_table.specs.Worked.{HasMainEnd, RanAlone, ends_main, gives_up, obeys_mark, stays_stuck}
 use Rattle.ca_table.proofs.Gathers.{gathered}
 use Rattle.ca_table.proofs.Endings.{ends_whole, main_whole, marked_whole}
 use Rattle.ca_table.proofs.Having.{of_all}
+use Rattle.ca_table.proofs.LoneRun.{all_of_one, ran_alone}
 use Rattle.ca_table.proofs.Spending.{spent_all}
 use Rattle.ca_table.proofs.gathering.gather.Goals as goal
 
@@ -78,3 +83,13 @@ pub returns-clause-spent : goal.returns-clause-spent
 returns-clause-spent g c = let xs = c.args.workers.items in let ys = c.pop.new.self.items in let first = c.in-Some.first in
     let popped = c.pop.ensures.items ∙ ap (λ o. ys ++ option_to_list o) c.in-Some.is in
     spent_all c.join_all-hand.new.lists.items ys first xs c.in_ok-journal.ensures popped c.join_all-hand.ensures.spent
+
+pub returns-clause-alone : goal.returns-clause-alone
+returns-clause-alone g c = λ single. let xs = c.args.workers.items in let ys = c.pop.new.self.items in let first = c.in-Some.first in let P = program_view c.args.program.now in let K = valid_code c.args.code.now in let n = length xs in
+    let popped = c.pop.ensures.items ∙ ap (λ o. ys ++ option_to_list o) c.in-Some.is in
+    let both = All-pop (IsReady g.A.Agent.over g.A.Agent.stands P K c.args.table.id n) xs ys (Some first) popped c.requires.ready in
+    let j = c.join_all-hand.ensures.joined n both.1 both.0 in let a = g.A.Agent in let k = g.C.Clock in let h = c.close-closed.ensures.history in let hand = c.join_all-hand.result in
+    let moves = drawn_moves a.over a.place a.advances a.gives a.starts in let parts = map (part_seen k.least k.faults k.readings) c.close-closed.result.parts.items in
+    let alone : stands hand.view ≡ hand.view.hands = (let less = ap (total stands_for) popped ∙ total-snoc stands_for ys first in let all = c.requires.all in let count = j.counted in let hands = j.opened_for in omega (arith, less, all, count, hands)) in
+    all_of_one (RanAlone moves (events c.in_ok-journal.journal) parts) xs ys first popped single
+    (λ none. ran_alone moves first (events c.in_ok-journal.journal) h.0 parts hand (c.join_all-hand.ensures.alone none) h.1 alone both.1.one.above (c.in_ok-journal.ensures ∙ ap (λ es. events_of (in_order es)) j.notes))

@@ -1,4 +1,4 @@
-use Rattle.std.proofs.Common.{◌≡◌, ℕ, ◌+◌, ◌≤◌, All, Bool, length, map}
+use Rattle.std.proofs.Common.{◌≡◌, ℕ, ◌+◌, ◌≤◌, [], All, Bool, length, map}
 use Rattle.std.specs.Prelude.{◌||◌}
 use Rattle.std.specs.Vec.{vec_len, vec_capacity}
 use Rattle.ca_term.specs.Program.{program_view}
@@ -17,6 +17,7 @@ invariant-loop-other g l = (vec_len l.lists + length l.others.items ≤ vec_capa
     → (count : ℕ) × IsJoined {A = g.row.A.Denot} {C = g.row.C.Denot} g.A.Agent.over g.A.Agent.stands (program_view l.program) (valid_code l.code) l.table.id n count l.hand l.lists.items
     × All (IsReady g.A.Agent.over g.A.Agent.stands (program_view l.program) (valid_code l.code) l.table.id n) l.others.items × (count + total stands_for l.others.items ≡ stands_for l.fn.first + total stands_for l.fn.others.items))
     × ((such : Turn → Bool) → (has such l.hand.view.turns || any_drew such l.others.items) ≡ (has_drawn such l.fn.first || any_drew such l.fn.others.items))
+    × (l.fn.others.items ≡ [] → (l.others.items ≡ []) × (l.hand ≡ l.fn.first.hand))
     × (cost_in (joined (map entries l.lists.items)) + total spent l.others.items ≡ spent l.fn.first + total spent l.fn.others.items)
 
 abbrev pub decreases-loop-other : goal.decreases-loop-other

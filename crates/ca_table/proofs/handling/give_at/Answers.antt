@@ -12,4 +12,4 @@ give-requires-clause-settled g c = let K = g.C.Clock in let r = c.requires.settl
 
 pub returns-clause-carries : goal.returns-clause-carries
 returns-clause-carries g c = λ program code n h z o none s is e. let q = c.give.ensures in
-    given_there g.A.Agent.over g.A.Agent.stands program code c.args.table.now.id n c.args.worker.now c.give.new.hand q.same c.args.at z is e h o none q.grips s
+    given_there g.A.Agent.over g.A.Agent.stands program code c.args.table.now.id n c.args.worker.now c.give.new.hand q.same (λ alone up. q.left) c.args.at z is e h o none q.grips s

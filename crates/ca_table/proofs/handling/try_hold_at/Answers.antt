@@ -25,8 +25,8 @@ try_out-requires-clause-free g c = let r = c.requires.one in not_held g.A.Agent.
 
 pub returns-clause-carries : goal.returns-clause-carries
 returns-clause-carries g c = let K = g.C.Clock in let q = c.try_out.ensures in
-    if_held c.try_out.result (λ x kind grips program n h z s is e. held_more g.A.Agent.over g.A.Agent.stands program c.args.code.now c.args.table.now.id n c.args.worker.now c.try_out.new.hand q.same c.args.at z is e K.least K.faults K.readings x h kind grips s) q.kind q.grips
+    if_held c.try_out.result (λ x kind grips program n h z s is e. held_more g.A.Agent.over g.A.Agent.stands program c.args.code.now c.args.table.now.id n c.args.worker.now c.try_out.new.hand q.same q.left c.args.at z is e K.least K.faults K.readings x h kind grips s) q.kind q.grips
 
 pub returns-clause-busy : goal.returns-clause-busy
 returns-clause-busy g c = let q = c.try_out.ensures in
-    if_busy c.try_out.result (λ keeps program n h s. held_same g.A.Agent.over g.A.Agent.stands program c.args.code.now c.args.table.now.id n c.args.worker.now c.try_out.new.hand q.same h keeps s) q.kept
+    if_busy c.try_out.result (λ keeps program n h s. held_same g.A.Agent.over g.A.Agent.stands program c.args.code.now c.args.table.now.id n c.args.worker.now c.try_out.new.hand q.same q.left h keeps s) q.kept

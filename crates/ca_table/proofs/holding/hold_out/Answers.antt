@@ -1,6 +1,8 @@
 use Rattle.ca_term.specs.Program.{program_view}
 use Rattle.ca_states.specs.ValidCode.{valid_code}
+use Rattle.ca_table.specs.Draws.{drawn_moves}
 use Rattle.ca_table.proofs.Knowing.{knows_same}
+use Rattle.ca_table.proofs.OwnTurns.{held_left, keeps_moved}
 use Rattle.ca_table.proofs.Seats.{then_same}
 use Rattle.ca_table.proofs.holding.hold_out.Goals as goal
 
@@ -16,3 +18,7 @@ returns-clause-same g c = then_same c.args.hand.now c.hold.new.hand c.move_out.n
 
 pub returns-clause-grips : goal.returns-clause-grips
 returns-clause-grips g c = λ f all. let h = c.hold.ensures.held in c.move_out.ensures.grips f h.0 (h.3 f all)
+
+pub returns-clause-left : goal.returns-clause-left
+returns-clause-left g c = let a = g.A.Agent in let h = c.hold.ensures in
+    keeps_moved c.args.hand.now.view c.hold.new.hand.view c.move_out.new.hand.view c.move_out.ensures.view (held_left c.args.hand.now c.hold.new.hand (drawn_moves a.over a.place a.advances a.gives a.starts) h.same h.history h.long)

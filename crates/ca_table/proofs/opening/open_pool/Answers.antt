@@ -4,7 +4,7 @@ use Rattle.ca_commit.specs.Opening.{unasked}
 use Rattle.ca_term.specs.Program.{program_view}
 use Rattle.ca_states.specs.ValidCode.{valid_code}
 use Rattle.ca_table.specs.Parts.{part_seen}
-use Rattle.ca_table.proofs.Enlisting.{all_ready, long_list, one_each}
+use Rattle.ca_table.proofs.Enlisting.{all_ready, for_one, long_list, one_each}
 use Rattle.ca_table.proofs.opening.open_pool.Goals as goal
 
 pub returns-clause-ready : goal.returns-clause-ready
@@ -15,6 +15,10 @@ returns-clause-ready g c = let K = g.C.Clock in let seen = part_seen K.least K.f
 pub returns-clause-all : goal.returns-clause-all
 returns-clause-all g c = let K = g.C.Clock in let seen = part_seen K.least K.faults K.readings in let n = c.args.workers in let parts = c.in_ok-parts.parts.items in let id = c.in-Ok.table.id in
     one_each (program_view c.args.program.now) (valid_code c.args.code.now) n id (map seen parts) n c.in_ok-enlist.field-0.items (c.in_ok-enlist.ensures.new id (map seen parts) n c.in-Ok.ensures.fresh) ∙ c.in_ok-enlist.ensures.many
+
+pub returns-clause-each : goal.returns-clause-each
+returns-clause-each g c = let K = g.C.Clock in let seen = part_seen K.least K.faults K.readings in let n = c.args.workers in let parts = c.in_ok-parts.parts.items in let id = c.in-Ok.table.id in
+    for_one (program_view c.args.program.now) (valid_code c.args.code.now) n id (map seen parts) n c.in_ok-enlist.field-0.items (c.in_ok-enlist.ensures.new id (map seen parts) n c.in-Ok.ensures.fresh)
 
 pub returns-clause-opening : goal.returns-clause-opening
 returns-clause-opening g c = let K = g.C.Clock in let seen = part_seen K.least K.faults K.readings in let n = c.args.workers in let parts = c.in_ok-parts.parts.items in let id = c.in-Ok.table.id in

@@ -10,6 +10,7 @@ use Rattle.ca_table.specs.declared.part.Contents.TheVariants.{Lane}
 use Rattle.ca_table.specs.declared.part.Part.{Part}
 use Rattle.ca_table.proofs.Drawing.{drew_held}
 use Rattle.ca_table.proofs.Gripping.{fit, holds_nothing}
+use Rattle.ca_table.proofs.OwnTurns.{keeps_view}
 use Rattle.ca_table.proofs.Seats.{same_one, then_same}
 use Rattle.ca_table.proofs.Whole.{emptied}
 use Rattle.ca_table.proofs.seating.rise.Goals as goal
@@ -33,9 +34,12 @@ returns-clause-ready g c = λ program n s. let a = g.A.Agent in let w = c.args.w
     let two = subst (λ (p : Part g.row.A.Denot g.row.C.Denot). Grips c.take_part-away.new.hand (update eqb (update eqb nothing w.number (Some l)) w.number (Some (p, part_of_lane n c.args.code.now lane)))) c.part_with-part.ensures (c.take_part-away.ensures.grips (update eqb nothing w.number (Some l)) (away n c.args.code.now) (part_of_lane n c.args.code.now lane) (update_here nothing w.number (Some l)) s.grips) in
     let three = c.give.ensures.grips (update eqb (update eqb nothing w.number (Some l)) w.number (Some held)) two in
     record {
-      one = same_one a.over a.stands program (valid_code c.args.code.now) c.args.table.now.id n w c.give.new.hand (then_same w.hand c.take_part-away.new.hand c.give.new.hand c.take_part-away.ensures.same c.give.ensures.same) s.one;
+      one = same_one a.over a.stands program (valid_code c.args.code.now) c.args.table.now.id n w c.give.new.hand (then_same w.hand c.take_part-away.new.hand c.give.new.hand c.take_part-away.ensures.same c.give.ensures.same) (λ alone up h. c.give.ensures.left (keeps_view w.hand.view c.take_part-away.new.hand.view c.take_part-away.ensures.view alone up h)) s.one;
       nothing = holds_nothing c.give.new.hand (update eqb (update eqb (update eqb nothing w.number (Some l)) w.number (Some held)) w.number None) three (λ i. emptied w.number (Some l) (Some held) i);
     }
 
 pub returns-clause-drew : goal.returns-clause-drew
 returns-clause-drew g c = let w = c.args.worker.now in drew_held w c.give.new.hand (then_same w.hand c.take_part-away.new.hand c.give.new.hand c.take_part-away.ensures.same c.give.ensures.same)
+
+pub returns-clause-turns : goal.returns-clause-turns
+returns-clause-turns g c = then_same c.args.worker.now.hand c.take_part-away.new.hand c.give.new.hand c.take_part-away.ensures.same c.give.ensures.same

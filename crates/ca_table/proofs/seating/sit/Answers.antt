@@ -25,7 +25,7 @@ returns-clause-seated g c = λ program n r. let a = g.A.Agent in let m = g.met.A
     let at = fit hand (update eqb nothing w.number (Some (away n c.args.code.now, part_of_lane n c.args.code.now lane))) w.number (away n c.args.code.now, part_of_lane n c.args.code.now lane) gripped (update_here nothing w.number (Some (away n c.args.code.now, part_of_lane n c.args.code.now lane))) in
     let k = knows_same a.over a.stands program (valid_code c.args.code.now) n w.hand.view hand.view h.same.same.opening r.one.knows in
     record {
-      one = same_one a.over a.stands program (valid_code c.args.code.now) c.args.table.now.id n w hand h.same r.one;
+      one = same_one a.over a.stands program (valid_code c.args.code.now) c.args.table.now.id n w hand h.same h.left r.one;
       lane_is = program_is a.over a.place a.stands a.advances a.gives a.starts m.advanced m.answered m.started program (valid_code c.args.code.now) n hand.view k h.history w.number (part_of_lane n c.args.code.now lane) at.1 (lane_seen lane) refl;
       grips = gripped;
     }

@@ -3,7 +3,7 @@ use Rattle.ca_states.specs.ValidCode.{valid_code}
 use Rattle.ca_table.specs.Draws.{drawn_view, turn_view}
 use Rattle.ca_table.specs.Parts.{part_seen}
 use Rattle.ca_table.proofs.Carriers.{moved_as}
-use Rattle.ca_table.proofs.Drawing.{drew_hidden}
+use Rattle.ca_table.proofs.Drawing.{drew_hidden, turn_drawn}
 use Rattle.ca_table.proofs.silent.draw_silent.Goals as goal
 
 pub draw_carried-requires-clause-carries : goal.draw_carried-requires-clause-carries
@@ -19,3 +19,6 @@ returns-clause-carries g c = λ program n h s m. let a = g.A.Agent in let K = g.
 
 pub returns-clause-drew : goal.returns-clause-drew
 returns-clause-drew g c = λ none. let q = c.draw_carried.ensures in let d = q.drew in drew_hidden d.0 c.silent-drawn.result d.1 d.2 c.args.what q.same q.hand d.3 c.silent-drawn.ensures.what c.requires.hidden none
+
+pub returns-clause-turn : goal.returns-clause-turn
+returns-clause-turn g c = let q = c.draw_carried.ensures in let d = q.drew in turn_drawn c.args.worker.now.hand c.draw_carried.new.worker.hand (turn_view c.args.what) d.0 c.silent-drawn.result d.1 d.2 q.hand d.3 (ap turn_view c.silent-drawn.ensures.what)

@@ -9,7 +9,7 @@ use Rattle.ca_table.specs.Seen.{PartSeen}
 use Rattle.ca_table.specs.Workers.{part_of_lane}
 use Rattle.ca_table.specs.declared.part.Contents.TheVariants.{Lane, Ready}
 use Rattle.ca_table.specs.declared.part.Part.{Part}
-use Rattle.ca_table.proofs.Drawing.{drew_before, drew_later}
+use Rattle.ca_table.proofs.Drawing.{drew_before, drew_later, turn_before, turn_later}
 use Rattle.ca_table.proofs.Picks.{settled_back}
 use Rattle.ca_table.proofs.silent.draw_with_ready.Goals as goal
 
@@ -66,3 +66,7 @@ returns-clause-carries g c = λ P n l q s m. let a = g.A.Agent in let K = g.C.Cl
 pub returns-clause-drew : goal.returns-clause-drew
 returns-clause-drew g c = λ none. let put = c.put_both.ensures in let gave = c.give_at.ensures in let took = c.take_lane.ensures in
     drew_before (drew_before (drew_later put.same put.turns (c.draw_silent.ensures.drew none)) gave.same gave.turns) took.same took.turns
+
+pub returns-clause-turn : goal.returns-clause-turn
+returns-clause-turn g c = let w = c.args.worker.now.hand in let put = c.put_both.new.worker.hand in let drawn = c.draw_silent.new.worker.hand in let gave = c.give_at.new.worker.hand in let took = c.take_lane.new.worker.hand in let what = turn_view c.args.what in
+    turn_before w gave took what (turn_before w drawn gave what (turn_later w put drawn what c.put_both.ensures.turns c.draw_silent.ensures.turn) c.give_at.ensures.turns) c.take_lane.ensures.turns

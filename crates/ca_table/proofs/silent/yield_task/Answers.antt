@@ -2,10 +2,12 @@ use Rattle.std.proofs.Common.{◌∙◌, ℕ, List, [], ◌∷◌, ◌++◌, ref
 use Rattle.ca_term.specs.Program.{program_view}
 use Rattle.ca_commit.specs.Agents.{TaskAgent}
 use Rattle.ca_commit.specs.Tasks.{task_view, tasks_in}
+use Rattle.ca_commit.specs.Touched.{yields}
 use Rattle.ca_table.specs.Carriers.{IsCarrying, LaneBox, just_lane, with_ready}
 use Rattle.ca_table.proofs.Carriers.{carries_seated, lane_alone, seated_carries}
-use Rattle.ca_table.proofs.Drawing.{drew_later, drew_none}
+use Rattle.ca_table.proofs.Drawing.{drew_later, drew_none, hands_both, turn_later}
 use Rattle.ca_table.proofs.Picks.{yielded}
+use Rattle.ca_table.proofs.Seats.{then_same}
 use Rattle.ca_table.proofs.silent.yield_task.Goals as goal
 
 pub hold_ready-ready-requires-clause-ascending : goal.hold_ready-ready-requires-clause-ascending
@@ -39,3 +41,15 @@ returns-in-Err-clause-drew g c = let held = c.hold_ready-ready.ensures in let ga
 
 pub returns-in-Ok-clause-drew : goal.returns-in-Ok-clause-drew
 returns-in-Ok-clause-drew g c = let held = c.hold_ready-ready.ensures in drew_later held.same held.turns (c.draw_with_ready-free.ensures.drew refl)
+
+pub returns-in-Err-clause-hand : goal.returns-in-Err-clause-hand
+returns-in-Err-clause-hand g c = (then_same c.args.worker.now.hand c.hold_ready-ready.new.worker.hand c.give_ready.new.worker.hand c.hold_ready-ready.ensures.turns c.give_ready.ensures.turns).same
+
+pub returns-in-Err-clause-stays : goal.returns-in-Err-clause-stays
+returns-in-Err-clause-stays g c = then_same c.args.worker.now.hand c.hold_ready-ready.new.worker.hand c.give_ready.new.worker.hand c.hold_ready-ready.ensures.turns c.give_ready.ensures.turns
+
+pub returns-in-Ok-clause-hand : goal.returns-in-Ok-clause-hand
+returns-in-Ok-clause-hand g c = hands_both c.args.worker.now.hand c.hold_ready-ready.new.worker.hand c.draw_with_ready-free.new.worker.hand c.hold_ready-ready.ensures.turns.same c.draw_with_ready-free.ensures.hand
+
+pub returns-in-Ok-clause-yielded : goal.returns-in-Ok-clause-yielded
+returns-in-Ok-clause-yielded g c = turn_later c.args.worker.now.hand c.hold_ready-ready.new.worker.hand c.draw_with_ready-free.new.worker.hand yields c.hold_ready-ready.ensures.turns c.draw_with_ready-free.ensures.turn

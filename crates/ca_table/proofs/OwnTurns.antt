@@ -1,5 +1,5 @@
 -- The only hand of a table: the history is its own list, and what it holds is what its turns left.
-use Rattle.std.proofs.Common.{◌≡◌, ◌∙◌, ℕ, zero, suc, ◌+◌, ◌<◌, ◌≤◌, List, [], ◌∷◌, ◌++◌, length, map, refl, sym, ap, subst, arith, Option, Some, None, length-set, set}
+use Rattle.std.proofs.Common.{◌≡◌, ◌∙◌, ℕ, zero, suc, ◌+◌, ◌<◌, ◌≤◌, List, [], ◌∷◌, ◌++◌, length, map, refl, sym, ap, ap₂, subst, arith, Option, Some, None, length-set, set}
 use mathlib.Core.Option.{none, some, some-injective}
 use lib.ListN.{get_elem?}
 use Rattle.ca_turns.specs.declared.rule.Turn.{Turn}
@@ -7,14 +7,19 @@ use Rattle.ca_turns.specs.declared.rule.View.{View}
 use Rattle.ca_turns.specs.History.{Goes, Run}
 use Rattle.ca_turns.specs.Places.{write}
 use Rattle.ca_turns.specs.Steps.{Sees, SeesOne}
-use Rattle.ca_turns.specs.Views.{drawing, having_missed, holding, stands, turn}
-use Rattle.ca_turns.specs.Hands.{AllThere, look}
+use Rattle.ca_turns.specs.Views.{drawing, having_missed, holding, missing, stands, turn}
+use Rattle.ca_turns.specs.Hands.{AllThere, Held, look}
 use Rattle.ca_turns.proofs.Looks.{all_read}
 use Rattle.ca_turns.proofs.Lists.{in_range, none_some}
 use Rattle.ca_turns.proofs.Runs.{both_written, length-write, reads_now}
-use Rattle.ca_table.specs.Workers.{AllAbove}
+use Rattle.ca_journal.specs.Merge.{events_of, in_order}
+use Rattle.ca_table.specs.Draws.{drawn_touches}
+use Rattle.ca_table.specs.Grips.{SameHand, SameTurns}
+use Rattle.ca_table.specs.LoneHands.{HoldsLeft, left_by, left_now}
+use Rattle.ca_table.specs.Running.{shown_by}
+use Rattle.ca_table.specs.Workers.{AllAbove, KeepsLeft, noted}
 use Rattle.ca_table.specs.declared.drawn.Drawn.{Drawn}
-use Rattle.ca_alone.specs.Lone.{HoldsLeft, left_by, left_now}
+use Rattle.ca_table.proofs.Gathers.{gathered}
 
 -- two lists of one length that have the same at each place
 same_list : {X : Type 0} (xs ys : List X) → length xs ≡ length ys → ((k : ℕ) (x : X) → get_elem? ys k ≡ some x → get_elem? xs k ≡ some x) → xs ≡ ys
@@ -36,16 +41,16 @@ module _ {C : Type 0} where
   first_is u ts m up down = let lt : u.number < m + suc (length ts) = down 0 u refl in let lo : m ≤ u.number = up.0 in let f = few ts (u.number + 1) (m + suc (length ts)) (omega (arith, lt)) up.1 (λ k u e. down (suc k) u e) in omega (arith, f, lo)
 
   -- so where there are as many, each is the next
-  in_order : (ts : List (Turn C Drawn)) (m : ℕ) → AllAbove m ts → AllBelow (m + length ts) ts → (k : ℕ) (t : Turn C Drawn) → get_elem? ts k ≡ some t → t.number ≡ m + k
-  in_order [] m up down k t e = absurd (let z : none ≡ some t = e in cc)
-  in_order (u ∷ ts) m up down zero t e = ap (λ (z : Turn C Drawn). z.number) (sym (some-injective u t e)) ∙ first_is u ts m up down ∙ (let z : m ≡ m + 0 = omega arith in z)
-  in_order (u ∷ ts) m up down (suc k) t e = in_order ts (m + 1) (subst (λ n. AllAbove n ts) (ap (λ n. n + 1) (first_is u ts m up down)) up.1) (λ j v g. (let z : v.number < m + suc (length ts) = down (suc j) v g in omega (arith, z))) k t e ∙ (let z : m + 1 + k ≡ m + suc k = omega arith in z)
+  each_next : (ts : List (Turn C Drawn)) (m : ℕ) → AllAbove m ts → AllBelow (m + length ts) ts → (k : ℕ) (t : Turn C Drawn) → get_elem? ts k ≡ some t → t.number ≡ m + k
+  each_next [] m up down k t e = absurd (let z : none ≡ some t = e in cc)
+  each_next (u ∷ ts) m up down zero t e = ap (λ (z : Turn C Drawn). z.number) (sym (some-injective u t e)) ∙ first_is u ts m up down ∙ (let z : m ≡ m + 0 = omega arith in z)
+  each_next (u ∷ ts) m up down (suc k) t e = each_next ts (m + 1) (subst (λ n. AllAbove n ts) (ap (λ n. n + 1) (first_is u ts m up down)) up.1) (λ j v g. (let z : v.number < m + suc (length ts) = down (suc j) v g in omega (arith, z))) k t e ∙ (let z : m + 1 + k ≡ m + suc k = omega arith in z)
 
   module _ (touches : Drawn → List ℕ) (moves : Drawn → List C → List C → Type 0) (v : View C Drawn) (log : List (Turn C Drawn)) (now : List C) (sees : Sees touches moves v log now) (alone : stands v ≡ v.hands) (up : AllAbove 0 v.turns) where
     -- the history that the only hand sees is its own list
     pub own_log : log ≡ v.turns
     own_log = let long : length v.turns ≡ length log = (sees.alone alone).0 in
-        same_list log v.turns (sym long) (λ k t e. subst (λ n. get_elem? log n ≡ some t) (in_order v.turns 0 up (λ j u f. (let lt = in_range log u.number u (sees.mine j u f) in omega (arith, lt, long))) k t e ∙ (let z : 0 + k ≡ k = omega arith in z)) (sees.mine k t e))
+        same_list log v.turns (sym long) (λ k t e. subst (λ n. get_elem? log n ≡ some t) (each_next v.turns 0 up (λ j u f. (let lt = in_range log u.number u (sees.mine j u f) in omega (arith, lt, long))) k t e ∙ (let z : 0 + k ≡ k = omega arith in z)) (sees.mine k t e))
 
 module _ {C E : Type 0} (touches : E → List ℕ) where
   pub left_more : (cs : List C) (ts : List (Turn C E)) (t : Turn C E) → left_by touches cs (ts ++ t ∷ []) ≡ write (left_by touches cs ts) (touches t.event) t.after
@@ -94,6 +99,10 @@ module _ {C E : Type 0} (touches : E → List ℕ) where
     held = λ i c e. h.held i c (held_before v.held j i c e);
   }
 
+  -- finding a part held changes nothing of it
+  pub miss_left : (v : View C E) (j : ℕ) → HoldsLeft touches v → HoldsLeft touches (missing v j)
+  miss_left v j h = record { long = h.long; held = h.held }
+
   -- what is drawn found what the turns before it left
   pub draw_goes : (moves : E → List C → List C → Type 0) (v : View C E) (n : ℕ) (e : E) (after : List C) → HoldsLeft touches v → AllThere v.held (touches e) → moves e (look v.held (touches e)) after → length after ≡ length (touches e) → Goes touches moves (left_now touches v) (turn n e (look v.held (touches e)) after)
   draw_goes moves v n e after h all m long = (reads_now v.held (left_now touches v) h.held (touches e) (look v.held (touches e)) (all_read v.held (touches e) all), m, long)
@@ -114,3 +123,27 @@ module _ {C : Type 0} (touches : Drawn → List ℕ) (moves : Drawn → List C �
   -- its turns are a run
   pub own_run : (v : View C Drawn) → SeesOne touches moves v → stands v ≡ v.hands → AllAbove 0 v.turns → Run touches moves v.opening v.turns (left_now touches v)
   own_run v sees alone up = subst (λ l. Run touches moves v.opening v.turns l) (own_contents v sees.0 sees.1 sees.2 alone up) (subst (λ l. Run touches moves v.opening l sees.1) (own_log touches moves v sees.0 sees.1 sees.2 alone up) sees.2.run)
+
+-- what the only worker noted, in order, is what its turns show
+pub own_journal : {C : Type 0} (touches : Drawn → List ℕ) (moves : Drawn → List C → List C → Type 0) (v : View C Drawn) (log : List (Turn C Drawn)) (now : List C) → Sees touches moves v log now → stands v ≡ v.hands → AllAbove 0 v.turns → events_of (in_order (noted v.turns)) ≡ shown_by v.turns
+own_journal touches moves v log now sees alone up = gathered v log sees.numbered (sees.alone alone) ∙ ap shown_by (own_log touches moves v log now sees alone up)
+
+-- a hand that is as before holds what its turns left, if it did
+pub keeps_view : {C : Type 0} (v v2 : View C Drawn) → v2 ≡ v → KeepsLeft v v2
+keeps_view v v2 e = λ alone up h. subst (λ w. HoldsLeft drawn_touches w) (sym e) h
+
+pub keeps_moved : {C : Type 0} (u v w : View C Drawn) → w ≡ v → KeepsLeft u v → KeepsLeft u w
+keeps_moved u v w e keeps = λ alone up h. subst (λ z. HoldsLeft drawn_touches z) (sym e) (keeps alone up h)
+
+module _ {P C : Type 0} (old new : Held P C Drawn) where
+  -- the only hand was the only one before
+  pub was_alone : SameHand old new → stands new.view ≡ new.view.hands → stands old.view ≡ old.view.hands
+  was_alone same alone = sym (ap length same.stands_for) ∙ alone ∙ same.hands
+
+  -- where nothing was drawn, what lies in the parts is as before
+  pub left_same : SameTurns old new → left_now drawn_touches new.view ≡ left_now drawn_touches old.view
+  left_same same = ap₂ (λ (cs : List C) (ts : List (Turn C Drawn)). left_by drawn_touches cs ts) same.same.opening same.turns
+
+  -- once it has held a part, it holds what its turns left
+  pub held_left : (moves : Drawn → List C → List C → Type 0) → SameTurns old new → SeesOne drawn_touches moves new.view → length new.view.held ≡ length old.view.held → KeepsLeft old.view new.view
+  held_left moves same sees long = λ alone up h. hold_left drawn_touches moves new.view sees (ap length same.same.stands_for ∙ alone ∙ sym same.same.hands) (subst (λ ts. AllAbove 0 ts) (sym same.turns) up) (long ∙ h.long ∙ sym (ap length same.same.opening))
