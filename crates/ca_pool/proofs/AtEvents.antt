@@ -10,12 +10,15 @@ use Rattle.ca_states.specs.Code.{CodeView}
 use Rattle.ca_states.specs.ValidCode.{valid_code}
 use Rattle.ca_states.specs.declared.valid_code.ValidCode.{ValidCode}
 use Rattle.ca_turns.specs.Hands.{Held as HandHeld, TableId}
+use Rattle.ca_turns.specs.Views.{stands}
 use Rattle.ca_commit.specs.Contents.{TimersPart}
 use Rattle.ca_commit.specs.declared.held.Held.{Held}
 use Rattle.ca_table.specs.Bearing.{ShowSame}
 use Rattle.ca_table.specs.Carriers.{IsCarrying, just_lane}
 use Rattle.ca_table.specs.Carrying.{Carries, at_places}
+use Rattle.ca_table.specs.Draws.{drawn_touches}
 use Rattle.ca_table.specs.Grips.{Grips, SameTurns}
+use Rattle.ca_table.specs.LoneHands.{HoldsLeft}
 use Rattle.ca_table.specs.Parts.{away, clockwork_seen, part_seen}
 use Rattle.ca_table.specs.Seen.{PartSeen, seen_timers}
 use Rattle.ca_table.specs.Worked.{Drew}
@@ -65,6 +68,7 @@ module _ {A C : Type 0} (over : CodeView → A → Type 0) (stands_as : ProgramV
     opened_for = ap (λ h. h.view.hands) hand ∙ one.opened_for;
     above = subst (λ ts. AllAbove 0 ts) (sym (ap (λ h. h.view.turns) hand)) one.above;
     notes = ap map_entries entries_are ∙ one.notes ∙ sym (ap (λ h. noted h.view.turns) hand);
+    left = subst (λ (h : HandHeld (Part A C) (PartSeen A) Drawn). stands h.view ≡ h.view.hands → HoldsLeft drawn_touches h.view) (sym hand) one.left;
   }
 
   pub kept_carrying : (h : Carries (Part A C × PartSeen A)) → SameWorker w v → v.hand ≡ w.hand → list v.entries ≡ list w.entries → IsCarrying over stands_as program code id n w h → IsCarrying over stands_as program code id n v h

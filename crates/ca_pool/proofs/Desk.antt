@@ -313,14 +313,14 @@ module _ {A C : Type 0} (over : CodeView → A → Type 0) (place : A → At) (a
       (moved (members told.banks) (members told.shards) (members_homes told.banks) (members_homes told.shards))
 
 -- what shows the same is settled the same
-bank_same : (x y : HeldBank) → bank_in y ≡ bank_in x → registries_in y ≡ registries_in x → bank_seen x.bank ≡ bank_seen y.bank
+bank_same : (x y : HeldBank) → bank_in y ≡ bank_in x → registries_in y ≡ registries_in x → bank_seen x.bank.value ≡ bank_seen y.bank.value
 bank_same x y c r = λ t. record {
-  channels = same_finite kept_view x.bank.rooms y.bank.rooms (λ p. ap (λ f. f p) (sym c)) t;
-  registries = same_finite registry_view x.bank.registries y.bank.registries (λ p. ap (λ f. f p) (sym r)) t;
+  channels = same_finite kept_view x.bank.value.rooms y.bank.value.rooms (λ p. ap (λ f. f p) (sym c)) t;
+  registries = same_finite registry_view x.bank.value.registries y.bank.value.registries (λ p. ap (λ f. f p) (sym r)) t;
 }
 
-shard_same : {A : Type 0} (x y : HeldShard A) → shard_in y ≡ shard_in x → shard_seen x.shard ≡ shard_seen y.shard
-shard_same x y e = same_finite parked_view x.shard.waits y.shard.waits (λ p. ap (λ f. f p) (sym e))
+shard_same : {A : Type 0} (x y : HeldShard A) → shard_in y ≡ shard_in x → shard_seen x.shard.value ≡ shard_seen y.shard.value
+shard_same x y e = same_finite parked_view x.shard.value.waits y.shard.value.waits (λ p. ap (λ f. f p) (sym e))
 
 -- what a clockwork shows
 abbrev pub clock_seen : {C : Type 0} → (least faults : C → ℕ) → (readings : C → Option (List ℕ)) → Option (ClockBox C) → Option TimersPart

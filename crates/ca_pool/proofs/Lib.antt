@@ -7,7 +7,14 @@ pub mod CutRuns
 pub mod Desk
 pub mod EndsMoved
 pub mod HomesNamed
+pub mod LeftTimers
+pub mod Lefts
 pub mod Lightness
+pub mod Lone
+pub mod LoneSteps
+pub mod LoneSettling
+pub mod LoneVisits
+pub mod LoneClocks
 pub mod Placing
 pub mod PlansDrawn
 pub mod PlansReadied
@@ -17,6 +24,7 @@ pub mod Resolutions
 pub mod Rounding
 pub mod Sending
 pub mod ShardsAbove
+pub mod SoloRuns
 pub mod StaleHandlers
 pub mod Stalls
 pub mod Stays

@@ -35,8 +35,8 @@ module _ {A C : Type 0} (over : CodeView → A → Type 0) (place : A → At) (c
   placed_by banks sound i p f k there is = by (listed number_of_bank (parts banks) i) refl there where
     by : (o : Option HeldBank) → listed number_of_bank (parts banks) i ≡ o → option_map bank_in o ≡ Some f → home p ≡ i
     by None l e = absurd (let z : None ≡ Some f = e in cc)
-    by (Some x) l e = let z : n + home p ≡ n + i = (sound i x l).channels (record { channels = map.get (bank_seen x.bank).channels; registries = map.get (bank_seen x.bank).registries }) p k refl
-        (ap (λ (g : ℕ → Option Kept). g p) (channels_seen x.bank ∙ some_same (bank_in x) f e) ∙ is) in omega (arith, z)
+    by (Some x) l e = let z : n + home p ≡ n + i = (sound i x l).channels (record { channels = map.get (bank_seen x.bank.value).channels; registries = map.get (bank_seen x.bank.value).registries }) p k refl
+        (ap (λ (g : ℕ → Option Kept). g p) (channels_seen x.bank.value ∙ some_same (bank_in x) f e) ∙ is) in omega (arith, z)
 
   paused_at : (k : ℕ) (o : Option (HeldShard A)) → ((x : HeldShard A) → o ≡ Some x → SoundShard k x) → (w : ℕ) → IsPaused place (at_key (option_map shard_in o) w)
   paused_at k None sound w = tt
@@ -44,7 +44,7 @@ module _ {A C : Type 0} (over : CodeView → A → Type 0) (place : A → At) (c
     by : (o : Option (Parked (TaskAgent A))) → shard_in x w ≡ o → IsPaused place o
     by None e = tt
     by (Some nobody) e = tt
-    by (Some (owner u a)) e = (sound x refl).paused (map.get (shard_seen x.shard)) w u a refl (ap (λ (g : ℕ → Option (Parked (TaskAgent A))). g w) (waits_seen x.shard) ∙ e)
+    by (Some (owner u a)) e = (sound x refl).paused (map.get (shard_seen x.shard.value)) w u a refl (ap (λ (g : ℕ → Option (Parked (TaskAgent A))). g w) (waits_seen x.shard.value) ∙ e)
 
   pub paused_by : (shards : Listing (HeldShard A)) → ((i : ℕ) (x : HeldShard A) → listed number_of_shard (parts shards) i ≡ Some x → SoundShard (n + 16 + i) x) → (w : ℕ) → IsPaused place (whole (waits_held shards) w)
   paused_by shards sound w = paused_at (n + 16 + home w) (listed number_of_shard (parts shards) (home w)) (sound (home w)) w

@@ -50,7 +50,7 @@ module _ {A : Type 0} (place : A → At) (old new : Held A) (channels : (i : ℕ
   all_waits = λ t i. waits i t
 
   pub plan_kept : (q : Planned) (a : TaskAgent A) → IsPlanFor place old q a → IsPlanFor place new q a
-  plan_kept q a p = (p.0, p.1, p.2, p.3 ∙ sym (λ t. planned (record { ports = whole (all_channels t); registries = whole (all_registries t); see = glance (all_waits t) }) p.0.op p.1))
+  plan_kept q a p = (p.0, p.1, p.2 ∙ sym (λ t. planned (record { ports = whole (all_channels t); registries = whole (all_registries t); see = glance (all_waits t) }) p.0.op a.alts))
 
   pub placed_kept : Placed (channels_held old.banks) → Placed (channels_held new.banks)
   placed_kept p = subst (λ (f : ℕ → Option (ℕ → Option Kept)). Placed f) (sym all_channels) p
@@ -70,13 +70,13 @@ numbers_moved w v n m counts old new e f task port wait h = subst (λ (k : ℕ).
 
 -- the banks and shards that the event of a resolved plan needs are held
 pub resolved_rest : {A : Type 0} (place : A → At) (held : Held A) (task : Task A) (p : Plan) → IsResolved place held task p → HasRest held (plan_view p)
-resolved_rest {A} place held task p r = by (plan_view p) r.seen r.plan_for.3 where
-  by : (q : Planned) → IsSeen (holds_shards held) held.new_wait q → q ≡ planned (seen held.banks held.shards) r.plan_for.0.op r.plan_for.1 → HasRest held q
+resolved_rest {A} place held task p r = by (plan_view p) r.seen r.plan_for.2 where
+  by : (q : Planned) → IsSeen (holds_shards held) held.new_wait q → q ≡ planned (seen held.banks held.shards) r.plan_for.0.op (agent_of task).alts → HasRest held q
   by (to_park bs) seen e = shows_there shard_in (listed number_of_shard (parts held.shards) (home held.new_wait)) ∙ seen
   by (to_post bs) seen e = shows_there shard_in (listed number_of_shard (parts held.shards) (home held.new_wait)) ∙ seen
   by (to_make what) seen e =
-      let tells = subst (λ (q : Planned). PlanTells (parts_held 0 None None held) r.plan_for.0.op q) (sym e) (plan_tells (parts_held 0 None None held) r.plan_for.0.op r.plan_for.1) in
-      r.named r.plan_for.0 r.plan_for.2 held.new_port (subst (λ (op : OpView). is_among held.new_port (ports_to_hold op held.new_port) ≡ true) (sym tells.1) (among_first held.new_port (ports_among (operands_to_make what)) held.new_port refl))
+      let tells = subst (λ (q : Planned). PlanTells (parts_held 0 None None held) r.plan_for.0.op q) (sym e) (plan_tells (parts_held 0 None None held) r.plan_for.0.op (agent_of task).alts) in
+      r.named r.plan_for.0 r.plan_for.1 held.new_port (subst (λ (op : OpView). is_among held.new_port (ports_to_hold op held.new_port) ≡ true) (sym tells.1) (among_first held.new_port (ports_among (operands_to_make what)) held.new_port refl))
   by (to_do k b alts) seen e = tt
   by (to_meet k b alts w o) seen e = tt
   by (to_default v) seen e = tt
@@ -106,4 +106,4 @@ rest_ready (to_refuse f) old new b h = tt
 
 -- and what its operation names is apart
 pub resolved_apart : {A : Type 0} (place : A → At) (held : Held A) (task : Task A) (p : Plan) → IsResolved place held task p → BringsApart place task → KeepsApart (plan_view p)
-resolved_apart place held task p r brings = subst (λ (q : Planned). KeepsApart q) (sym r.plan_for.3) (plans_apart (seen held.banks held.shards) r.plan_for.0.op r.plan_for.1 (brings r.plan_for.0 r.plan_for.2 (state_held held.banks)))
+resolved_apart place held task p r brings = subst (λ (q : Planned). KeepsApart q) (sym r.plan_for.2) (plans_apart (seen held.banks held.shards) r.plan_for.0.op (agent_of task).alts (brings r.plan_for.0 r.plan_for.1 (state_held held.banks)))

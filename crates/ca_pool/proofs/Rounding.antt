@@ -1,12 +1,18 @@
 -- What the calls of all workers come to together.
 use Rattle.std.proofs.Common.{◌≡◌, ◌∙◌, ◌⊎◌, inl, inr, ⊎_elim, ℕ, zero, suc, ◌+◌, ◌*◌, ◌<◌, ◌≤◌, List, [], ◌∷◌, All, length, refl, sym, ap, ap₂, subst, arith, Bool, true, false, Result, Ok, Err, IfOk, suc-mul, zero-mul}
 use Rattle.std.specs.Prelude.{◌||◌, OnOk, slice_index_or}
+use Rattle.ca_value.specs.Tree.{Tree}
+use Rattle.ca_term.specs.Operation.{SeedView}
 use Rattle.ca_term.specs.Program.{ProgramView, program_view}
+use Rattle.ca_meaning.specs.Body.{At}
 use Rattle.ca_meaning.specs.Task.{TaskBody}
 use Rattle.ca_states.specs.Code.{CodeView}
+use Rattle.ca_states.specs.declared.valid_code.ValidCode.{ValidCode}
 use Rattle.ca_turns.specs.Hands.{TableId}
 use Rattle.ca_turns.specs.Places.{total}
-use Rattle.ca_pool.specs.Answers.{Answer, IsWorked, WorkedAt, joined, joined_from}
+use Rattle.ca_pool.specs.Answers.{Answer, BeginsAlone, IsWorked, StopsAlone, WorkedAlone, WorkedAloneAt, WorkedAt, joined, joined_from}
+use Rattle.ca_pool.specs.Lone.{IsLone, LoneStopped}
+use Rattle.ca_table.specs.Seen.{PartSeen}
 use Rattle.ca_table.specs.Worked.{HasWorked, any_drew, gives_up, has_drawn, leaves, spent}
 use Rattle.ca_table.specs.Workers.{IsReady, stands_for}
 use Rattle.ca_table.specs.declared.worker.Worker.{Worker}
@@ -80,6 +86,11 @@ module _ {A C : Type 0} where
   all_spent : (a : Answer) (ws : List (Worker A C)) → joined_from a ws ≡ Ok Spent → (a ≡ Ok Spent) × AllSpent ws
   all_spent a [] h = (h, tt)
   all_spent a (w ∷ ws) h = let r = all_spent (joined a w.answer) ws h in let b = both_spent a w.answer r.0 in (b.0, (b.1, r.1))
+
+  come_at : (ws : List (Worker A C)) → AllCome ws → (k : ℕ) (d : Worker A C) → k < length ws → Comes (slice_index_or ws k d).answer
+  come_at [] all k d lt = absurd (omega (arith, lt))
+  come_at (w ∷ ws) all zero d lt = all.0
+  come_at (w ∷ ws) all (suc k) d lt = come_at ws all.1 k d (omega (arith, lt))
 
   some_over : (a : Answer) (ws : List (Worker A C)) → joined_from a ws ≡ Ok Over → (a ≡ Ok Over) ⊎ SomeOver ws
   some_over a [] h = inl h
@@ -166,7 +177,7 @@ module _ {A C : Type 0} (over : CodeView → A → Type 0) (stands_as : ProgramV
 
   keeps_ready : (w : Worker A C) (a : Answer) → IsReady over stands_as program code id n w → IsReady over stands_as program code id n (record w { answer = a })
   keeps_ready w a r = record {
-    one = record { table = r.one.table; slots = r.one.slots; of = r.one.of; few = r.one.few; below = r.one.below; of_program = r.one.of_program; of_code = r.one.of_code; knows = r.one.knows; opened_for = r.one.opened_for; above = r.one.above; notes = r.one.notes };
+    one = record { table = r.one.table; slots = r.one.slots; of = r.one.of; few = r.one.few; below = r.one.below; of_program = r.one.of_program; of_code = r.one.of_code; knows = r.one.knows; opened_for = r.one.opened_for; above = r.one.above; notes = r.one.notes; left = r.one.left };
     nothing = r.nothing;
   }
 
@@ -182,3 +193,23 @@ module _ {A C : Type 0} (over : CodeView → A → Type 0) (stands_as : ProgramV
     spends = spends;
     leaves_at = leaves_at;
   }
+
+module _ {A C : Type 0} (over : CodeView → A → Type 0) (place : A → At) (stands_as : ProgramView → A → TaskBody → Type 0) (advances : ProgramView → A → A → Type 0) (gives : A → Tree → A → Type 0) (starts : ProgramView → SeedView → A → Type 0) (code : ValidCode) (allowance : ℕ) where
+  abbrev Stops : List (PartSeen A) → Worker A C → Type 0
+  Stops opening w = StopsAlone over place stands_as advances gives starts code allowance opening w
+
+  -- an only worker that keeps the answer of its first call
+  pub answered_alone : (old w : Worker A C) (a : Answer) → OnOk a (HasWorked old w)
+      → IfOk a (λ e. IsLone old → old.hand.view.turns ≡ [] → 0 < allowance → LoneStopped over place stands_as advances gives starts code allowance w)
+      → WorkedAlone over place stands_as advances gives starts code allowance old (record w { answer = a })
+  answered_alone old w a worked solo = on_ok a ((opening : List (PartSeen A)) → 0 < allowance → BeginsAlone opening old → Stops opening (record w { answer = a })) (λ e k opening some b.
+      (let s = at_ok a (λ e. IsLone old → old.hand.view.turns ≡ [] → 0 < allowance → LoneStopped over place stands_as advances gives starts code allowance w) e k solo b.lone b.fresh some in record {
+        stopped = record { lone = s.lone; stopped = s.stopped };
+        opened = (of_ok a (HasWorked old w) e k worked).opening ∙ b.opened;
+      }))
+
+  pub round_alone : (xs ys : List (Worker A C)) (r : Answer) → r ≡ joined_from (Ok Spent) ys → length ys ≡ length xs → WorkedAloneAt over place stands_as advances gives starts code allowance xs ys
+      → OnOk r ((opening : List (PartSeen A)) → 0 < allowance → All (BeginsAlone opening) xs → All (Stops opening) ys)
+  round_alone xs ys r is many worked = on_ok r ((opening : List (PartSeen A)) → 0 < allowance → All (BeginsAlone opening) xs → All (Stops opening) ys) (λ e came opening some begins k d lt.
+      (let had : k < length xs = omega (arith, lt, many) in let c = come_at ys (all_come (Ok Spent) ys e (sym is ∙ came)).1 k d lt in
+      of_ok (slice_index_or ys k d).answer ((opening : List (PartSeen A)) → 0 < allowance → BeginsAlone opening (slice_index_or xs k d) → Stops opening (slice_index_or ys k d)) c.0 c.1 (worked k d had) opening some (begins k d had)))

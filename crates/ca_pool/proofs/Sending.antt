@@ -115,7 +115,7 @@ bank_send : IsSend Bank.the_row
 bank_send = declared_send Bank.the_type (search (sendable, crosses, map.the_send, room_send, registry_send) depth 20)
 
 held_bank_send : IsSend HeldBank.the_row
-held_bank_send = declared_send HeldBank.the_type (search (sendable, bank_send) depth 20)
+held_bank_send = declared_send HeldBank.the_type (search (sendable, crosses, bank_send) depth 20)
 
 -- the program, with no bytes
 pub text_sync : IsSync (Snapshot.the_row Program.the_row)

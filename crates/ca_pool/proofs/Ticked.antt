@@ -1,11 +1,11 @@
 -- What a tick over what is held and the timers leaves for its event, and what follows where nothing is due.
-use Rattle.std.proofs.Common.{◌≡◌, ◌≢◌, ◌∙◌, ℕ, zero, suc, ◌+◌, ◌<◌, List, [], ◌∷◌, refl, sym, ap, subst, arith, Bool, true, false, cond, Option, Some, None, eqb, eqb-true, eq-eqb, is_some}
+use Rattle.std.proofs.Common.{◌≡◌, ◌≢◌, ◌∙◌, ℕ, zero, suc, ◌+◌, ◌<◌, List, [], ◌∷◌, ◌++◌, take, refl, sym, ap, subst, arith, Bool, true, false, cond, Option, Some, None, eqb, eqb-true, eq-eqb}
 use Rattle.std.specs.Prelude.{slice_get, IfSome, IfNone}
 use mathlib.Core.Logic.{dite}
 use native.Mathlib.Decide.{ℕ_discrete}
 use Rattle.ca_value.specs.Deadlines.{due}
 use Rattle.ca_term.specs.declared.event.Event.{Event}
-use Rattle.ca_term.specs.Event.{EventView, event_view, ticked}
+use Rattle.ca_term.specs.Event.{event_view, ticked}
 use Rattle.ca_meaning.specs.Wait.{is_among}
 use Rattle.ca_commit.specs.Contents.{TimersPart, home}
 use Rattle.ca_commit.specs.Running.{Placed}
@@ -54,6 +54,29 @@ module _ {A C : Type 0} (least faults : C → ℕ) (readings : C → Option (Lis
 
   pub reads_by : o ≡ None → IsAsked m (shows clock0) (shows clock1) → IfNone o ((ps ≡ []) × (shows clock2 ≡ shows clock1)) → TimesBy said.asks_clock (shows clock0) (shows clock2)
   reads_by is asked none = let s = for_none ((ps ≡ []) × (shows clock2 ≡ shows clock1)) o is none in asked_reads m (shows clock0) (shows clock2) (asked_before m (shows clock0) (shows clock1) (shows clock2) s.1 asked)
+
+-- what the event is, and that nothing is due where there is none
+module _ {C : Type 0} (least faults : C → ℕ) (readings : C → Option (List ℕ)) (clock clock2 : ClockBox C) (m : ℕ) (o : Option Event) where
+  abbrev closes : List ℕ
+  closes = due m clock.value.timers.deadlines
+
+  pub event_is : (e : Event) → o ≡ Some e → IfSome o (λ e. (event_view e ≡ ticked m closes) × (closes ≢ []) × (clockwork_seen least faults readings clock2.value ≡ passed m (clockwork_seen least faults readings clock.value))) → event_view e ≡ ticked m closes
+  event_is e is some = (for_some (λ e. (event_view e ≡ ticked m closes) × (closes ≢ []) × (clockwork_seen least faults readings clock2.value ≡ passed m (clockwork_seen least faults readings clock.value))) o e is some).0
+
+  pub none_due : o ≡ None → IfNone o ((closes ≡ []) × (clockwork_seen least faults readings clock2.value ≡ clockwork_seen least faults readings clock.value)) → closes ≡ []
+  none_due is none = (for_none ((closes ≡ []) × (clockwork_seen least faults readings clock2.value ≡ clockwork_seen least faults readings clock.value)) o is none).0
+
+-- the items up to a place, and all of them
+pub took_more : (xs : List ℕ) (m x : ℕ) → slice_get xs m ≡ Some x → take (m + 1) xs ≡ take m xs ++ x ∷ []
+took_more [] m x e = absurd (let z : None ≡ Some x = e in cc)
+took_more (y ∷ ys) zero x e = let z : y ≡ x = cc in ap (λ (v : ℕ). v ∷ []) z
+took_more (y ∷ ys) (suc m) x e = ap (λ (k : ℕ). take k (y ∷ ys)) (let k : suc m + 1 ≡ suc (m + 1) = omega arith in k) ∙ ap (λ (zs : List ℕ). y ∷ zs) (took_more ys m x e)
+
+pub took_all : (xs : List ℕ) (m : ℕ) → slice_get xs m ≡ None → take m xs ≡ xs
+took_all [] zero e = refl
+took_all [] (suc m) e = refl
+took_all (y ∷ ys) zero e = absurd (let z : Some y ≡ None = e in cc)
+took_all (y ∷ ys) (suc m) e = ap (λ (zs : List ℕ). y ∷ zs) (took_all ys m e)
 
 -- the banks of the ports at the first places
 abbrev pub HasSome : Homes → List ℕ → ℕ → Type 0

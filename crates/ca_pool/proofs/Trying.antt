@@ -1,5 +1,5 @@
 -- Banks that a worker tries to hold, one after another, and moves out.
-use Rattle.std.proofs.Common.{◌≡◌, ◌≢◌, ◌∙◌, ⊎_elim, ℕ, ◌+◌, ◌<◌, ◌≤◌, List, [], refl, sym, ap, subst, arith, Bool, Option, Some, None, is_some}
+use Rattle.std.proofs.Common.{◌≡◌, ◌≢◌, ◌∙◌, ⊎_elim, ℕ, ◌+◌, ◌<◌, ◌≤◌, List, [], length, refl, sym, ap, subst, arith, Bool, Option, Some, None, is_some}
 use Rattle.std.proofs.lemmas.Bool.{cases_lt}
 use mathlib.Core.Logic.{dite}
 use native.Mathlib.Decide.{ℕ_discrete}
@@ -9,13 +9,14 @@ use Rattle.ca_meaning.specs.Task.{TaskBody}
 use Rattle.ca_states.specs.Code.{CodeView}
 use Rattle.ca_states.specs.ValidCode.{valid_code}
 use Rattle.ca_states.specs.declared.valid_code.ValidCode.{ValidCode}
-use Rattle.ca_turns.specs.Hands.{TableId}
+use Rattle.ca_turns.specs.Hands.{Held as HandHeld, TableId}
+use Rattle.ca_turns.specs.Views.{stands}
 use Rattle.ca_commit.specs.Listing.{listed}
 use Rattle.ca_commit.specs.Numbers.{number_of_bank}
 use Rattle.ca_commit.specs.declared.held.HeldBank.{HeldBank}
 use Rattle.ca_table.specs.Carriers.{IsCarrying}
 use Rattle.ca_table.specs.Carrying.{Carries}
-use Rattle.ca_table.specs.Grips.{SameTurns}
+use Rattle.ca_table.specs.Grips.{SameHand, SameTurns}
 use Rattle.ca_table.specs.Lifting.{HasNone, bank_row, lifted, with_all}
 use Rattle.ca_table.specs.Parts.{contents_seen, part_seen}
 use Rattle.ca_table.specs.Seen.{PartSeen, held_of}
@@ -26,6 +27,10 @@ use Rattle.ca_table.specs.declared.part.Part.{Part}
 use Rattle.ca_table.specs.declared.worker.Worker.{Worker}
 use Rattle.ca_table.proofs.Loads.{same_turns, same_worker, then_worker}
 use Rattle.ca_table.proofs.Seats.{then_same}
+
+-- a hand that isn't the only one wasn't before
+pub fewer_before : {P C E : Type 0} (old new : HandHeld P C E) → SameHand old new → stands new.view < new.view.hands → stands old.view < old.view.hands
+fewer_before old new same lt = subst (λ (k : ℕ). stands old.view < k) same.hands (subst (λ (k : ℕ). k < new.view.hands) (ap (λ (l : List ℕ). length l) same.stands_for) lt)
 
 module _ {A C : Type 0} (over : CodeView → A → Type 0) (stands_as : ProgramView → A → TaskBody → Type 0) (place : A → At) (code : ValidCode) (id : TableId) (least faults : C → ℕ) (readings : C → Option (List ℕ)) where
   abbrev Carry : Type 0

@@ -1,6 +1,6 @@
 -- How the clock is asked, and what its timers' part is then.
-use Rattle.std.specs.Prelude.{◌≡◌, ◌≢◌, ℕ, ◌<◌, ◌≤◌, List, Some, option_map, is_some, true}
-use Rattle.ca_value.specs.Deadlines.{due, open_after}
+use Rattle.std.specs.Prelude.{◌≡◌, ◌≢◌, ℕ, ◌<◌, ◌≤◌, List, Some, option_map, is_some, slice_get, true}
+use Rattle.ca_value.specs.Deadlines.{Deadline, due, open_after}
 use Rattle.ca_commit.specs.Contents.{TimersPart, home}
 use Rattle.ca_commit.specs.Listing.{listed}
 use Rattle.ca_commit.specs.Listings.{parts}
@@ -14,6 +14,10 @@ use Rattle.ca_meaning.specs.TaskSteps.{moments}
 use Rattle.ca_meaning.specs.Wait.{is_among}
 use Rattle.ca_table.specs.Homes.{has_home}
 use Rattle.ca_table.specs.declared.homes.Homes.{Homes}
+
+-- that is the moment of the first of them
+abbrev pub IsFirst : ℕ → List Deadline → Type 0
+IsFirst first ds = option_map (λ (d : Deadline). d.moment) (slice_get ds 0) ≡ Some first
 
 -- the clock answered m; deadlines, the moment of the run and the mark stay
 pub record IsAsked (m : ℕ) (c c2 : TimersPart) : Type 0 where

@@ -2,6 +2,7 @@ pub mod Answers
 pub mod Asking
 pub mod AtEvent
 pub mod AtWork
+pub mod Lone
 pub mod Costs
 pub mod Desk
 pub mod Endings
@@ -12,4 +13,5 @@ pub mod PoolEnds
 pub mod Prepared
 pub mod Preparing
 pub mod Resolving
+pub mod Stirred
 pub mod Surveys

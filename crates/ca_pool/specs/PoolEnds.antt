@@ -1,6 +1,10 @@
--- How a run of workers came to its end.
-use Rattle.std.specs.Prelude.{Option, Some, None}
+-- How a run of workers came to its end, and what it was where one worker ran it.
+use Rattle.std.specs.Prelude.{ℕ, List, Option, Some, None}
+use Rattle.ca_term.specs.Event.{EventView}
+use Rattle.ca_term.specs.Program.{ProgramView}
 use Rattle.ca_meaning.specs.Ends.{RunEnd, ended, faulted, limit, stuck}
+use Rattle.ca_meaning.specs.Solo.{Solo}
+use Rattle.ca_alone.specs.Answers.{NeverFall, WentOn}
 use Rattle.ca_journal.specs.Cut.{end_of}
 use Rattle.ca_journal.specs.declared.cut.CutAt.{CutAt}
 use Rattle.ca_pool.specs.declared.run_end.PoolEnd.{PoolEnd}
@@ -17,3 +21,19 @@ end_view Limit = limit
 abbrev pub ended_by : Option CutAt → RunEnd
 ended_by None = stuck
 ended_by (Some at) = end_of at
+
+-- The events are the run of the stated schedule over answers of the clock. These never fall, from `least` on, and where
+-- the clock tells its answers, it told them one after another.
+pub record IsSolo (program : ProgramView) (journal : List EventView) (least : ℕ) (before after : Option (List ℕ)) : Type 0 where
+  pub answers : List ℕ
+  pub solo : Solo program answers journal
+  pub last : ℕ
+  pub rise : NeverFall least answers last
+  pub told : WentOn answers before after
+
+-- .. over some answers that never fall, where nothing is known of the clock
+pub record IsScheduled (program : ProgramView) (journal : List EventView) : Type 0 where
+  pub answers : List ℕ
+  pub solo : Solo program answers journal
+  pub last : ℕ
+  pub rise : NeverFall 0 answers last

@@ -1,22 +1,30 @@
 // The clock: a worker asks it, and sets and obeys the mark of the run.
-ghost use Rattle.std.specs.Prelude.{◌≡◌, ◌≢◌, ℕ, ◌+◌, ◌<◌, ◌≤◌, ◌^◌, [], Some, None, IfOk, OnErr, OnOk, false, true};
-ghost use Rattle.ca_term.specs.Program.{ProgramView};
+ghost use Rattle.std.specs.Prelude.{◌≡◌, ◌≢◌, ℕ, ◌+◌, ◌<◌, ◌≤◌, ◌^◌, [], Some, None, IfOk, OnErr, OnOk, false, true, List};
+ghost use mathlib.Core.Option.{some};
+ghost use lib.ListN.{get_elem?};
 ghost use Rattle.ca_value.specs.Deadlines.{due};
 ghost use Rattle.ca_value.specs.Seq.{list, spare};
+ghost use Rattle.ca_term.specs.Program.{ProgramView};
+ghost use Rattle.ca_turns.specs.Views.{stands};
 ghost use Rattle.ca_commit.specs.Contents.{unmarked};
 ghost use Rattle.ca_commit.specs.Moving.{visible};
 ghost use Rattle.ca_commit.specs.TaskMoves.{with_mark};
+ghost use Rattle.ca_commit.specs.declared.held.Held.{Held};
 ghost use Rattle.ca_table.specs.Bearing.{ShowSame};
 ghost use Rattle.ca_table.specs.Carriers.{IsCarrying, just_lane};
-ghost use Rattle.ca_table.specs.Draws.{turn_view};
+ghost use Rattle.ca_table.specs.Draws.{turn_view, drawn_touches};
 ghost use Rattle.ca_table.specs.Parts.{clockwork_seen, mark_view, part_seen};
 ghost use Rattle.ca_table.specs.Worked.{Drew, gives_up, leaves};
 ghost use Rattle.ca_table.specs.Workers.{SameWorker};
 ghost use Rattle.ca_table.specs.declared.part.Lane.{Lane};
-ghost use Rattle.ca_commit.specs.declared.held.Held.{Held};
-ghost use Rattle.ca_pool.specs.Asking.{HasFailed, IsAsked, TimesBy};
+ghost use Rattle.ca_table.specs.Grips.{SameHand};
+ghost use Rattle.ca_table.specs.LoneHands.{DrewTurn, left_now};
+ghost use Rattle.ca_table.specs.declared.part.Contents.TheVariants.{Timers};
+ghost use Rattle.ca_alone.specs.Schedule.{AtPicked};
+ghost use Rattle.ca_pool.specs.Asking.{HasFailed, IsAsked, TimesBy, IsFirst};
 ghost use Rattle.ca_pool.specs.Costs.{cost_asked, is_marked};
-ghost use Rattle.ca_pool.specs.Desk.{ClockBox, IsBare, taken};
+ghost use Rattle.ca_pool.specs.Desk.{ClockBox, IsBare, taken, settled_as};
+ghost use Rattle.ca_pool.specs.Lone.{HasAsked, MayGo};
 
 use crate::drawing::draw_aside;
 use crate::laying::put_off;
@@ -100,6 +108,7 @@ pub(crate) fn answer_late<C: Clock + Drop>(
     requires bound { first < 2 ^ 62 }
     ensures asked { IfOk result.1 (λ now. IsAsked now (clockwork_seen C.least C.faults C.readings clockwork.value) (clockwork_seen C.least C.faults C.readings result.0.value)) }
     ensures failed { OnErr result.1 (HasFailed (clockwork_seen C.least C.faults C.readings clockwork.value) (clockwork_seen C.least C.faults C.readings result.0.value)) }
+    ensures reached { IfOk result.1 (λ now. first ≤ now) }
 {
     let answer = clockwork.clock.wait_until(first);
     (clockwork, answer)
@@ -147,6 +156,9 @@ pub(crate) fn draw_clock<R: Wait, A: Agent, C: Clock + Drop>(
     ensures bare { IsBare held.new }
     ensures drew { gives_up (turn_view what) ≡ false → Drew 0 (leaves (turn_view what)) worker.old worker.new }
     ensures carries { (program : ProgramView) (n : ℕ) (l : Lane A) (clock0 : ClockBox C) (held0 : Held A) → IsCarrying A.over A.stands program code.now table.now.id n worker.old (taken (part_seen C.least C.faults C.readings) n code.now worker.old.number l (Some clock0) held0) → ShowSame held0 held.old → TimesBy (turn_view what) (clockwork_seen C.least C.faults C.readings clock0.value) (clockwork_seen C.least C.faults C.readings clockwork.value) → IsCarrying A.over A.stands program code.now table.now.id n worker.new (just_lane n code.now l) }
+    ensures timed { (program : ProgramView) (n : ℕ) (l : Lane A) (clock0 : ClockBox C) (held0 : Held A) → IsCarrying A.over A.stands program code.now table.now.id n worker.old (taken (part_seen C.least C.faults C.readings) n code.now worker.old.number l (Some clock0) held0) → ShowSame held0 held.old → TimesBy (turn_view what) (clockwork_seen C.least C.faults C.readings clock0.value) (clockwork_seen C.least C.faults C.readings clockwork.value) → stands worker.old.hand.view ≡ worker.old.hand.view.hands → get_elem? (left_now drawn_touches worker.new.hand.view) (n + 32) ≡ some (settled_as (part_seen C.least C.faults C.readings) n code.now (Timers clockwork)) }
+    ensures hand { SameHand worker.old.hand worker.new.hand }
+    ensures turn { DrewTurn (turn_view what) worker.old.hand.view worker.new.hand.view }
 {
     if !can_draw(worker) {
         // No worker draws 2^59 events.
@@ -177,6 +189,7 @@ fn read_now<R: Wait, A: Agent, C: Clock + Drop>(
     ensures bare { IsBare held.new }
     ensures drew { IfOk result (λ a. Drew (cost_asked a) (is_marked a) worker.old worker.new) }
     ensures carries { (program : ProgramView) (n : ℕ) (l : Lane A) → IsCarrying A.over A.stands program code.now table.now.id n worker.old (taken (part_seen C.least C.faults C.readings) n code.now worker.old.number l (Some clockwork) held.old) → IsCarrying A.over A.stands program code.now table.now.id n worker.new (just_lane n code.now l) }
+    ensures solo { IfOk result (λ a. (most : ℕ) → ports.old.items ≡ [] → IsFirst first clockwork.value.timers.deadlines → MayGo A.over A.place A.stands A.advances A.gives A.starts code.now AtPicked most worker.old → HasAsked A.over A.place A.stands A.advances A.gives A.starts code.now ports.new.items most a worker.new) }
 {
     let (clockwork, now) = answer_now(clockwork);
     if now < first {
@@ -205,6 +218,7 @@ fn read<R: Wait, A: Agent, C: Clock + Drop>(
     ensures bare { IsBare held.new }
     ensures drew { IfOk result (λ a. Drew (cost_asked a) (is_marked a) worker.old worker.new) }
     ensures carries { (program : ProgramView) (n : ℕ) (l : Lane A) → IsCarrying A.over A.stands program code.now table.now.id n worker.old (taken (part_seen C.least C.faults C.readings) n code.now worker.old.number l (Some clockwork) held.old) → IsCarrying A.over A.stands program code.now table.now.id n worker.new (just_lane n code.now l) }
+    ensures solo { IfOk result (λ a. (most : ℕ) → ports.old.items ≡ [] → IsFirst first clockwork.value.timers.deadlines → MayGo A.over A.place A.stands A.advances A.gives A.starts code.now AtPicked most worker.old → HasAsked A.over A.place A.stands A.advances A.gives A.starts code.now ports.new.items most a worker.new) }
 {
     let (clockwork, made) = ready_to_ask(worker, clockwork);
     match made {
@@ -236,6 +250,7 @@ fn look<R: Wait, A: Agent, C: Clock + Drop>(
     ensures bare { IsBare held.new }
     ensures drew { IfOk result (λ a. Drew (cost_asked a) (is_marked a) worker.old worker.new) }
     ensures carries { (program : ProgramView) (n : ℕ) (l : Lane A) → IsCarrying A.over A.stands program code.now table.now.id n worker.old (taken (part_seen C.least C.faults C.readings) n code.now worker.old.number l (Some clockwork) held.old) → IsCarrying A.over A.stands program code.now table.now.id n worker.new (just_lane n code.now l) }
+    ensures solo { IfOk result (λ a. (most : ℕ) → ports.old.items ≡ [] → MayGo A.over A.place A.stands A.advances A.gives A.starts code.now AtPicked most worker.old → HasAsked A.over A.place A.stands A.advances A.gives A.starts code.now ports.new.items most a worker.new) }
 {
     if is_marked(clockwork.mark) {
         draw_clock(rt, table, code, worker, held, clockwork, Turned::Halt);
@@ -269,6 +284,7 @@ pub(crate) fn ask<R: Wait, A: Agent, C: Clock + Drop>(
     ensures bare { IsBare held.new }
     ensures drew { IfOk result (λ a. Drew (cost_asked a) (is_marked a) worker.old worker.new) }
     ensures carries { (program : ProgramView) (n : ℕ) (l : Lane A) → IsCarrying A.over A.stands program code.now table.now.id n worker.old (just_lane n code.now l) → IsCarrying A.over A.stands program code.now table.now.id n worker.new (just_lane n code.now l) }
+    ensures solo { IfOk result (λ a. (most : ℕ) → due.old.items ≡ [] → MayGo A.over A.place A.stands A.advances A.gives A.starts code.now AtPicked most worker.old → HasAsked A.over A.place A.stands A.advances A.gives A.starts code.now due.new.items most a worker.new) }
 {
     match try_clock(table, code, worker, held) {
         None => Ok(Asked::Nothing),

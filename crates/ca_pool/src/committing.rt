@@ -1,16 +1,19 @@
 // The event of a plan: all that it needs is taken and made, then it is applied and drawn.
-ghost use Rattle.std.specs.Prelude.{◌≡◌, ℕ, ◌+◌, ◌<◌, ◌^◌, List, Option, None, OnErr, IfOk, false, true};
+ghost use Rattle.std.specs.Prelude.{◌≡◌, ℕ, ◌+◌, ◌<◌, ◌^◌, List, Option, None, OnErr, IfOk, false, true, [], ◌∷◌, cond, option_map};
 ghost use Rattle.ca_value.specs.Seq.{spare};
-ghost use Rattle.ca_timers.specs.Timers.{TimersView};
-ghost use Rattle.ca_term.specs.Event.{event_view};
+ghost use Rattle.ca_term.specs.Event.{event_view, port_number, branch_view};
 ghost use Rattle.ca_term.specs.Program.{ProgramView, program_view};
 ghost use Rattle.ca_meaning.specs.BodyViews.{is_at_op};
+ghost use Rattle.ca_meaning.specs.Solo.{patience};
+ghost use Rattle.ca_meaning.specs.Wait.{port_of};
+ghost use Rattle.ca_solo.specs.Stirs.{port_if, done_stirred};
 ghost use Rattle.ca_states.specs.ValidCode.{valid_code};
 ghost use Rattle.ca_states.specs.declared.valid_code.ValidCode.{ValidCode};
 ghost use Rattle.ca_lower.specs.Gos.{SameGos};
 ghost use Rattle.ca_lower.specs.Lowered.{Lowered};
+ghost use Rattle.ca_timers.specs.Timers.{TimersView};
 ghost use Rattle.ca_commit.specs.Applying.{HasSpawned, IsEvent, IsMade, IsPlanFor, IsTimely, KeepsApart, event_of, number_of, times_by};
-ghost use Rattle.ca_commit.specs.Contents.{whole};
+ghost use Rattle.ca_commit.specs.Contents.{whole, channel_of};
 ghost use Rattle.ca_commit.specs.NewPort.{KeepsCounts, times_in};
 ghost use Rattle.ca_commit.specs.PlanMoves.{counts_by};
 ghost use Rattle.ca_commit.specs.Plans.{HasCopies, plan_view};
@@ -18,17 +21,21 @@ ghost use Rattle.ca_commit.specs.Showing.{channels_held, registries_held, waits_
 ghost use Rattle.ca_commit.specs.Tasks.{agent_of};
 ghost use Rattle.ca_commit.specs.Waking.{IsPaused};
 ghost use Rattle.ca_commit.specs.declared.task.Task.{Task};
+ghost use Rattle.ca_commit.specs.Finding.{is_fixed_at, is_promise_at};
 ghost use Rattle.ca_table.specs.Committing.{CanCount, IsDone};
 ghost use Rattle.ca_table.specs.Parts.{counts_view, lane_seen, part_seen};
 ghost use Rattle.ca_table.specs.Seen.{lane_of_seen};
 ghost use Rattle.ca_table.specs.Worked.{Drew};
 ghost use Rattle.ca_table.specs.Workers.{IsSeated, SameWorker};
 ghost use Rattle.ca_table.specs.declared.part.Lane.{Lane};
+ghost use Rattle.ca_alone.specs.Schedule.{MaySettle, to_turn};
 ghost use Rattle.ca_pool.specs.AtEvent.{HasLane, HasNumbers, HasTaken};
 ghost use Rattle.ca_pool.specs.Desk.{ClockBox, IsBare};
 ghost use Rattle.ca_pool.specs.Leaving.{TaskOver};
 ghost use Rattle.ca_pool.specs.Prepared.{HasGone, IsAsked, IsReadied, IsStarted};
 ghost use Rattle.ca_pool.specs.Resolving.{BringsApart, IsHeld, IsResolved, LeftOff};
+ghost use Rattle.ca_pool.specs.Lone.{HasStepped, MayGo};
+ghost use Rattle.ca_pool.specs.Stirred.{stirred_of};
 
 use crate::drawing::draw_turn;
 use crate::fitting::cost_of;
@@ -40,7 +47,7 @@ use ca_agent::agent::Agent;
 use ca_agent::starting::Starting;
 use ca_buffers::any::AnyBuffer;
 use ca_commit::applying::apply;
-use ca_commit::held::{Applied, Held};
+use ca_commit::held::{Applied, Banks, Held};
 use ca_commit::planned::Plan;
 use ca_commit::task::Task;
 use ca_states::valid_code::ValidCode;
@@ -130,25 +137,55 @@ fn commit_plan<A: Agent>(
     Committed { event, lane }
 }
 
-// The channel, where a value was taken from its fixed buffer, or put into its promise.
-fn stirred_at<A: Agent>(held: &Held<A>, port: PortId, takes: bool) -> Option<PortId> {
-    match held.banks.get(port.n % 16) {
-        None => None,
-        Some(bank) => match bank.bank().buffer(port) {
-            Some(AnyBuffer::Fixed(_)) if takes => Some(port),
-            Some(AnyBuffer::Promise(_)) if !takes => Some(port),
-            _ => None,
+// Whether the channel has a fixed buffer.
+fn is_fixed(banks: &Banks, port: PortId) -> bool
+    ensures { result ≡ is_fixed_at (whole (channels_held banks.now) port.n) }
+{
+    match banks.get(port.n % 16) {
+        Some(held) => match held.bank().buffer(port) {
+            Some(AnyBuffer::Fixed(_)) => true,
+            _ => false,
         },
+        None => false,
+    }
+}
+
+// Whether it is a promise.
+fn is_promise(banks: &Banks, port: PortId) -> bool
+    ensures { result ≡ is_promise_at (whole (channels_held banks.now) port.n) }
+{
+    match banks.get(port.n % 16) {
+        Some(held) => match held.bank().buffer(port) {
+            Some(AnyBuffer::Promise(_)) => true,
+            _ => false,
+        },
+        None => false,
+    }
+}
+
+// The channel, where it is so.
+fn only_if(port: PortId, stirs: bool) -> Option<PortId>
+    ensures { port_if (option_map port_number result) ≡ cond stirs (port.n ∷ []) [] }
+{
+    if stirs { Some(port) } else { None }
+}
+
+// The channel, where a value was taken from its fixed buffer, or put into its promise.
+fn stirred_at(banks: &Banks, operation: &Branch) -> Option<PortId>
+    ensures { port_if (option_map port_number result) ≡ done_stirred (channel_of (whole (channels_held banks.now) (port_of (branch_view operation.now)))) (branch_view operation.now) }
+{
+    match operation {
+        Branch::Take(port) => only_if(*port, is_fixed(banks, *port)),
+        Branch::Put(port, _) => only_if(*port, is_promise(banks, *port)),
     }
 }
 
 // The channel that the event may bring to settle: a take from a fixed buffer, a put into a promise, and what is closed.
-fn stirred_by<A: Agent>(held: &Held<A>, plan: &Plan) -> Option<PortId> {
+fn stirred_by<A: Agent>(held: &Held<A>, plan: &Plan) -> Option<PortId>
+    ensures { port_if (option_map port_number result) ≡ stirred_of (whole (channels_held held.now.banks)) (plan_view plan.now) }
+{
     match plan {
-        Plan::Done(chosen) => match &chosen.operation {
-            Branch::Take(port) => stirred_at(held, *port, true),
-            Branch::Put(port, _) => stirred_at(held, *port, false),
-        },
+        Plan::Done(chosen) => stirred_at(&held.banks, &chosen.operation),
         Plan::Close(port) => Some(*port),
         _ => None,
     }
@@ -180,6 +217,7 @@ fn draw_plan<R: Wait, A: Agent, C: Clock + Drop>(
     ensures drew { Drew result.cost result.over worker.old worker.new }
     ensures over { TaskOver A.over code.now result.lane.value }
     ensures stepped { (program : ProgramView) (n : ℕ) (l : Lane A) (clock0 : Option (ClockBox C)) → HasTaken A.over A.stands code.now table.now.id program n l (part_seen C.least C.faults C.readings) clock0 held.old worker.old → HasGone A.over A.advances program code.now l lane.value task → IsAsked C.least C.faults C.readings (plan_view plan) clock0 clock held.old → IsStarted A.place A.starts A.over program (valid_code code.now) held.old.new_task task spawned → IsSeated A.over A.stands program code.now table.now.id n worker.new result.lane.value }
+    ensures solo { lane.value.since < patience → (most : ℕ) → MayGo A.over A.place A.stands A.advances A.gives A.starts code.now (MaySettle to_turn []) most worker.old → HasStepped A.over A.place A.stands A.advances A.gives A.starts code.now (port_if (option_map port_number result.stirred)) result.over most worker.new }
 {
     check_turns(rt, worker);
     let stirred = stirred_by(held, &plan);
@@ -225,6 +263,7 @@ pub(crate) fn commit<R: Wait, A: Starting, C: Clock + Drop>(
     ensures stepped { IfOk result (λ s. (program : ProgramView) (n : ℕ) (l : Lane A) → HasTaken A.over A.stands code.now table.now.id program n l (part_seen C.least C.faults C.readings) None held.old worker.old → HasGone A.over A.advances program code.now l lane.value task → IsSeated A.over A.stands program code.now table.now.id n worker.new s.lane.value) }
     ensures refused { OnErr result (Drew 0 false worker.old worker.new) }
     ensures kept { OnErr result ((program : ProgramView) (n : ℕ) (l : Lane A) → HasTaken A.over A.stands code.now table.now.id program n l (part_seen C.least C.faults C.readings) None held.old worker.old → HasLane A.over A.stands code.now table.now.id program n l worker.new) }
+    ensures solo { IfOk result (λ s. lane.value.since < patience → (most : ℕ) → MayGo A.over A.place A.stands A.advances A.gives A.starts code.now (MaySettle to_turn []) most worker.old → HasStepped A.over A.place A.stands A.advances A.gives A.starts code.now (port_if (option_map port_number s.stirred)) s.over most worker.new) }
 {
     let clock = take_others(rt, table, code, worker, held, &plan);
     check_new(rt, held);

@@ -1,14 +1,17 @@
 // A worker draws an event over what it moved out of its hand: it lays that back, draws, and gives it back.
-ghost use Rattle.std.specs.Prelude.{◌≡◌, ℕ, ◌+◌, ◌^◌, ◌<◌, ◌≤◌, ◌++◌, ◌∷◌, [], Option, None, false, length};
-ghost use Rattle.ca_term.specs.Program.{ProgramView};
+ghost use Rattle.std.specs.Prelude.{◌≡◌, ℕ, ◌+◌, ◌^◌, ◌<◌, ◌≤◌, ◌++◌, ◌∷◌, [], Option, None, false, length, IfSome};
+ghost use mathlib.Core.Option.{some};
+ghost use lib.ListN.{get_elem?};
 ghost use Rattle.ca_value.specs.Seq.{spare};
+ghost use Rattle.ca_term.specs.Program.{ProgramView};
 ghost use Rattle.ca_meaning.specs.Cost.{cost};
 ghost use Rattle.ca_turns.specs.declared.rule.Turn.{Turn};
+ghost use Rattle.ca_turns.specs.Views.{stands};
 ghost use Rattle.ca_commit.specs.Moving.{visible};
 ghost use Rattle.ca_table.specs.Beside.{beside_lane, settled_beside};
 ghost use Rattle.ca_table.specs.Carriers.{IsCarrying, just_lane};
 ghost use Rattle.ca_table.specs.Carrying.{Carries, each_by};
-ghost use Rattle.ca_table.specs.Draws.{MayHold, drawn_view, turn_view};
+ghost use Rattle.ca_table.specs.Draws.{MayHold, drawn_view, turn_view, drawn_touches};
 ghost use Rattle.ca_table.specs.Grips.{SameHand, settled_one};
 ghost use Rattle.ca_table.specs.Homes.{has_home, members};
 ghost use Rattle.ca_table.specs.Needing.{drawn_with};
@@ -19,7 +22,9 @@ ghost use Rattle.ca_table.specs.Workers.{SameWorker};
 ghost use Rattle.ca_table.specs.declared.drawn.Drawn.{Drawn};
 ghost use Rattle.ca_table.specs.declared.part.Lane.{Lane};
 ghost use Rattle.ca_table.specs.declared.part.Part.{Part};
-ghost use Rattle.ca_pool.specs.Desk.{ClockBox, IsBare, IsMovedWith, SameHeld, SameNumbers, all_laid, holds_banks, holds_shards, laid_aside, taken};
+ghost use Rattle.ca_table.specs.LoneHands.{left_now};
+ghost use Rattle.ca_table.specs.declared.part.Contents.TheVariants.{Timers};
+ghost use Rattle.ca_pool.specs.Desk.{ClockBox, IsBare, IsMovedWith, SameHeld, SameNumbers, all_laid, holds_banks, holds_shards, laid_aside, taken, settled_as};
 
 use crate::laying::{Laid, give_back, lay_back};
 use ca_agent::agent::Agent;
@@ -120,6 +125,7 @@ pub(crate) fn draw_aside<A: Agent, C: Clock + Drop>(
     ensures bare { IsBare held.new }
     ensures numbers { SameNumbers held.old held.new }
     ensures carries { (program : ProgramView) (n : ℕ) (l : Lane A) (clock0 : Option (ClockBox C)) (held0 : Held A) → IsCarrying A.over A.stands program code.now table.now.id n worker.old (taken (part_seen C.least C.faults C.readings) n code.now worker.old.number l clock0 held0) → SameHeld clock0 clock held0 held.old → IsMovedWith A.over A.place A.advances A.gives A.starts (part_seen C.least C.faults C.readings) code.now n worker.old.number (holds_banks held.old) (holds_shards held.old) (turn_view what) (laid_aside (part_seen C.least C.faults C.readings) n code.now worker.old.number l clock0 held0 clock held.old) → IsCarrying A.over A.stands program code.now table.now.id n worker.new (just_lane n code.now l) }
+    ensures timed { (program : ProgramView) (n : ℕ) (l : Lane A) (clock0 : Option (ClockBox C)) (held0 : Held A) → IsCarrying A.over A.stands program code.now table.now.id n worker.old (taken (part_seen C.least C.faults C.readings) n code.now worker.old.number l clock0 held0) → SameHeld clock0 clock held0 held.old → IsMovedWith A.over A.place A.advances A.gives A.starts (part_seen C.least C.faults C.readings) code.now n worker.old.number (holds_banks held.old) (holds_shards held.old) (turn_view what) (laid_aside (part_seen C.least C.faults C.readings) n code.now worker.old.number l clock0 held0 clock held.old) → stands worker.old.hand.view ≡ worker.old.hand.view.hands → IfSome clock (λ t. get_elem? (left_now drawn_touches worker.new.hand.view) (n + 32) ≡ some (settled_as (part_seen C.least C.faults C.readings) n code.now (Timers t))) }
 {
     let laid = lay_back(code, worker, held, clock);
     draw_laid_aside(table, code, worker, &laid, what);

@@ -1,13 +1,16 @@
 // How the lane's task ends: by its value, by a fault of its own, or at an operation that is refused.
-ghost use Rattle.std.specs.Prelude.{◌≡◌, ℕ, ◌+◌, ◌<◌, ◌^◌, Option, Some, None, IfOk, OnErr, eqb, false, is_some, option_map, true};
+ghost use Rattle.std.specs.Prelude.{◌≡◌, ℕ, ◌+◌, ◌<◌, ◌^◌, Option, Some, None, IfOk, OnErr, eqb, false, is_some, option_map, true, []};
 ghost use Rattle.ca_value.specs.Seq.{spare};
 ghost use Rattle.ca_value.specs.Tree.{Tree};
 ghost use Rattle.ca_term.specs.Event.{port_number};
 ghost use Rattle.ca_term.specs.Program.{ProgramView, program_view};
 ghost use Rattle.ca_meaning.specs.Body.{ended, faulted};
+ghost use Rattle.ca_meaning.specs.Solo.{patience};
+ghost use Rattle.ca_solo.specs.Stirs.{port_if};
 ghost use Rattle.ca_commit.specs.Contents.{home, main_over};
 ghost use Rattle.ca_commit.specs.TaskMoves.{with_mark};
 ghost use Rattle.ca_commit.specs.declared.held.Held.{Held};
+ghost use Rattle.ca_commit.specs.declared.planned.Plan.TheVariants.{Refused};
 ghost use Rattle.ca_table.specs.Carriers.{IsCarrying, just_lane};
 ghost use Rattle.ca_table.specs.DrawnEvents.{HasBanks};
 ghost use Rattle.ca_table.specs.Grips.{SameTurns};
@@ -16,13 +19,15 @@ ghost use Rattle.ca_table.specs.Parts.{clockwork_seen, part_seen};
 ghost use Rattle.ca_table.specs.Worked.{Drew};
 ghost use Rattle.ca_table.specs.Workers.{IsSeated, SameWorker};
 ghost use Rattle.ca_table.specs.declared.part.Lane.{Lane};
+ghost use Rattle.ca_alone.specs.Schedule.{MaySettle, to_turn};
 ghost use Rattle.ca_pool.specs.AtEvent.{HasLane, HasTaken};
 ghost use Rattle.ca_pool.specs.Desk.{IsBare};
 ghost use Rattle.ca_pool.specs.Endings.{IsEnding, MayFault};
 ghost use Rattle.ca_pool.specs.Leaving.{HasLeft, TaskOver};
 ghost use Rattle.ca_pool.specs.Prepared.{HasGone};
 ghost use Rattle.ca_pool.specs.Resolving.{IsHeld, IsResolved};
-ghost use Rattle.ca_commit.specs.declared.planned.Plan.TheVariants.{Refused};
+ghost use Rattle.ca_pool.specs.Lone.{HasStepped, MayGo};
+ghost use Rattle.ca_pool.specs.Stirred.{stirred_at_end};
 
 use crate::drawing::draw_turn;
 use crate::fitting::cost_of;
@@ -125,11 +130,13 @@ fn finish<R: Wait, A: Agent, C: Clock + Drop>(
     requires ready { held.old.ready ≡ None }
     requires timers { held.old.timers ≡ None }
     requires room { 0 < spare worker.old.entries }
+    requires stirs { port_if (option_map port_number stirred) ≡ stirred_at_end ending }
     ensures same { SameWorker worker.old worker.new }
     ensures bare { IsBare held.new }
     ensures over { TaskOver A.over code.now result.lane.value }
     ensures drew { Drew result.cost result.over worker.old worker.new }
     ensures stepped { (program : ProgramView) (n : ℕ) (l : Lane A) (held0 : Held A) → IsEnding A.over A.stands A.place A.advances A.gives A.starts (part_seen C.least C.faults C.readings) code.now table.now.id program n l clock held0 held.old worker.old lane.value task.now ending → IsSeated A.over A.stands program code.now table.now.id n worker.new result.lane.value }
+    ensures solo { lane.value.since < patience → (most : ℕ) → MayGo A.over A.place A.stands A.advances A.gives A.starts code.now (MaySettle to_turn []) most worker.old → HasStepped A.over A.place A.stands A.advances A.gives A.starts code.now (port_if (option_map port_number result.stirred)) result.over most worker.new }
 {
     check_turns(rt, worker);
     check_counts(rt, lane.counts, lane.since);
@@ -180,6 +187,7 @@ fn finish_by_fault<R: Wait, A: Agent, C: Clock + Drop>(
     ensures over { TaskOver A.over code.now result.lane.value }
     ensures drew { Drew result.cost result.over worker.old worker.new }
     ensures stepped { (program : ProgramView) (n : ℕ) (l : Lane A) → HasTaken A.over A.stands code.now table.now.id program n l (part_seen C.least C.faults C.readings) None held.old worker.old → HasGone A.over A.advances program code.now l lane.value task.now → IsSeated A.over A.stands program code.now table.now.id n worker.new result.lane.value }
+    ensures solo { lane.value.since < patience → (most : ℕ) → MayGo A.over A.place A.stands A.advances A.gives A.starts code.now (MaySettle to_turn []) most worker.old → HasStepped A.over A.place A.stands A.advances A.gives A.starts code.now (port_if (option_map port_number result.stirred)) result.over most worker.new }
 {
     let clock = take_last(rt, table, code, worker, held, task.number);
     let result = task.result;
@@ -215,6 +223,7 @@ pub(crate) fn end<R: Wait, A: Agent, C: Clock + Drop>(
     ensures drew { IfOk result (λ s. Drew s.cost s.over worker.old worker.new) }
     ensures kept { OnErr result ((program : ProgramView) (n : ℕ) (l : Lane A) → IsCarrying A.over A.stands program code.now table.now.id n worker.old (just_lane n code.now l) → IsCarrying A.over A.stands program code.now table.now.id n worker.new (just_lane n code.now l)) }
     ensures refused { OnErr result (Drew 0 false worker.old worker.new) }
+    ensures solo { IfOk result (λ s. lane.value.since < patience → (most : ℕ) → MayGo A.over A.place A.stands A.advances A.gives A.starts code.now (MaySettle to_turn []) most worker.old → HasStepped A.over A.place A.stands A.advances A.gives A.starts code.now (port_if (option_map port_number s.stirred)) s.over most worker.new) }
 {
     make_room(worker)?;
     let clock = take_last(rt, table, code, worker, held, task.number);
@@ -266,6 +275,7 @@ pub(crate) fn fault<R: Wait, A: Agent, C: Clock + Drop>(
     ensures drew { IfOk result (λ s. Drew s.cost s.over worker.old worker.new) }
     ensures kept { OnErr result ((program : ProgramView) (n : ℕ) (l : Lane A) → IsCarrying A.over A.stands program code.now table.now.id n worker.old (just_lane n code.now l) → IsCarrying A.over A.stands program code.now table.now.id n worker.new (just_lane n code.now l)) }
     ensures refused { OnErr result (Drew 0 false worker.old worker.new) }
+    ensures solo { IfOk result (λ s. lane.value.since < patience → (most : ℕ) → MayGo A.over A.place A.stands A.advances A.gives A.starts code.now (MaySettle to_turn []) most worker.old → HasStepped A.over A.place A.stands A.advances A.gives A.starts code.now (port_if (option_map port_number s.stirred)) s.over most worker.new) }
 {
     make_room(worker)?;
     let homes = home_of(task.result);
@@ -295,6 +305,7 @@ pub(crate) fn refuse<R: Wait, A: Agent, C: Clock + Drop>(
     ensures stepped { IfOk result (λ s. (program : ProgramView) (n : ℕ) (l : Lane A) → HasTaken A.over A.stands code.now table.now.id program n l (part_seen C.least C.faults C.readings) None held.old worker.old → HasGone A.over A.advances program code.now l lane.value task → IsSeated A.over A.stands program code.now table.now.id n worker.new s.lane.value) }
     ensures refused { OnErr result (Drew 0 false worker.old worker.new) }
     ensures kept { OnErr result ((program : ProgramView) (n : ℕ) (l : Lane A) → HasTaken A.over A.stands code.now table.now.id program n l (part_seen C.least C.faults C.readings) None held.old worker.old → HasLane A.over A.stands code.now table.now.id program n l worker.new) }
+    ensures solo { IfOk result (λ s. lane.value.since < patience → (most : ℕ) → MayGo A.over A.place A.stands A.advances A.gives A.starts code.now (MaySettle to_turn []) most worker.old → HasStepped A.over A.place A.stands A.advances A.gives A.starts code.now (port_if (option_map port_number s.stirred)) s.over most worker.new) }
 {
     match make_room(worker) {
         Err(OutOfMemory) => {

@@ -1,5 +1,6 @@
 // Where a worker stands between two events.
-ghost use Rattle.std.specs.Prelude.{◌≡◌, ◌-◌, ◌<◌, IsSome, false, true};
+ghost use Rattle.std.specs.Prelude.{◌≡◌, ◌⊎◌, ◌-◌, ◌<◌, ◌≤◌, None, IsSome, false, true};
+ghost use Rattle.ca_meaning.specs.Solo.{patience};
 
 use ca_agent::agent::Agent;
 use ca_table::part::Lane;
@@ -33,6 +34,8 @@ pub(crate) fn spend<A: Agent>(going: Going<A>, cost: u64) -> Going<A>
 pub(crate) fn goes_on<A: Agent>(going: &Going<A>) -> bool
     ensures on { result ≡ true → going.now.found ≡ false }
     ensures over { result ≡ false → 0 < going.now.left → going.now.found ≡ true }
+    ensures goes { result ≡ true → 0 < going.now.left }
+    ensures stops { result ≡ false → (going.now.left ≡ 0) ⊎ (going.now.found ≡ true) }
 {
     !going.found && going.left > 0
 }
@@ -41,6 +44,9 @@ pub(crate) fn goes_on<A: Agent>(going: &Going<A>) -> bool
 pub(crate) fn has_turn<A: Agent>(going: &Going<A>) -> bool
     ensures busy { result ≡ true → IsSome going.now.lane.value.task }
     ensures on { result ≡ true → going.now.found ≡ false }
+    ensures some { result ≡ true → 0 < going.now.left }
+    ensures few { result ≡ true → going.now.lane.value.since < patience }
+    ensures full { result ≡ false → 0 < going.now.left → going.now.found ≡ false → (going.now.lane.value.task ≡ None) ⊎ (patience ≤ going.now.lane.value.since) }
 {
     goes_on(going) && going.lane.task.is_some() && going.lane.since < MOST_SINCE
 }

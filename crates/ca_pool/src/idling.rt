@@ -1,16 +1,19 @@
 // A worker that finds no task: it waits for the clock, or leaves a run in which nothing can go on.
 ghost use Rattle.std.specs.Prelude.{◌≡◌, ◌≢◌, ℕ, ◌<◌, ◌≤◌, ◌^◌, Some, None, IfOk, false, true};
-ghost use Rattle.ca_term.specs.Program.{ProgramView};
 ghost use Rattle.ca_value.specs.Seq.{spare};
+ghost use Rattle.ca_term.specs.Program.{ProgramView};
 ghost use Rattle.ca_table.specs.Carriers.{IsCarrying, just_lane};
 ghost use Rattle.ca_table.specs.Parts.{part_seen};
 ghost use Rattle.ca_table.specs.Worked.{Drew};
 ghost use Rattle.ca_table.specs.Workers.{IsSeated, SameWorker};
 ghost use Rattle.ca_table.specs.declared.part.Lane.{Lane};
+ghost use Rattle.ca_alone.specs.Schedule.{AtEmpty, MaySettle, to_rest};
 ghost use Rattle.ca_pool.specs.Costs.{cost_asked, cost_idle, is_marked, is_over};
 ghost use Rattle.ca_pool.specs.Desk.{IsBare, taken};
 ghost use Rattle.ca_pool.specs.Leaving.{TaskOver};
 ghost use Rattle.ca_pool.specs.Surveys.{is_stuck};
+ghost use Rattle.ca_pool.specs.Asking.{IsFirst};
+ghost use Rattle.ca_pool.specs.Lone.{MayGo, Stayed, Went};
 
 use crate::clocking::{Asked, answer_late, draw_clock, is_marked, ready_to_ask, with_mark};
 use crate::laying::put_off;
@@ -66,6 +69,7 @@ fn obey<R: Wait, A: Agent, C: Clock + Drop>(
     ensures bare { IsBare held.new }
     ensures drew { Drew 0 result worker.old worker.new }
     ensures carries { (program : ProgramView) (n : ℕ) (l : Lane A) → IsCarrying A.over A.stands program code.now table.now.id n worker.old (just_lane n code.now l) → IsCarrying A.over A.stands program code.now table.now.id n worker.new (just_lane n code.now l) }
+    ensures stayed { Stayed worker.old worker.new }
 {
     match try_clock(table, code, worker, held) {
         None => false,
@@ -114,6 +118,7 @@ fn wait_late<R: Wait, A: Agent, C: Clock + Drop>(
     ensures bare { IsBare held.new }
     ensures drew { IfOk result (λ i. Drew (cost_idle i) (is_over i) worker.old worker.new) }
     ensures carries { (program : ProgramView) (n : ℕ) (l : Lane A) → IsCarrying A.over A.stands program code.now table.now.id n worker.old (taken (part_seen C.least C.faults C.readings) n code.now worker.old.number l (Some clockwork) held.old) → IsCarrying A.over A.stands program code.now table.now.id n worker.new (just_lane n code.now l) }
+    ensures solo { IfOk result (λ r. IsFirst first clockwork.value.timers.deadlines → (most : ℕ) → MayGo A.over A.place A.stands A.advances A.gives A.starts code.now AtEmpty most worker.old → Went A.over A.place A.stands A.advances A.gives A.starts code.now (MaySettle to_rest ports.new.items) most worker.new) }
 {
     let (clockwork, answer) = answer_late(clockwork, first);
     match answer {
@@ -130,7 +135,9 @@ fn wait_late<R: Wait, A: Agent, C: Clock + Drop>(
 }
 
 // Whether that is the first deadline.
-fn is_first(timers: &Timers, first: u64) -> bool {
+fn is_first(timers: &Timers, first: u64) -> bool
+    ensures { result ≡ true → IsFirst first timers.now.deadlines }
+{
     match timers.first() {
         Some(moment) => moment == first,
         None => false,
@@ -156,6 +163,7 @@ fn wait_with<R: Wait, A: Agent, C: Clock + Drop>(
     ensures bare { IsBare held.new }
     ensures drew { IfOk result (λ i. Drew (cost_idle i) (is_over i) worker.old worker.new) }
     ensures carries { (program : ProgramView) (n : ℕ) (l : Lane A) → IsCarrying A.over A.stands program code.now table.now.id n worker.old (taken (part_seen C.least C.faults C.readings) n code.now worker.old.number l (Some clockwork) held.old) → IsCarrying A.over A.stands program code.now table.now.id n worker.new (just_lane n code.now l) }
+    ensures solo { IfOk result (λ r. (most : ℕ) → MayGo A.over A.place A.stands A.advances A.gives A.starts code.now AtEmpty most worker.old → Went A.over A.place A.stands A.advances A.gives A.starts code.now (MaySettle to_rest ports.new.items) most worker.new) }
 {
     if !is_first(&clockwork.timers, first) || first >= MOMENTS {
         put_off(table, code, worker, held, Some(clockwork));
@@ -190,6 +198,7 @@ fn await_deadline<R: Wait, A: Agent, C: Clock + Drop>(
     ensures bare { IsBare held.new }
     ensures drew { IfOk result (λ i. Drew (cost_idle i) (is_over i) worker.old worker.new) }
     ensures carries { (program : ProgramView) (n : ℕ) (l : Lane A) → IsCarrying A.over A.stands program code.now table.now.id n worker.old (just_lane n code.now l) → IsCarrying A.over A.stands program code.now table.now.id n worker.new (just_lane n code.now l) }
+    ensures solo { IfOk result (λ r. (most : ℕ) → MayGo A.over A.place A.stands A.advances A.gives A.starts code.now AtEmpty most worker.old → Went A.over A.place A.stands A.advances A.gives A.starts code.now (MaySettle to_rest ports.new.items) most worker.new) }
 {
     match try_clock(table, code, worker, held) {
         None => Ok(Rested::Busy),
@@ -230,6 +239,7 @@ fn look_round<R: Wait, A: Agent, C: Clock + Drop>(
     ensures drew { Drew 0 (is_stuck result.1) worker.old worker.new }
     ensures seated { (program : ProgramView) (n : ℕ) → IsSeated A.over A.stands program code.now table.now.id n worker.old lane.value → IsSeated A.over A.stands program code.now table.now.id n worker.new result.0.value }
     ensures over { TaskOver A.over code.now result.0.value }
+    ensures stayed { Stayed worker.old worker.new }
 {
     rise(table, code, worker, lane);
     let found = survey(rt, table, code, worker);
@@ -258,6 +268,7 @@ pub(crate) fn idle<R: Wait, A: Agent, C: Clock + Drop>(
     ensures drew { IfOk result.1 (λ i. Drew (cost_idle i) (is_over i) worker.old worker.new) }
     ensures over { TaskOver A.over code.now result.0.value }
     ensures seated { (program : ProgramView) (n : ℕ) → IsSeated A.over A.stands program code.now table.now.id n worker.old lane.value → IsSeated A.over A.stands program code.now table.now.id n worker.new result.0.value }
+    ensures solo { IfOk result.1 (λ r. (most : ℕ) → MayGo A.over A.place A.stands A.advances A.gives A.starts code.now AtEmpty most worker.old → Went A.over A.place A.stands A.advances A.gives A.starts code.now (MaySettle to_rest due.new.items) most worker.new) }
 {
     if obey(rt, table, code, worker, held) {
         return (lane, Ok(Rested::Over));

@@ -1,7 +1,10 @@
 // An operation of the lane's task: one event, or the task's end where it is refused.
-ghost use Rattle.std.specs.Prelude.{◌≡◌, ℕ, IfOk, OnErr, false, true};
+ghost use Rattle.std.specs.Prelude.{◌≡◌, ℕ, IfOk, OnErr, false, true, [], ◌<◌, option_map};
 ghost use Rattle.ca_term.specs.Program.{ProgramView, program_view};
+ghost use Rattle.ca_term.specs.Event.{port_number};
 ghost use Rattle.ca_meaning.specs.BodyViews.{is_at_op};
+ghost use Rattle.ca_meaning.specs.Solo.{patience};
+ghost use Rattle.ca_solo.specs.Stirs.{port_if};
 ghost use Rattle.ca_states.specs.ValidCode.{valid_code};
 ghost use Rattle.ca_lower.specs.Gos.{SameGos};
 ghost use Rattle.ca_lower.specs.Lowered.{Lowered};
@@ -9,8 +12,10 @@ ghost use Rattle.ca_table.specs.Carriers.{IsCarrying, just_lane};
 ghost use Rattle.ca_table.specs.Worked.{Drew};
 ghost use Rattle.ca_table.specs.Workers.{IsSeated, SameWorker};
 ghost use Rattle.ca_table.specs.declared.part.Lane.{Lane};
+ghost use Rattle.ca_alone.specs.Schedule.{MaySettle, to_turn};
 ghost use Rattle.ca_pool.specs.Desk.{IsBare};
 ghost use Rattle.ca_pool.specs.Leaving.{HasLeft, TaskOver};
+ghost use Rattle.ca_pool.specs.Lone.{HasStepped, MayGo};
 
 use crate::committing::commit;
 use crate::ending::refuse;
@@ -65,6 +70,7 @@ pub(crate) fn operate<R: Wait, A: Starting, C: Clock + Drop>(
     ensures drew { IfOk result (λ s. Drew s.cost s.over worker.old worker.new) }
     ensures kept { OnErr result ((program : ProgramView) (n : ℕ) (l : Lane A) → IsCarrying A.over A.stands program code.now table.now.id n worker.old (just_lane n code.now l) → IsCarrying A.over A.stands program code.now table.now.id n worker.new (just_lane n code.now l)) }
     ensures refused { OnErr result (Drew 0 false worker.old worker.new) }
+    ensures solo { IfOk result (λ s. lane.value.since < patience → (most : ℕ) → MayGo A.over A.place A.stands A.advances A.gives A.starts code.now (MaySettle to_turn []) most worker.old → HasStepped A.over A.place A.stands A.advances A.gives A.starts code.now (port_if (option_map port_number s.stirred)) s.over most worker.new) }
 {
     set_numbers(rt, worker, lane.counts, held);
     check_apart(rt, &task.agent.want().op);

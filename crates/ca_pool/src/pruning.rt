@@ -9,6 +9,7 @@ ghost use Rattle.ca_table.specs.Workers.{SameWorker};
 ghost use Rattle.ca_table.specs.declared.part.Lane.{Lane};
 ghost use Rattle.ca_pool.specs.AtEvent.{HasLane, HasTaken};
 ghost use Rattle.ca_pool.specs.Desk.{IsBare, SameNumbers};
+ghost use Rattle.ca_pool.specs.Lone.{Stayed};
 
 use crate::drawing::draw_aside;
 use crate::limits::check_turns;
@@ -45,6 +46,7 @@ pub(crate) fn prune<R: Wait, A: Agent, C: Clock + Drop>(
     ensures numbers { SameNumbers held.old held.new }
     ensures drew { Drew 0 false worker.old worker.new }
     ensures carries { (program : ProgramView) (n : ℕ) (l : Lane A) → HasTaken A.over A.stands code.now table.now.id program n l (part_seen C.least C.faults C.readings) None held.old worker.old → HasLane A.over A.stands code.now table.now.id program n l worker.new }
+    ensures stayed { Stayed worker.old worker.new }
 {
     check_turns(rt, worker);
     let wait = prune_held(held, port, side, place);

@@ -19,6 +19,7 @@ ghost use Rattle.ca_table.specs.declared.part.Lane.{Lane};
 ghost use Rattle.ca_pool.specs.AtEvent.{HasLane, HasTaken};
 ghost use Rattle.ca_pool.specs.Desk.{IsBare, SameNumbers, holds_shards};
 ghost use Rattle.ca_pool.specs.Resolving.{BringsApart, HoldsThese, IsHeld, IsResolved, IsSeen, LeftOff, Took, Wants};
+ghost use Rattle.ca_pool.specs.Lone.{Stayed};
 
 use crate::laying::put_off;
 use crate::named::banks_of;
@@ -64,6 +65,7 @@ fn take_all<R: Wait, A: Agent, C: Clock + Drop>(
     ensures numbers { SameNumbers held.old held.new }
     ensures took { OnOk result (Took A.over A.stands A.place (part_seen C.least C.faults C.readings) code.now table.now.id (λ program n l. HasLane A.over A.stands code.now table.now.id program n l worker.old) wanted.now.banks wanted.now.shards held.new worker.new) }
     ensures refused { OnErr result (LeftOff A.over A.stands code.now table.now.id (λ program n l. HasLane A.over A.stands code.now table.now.id program n l worker.old) held.new worker.new) }
+    ensures stayed { Stayed worker.old worker.new }
 {
     take_banks(rt, table, code, worker, &wanted.banks, held)?;
     match take_shards(rt, table, code, worker, &wanted.shards, held) {
@@ -90,6 +92,7 @@ fn take_again<R: Wait, A: Agent, C: Clock + Drop>(
     ensures numbers { SameNumbers held.old held.new }
     ensures took { OnOk result (Took A.over A.stands A.place (part_seen C.least C.faults C.readings) code.now table.now.id (λ program n l. HasTaken A.over A.stands code.now table.now.id program n l (part_seen C.least C.faults C.readings) None held.old worker.old) wanted.now.banks wanted.now.shards held.new worker.new) }
     ensures refused { OnErr result (LeftOff A.over A.stands code.now table.now.id (λ program n l. HasTaken A.over A.stands code.now table.now.id program n l (part_seen C.least C.faults C.readings) None held.old worker.old) held.new worker.new) }
+    ensures stayed { Stayed worker.old worker.new }
 {
     put_off(table, code, worker, held, None);
     take_all(rt, table, code, worker, held, wanted)
@@ -127,6 +130,7 @@ fn take_above<R: Wait, A: Agent, C: Clock + Drop>(
     ensures banks { wanted.new.banks ≡ wanted.old.banks }
     ensures took { OnOk result (Took A.over A.stands A.place (part_seen C.least C.faults C.readings) code.now table.now.id (λ program n l. HasTaken A.over A.stands code.now table.now.id program n l (part_seen C.least C.faults C.readings) None held.old worker.old) wanted.new.banks wanted.new.shards held.new worker.new) }
     ensures refused { OnErr result (LeftOff A.over A.stands code.now table.now.id (λ program n l. HasTaken A.over A.stands code.now table.now.id program n l (part_seen C.least C.faults C.readings) None held.old worker.old) held.new worker.new) }
+    ensures stayed { Stayed worker.old worker.new }
 {
     wanted.shards.add(number);
     match take_shard(rt, table, code, worker, number, held) {
@@ -156,6 +160,7 @@ fn take_more<R: Wait, A: Agent, C: Clock + Drop>(
     ensures banks { wanted.new.banks ≡ wanted.old.banks }
     ensures took { OnOk result (Took A.over A.stands A.place (part_seen C.least C.faults C.readings) code.now table.now.id (λ program n l. HasTaken A.over A.stands code.now table.now.id program n l (part_seen C.least C.faults C.readings) None held.old worker.old) wanted.new.banks wanted.new.shards held.new worker.new) }
     ensures refused { OnErr result (LeftOff A.over A.stands code.now table.now.id (λ program n l. HasTaken A.over A.stands code.now table.now.id program n l (part_seen C.least C.faults C.readings) None held.old worker.old) held.new worker.new) }
+    ensures stayed { Stayed worker.old worker.new }
 {
     let number = wait % 16;
     if is_above(&wanted.shards, number) {
@@ -185,6 +190,7 @@ fn prune_first<R: Wait, A: Agent, C: Clock + Drop>(
     ensures numbers { SameNumbers held.old held.new }
     ensures took { OnOk result (Took A.over A.stands A.place (part_seen C.least C.faults C.readings) code.now table.now.id (λ program n l. HasTaken A.over A.stands code.now table.now.id program n l (part_seen C.least C.faults C.readings) None held.old worker.old) wanted.now.banks wanted.now.shards held.new worker.new) }
     ensures refused { OnErr result (LeftOff A.over A.stands code.now table.now.id (λ program n l. HasTaken A.over A.stands code.now table.now.id program n l (part_seen C.least C.faults C.readings) None held.old worker.old) held.new worker.new) }
+    ensures stayed { Stayed worker.old worker.new }
 {
     prune(rt, table, code, worker, held, port, side, place);
     take_all(rt, table, code, worker, held, wanted)
@@ -230,6 +236,7 @@ fn refuse_over<R: Wait, A: Agent, C: Clock + Drop>(
     ensures took { OnOk result (Took A.over A.stands A.place (part_seen C.least C.faults C.readings) code.now table.now.id (λ program n l. HasTaken A.over A.stands code.now table.now.id program n l (part_seen C.least C.faults C.readings) None held.old worker.old) wanted.new.banks wanted.new.shards held.new worker.new) }
     ensures refused { OnErr result (LeftOff A.over A.stands code.now table.now.id (λ program n l. HasTaken A.over A.stands code.now table.now.id program n l (part_seen C.least C.faults C.readings) None held.old worker.old) held.new worker.new) }
     ensures resolved { IfOk result (λ o. IfSome o (λ p. IsResolved A.place held.new task.now p)) }
+    ensures stayed { Stayed worker.old worker.new }
 {
     if has_bank(&wanted.banks, task.result) {
         Ok(Some(Plan::Refused(fault)))
@@ -284,6 +291,7 @@ fn take_up<R: Wait, A: Agent, C: Clock + Drop>(
     ensures took { OnOk result (Took A.over A.stands A.place (part_seen C.least C.faults C.readings) code.now table.now.id (λ program n l. HasTaken A.over A.stands code.now table.now.id program n l (part_seen C.least C.faults C.readings) None held.old worker.old) wanted.new.banks wanted.new.shards held.new worker.new) }
     ensures refused { OnErr result (LeftOff A.over A.stands code.now table.now.id (λ program n l. HasTaken A.over A.stands code.now table.now.id program n l (part_seen C.least C.faults C.readings) None held.old worker.old) held.new worker.new) }
     ensures resolved { IfOk result (λ o. IfSome o (λ p. IsResolved A.place held.new task.now p)) }
+    ensures stayed { Stayed worker.old worker.new }
 {
     match plan {
         Plan::Prune(port, side, place) => {
@@ -318,6 +326,7 @@ fn follow<R: Wait, A: Agent, C: Clock + Drop>(
     ensures took { OnOk result (Took A.over A.stands A.place (part_seen C.least C.faults C.readings) code.now table.now.id (λ program n l. HasTaken A.over A.stands code.now table.now.id program n l (part_seen C.least C.faults C.readings) None held.old worker.old) wanted.new.banks wanted.new.shards held.new worker.new) }
     ensures refused { OnErr result (LeftOff A.over A.stands code.now table.now.id (λ program n l. HasTaken A.over A.stands code.now table.now.id program n l (part_seen C.least C.faults C.readings) None held.old worker.old) held.new worker.new) }
     ensures resolved { IfOk result (λ o. IfSome o (λ p. IsResolved A.place held.new task.now p)) }
+    ensures stayed { Stayed worker.old worker.new }
 {
     match lacking(&plan, held.new_wait, &wanted.shards) {
         Some(wait) => {
@@ -351,6 +360,7 @@ fn try_once<R: Wait, A: Agent, C: Clock + Drop>(
     ensures took { OnOk result (Took A.over A.stands A.place (part_seen C.least C.faults C.readings) code.now table.now.id (λ program n l. HasTaken A.over A.stands code.now table.now.id program n l (part_seen C.least C.faults C.readings) None held.old worker.old) wanted.new.banks wanted.new.shards held.new worker.new) }
     ensures refused { OnErr result (LeftOff A.over A.stands code.now table.now.id (λ program n l. HasTaken A.over A.stands code.now table.now.id program n l (part_seen C.least C.faults C.readings) None held.old worker.old) held.new worker.new) }
     ensures resolved { IfOk result (λ o. IfSome o (λ p. IsResolved A.place held.new task.now p)) }
+    ensures stayed { Stayed worker.old worker.new }
 {
     match plan(alloc, held, task.agent.want(), task.alts) {
         Err(OutOfMemory) => {
@@ -393,6 +403,7 @@ pub(crate) fn resolve<R: Wait, A: Agent, C: Clock + Drop>(
     ensures carries { OnOk result ((program : ProgramView) (n : ℕ) (l : Lane A) → HasLane A.over A.stands code.now table.now.id program n l worker.old → HasTaken A.over A.stands code.now table.now.id program n l (part_seen C.least C.faults C.readings) None held.new worker.new) }
     ensures refused { OnErr result (LeftOff A.over A.stands code.now table.now.id (λ program n l. HasLane A.over A.stands code.now table.now.id program n l worker.old) held.new worker.new) }
     ensures resolved { IfOk result (λ p. IsResolved A.place held.new task.now p) }
+    ensures stayed { Stayed worker.old worker.new }
 {
     let mut wanted = wanted_by(task, held.new_port);
     take_all(rt, table, code, worker, held, &wanted)?;

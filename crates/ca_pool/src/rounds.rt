@@ -1,11 +1,12 @@
 // All workers at once.
-ghost use Rattle.std.specs.Prelude.{◌≡◌, ℕ, ◌+◌, ◌*◌, ◌<◌, ◌≤◌, All, length, true, false, OnOk, IfOk, Ok};
+ghost use Rattle.std.specs.Prelude.{◌≡◌, ℕ, ◌+◌, ◌*◌, ◌<◌, ◌≤◌, All, List, length, true, false, OnOk, IfOk, Ok};
 ghost use Rattle.ca_term.specs.Program.{program_view};
 ghost use Rattle.ca_lower.specs.Gos.{SameGos};
 ghost use Rattle.ca_lower.specs.Lowered.{Lowered};
 ghost use Rattle.ca_states.specs.ValidCode.{valid_code};
 ghost use Rattle.ca_turns.specs.Places.{total};
-ghost use Rattle.ca_pool.specs.Answers.{IsWorked, WorkedAt, joined, joined_from};
+ghost use Rattle.ca_pool.specs.Answers.{BeginsAlone, CalledAt, HasCalled, StopsAlone, joined, joined_from};
+ghost use Rattle.ca_table.specs.Seen.{PartSeen};
 ghost use Rattle.ca_table.specs.Worked.{any_drew, gives_up, leaves, spent};
 ghost use Rattle.ca_table.specs.Workers.{IsReady, stands_for};
 ghost use Rattle.ca_table.specs.declared.answer.WorkEnd.TheVariants.{Over, Spent};
@@ -42,7 +43,7 @@ fn work_once<R: Wait, A: Starting, C: Clock + Drop, G: Gate>(
     requires ready { IsReady A.over A.stands (program_view program.now.value) (valid_code code.now) table.now.id count worker.old }
     requires lowered { Lowered (program_view program.now.value) (valid_code code.now) }
     requires gos { SameGos (program_view program.now.value) (valid_code code.now) }
-    ensures { IsWorked A.over A.stands (program_view program.now.value) (valid_code code.now) table.now.id count allowance worker.old worker.new }
+    ensures { HasCalled A.over A.place A.stands A.advances A.gives A.starts code.now allowance (program_view program.now.value) table.now.id count worker.old worker.new }
 {
     worker.answer = work(rt, alloc, table, worker, allowance, code, gate);
 }
@@ -63,7 +64,7 @@ fn work_all<R: Threads + Wait + Sync, A: Starting + Send, C: Clock + Drop + Send
     requires lowered { Lowered (program_view program.now.value) (valid_code code.now) }
     requires gos { SameGos (program_view program.now.value) (valid_code code.now) }
     ensures many { length workers.new ≡ length workers.old }
-    ensures worked { WorkedAt A.over A.stands (program_view program.now.value) (valid_code code.now) table.now.id (length workers.old) allowance workers.old workers.new }
+    ensures called { CalledAt A.over A.place A.stands A.advances A.gives A.starts code.now allowance (program_view program.now.value) table.now.id (length workers.old) workers.old workers.new }
 {
     let threads = workers.len();
     let count = threads as u64;
@@ -73,7 +74,7 @@ fn work_all<R: Threads + Wait + Sync, A: Starting + Send, C: Clock + Drop + Send
         threads,
         &|_, worker: &mut Worker<A, C>|
             requires { IsReady A.over A.stands (program_view program.now.value) (valid_code code.now) table.now.id count worker.old × Lowered (program_view program.now.value) (valid_code code.now) × SameGos (program_view program.now.value) (valid_code code.now) }
-            ensures { IsWorked A.over A.stands (program_view program.entry.now.value) (valid_code code.entry.now) table.entry.now.id count allowance worker.old worker.new }
+            ensures { HasCalled A.over A.place A.stands A.advances A.gives A.starts code.entry.now allowance (program_view program.entry.now.value) table.entry.now.id count worker.old worker.new }
         {
             work_once(
                 rt, alloc, table, worker, allowance, program, code, count, gate,
@@ -83,7 +84,7 @@ fn work_all<R: Threads + Wait + Sync, A: Starting + Send, C: Clock + Drop + Send
 }
 
 /// Each worker with that allowance, in a thread of its own. It is spent where each of them spent it, and over where
-/// some worker found the run's end and none gave up.
+/// some worker found the run's end and none gave up. An only worker that begins keeps to the schedule.
 pub fn round<R: Threads + Wait + Sync, A: Starting + Send, C: Clock + Drop + Send, G: Gate + Sync>(
     rt: &R,
     alloc: Global,
@@ -104,6 +105,7 @@ pub fn round<R: Threads + Wait + Sync, A: Starting + Send, C: Clock + Drop + Sen
     ensures going { OnOk result (any_drew gives_up workers.old ≡ false → any_drew gives_up workers.new ≡ false) }
     ensures spent { IfOk result (λ e. e ≡ Spent → length workers.old * allowance + total spent workers.old ≤ total spent workers.new) }
     ensures over { IfOk result (λ e. e ≡ Over → any_drew leaves workers.new ≡ true) }
+    ensures solo { OnOk result ((opening : List (PartSeen A)) → 0 < allowance → All (BeginsAlone opening) workers.old → All (StopsAlone A.over A.place A.stands A.advances A.gives A.starts code.now allowance opening) workers.new) }
 {
     let text = Snapshot::of(program);
     work_all(rt, alloc, table, workers, allowance, &text, code, gate);

@@ -1,9 +1,9 @@
 // How a whole run ends.
 ghost use Rattle.std.specs.Prelude.{◌≡◌, ◌<◌, None, option_map};
 ghost use Rattle.ca_term.specs.Program.{ProgramView};
-ghost use Rattle.ca_meaning.specs.Ends.{HasEnd};
+ghost use Rattle.ca_meaning.specs.Ends.{HasEnd, IsWithin};
 ghost use Rattle.ca_meaning.specs.EndsLaw.{IsQuiet};
-ghost use Rattle.ca_meaning.specs.Legal.{Legal, Reaches};
+ghost use Rattle.ca_meaning.specs.Legal.{GoesOn, Legal, Reaches};
 ghost use Rattle.ca_meaning.specs.State.{State};
 ghost use Rattle.ca_journal.specs.Cut.{AllFit, end_in, kept};
 ghost use Rattle.ca_journal.specs.Events.{events};
@@ -25,11 +25,12 @@ pub enum PoolEnd {
     Limit,
 }
 
-/// What a run was, up to its end.
+/// What a run was, up to its end, and the clock as the run left it.
 #[derive(Drop)]
-pub struct PoolRun {
+pub struct PoolRun<C> {
     pub journal: Journal,
     pub end: PoolEnd,
+    pub clock: C,
 }
 
 fn end_at(at: Option<CutAt>) -> PoolEnd
@@ -43,21 +44,23 @@ fn end_at(at: Option<CutAt>) -> PoolEnd
     }
 }
 
-fn cut_run(journal: Journal, budget: u64) -> PoolRun
+fn cut_run(journal: Journal, budget: u64) -> (Journal, PoolEnd)
     requires { AllFit (events journal) }
-    ensures journal { events result.journal ≡ kept (end_in budget (events journal)) (events journal) }
-    ensures end { end_view result.end ≡ ended_by (option_map (λ c. c.1) (end_in budget (events journal))) }
+    ensures journal { events result.0 ≡ kept (end_in budget (events journal)) (events journal) }
+    ensures end { end_view result.1 ≡ ended_by (option_map (λ c. c.1) (end_in budget (events journal))) }
 {
     let (journal, at) = cut(journal, budget);
     let end = end_at(at);
-    PoolRun { journal, end }
+    (journal, end)
 }
 
-/// The journal of a run up to its end for the budget, where nothing can go on if it has none.
-pub(crate) fn end_run(journal: Journal, budget: u64) -> PoolRun
+/// The journal of a run up to its end for the budget, where nothing can go on if it has none. It stays whole where no
+/// event but the last uses the budget up or ends the main text.
+pub(crate) fn end_run(journal: Journal, budget: u64) -> (Journal, PoolEnd)
     requires fit { AllFit (events journal) }
     requires budget { 0 < budget }
-    ensures ends { (program : ProgramView) (s : State) → Reaches program (events journal) s → (end_in budget (events journal) ≡ None → IsQuiet s) → Legal program (events result.journal) × HasEnd program budget (events result.journal) (end_view result.end) }
+    ensures ends { (program : ProgramView) (s : State) → Reaches program (events journal) s → (end_in budget (events journal) ≡ None → IsQuiet s) → Legal program (events result.0) × HasEnd program budget (events result.0) (end_view result.1) }
+    ensures whole { IsWithin budget (events journal) → GoesOn (events journal) → events result.0 ≡ events journal }
 {
     cut_run(journal, budget)
 }

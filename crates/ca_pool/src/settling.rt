@@ -1,20 +1,23 @@
 // A channel that settles by itself.
-ghost use Rattle.std.specs.Prelude.{◌≡◌, ℕ, ◌<◌, None, IfOk, IsSome, OnErr, OnOk, false, unwrap_or};
+ghost use Rattle.std.specs.Prelude.{◌≡◌, ℕ, ◌<◌, List, ◌∷◌, None, IfOk, IsSome, OnErr, OnOk, false, unwrap_or};
 ghost use Rattle.ca_term.specs.Program.{ProgramView};
 ghost use Rattle.ca_value.specs.Seq.{list, spare};
-ghost use Rattle.ca_commit.specs.Contents.{whole};
+ghost use Rattle.ca_commit.specs.Contents.{home, whole};
 ghost use Rattle.ca_commit.specs.Finding.{serves};
 ghost use Rattle.ca_commit.specs.Settling.{IsMadeToSettle, IsSettled, served_in};
-ghost use Rattle.ca_commit.specs.Showing.{waits_held};
+ghost use Rattle.ca_commit.specs.Showing.{channels_held, waits_held};
 ghost use Rattle.ca_commit.specs.Waking.{IsPaused, KeepsNumbers};
 ghost use Rattle.ca_table.specs.Bearing.{ShowSame};
 ghost use Rattle.ca_table.specs.Carriers.{IsCarrying, just_lane};
+ghost use Rattle.ca_table.specs.Grips.{SameTurns};
 ghost use Rattle.ca_table.specs.Parts.{part_seen};
 ghost use Rattle.ca_table.specs.Worked.{Drew};
 ghost use Rattle.ca_table.specs.Workers.{SameWorker};
 ghost use Rattle.ca_table.specs.declared.part.Lane.{Lane};
+ghost use Rattle.ca_alone.specs.Schedule.{Follow, MaySettle};
 ghost use Rattle.ca_pool.specs.Desk.{IsBare, taken};
 ghost use Rattle.ca_pool.specs.Costs.{cost_settling};
+ghost use Rattle.ca_pool.specs.Lone.{HasLooked, HasSettled, MayGo, Went};
 
 use crate::drawing::draw_aside;
 use crate::fitting::cost_of;
@@ -70,6 +73,8 @@ fn take_channel<R: Wait, A: Agent, C: Clock + Drop>(
     ensures paused { (w : ℕ) → IsPaused A.place (whole (waits_held held.new.shards) w) }
     ensures carries { OnOk result ((program : ProgramView) (n : ℕ) (l : Lane A) → IsCarrying A.over A.stands program code.now table.now.id n worker.old (just_lane n code.now l) → IsCarrying A.over A.stands program code.now table.now.id n worker.new (taken (part_seen C.least C.faults C.readings) n code.now worker.old.number l None held.new)) }
     ensures kept { OnErr result ((program : ProgramView) (n : ℕ) (l : Lane A) → IsCarrying A.over A.stands program code.now table.now.id n worker.old (just_lane n code.now l) → IsCarrying A.over A.stands program code.now table.now.id n worker.new (just_lane n code.now l)) }
+    ensures turns { SameTurns worker.old.hand worker.new.hand }
+    ensures bank { OnOk result (IsSome (channels_held held.new.banks (home port.n))) }
 {
     let mut banks = Homes::none();
     banks.add(port.n);
@@ -147,6 +152,7 @@ fn draw_served<R: Wait, A: Agent, C: Clock + Drop>(
     ensures bare { IsBare held.new }
     ensures drew { Drew result false worker.old worker.new }
     ensures carries { (program : ProgramView) (n : ℕ) (l : Lane A) → IsCarrying A.over A.stands program code.now table.now.id n worker.old (taken (part_seen C.least C.faults C.readings) n code.now worker.old.number l None held.old) → IsCarrying A.over A.stands program code.now table.now.id n worker.new (just_lane n code.now l) }
+    ensures solo { (k : Follow) (us : List ℕ) (most : ℕ) → MayGo A.over A.place A.stands A.advances A.gives A.starts code.now (MaySettle k (port.n ∷ us)) most worker.old → Went A.over A.place A.stands A.advances A.gives A.starts code.now (MaySettle k (port.n ∷ us)) most worker.new }
 {
     if !can_draw(worker) {
         // No worker draws 2^59 events.
@@ -181,6 +187,7 @@ fn serve_taken<R: Wait, A: Agent, C: Clock + Drop>(
     ensures bare { IsBare held.new }
     ensures drew { IfOk result (λ s. Drew (cost_settling s) false worker.old worker.new) }
     ensures carries { (program : ProgramView) (n : ℕ) (l : Lane A) → IsCarrying A.over A.stands program code.now table.now.id n worker.old (taken (part_seen C.least C.faults C.readings) n code.now worker.old.number l None held.old) → IsCarrying A.over A.stands program code.now table.now.id n worker.new (just_lane n code.now l) }
+    ensures solo { IfOk result (λ s. (k : Follow) (us : List ℕ) (most : ℕ) → MayGo A.over A.place A.stands A.advances A.gives A.starts code.now (MaySettle k (port.n ∷ us)) most worker.old → HasLooked A.over A.place A.stands A.advances A.gives A.starts code.now k port.n us most s worker.new) }
 {
     take_ready(rt, table, code, worker, held);
     match prepare(alloc, worker, held, port) {
@@ -212,6 +219,7 @@ fn look_once<R: Wait, A: Agent, C: Clock + Drop>(
     ensures bare { IsBare held.new }
     ensures drew { IfOk result (λ s. Drew (cost_settling s) false worker.old worker.new) }
     ensures carries { (program : ProgramView) (n : ℕ) (l : Lane A) → IsCarrying A.over A.stands program code.now table.now.id n worker.old (just_lane n code.now l) → IsCarrying A.over A.stands program code.now table.now.id n worker.new (just_lane n code.now l) }
+    ensures solo { IfOk result (λ s. (k : Follow) (us : List ℕ) (most : ℕ) → MayGo A.over A.place A.stands A.advances A.gives A.starts code.now (MaySettle k (port.n ∷ us)) most worker.old → HasLooked A.over A.place A.stands A.advances A.gives A.starts code.now k port.n us most s worker.new) }
 {
     take_channel(rt, table, code, worker, held, port, shards)?;
     match settle_of(&held.banks, &held.shards, port) {
@@ -252,6 +260,7 @@ pub(crate) fn settle<R: Wait, A: Agent, C: Clock + Drop>(
     ensures bare { IsBare held.new }
     ensures drew { IfOk result (λ o. Drew (unwrap_or o 0) false worker.old worker.new) }
     ensures carries { (program : ProgramView) (n : ℕ) (l : Lane A) → IsCarrying A.over A.stands program code.now table.now.id n worker.old (just_lane n code.now l) → IsCarrying A.over A.stands program code.now table.now.id n worker.new (just_lane n code.now l) }
+    ensures solo { IfOk result (λ o. (k : Follow) (us : List ℕ) (most : ℕ) → MayGo A.over A.place A.stands A.advances A.gives A.starts code.now (MaySettle k (port.n ∷ us)) most worker.old → HasSettled A.over A.place A.stands A.advances A.gives A.starts code.now k port.n us most o worker.new) }
 {
     let mut shards = Homes::none();
     for _ in rt.forever() {

@@ -8,9 +8,10 @@ ghost use Rattle.ca_turns.specs.Hands.{HoldsNothing, IsHolding, IsWithout};
 ghost use Rattle.ca_table.specs.Grips.{SameTurns};
 ghost use Rattle.ca_table.specs.Parts.{part_seen};
 ghost use Rattle.ca_table.specs.Worked.{Drew};
-ghost use Rattle.ca_table.specs.Workers.{IsOne, IsReady, SameWorker, part_count};
+ghost use Rattle.ca_table.specs.Workers.{IsOne, IsReady, SameWorker, part_count, KeepsLeft};
 ghost use Rattle.ca_table.specs.declared.part.Part.{Part};
 ghost use Rattle.ca_pool.specs.Surveys.{Drops, Fills, Fulls, IsSpread, IsUndatedAt, IsStillAt, Surveys, is_stuck};
+ghost use Rattle.ca_pool.specs.Lone.{Stayed};
 
 use crate::surveying::{Look, first_open, look_over};
 use ca_agent::agent::Agent;
@@ -52,6 +53,7 @@ fn hold_one<R: Wait, A: Agent, C: Clock + Drop>(
     ensures turns { SameTurns worker.old.hand worker.new.hand }
     ensures entries { worker.new.entries ≡ worker.old.entries }
     ensures holds { (program : ProgramView) (code : CodeView) (n : ℕ) → IsOne A.over A.stands program code table.now.id n worker.old → (g : ℕ → Option (Part A C)) × Surveys (part_seen C.least C.faults C.readings) n code worker.new.hand g × ((i : ℕ) → is_some (g i) ≡ eqb at i) }
+    ensures left { KeepsLeft worker.old.hand.view worker.new.hand.view }
 {
     table.hold(rt, &mut worker.hand, at);
 }
@@ -69,6 +71,7 @@ fn try_one<A: Agent, C: Clock + Drop>(
     ensures entries { worker.new.entries ≡ worker.old.entries }
     ensures holds { result ≡ true → (program : ProgramView) (code : CodeView) (n : ℕ) → IsOne A.over A.stands program code table.now.id n worker.old → (g : ℕ → Option (Part A C)) → Surveys (part_seen C.least C.faults C.readings) n code worker.old.hand g → (x : Part A C) × Surveys (part_seen C.least C.faults C.readings) n code worker.new.hand (update eqb g at (Some x)) }
     ensures missed { result ≡ false → (n : ℕ) (code : CodeView) (g : ℕ → Option (Part A C)) → Surveys (part_seen C.least C.faults C.readings) n code worker.old.hand g → Surveys (part_seen C.least C.faults C.readings) n code worker.new.hand g }
+    ensures left { KeepsLeft worker.old.hand.view worker.new.hand.view }
 {
     match table.try_hold(&mut worker.hand, at) {
         Ok(()) => true,
@@ -90,6 +93,7 @@ fn hold_range<A: Agent, C: Clock + Drop>(
     ensures entries { worker.new.entries ≡ worker.old.entries }
     ensures reached { (first ≤ result) × (result ≤ end) }
     ensures holds { (program : ProgramView) (code : CodeView) (n : ℕ) → IsOne A.over A.stands program code table.now.id n worker.old → (g : ℕ → Option (Part A C)) → Surveys (part_seen C.least C.faults C.readings) n code worker.old.hand g → (g2 : ℕ → Option (Part A C)) × Surveys (part_seen C.least C.faults C.readings) n code worker.new.hand g2 × Fills first result g g2 }
+    ensures left { KeepsLeft worker.old.hand.view worker.new.hand.view }
 {
     for at in first..end {
         if !try_one(table, worker, at) {
@@ -111,6 +115,7 @@ fn give_one<A: Agent, C: Clock + Drop>(
     ensures turns { SameTurns worker.old.hand worker.new.hand }
     ensures entries { worker.new.entries ≡ worker.old.entries }
     ensures gives { (n : ℕ) (code : CodeView) (g : ℕ → Option (Part A C)) → Surveys (part_seen C.least C.faults C.readings) n code worker.old.hand g → Surveys (part_seen C.least C.faults C.readings) n code worker.new.hand (update eqb g at None) }
+    ensures left { KeepsLeft worker.old.hand.view worker.new.hand.view }
 {
     table.give_back(&mut worker.hand, at);
 }
@@ -129,6 +134,7 @@ fn give_range<A: Agent, C: Clock + Drop>(
     ensures turns { SameTurns worker.old.hand worker.new.hand }
     ensures entries { worker.new.entries ≡ worker.old.entries }
     ensures gives { (n : ℕ) (code : CodeView) (g : ℕ → Option (Part A C)) → Surveys (part_seen C.least C.faults C.readings) n code worker.old.hand g → (g2 : ℕ → Option (Part A C)) × Surveys (part_seen C.least C.faults C.readings) n code worker.new.hand g2 × Drops first end g g2 }
+    ensures left { KeepsLeft worker.old.hand.view worker.new.hand.view }
 {
     for at in first..end {
         give_one(table, worker, at);
@@ -150,6 +156,7 @@ fn hold_above<A: Agent, C: Clock + Drop>(
     ensures entries { worker.new.entries ≡ worker.old.entries }
     ensures reached { (timers < result) × (result ≤ count) }
     ensures holds { (program : ProgramView) (code : CodeView) (n : ℕ) → IsOne A.over A.stands program code table.now.id n worker.old → (g : ℕ → Option (Part A C)) → Surveys (part_seen C.least C.faults C.readings) n code worker.old.hand g → IsSpread low timers (timers + 1) g → (g2 : ℕ → Option (Part A C)) × Surveys (part_seen C.least C.faults C.readings) n code worker.new.hand g2 × IsSpread low timers result g2 }
+    ensures left { KeepsLeft worker.old.hand.view worker.new.hand.view }
 {
     if low < timers {
         return timers + 1;
@@ -172,6 +179,7 @@ fn give_spread<A: Agent, C: Clock + Drop>(
     ensures turns { SameTurns worker.old.hand worker.new.hand }
     ensures entries { worker.new.entries ≡ worker.old.entries }
     ensures nothing { HoldsNothing worker.new.hand }
+    ensures left { KeepsLeft worker.old.hand.view worker.new.hand.view }
 {
     give_range(table, worker, 0, low);
     give_range(table, worker, timers, high);
@@ -190,6 +198,7 @@ fn hold_all<R: Wait, A: Agent, C: Clock + Drop>(
     ensures entries { worker.new.entries ≡ worker.old.entries }
     ensures all { result ≡ true → (program : ProgramView) (code : CodeView) (n : ℕ) → IsOne A.over A.stands program code table.now.id n worker.old → (g : ℕ → Option (Part A C)) × Surveys (part_seen C.least C.faults C.readings) n code worker.new.hand g × Fulls (part_count n) g }
     ensures none { result ≡ false → HoldsNothing worker.new.hand }
+    ensures left { KeepsLeft worker.old.hand.view worker.new.hand.view }
 {
     let timers = worker.workers + 32;
     let count = worker.workers + 33 + worker.workers;
@@ -214,6 +223,7 @@ fn draw_stall<R: Wait, A: Agent, C: Clock + Drop>(
     ensures same { SameWorker worker.old worker.new }
     ensures drew { Drew 0 true worker.old worker.new }
     ensures holds { (program : ProgramView) (n : ℕ) → IsOne A.over A.stands program (valid_code code.now) table.now.id n worker.old → (g : ℕ → Option (Part A C)) → Surveys (part_seen C.least C.faults C.readings) n (valid_code code.now) worker.old.hand g → Fulls (part_count n) g → IsOne A.over A.stands program (valid_code code.now) table.now.id n worker.new × Surveys (part_seen C.least C.faults C.readings) n (valid_code code.now) worker.new.hand g }
+    ensures stayed { Stayed worker.old worker.new }
 {
     if !can_draw(worker) {
         // No worker draws 2^59 events.
@@ -235,6 +245,7 @@ fn conclude<R: Wait, A: Agent, C: Clock + Drop>(
     ensures same { SameWorker worker.old worker.new }
     ensures drew { Drew 0 (is_stuck result) worker.old worker.new }
     ensures holds { (program : ProgramView) (n : ℕ) → IsOne A.over A.stands program (valid_code code.now) table.now.id n worker.old → (g : ℕ → Option (Part A C)) → Surveys (part_seen C.least C.faults C.readings) n (valid_code code.now) worker.old.hand g → Fulls (part_count n) g → IsOne A.over A.stands program (valid_code code.now) table.now.id n worker.new × Surveys (part_seen C.least C.faults C.readings) n (valid_code code.now) worker.new.hand g }
+    ensures stayed { Stayed worker.old worker.new }
 {
     let timers = worker.workers + 32;
     let count = worker.workers + 33 + worker.workers;
@@ -261,6 +272,7 @@ pub(crate) fn survey<R: Wait, A: Agent, C: Clock + Drop>(
     requires ready { (program : ProgramView) × (n : ℕ) × IsReady A.over A.stands program (valid_code code.now) table.now.id n worker.old }
     ensures drew { Drew 0 (is_stuck result) worker.old worker.new }
     ensures ready { (program : ProgramView) (n : ℕ) → IsReady A.over A.stands program (valid_code code.now) table.now.id n worker.old → IsReady A.over A.stands program (valid_code code.now) table.now.id n worker.new }
+    ensures stayed { Stayed worker.old worker.new }
 {
     if !hold_all(rt, table, worker) {
         return Surveyed::Busy;

@@ -1,6 +1,9 @@
 // A task's next event: the task leaves its lane and goes on to its next pause, and what it is paused at is done.
-ghost use Rattle.std.specs.Prelude.{◌≡◌, ℕ, IfOk, IsSome, OnErr, Some};
+ghost use Rattle.std.specs.Prelude.{◌≡◌, ℕ, IfOk, IsSome, OnErr, Some, [], ◌<◌, option_map};
 ghost use Rattle.ca_term.specs.Program.{ProgramView, program_view};
+ghost use Rattle.ca_term.specs.Event.{port_number};
+ghost use Rattle.ca_meaning.specs.Solo.{patience};
+ghost use Rattle.ca_solo.specs.Stirs.{port_if};
 ghost use Rattle.ca_states.specs.ValidCode.{valid_code};
 ghost use Rattle.ca_lower.specs.Gos.{SameGos};
 ghost use Rattle.ca_lower.specs.Lowered.{Lowered};
@@ -9,9 +12,11 @@ ghost use Rattle.ca_table.specs.Carriers.{IsCarrying, just_lane};
 ghost use Rattle.ca_table.specs.Worked.{Drew};
 ghost use Rattle.ca_table.specs.Workers.{IsSeated, SameWorker};
 ghost use Rattle.ca_table.specs.declared.part.Lane.{Lane};
+ghost use Rattle.ca_alone.specs.Schedule.{MaySettle, to_turn};
 ghost use Rattle.ca_pool.specs.AtWork.{HasLost, IsAtWork};
 ghost use Rattle.ca_pool.specs.Desk.{IsBare};
 ghost use Rattle.ca_pool.specs.Leaving.{HasLeft, TaskOver};
+ghost use Rattle.ca_pool.specs.Lone.{HasStepped, MayGo};
 
 use crate::ending::{end, fault};
 use crate::gate::{Gate, GatePlace};
@@ -85,6 +90,7 @@ fn act<R: Wait, A: Starting, C: Clock + Drop>(
     ensures over { IfOk result (λ s. TaskOver A.over code.now s.lane.value) }
     ensures drew { IfOk result (λ s. Drew s.cost s.over worker.old worker.new) }
     ensures kept { OnErr result ((program : ProgramView) (n : ℕ) (l : Lane A) → IsCarrying A.over A.stands program code.now table.now.id n worker.old (just_lane n code.now l) → IsCarrying A.over A.stands program code.now table.now.id n worker.new (just_lane n code.now l)) }
+    ensures solo { IfOk result (λ s. lane.value.since < patience → (most : ℕ) → MayGo A.over A.place A.stands A.advances A.gives A.starts code.now (MaySettle to_turn []) most worker.old → HasStepped A.over A.place A.stands A.advances A.gives A.starts code.now (port_if (option_map port_number s.stirred)) s.over most worker.new) }
 {
     match pause {
         Pause::AtOp => operate(rt, alloc, table, code, worker, held, lane, task),
@@ -114,6 +120,7 @@ pub(crate) fn step<R: Wait, A: Starting, C: Clock + Drop, G: Gate>(
     ensures at { IfOk result (λ s. IsAtWork A.over A.stands code.now table.now.id worker.new s.lane.value) }
     ensures drew { IfOk result (λ s. Drew s.cost s.over worker.old worker.new) }
     ensures lost { OnErr result (HasLost A.over A.stands code.now table.now.id worker.new) }
+    ensures solo { IfOk result (λ s. lane.value.since < patience → (most : ℕ) → MayGo A.over A.place A.stands A.advances A.gives A.starts code.now (MaySettle to_turn []) most worker.old → HasStepped A.over A.place A.stands A.advances A.gives A.starts code.now (port_if (option_map port_number s.stirred)) s.over most worker.new) }
 {
     let (left, before) = leave_lane(lane);
     let (task, pause) = advance(alloc, code, before)?;

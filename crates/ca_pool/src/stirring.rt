@@ -1,9 +1,13 @@
 // The channels that an event may bring to settle.
-ghost use Rattle.std.specs.Prelude.{◌≡◌, ℕ, ◌-◌, IfErr, IfOk, unwrap_or};
+ghost use Rattle.std.specs.Prelude.{◌≡◌, ℕ, ◌-◌, List, [], ◌∷◌, IfErr, IfOk, is_some, option_map, unwrap_or};
+ghost use Rattle.ca_term.specs.Event.{port_number};
+ghost use Rattle.ca_solo.specs.Stirs.{port_if};
 ghost use Rattle.ca_table.specs.Workers.{SameWorker};
 ghost use Rattle.ca_table.specs.declared.worker.Worker.{Worker};
+ghost use Rattle.ca_alone.specs.Schedule.{Follow, MaySettle};
 ghost use Rattle.ca_pool.specs.AtWork.{HasSpent, IsAtWork, IsGivenUp};
 ghost use Rattle.ca_pool.specs.Desk.{IsBare};
+ghost use Rattle.ca_pool.specs.Lone.{HasCounted, IsGoing, IsRunning};
 
 use crate::going::{Going, goes_on, spend};
 use crate::settling::settle;
@@ -25,6 +29,7 @@ fn count_settled<A: Agent>(going: Going<A>, settled: Option<u64>) -> (Going<A>, 
     ensures lane { result.0.lane ≡ going.lane }
     ensures left { result.0.left ≡ going.left - unwrap_or settled 0 }
     ensures found { result.0.found ≡ going.found }
+    ensures more { result.1 ≡ is_some settled }
 {
     match settled {
         None => (going, false),
@@ -50,6 +55,7 @@ fn settle_once<R: Wait, A: Agent, C: Clock + Drop>(
     ensures at { IfOk result (λ g. IsAtWork A.over A.stands code.now table.now.id worker.new g.0.lane.value) }
     ensures spent { IfOk result (λ g. (start : ℕ) (w : Worker A C) → HasSpent start going.left going.found w worker.old → HasSpent start g.0.left g.0.found w worker.new) }
     ensures given_up { IfErr result (λ s. IsGivenUp A.over A.stands code.now table.now.id s worker.new) }
+    ensures solo { IfOk result (λ g. (k : Follow) (us : List ℕ) (most : ℕ) → IsRunning A.over A.place A.stands A.advances A.gives A.starts code.now (MaySettle k (port.n ∷ us)) most going.left going.found worker.old → HasCounted A.over A.place A.stands A.advances A.gives A.starts code.now k port.n us most g.1 g.0.left g.0.found worker.new) }
 {
     match settle(rt, alloc, table, code, worker, held, port) {
         Ok(settled) => Ok(count_settled(going, settled)),
@@ -75,6 +81,7 @@ fn settle_port<R: Wait, A: Agent, C: Clock + Drop>(
     ensures at { IfOk result (λ g. IsAtWork A.over A.stands code.now table.now.id worker.new g.lane.value) }
     ensures spent { IfOk result (λ g. (start : ℕ) (w : Worker A C) → HasSpent start going.left going.found w worker.old → HasSpent start g.left g.found w worker.new) }
     ensures given_up { IfErr result (λ s. IsGivenUp A.over A.stands code.now table.now.id s worker.new) }
+    ensures solo { IfOk result (λ g. (k : Follow) (us : List ℕ) (most : ℕ) → IsGoing A.over A.place A.stands A.advances A.gives A.starts code.now (MaySettle k (port.n ∷ us)) most going.left going.found worker.old → IsGoing A.over A.place A.stands A.advances A.gives A.starts code.now (MaySettle k us) most g.left g.found worker.new) }
 {
     let mut going = going;
     for _ in rt.forever() {
@@ -108,6 +115,7 @@ pub(crate) fn settle_ports<R: Wait, A: Agent, C: Clock + Drop>(
     ensures at { IfOk result (λ g. IsAtWork A.over A.stands code.now table.now.id worker.new g.lane.value) }
     ensures spent { IfOk result (λ g. (start : ℕ) (w : Worker A C) → HasSpent start going.left going.found w worker.old → HasSpent start g.left g.found w worker.new) }
     ensures given_up { IfErr result (λ s. IsGivenUp A.over A.stands code.now table.now.id s worker.new) }
+    ensures solo { IfOk result (λ g. (k : Follow) (most : ℕ) → IsGoing A.over A.place A.stands A.advances A.gives A.starts code.now (MaySettle k ports.now) most going.left going.found worker.old → IsGoing A.over A.place A.stands A.advances A.gives A.starts code.now (MaySettle k []) most g.left g.found worker.new) }
 {
     let mut going = going;
     for i in 0..ports.len() {
@@ -135,6 +143,7 @@ pub(crate) fn settle_stirred<R: Wait, A: Agent, C: Clock + Drop>(
     ensures at { IfOk result (λ g. IsAtWork A.over A.stands code.now table.now.id worker.new g.lane.value) }
     ensures spent { IfOk result (λ g. (start : ℕ) (w : Worker A C) → HasSpent start going.left going.found w worker.old → HasSpent start g.left g.found w worker.new) }
     ensures given_up { IfErr result (λ s. IsGivenUp A.over A.stands code.now table.now.id s worker.new) }
+    ensures solo { IfOk result (λ g. (k : Follow) (most : ℕ) → IsGoing A.over A.place A.stands A.advances A.gives A.starts code.now (MaySettle k (port_if (option_map port_number stirred))) most going.left going.found worker.old → IsGoing A.over A.place A.stands A.advances A.gives A.starts code.now (MaySettle k []) most g.left g.found worker.new) }
 {
     match stirred {
         Some(port) => settle_port(rt, alloc, table, code, worker, held, going, port),

@@ -1,7 +1,9 @@
 // Parts that a worker moves out of its hand for an event.
-ghost use Rattle.std.specs.Prelude.{◌≡◌, ◌≢◌, ℕ, ◌+◌, ◌<◌, ◌≤◌, [], Option, Some, None, IsSome, OnErr, OnOk, IfOk, IfSome, is_some, true};
+ghost use Rattle.std.specs.Prelude.{◌≡◌, ◌≢◌, ℕ, ◌+◌, ◌<◌, ◌≤◌, [], Option, Some, None, IsSome, OnErr, OnOk, IfOk, IfSome, is_some, true, IfNone, false};
 ghost use Rattle.std.specs.Bool.{OnTrue};
 ghost use Rattle.ca_term.specs.Program.{ProgramView};
+ghost use Rattle.ca_states.specs.ValidCode.{valid_code};
+ghost use Rattle.ca_turns.specs.Views.{stands};
 ghost use Rattle.ca_commit.specs.Contents.{whole};
 ghost use Rattle.ca_commit.specs.Gathered.{bank_kind};
 ghost use Rattle.ca_commit.specs.Listing.{listed};
@@ -11,7 +13,6 @@ ghost use Rattle.ca_commit.specs.Running.{Placed};
 ghost use Rattle.ca_commit.specs.Showing.{channels_held, waits_held};
 ghost use Rattle.ca_commit.specs.Waking.{IsPaused};
 ghost use Rattle.ca_commit.specs.declared.held.HeldBank.{HeldBank};
-ghost use Rattle.ca_states.specs.ValidCode.{valid_code};
 ghost use Rattle.ca_table.specs.Carriers.{IsCarrying};
 ghost use Rattle.ca_table.specs.Carrying.{Carries};
 ghost use Rattle.ca_table.specs.Grips.{SameTurns};
@@ -182,6 +183,7 @@ pub(crate) fn try_clock<A: Agent, C: Clock + Drop>(
     ensures entries { worker.new.entries ≡ worker.old.entries }
     ensures timely { IfSome result (λ t. t.value.timers.moment ≤ C.least t.value.clock) }
     ensures carries { (program : ProgramView) (n : ℕ) (l : Lane A) → IsCarrying A.over A.stands program code.now table.now.id n worker.old (taken (part_seen C.least C.faults C.readings) n code.now worker.old.number l None held.now) → IsCarrying A.over A.stands program code.now table.now.id n worker.new (taken (part_seen C.least C.faults C.readings) n code.now worker.old.number l result held.now) }
+    ensures free { IfNone result (stands worker.old.hand.view < worker.old.hand.view.hands) }
 {
     let place = worker.workers + 32;
     match try_hold_at(table, code, worker, place) {
@@ -214,6 +216,7 @@ fn try_bank<R: Wait, A: Agent, C: Clock + Drop>(
     ensures sound { (x : HeldBank) → listed number_of_bank (parts banks.new) number ≡ Some x → IsSound A.over A.place (valid_code code.now) worker.old.workers (worker.old.workers + number) (held_of (contents_seen C.least C.faults C.readings (Bank x))) }
     ensures room { spare banks.old ≤ spare banks.new + 1 }
     ensures carries { (program : ProgramView) (n : ℕ) (h : Carries (Part A C × PartSeen A)) → IsCarrying A.over A.stands program code.now table.now.id n worker.old (with_all bank_row (lifted n code.now Bank (part_seen C.least C.faults C.readings) number_of_bank (parts banks.old)) h) → IsCarrying A.over A.stands program code.now table.now.id n worker.new (with_all bank_row (lifted n code.now Bank (part_seen C.least C.faults C.readings) number_of_bank (parts banks.new)) h) }
+    ensures free { result ≡ false → stands worker.old.hand.view < worker.old.hand.view.hands }
 {
     let place = worker.workers + number;
     match try_hold_at(table, code, worker, place) {
@@ -253,6 +256,7 @@ fn try_wanted<R: Wait, A: Agent, C: Clock + Drop>(
     ensures sound { (x : HeldBank) → listed number_of_bank (parts banks.new) number ≡ Some x → IsSound A.over A.place (valid_code code.now) worker.old.workers (worker.old.workers + number) (held_of (contents_seen C.least C.faults C.readings (Bank x))) }
     ensures room { spare banks.old ≤ spare banks.new + 1 }
     ensures carries { (program : ProgramView) (n : ℕ) (h : Carries (Part A C × PartSeen A)) → IsCarrying A.over A.stands program code.now table.now.id n worker.old (with_all bank_row (lifted n code.now Bank (part_seen C.least C.faults C.readings) number_of_bank (parts banks.old)) h) → IsCarrying A.over A.stands program code.now table.now.id n worker.new (with_all bank_row (lifted n code.now Bank (part_seen C.least C.faults C.readings) number_of_bank (parts banks.new)) h) }
+    ensures free { result ≡ false → stands worker.old.hand.view < worker.old.hand.view.hands }
 {
     if wanted {
         try_bank(rt, table, code, worker, number, banks)
@@ -291,6 +295,7 @@ fn try_load<R: Wait, A: Agent, C: Clock + Drop>(
     ensures homes { OnTrue result ((i : ℕ) → i < 16 → is_some (listed number_of_bank (parts banks.new) i) ≡ has_home homes.now i) }
     ensures sound { (i : ℕ) (x : HeldBank) → listed number_of_bank (parts banks.new) i ≡ Some x → IsSound A.over A.place (valid_code code.now) worker.old.workers (worker.old.workers + i) (held_of (contents_seen C.least C.faults C.readings (Bank x))) }
     ensures carries { (program : ProgramView) (n : ℕ) (h : Carries (Part A C × PartSeen A)) → HasNone bank_row h → IsCarrying A.over A.stands program code.now table.now.id n worker.old h → IsCarrying A.over A.stands program code.now table.now.id n worker.new (with_all bank_row (lifted n code.now Bank (part_seen C.least C.faults C.readings) number_of_bank (parts banks.new)) h) }
+    ensures free { result ≡ false → stands worker.old.hand.view < worker.old.hand.view.hands }
 {
     for number in 0..ALL {
         let free = try_wanted(rt, table, code, worker, homes.has(number), number, banks);
@@ -320,6 +325,7 @@ pub(crate) fn try_banks<R: Wait, A: Agent, C: Clock + Drop>(
     ensures placed { Placed (channels_held held.new.banks) }
     ensures others { ButBanks held.old held.new }
     ensures carries { (program : ProgramView) (n : ℕ) (l : Lane A) (clock : Option (ClockBox C)) → IsCarrying A.over A.stands program code.now table.now.id n worker.old (taken (part_seen C.least C.faults C.readings) n code.now worker.old.number l clock held.old) → IsCarrying A.over A.stands program code.now table.now.id n worker.new (taken (part_seen C.least C.faults C.readings) n code.now worker.old.number l clock held.new) }
+    ensures free { IfOk result (λ b. b ≡ false → stands worker.old.hand.view < worker.old.hand.view.hands) }
 {
     held.banks.reserve(ALL)?;
     Ok(try_load(rt, table, code, worker, homes, &mut held.banks))

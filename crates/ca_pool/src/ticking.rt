@@ -1,22 +1,27 @@
 // A tick: the timeouts that are due are closed, where their banks are free.
-ghost use Rattle.std.specs.Prelude.{◌≡◌, ◌≢◌, ℕ, ◌+◌, ◌<◌, ◌≤◌, ◌^◌, [], Some, None, IfNone, IfOk, IfSome, OnOk, false, true};
-ghost use Rattle.ca_term.specs.Event.{event_view, ticked};
-ghost use Rattle.ca_term.specs.Program.{ProgramView};
+ghost use Rattle.std.specs.Prelude.{◌≡◌, ◌≢◌, ℕ, ◌+◌, ◌<◌, ◌≤◌, ◌^◌, [], Some, None, IfNone, IfOk, IfSome, OnOk, false, true, List};
 ghost use Rattle.ca_value.specs.Deadlines.{due};
 ghost use Rattle.ca_value.specs.Seq.{list, spare};
+ghost use Rattle.ca_term.specs.Event.{event_view, ticked};
+ghost use Rattle.ca_term.specs.Program.{ProgramView};
 ghost use Rattle.ca_commit.specs.NewPort.{KeepsCounts};
 ghost use Rattle.ca_commit.specs.Running.{Placed};
 ghost use Rattle.ca_commit.specs.Showing.{channels_held, registries_held};
 ghost use Rattle.ca_commit.specs.Ticking.{closed_all};
+ghost use Rattle.ca_commit.specs.declared.held.Held.{Held};
 ghost use Rattle.ca_table.specs.Carriers.{IsCarrying, just_lane};
 ghost use Rattle.ca_table.specs.Parts.{clockwork_seen, part_seen};
 ghost use Rattle.ca_table.specs.Worked.{Drew};
 ghost use Rattle.ca_table.specs.Workers.{SameWorker};
 ghost use Rattle.ca_table.specs.declared.part.Lane.{Lane};
-ghost use Rattle.ca_commit.specs.declared.held.Held.{Held};
+ghost use Rattle.ca_solo.specs.Stirs.{Ordered};
+ghost use Rattle.ca_alone.specs.OwnTurn.{IsDue};
+ghost use Rattle.ca_alone.specs.Schedule.{Follow, MaySettle, MayTick};
 ghost use Rattle.ca_pool.specs.Asking.{HasBanksOf, HasHomes, IsAsked, IsMadeFor, passed};
 ghost use Rattle.ca_pool.specs.Costs.{cost_asked, is_marked};
 ghost use Rattle.ca_pool.specs.Desk.{ClockBox, IsBare, taken};
+ghost use Rattle.ca_pool.specs.Lone.{MayGo, Went};
+ghost use Rattle.ca_pool.specs.declared.clocking.Asked.TheVariants.{Ticked};
 
 use crate::clocking::{Asked, draw_clock};
 use crate::drawing::draw_aside;
@@ -108,7 +113,8 @@ fn banks_due<R: Wait>(
     now: u64,
     ports: &mut Vec<u64>,
 ) -> Result<Homes, OutOfMemory>
-    ensures { IfOk result (λ homes. HasHomes homes (due now timers.now.deadlines)) }
+    ensures homes { IfOk result (λ homes. HasHomes homes (due now timers.now.deadlines)) }
+    ensures ordered { IfOk result (λ homes. Ordered (due now timers.now.deadlines) ports.new.items) }
 {
     let mut banks = Homes::none();
     ports.clear();
@@ -119,7 +125,7 @@ fn banks_due<R: Wait>(
                 ports.push(port.n)?;
             }
             None => {
-                ports.as_mut_slice().sort_unstable();
+                ports.sort_unstable();
                 return Ok(banks);
             }
         }
@@ -173,6 +179,7 @@ fn draw_tick<R: Wait, A: Agent, C: Clock + Drop>(
     ensures bare { IsBare held.new }
     ensures drew { Drew (cost_asked result) (is_marked result) worker.old worker.new }
     ensures carries { (program : ProgramView) (n : ℕ) (l : Lane A) (clock0 : ClockBox C) → IsCarrying A.over A.stands program code.now table.now.id n worker.old (taken (part_seen C.least C.faults C.readings) n code.now worker.old.number l (Some clock0) held.old) → IsAsked now (clockwork_seen C.least C.faults C.readings clock0.value) (clockwork_seen C.least C.faults C.readings clockwork.value) → IsCarrying A.over A.stands program code.now table.now.id n worker.new (just_lane n code.now l) }
+    ensures solo { (k : Follow) (us : List ℕ) (most : ℕ) → IsDue clockwork.value.timers.deadlines now → Ordered (due now clockwork.value.timers.deadlines) us → MayGo A.over A.place A.stands A.advances A.gives A.starts code.now (MayTick k) most worker.old → (cost : ℕ) × (result ≡ Ticked cost) × Went A.over A.place A.stands A.advances A.gives A.starts code.now (MaySettle k us) most worker.new }
 {
     if !can_draw(worker) {
         // No worker draws 2^59 events.
@@ -220,6 +227,7 @@ pub(crate) fn pass<R: Wait, A: Agent, C: Clock + Drop>(
     ensures bare { IsBare held.new }
     ensures drew { IfOk result (λ a. Drew (cost_asked a) (is_marked a) worker.old worker.new) }
     ensures carries { (program : ProgramView) (n : ℕ) (l : Lane A) (clock0 : ClockBox C) → IsCarrying A.over A.stands program code.now table.now.id n worker.old (taken (part_seen C.least C.faults C.readings) n code.now worker.old.number l (Some clock0) held.old) → IsAsked now (clockwork_seen C.least C.faults C.readings clock0.value) (clockwork_seen C.least C.faults C.readings clockwork.value) → IsCarrying A.over A.stands program code.now table.now.id n worker.new (just_lane n code.now l) }
+    ensures solo { IfOk result (λ a. (k : Follow) (most : ℕ) → IsDue clockwork.value.timers.deadlines now → MayGo A.over A.place A.stands A.advances A.gives A.starts code.now (MayTick k) most worker.old → (cost : ℕ) × (a ≡ Ticked cost) × Went A.over A.place A.stands A.advances A.gives A.starts code.now (MaySettle k ports.new.items) most worker.new) }
 {
     match banks_due(rt, &clockwork.timers, now, ports) {
         Ok(banks) => close_due(rt, alloc, table, code, worker, held, clockwork, now, &banks),
@@ -251,6 +259,7 @@ fn tick_with<R: Wait, A: Agent, C: Clock + Drop>(
     ensures bare { IsBare held.new }
     ensures drew { IfOk result (λ a. Drew (cost_asked a) (is_marked a) worker.old worker.new) }
     ensures carries { (program : ProgramView) (n : ℕ) (l : Lane A) (clock0 : ClockBox C) → IsCarrying A.over A.stands program code.now table.now.id n worker.old (taken (part_seen C.least C.faults C.readings) n code.now worker.old.number l (Some clock0) held.old) → IsAsked now (clockwork_seen C.least C.faults C.readings clock0.value) (clockwork_seen C.least C.faults C.readings clockwork.value) → IsCarrying A.over A.stands program code.now table.now.id n worker.new (just_lane n code.now l) }
+    ensures solo { IfOk result (λ a. (k : Follow) (us : List ℕ) (most : ℕ) → IsDue clockwork.value.timers.deadlines now → Ordered (due now clockwork.value.timers.deadlines) us → MayGo A.over A.place A.stands A.advances A.gives A.starts code.now (MayTick k) most worker.old → (cost : ℕ) × (a ≡ Ticked cost) × Went A.over A.place A.stands A.advances A.gives A.starts code.now (MaySettle k us) most worker.new) }
 {
     let (clockwork, made) = reserve_due(alloc, held, clockwork, now);
     match made {
@@ -282,6 +291,7 @@ fn close_due<R: Wait, A: Agent, C: Clock + Drop>(
     ensures bare { IsBare held.new }
     ensures drew { IfOk result (λ a. Drew (cost_asked a) (is_marked a) worker.old worker.new) }
     ensures carries { (program : ProgramView) (n : ℕ) (l : Lane A) (clock0 : ClockBox C) → IsCarrying A.over A.stands program code.now table.now.id n worker.old (taken (part_seen C.least C.faults C.readings) n code.now worker.old.number l (Some clock0) held.old) → IsAsked now (clockwork_seen C.least C.faults C.readings clock0.value) (clockwork_seen C.least C.faults C.readings clockwork.value) → IsCarrying A.over A.stands program code.now table.now.id n worker.new (just_lane n code.now l) }
+    ensures solo { IfOk result (λ a. (k : Follow) (us : List ℕ) (most : ℕ) → IsDue clockwork.value.timers.deadlines now → Ordered (due now clockwork.value.timers.deadlines) us → MayGo A.over A.place A.stands A.advances A.gives A.starts code.now (MayTick k) most worker.old → (cost : ℕ) × (a ≡ Ticked cost) × Went A.over A.place A.stands A.advances A.gives A.starts code.now (MaySettle k us) most worker.new) }
 {
     match try_banks(rt, table, code, worker, banks, held) {
         Ok(true) => tick_with(rt, alloc, table, code, worker, held, clockwork, now),

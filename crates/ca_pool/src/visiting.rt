@@ -1,11 +1,16 @@
 // A worker's visit to its lane: it puts a task there, if none is, and lets it run.
-ghost use Rattle.std.specs.Prelude.{◌≡◌, ℕ, ◌-◌, ◌<◌, ◌||◌, IfErr, IfOk, IsSome, None, false};
+ghost use Rattle.std.specs.Prelude.{◌≡◌, ◌⊎◌, ℕ, ◌-◌, ◌<◌, ◌≤◌, ◌||◌, [], IfErr, IfOk, IsSome, None, false, option_map};
+ghost use Rattle.ca_term.specs.Event.{port_number};
+ghost use Rattle.ca_meaning.specs.Solo.{patience};
+ghost use Rattle.ca_solo.specs.Stirs.{port_if};
+ghost use Rattle.ca_alone.specs.Schedule.{AtEmpty, AtFree, AtPicked, MaySettle, to_rest, to_turn};
 ghost use Rattle.ca_table.specs.Worked.{Drew};
 ghost use Rattle.ca_table.specs.Workers.{SameWorker};
 ghost use Rattle.ca_table.specs.declared.worker.Worker.{Worker};
 ghost use Rattle.ca_pool.specs.AtWork.{HasSpent, IsAtWork, IsGivenUp};
 ghost use Rattle.ca_pool.specs.Costs.{cost_asked, cost_idle, is_marked, is_over};
 ghost use Rattle.ca_pool.specs.Desk.{IsBare};
+ghost use Rattle.ca_pool.specs.Lone.{IsGoing, IsRunning, MayGo, Went};
 
 use crate::clocking::{Asked, ask};
 use crate::gate::{Gate, GatePlace};
@@ -77,6 +82,7 @@ fn make_one<R: Wait, A: Starting, C: Clock + Drop, G: Gate>(
     ensures at { IfOk result (λ g. IsAtWork A.over A.stands code.now table.now.id worker.new g.0.lane.value) }
     ensures spent { IfOk result (λ g. (start : ℕ) (w : Worker A C) → HasSpent start going.left going.found w worker.old → HasSpent start g.0.left g.0.found w worker.new) }
     ensures given_up { IfErr result (λ s. IsGivenUp A.over A.stands code.now table.now.id s worker.new) }
+    ensures solo { IfOk result (λ g. (most : ℕ) → going.lane.value.since < patience → IsRunning A.over A.place A.stands A.advances A.gives A.starts code.now (MaySettle to_turn []) most going.left going.found worker.old → IsGoing A.over A.place A.stands A.advances A.gives A.starts code.now (MaySettle to_turn (port_if (option_map port_number g.1))) most g.0.left g.0.found worker.new) }
 {
     let Going {
         lane,
@@ -119,6 +125,7 @@ fn make_event<R: Wait, A: Starting, C: Clock + Drop, G: Gate>(
     ensures at { IfOk result (λ g. IsAtWork A.over A.stands code.now table.now.id worker.new g.lane.value) }
     ensures spent { IfOk result (λ g. (start : ℕ) (w : Worker A C) → HasSpent start going.left going.found w worker.old → HasSpent start g.left g.found w worker.new) }
     ensures given_up { IfErr result (λ s. IsGivenUp A.over A.stands code.now table.now.id s worker.new) }
+    ensures solo { IfOk result (λ g. (most : ℕ) → going.lane.value.since < patience → IsRunning A.over A.place A.stands A.advances A.gives A.starts code.now (MaySettle to_turn []) most going.left going.found worker.old → IsGoing A.over A.place A.stands A.advances A.gives A.starts code.now (MaySettle to_turn []) most g.left g.found worker.new) }
 {
     let (going, stirred) = make_one(rt, alloc, table, code, worker, held, gate, going)?;
     settle_stirred(rt, alloc, table, code, worker, held, going, stirred)
@@ -142,6 +149,8 @@ fn run_task<R: Wait, A: Starting, C: Clock + Drop, G: Gate>(
     ensures at { IfOk result (λ g. IsAtWork A.over A.stands code.now table.now.id worker.new g.lane.value) }
     ensures spent { IfOk result (λ g. (start : ℕ) (w : Worker A C) → HasSpent start going.left going.found w worker.old → HasSpent start g.left g.found w worker.new) }
     ensures given_up { IfErr result (λ s. IsGivenUp A.over A.stands code.now table.now.id s worker.new) }
+    ensures full { IfOk result (λ g. (0 < g.left → g.found ≡ false → (g.lane.value.task ≡ None) ⊎ (patience ≤ g.lane.value.since))) }
+    ensures solo { IfOk result (λ g. (most : ℕ) → IsGoing A.over A.place A.stands A.advances A.gives A.starts code.now (MaySettle to_turn []) most going.left going.found worker.old → IsGoing A.over A.place A.stands A.advances A.gives A.starts code.now (MaySettle to_turn []) most g.left g.found worker.new) }
 {
     let mut going = going;
     for _ in rt.forever() {
@@ -167,6 +176,7 @@ fn yield_lane<R: Wait, A: Agent, C: Clock + Drop>(
     ensures at { IfOk result (λ g. IsAtWork A.over A.stands code.now table.now.id worker.new g.lane.value) }
     ensures spent { IfOk result (λ g. (start : ℕ) (w : Worker A C) → HasSpent start going.left going.found w worker.old → HasSpent start g.left g.found w worker.new) }
     ensures given_up { IfErr result (λ s. IsGivenUp A.over A.stands code.now table.now.id s worker.new) }
+    ensures solo { IfOk result (λ g. (most : ℕ) → (0 < going.left → going.found ≡ false → (going.lane.value.task ≡ None) ⊎ (patience ≤ going.lane.value.since)) → IsGoing A.over A.place A.stands A.advances A.gives A.starts code.now (MaySettle to_turn []) most going.left going.found worker.old → IsGoing A.over A.place A.stands A.advances A.gives A.starts code.now AtFree most g.left g.found worker.new) }
 {
     check_turns(rt, worker);
     let Going { lane, left, found } = going;
@@ -190,6 +200,7 @@ fn stand_back<R: Wait, A: Agent, C: Clock + Drop>(
     ensures at { IfOk result (λ g. IsAtWork A.over A.stands code.now table.now.id worker.new g.lane.value) }
     ensures spent { IfOk result (λ g. (start : ℕ) (w : Worker A C) → HasSpent start going.left going.found w worker.old → HasSpent start g.left g.found w worker.new) }
     ensures given_up { IfErr result (λ s. IsGivenUp A.over A.stands code.now table.now.id s worker.new) }
+    ensures solo { IfOk result (λ g. (most : ℕ) → (0 < going.left → going.found ≡ false → (going.lane.value.task ≡ None) ⊎ (patience ≤ going.lane.value.since)) → IsGoing A.over A.place A.stands A.advances A.gives A.starts code.now (MaySettle to_turn []) most going.left going.found worker.old → IsGoing A.over A.place A.stands A.advances A.gives A.starts code.now AtFree most g.left g.found worker.new) }
 {
     if going.found || going.lane.task.is_none() {
         Ok(going)
@@ -216,6 +227,7 @@ fn run_and_leave<R: Wait, A: Starting, C: Clock + Drop, G: Gate>(
     ensures at { IfOk result (λ g. IsAtWork A.over A.stands code.now table.now.id worker.new g.lane.value) }
     ensures spent { IfOk result (λ g. (start : ℕ) (w : Worker A C) → HasSpent start going.left going.found w worker.old → HasSpent start g.left g.found w worker.new) }
     ensures given_up { IfErr result (λ s. IsGivenUp A.over A.stands code.now table.now.id s worker.new) }
+    ensures solo { IfOk result (λ g. (most : ℕ) → IsGoing A.over A.place A.stands A.advances A.gives A.starts code.now (MaySettle to_turn []) most going.left going.found worker.old → IsGoing A.over A.place A.stands A.advances A.gives A.starts code.now AtFree most g.left g.found worker.new) }
 {
     let going = run_task(rt, alloc, table, code, worker, held, gate, going)?;
     stand_back(rt, table, code, worker, going)
@@ -236,6 +248,8 @@ fn find_at<R: Wait, A: Agent, C: Clock + Drop>(
     ensures same { SameWorker worker.old worker.new }
     ensures at { IsAtWork A.over A.stands code.now table.now.id worker.new result.lane.value }
     ensures spent { (start : ℕ) (w : Worker A C) → HasSpent start going.left going.found w worker.old → HasSpent start result.left result.found w worker.new }
+    ensures empty { (most : ℕ) → result.lane.value.task ≡ None → IsRunning A.over A.place A.stands A.advances A.gives A.starts code.now AtFree most going.left going.found worker.old → IsRunning A.over A.place A.stands A.advances A.gives A.starts code.now AtEmpty most result.left result.found worker.new }
+    ensures picked { (most : ℕ) → IsSome result.lane.value.task → IsRunning A.over A.place A.stands A.advances A.gives A.starts code.now AtFree most going.left going.found worker.old → IsRunning A.over A.place A.stands A.advances A.gives A.starts code.now AtPicked most result.left result.found worker.new }
 {
     check_turns(rt, worker);
     let Going { lane, left, found } = going;
@@ -255,6 +269,8 @@ fn find_task<R: Wait, A: Agent, C: Clock + Drop>(
     ensures same { SameWorker worker.old worker.new }
     ensures at { IsAtWork A.over A.stands code.now table.now.id worker.new result.lane.value }
     ensures spent { (start : ℕ) (w : Worker A C) → HasSpent start going.left going.found w worker.old → HasSpent start result.left result.found w worker.new }
+    ensures empty { (most : ℕ) → going.lane.value.task ≡ None → result.lane.value.task ≡ None → IsRunning A.over A.place A.stands A.advances A.gives A.starts code.now AtFree most going.left going.found worker.old → IsRunning A.over A.place A.stands A.advances A.gives A.starts code.now AtEmpty most result.left result.found worker.new }
+    ensures picked { (most : ℕ) → going.lane.value.task ≡ None → IsSome result.lane.value.task → IsRunning A.over A.place A.stands A.advances A.gives A.starts code.now AtFree most going.left going.found worker.old → IsRunning A.over A.place A.stands A.advances A.gives A.starts code.now AtPicked most result.left result.found worker.new }
 {
     let number = worker.number;
     let workers = worker.workers;
@@ -300,6 +316,7 @@ fn ask_clock<R: Wait, A: Agent, C: Clock + Drop>(
     ensures at { IfOk result (λ g. IsAtWork A.over A.stands code.now table.now.id worker.new g.lane.value) }
     ensures spent { IfOk result (λ g. (start : ℕ) (w : Worker A C) → HasSpent start going.left going.found w worker.old → HasSpent start g.left g.found w worker.new) }
     ensures given_up { IfErr result (λ s. IsGivenUp A.over A.stands code.now table.now.id s worker.new) }
+    ensures solo { IfOk result (λ g. (most : ℕ) → due.old.items ≡ [] → IsRunning A.over A.place A.stands A.advances A.gives A.starts code.now AtPicked most going.left going.found worker.old → IsGoing A.over A.place A.stands A.advances A.gives A.starts code.now (MaySettle to_turn due.new.items) most g.left g.found worker.new) }
 {
     match ask(rt, alloc, table, code, worker, held, due) {
         Ok(asked) => Ok(count_asked(going, asked)),
@@ -326,6 +343,7 @@ fn run_picked<R: Wait, A: Starting, C: Clock + Drop, G: Gate>(
     ensures at { IfOk result (λ g. IsAtWork A.over A.stands code.now table.now.id worker.new g.lane.value) }
     ensures spent { IfOk result (λ g. (start : ℕ) (w : Worker A C) → HasSpent start going.left going.found w worker.old → HasSpent start g.left g.found w worker.new) }
     ensures given_up { IfErr result (λ s. IsGivenUp A.over A.stands code.now table.now.id s worker.new) }
+    ensures solo { IfOk result (λ g. (most : ℕ) → IsRunning A.over A.place A.stands A.advances A.gives A.starts code.now AtPicked most going.left going.found worker.old → IsGoing A.over A.place A.stands A.advances A.gives A.starts code.now AtFree most g.left g.found worker.new) }
 {
     due.clear();
     let asked = ask_clock(rt, alloc, table, code, worker, held, due, going)?;
@@ -366,6 +384,7 @@ fn look_idle<R: Wait, A: Agent, C: Clock + Drop>(
     ensures left { result.0.left ≡ going.left }
     ensures found { result.0.found ≡ going.found }
     ensures drew { IfOk result.1 (λ r. Drew (cost_idle r) (is_over r) worker.old worker.new) }
+    ensures solo { IfOk result.1 (λ r. (most : ℕ) → MayGo A.over A.place A.stands A.advances A.gives A.starts code.now AtEmpty most worker.old → Went A.over A.place A.stands A.advances A.gives A.starts code.now (MaySettle to_rest due.new.items) most worker.new) }
 {
     let Going { lane, left, found } = going;
     let (lane, came) = idle(rt, alloc, table, code, worker, held, lane, due);
@@ -391,6 +410,7 @@ fn rest<R: Wait, A: Agent, C: Clock + Drop>(
     ensures at { IfOk result (λ g. IsAtWork A.over A.stands code.now table.now.id worker.new g.lane.value) }
     ensures spent { IfOk result (λ g. (start : ℕ) (w : Worker A C) → HasSpent start going.left going.found w worker.old → HasSpent start g.left g.found w worker.new) }
     ensures given_up { IfErr result (λ s. IsGivenUp A.over A.stands code.now table.now.id s worker.new) }
+    ensures solo { IfOk result (λ g. (most : ℕ) → IsRunning A.over A.place A.stands A.advances A.gives A.starts code.now AtEmpty most going.left going.found worker.old → IsGoing A.over A.place A.stands A.advances A.gives A.starts code.now (MaySettle to_rest due.new.items) most g.left g.found worker.new) }
 {
     let (looked, came) = look_idle(rt, alloc, table, code, worker, held, due, going);
     match came {
@@ -418,6 +438,7 @@ fn rest_and_settle<R: Wait, A: Agent, C: Clock + Drop>(
     ensures at { IfOk result (λ g. IsAtWork A.over A.stands code.now table.now.id worker.new g.lane.value) }
     ensures spent { IfOk result (λ g. (start : ℕ) (w : Worker A C) → HasSpent start going.left going.found w worker.old → HasSpent start g.left g.found w worker.new) }
     ensures given_up { IfErr result (λ s. IsGivenUp A.over A.stands code.now table.now.id s worker.new) }
+    ensures solo { IfOk result (λ g. (most : ℕ) → IsRunning A.over A.place A.stands A.advances A.gives A.starts code.now AtEmpty most going.left going.found worker.old → IsGoing A.over A.place A.stands A.advances A.gives A.starts code.now AtFree most g.left g.found worker.new) }
 {
     due.clear();
     let going = rest(rt, alloc, table, code, worker, held, due, going)?;
@@ -443,6 +464,7 @@ fn seek<R: Wait, A: Starting, C: Clock + Drop, G: Gate>(
     ensures at { IfOk result (λ g. IsAtWork A.over A.stands code.now table.now.id worker.new g.lane.value) }
     ensures spent { IfOk result (λ g. (start : ℕ) (w : Worker A C) → HasSpent start going.left going.found w worker.old → HasSpent start g.left g.found w worker.new) }
     ensures given_up { IfErr result (λ s. IsGivenUp A.over A.stands code.now table.now.id s worker.new) }
+    ensures solo { IfOk result (λ g. (most : ℕ) → going.lane.value.task ≡ None → IsRunning A.over A.place A.stands A.advances A.gives A.starts code.now AtFree most going.left going.found worker.old → IsGoing A.over A.place A.stands A.advances A.gives A.starts code.now AtFree most g.left g.found worker.new) }
 {
     let going = find_task(rt, table, code, worker, going);
     if going.lane.task.is_none() {
@@ -473,6 +495,7 @@ pub(crate) fn visit_lane<R: Wait, A: Starting, C: Clock + Drop, G: Gate>(
     ensures at { IfOk result (λ g. IsAtWork A.over A.stands code.now table.now.id worker.new g.lane.value) }
     ensures spent { IfOk result (λ g. (start : ℕ) (w : Worker A C) → HasSpent start going.left going.found w worker.old → HasSpent start g.left g.found w worker.new) }
     ensures given_up { IfErr result (λ s. IsGivenUp A.over A.stands code.now table.now.id s worker.new) }
+    ensures solo { IfOk result (λ g. (most : ℕ) → IsRunning A.over A.place A.stands A.advances A.gives A.starts code.now AtFree most going.left going.found worker.old → IsGoing A.over A.place A.stands A.advances A.gives A.starts code.now AtFree most g.left g.found worker.new) }
 {
     if going.lane.task.is_some() {
         run_and_leave(rt, alloc, table, code, worker, held, gate, going)

@@ -1,5 +1,5 @@
 // A worker's call: it makes events until they cost its allowance, or it finds an end.
-ghost use Rattle.std.specs.Prelude.{◌≡◌, ℕ, ◌+◌, ◌<◌, ◌≤◌, false, true, OnOk, IfErr, IfOk, Err};
+ghost use Rattle.std.specs.Prelude.{◌≡◌, ℕ, ◌+◌, ◌<◌, ◌≤◌, [], false, true, OnOk, IfErr, IfOk, Err};
 ghost use Rattle.ca_term.specs.Program.{program_view};
 ghost use Rattle.ca_lower.specs.Gos.{SameGos};
 ghost use Rattle.ca_lower.specs.Lowered.{Lowered};
@@ -9,8 +9,10 @@ ghost use Rattle.ca_table.specs.Workers.{IsReady, SameWorker};
 ghost use Rattle.ca_table.specs.declared.answer.PoolStop.TheVariants.{ClockFailed};
 ghost use Rattle.ca_table.specs.declared.answer.WorkEnd.TheVariants.{Over, Spent};
 ghost use Rattle.ca_table.specs.declared.worker.Worker.{Worker};
+ghost use Rattle.ca_alone.specs.Schedule.{AtFree};
 ghost use Rattle.ca_pool.specs.AtWork.{HasDone, HasSpent, IsAtWork, IsGivenUp};
 ghost use Rattle.ca_pool.specs.Desk.{IsBare};
+ghost use Rattle.ca_pool.specs.Lone.{IsGoing, IsLone, LoneStopped};
 
 use crate::clocking::stop;
 use crate::gate::Gate;
@@ -43,6 +45,7 @@ fn take_seat<R: Wait, A: Agent, C: Clock + Drop>(
     ensures same { SameWorker worker.old worker.new }
     ensures at { IsAtWork A.over A.stands code.now table.now.id worker.new result.lane.value }
     ensures spent { HasSpent allowance result.left result.found worker.old worker.new }
+    ensures solo { IsLone worker.old → worker.old.hand.view.turns ≡ [] → 0 < allowance → IsGoing A.over A.place A.stands A.advances A.gives A.starts code.now AtFree allowance result.left result.found worker.new }
 {
     let lane = sit(rt, table, code, worker);
     Going {
@@ -72,6 +75,7 @@ fn go_on<R: Wait, A: Starting, C: Clock + Drop, G: Gate>(
     ensures spent { IfOk result (λ g. (start : ℕ) (w : Worker A C) → HasSpent start going.left going.found w worker.old → HasSpent start g.left g.found w worker.new) }
     ensures given_up { IfErr result (λ s. IsGivenUp A.over A.stands code.now table.now.id s worker.new) }
     ensures over { IfOk result (λ g. 0 < g.left → g.found ≡ true) }
+    ensures solo { IfOk result (λ g. (most : ℕ) → IsGoing A.over A.place A.stands A.advances A.gives A.starts code.now AtFree most going.left going.found worker.old → IsGoing A.over A.place A.stands A.advances A.gives A.starts code.now AtFree most g.left g.found worker.new) }
 {
     let mut going = going;
     for _ in rt.forever() {
@@ -95,6 +99,7 @@ fn leave_seat<A: Agent, C: Clock + Drop>(
     ensures same { SameWorker worker.old worker.new }
     ensures ready { IsReady A.over A.stands (program_view worker.new.program.value) (valid_code code.now) table.now.id worker.new.workers worker.new }
     ensures done { (start : ℕ) (w : Worker A C) → HasSpent start going.left going.found w worker.old → HasDone result start w worker.new }
+    ensures solo { (most : ℕ) → IsGoing A.over A.place A.stands A.advances A.gives A.starts code.now AtFree most going.left going.found worker.old → LoneStopped A.over A.place A.stands A.advances A.gives A.starts code.now most worker.new }
 {
     let Going {
         lane,
@@ -129,6 +134,7 @@ fn take_turns<R: Wait, A: Starting, C: Clock + Drop, G: Gate>(
     ensures ready { OnOk result (IsReady A.over A.stands (program_view worker.new.program.value) (valid_code code.now) table.now.id worker.new.workers worker.new) }
     ensures done { IfOk result (λ e. HasDone e allowance worker.old worker.new) }
     ensures given_up { IfErr result (λ s. IsGivenUp A.over A.stands code.now table.now.id s worker.new) }
+    ensures solo { IfOk result (λ e. IsLone worker.old → worker.old.hand.view.turns ≡ [] → 0 < allowance → LoneStopped A.over A.place A.stands A.advances A.gives A.starts code.now allowance worker.new) }
 {
     let mut due = Vec::new(alloc);
     let seated = take_seat(rt, table, code, worker, allowance);
@@ -180,6 +186,7 @@ pub fn work<R: Wait, A: Starting, C: Clock + Drop, G: Gate>(
     ensures spent { IfOk result (λ e. e ≡ Spent → allowance + spent worker.old ≤ spent worker.new) }
     ensures less { IfOk result (λ e. e ≡ Over → spent worker.new < allowance + spent worker.old) }
     ensures over { IfOk result (λ e. e ≡ Over → has_drawn leaves worker.new ≡ true) }
+    ensures solo { IfOk result (λ e. IsLone worker.old → worker.old.hand.view.turns ≡ [] → 0 < allowance → LoneStopped A.over A.place A.stands A.advances A.gives A.starts code.now allowance worker.new) }
 {
     // Where there is not even the memory to begin with, the others come to the end without this worker.
     let Ok(mut held) = Held::new(alloc) else {

@@ -14,7 +14,7 @@ pub judged_by_program : (command : Command) (input : List ℕ) (program : Progra
 judged_by_program command input program Usage p h = h
 judged_by_program command input program (Refused r) p h = absurd h
 judged_by_program command input program Accepted p h = (h, (program, p))
-judged_by_program command input program (Ran m shown) p h = (h.0, h.1, record { program = program; is_program = p; legal = h.2.legal; has_end = h.2.has_end }, h.2.told)
+judged_by_program command input program (Ran m shown) p h = (h.0, h.1, record { program = program; is_program = p; legal = h.2.legal; has_end = h.2.has_end; solo = h.2.solo }, h.2.told)
 
 -- a script that is refused
 refused_by : (command : Command) (before after : Option (List ℕ)) (line : List ℕ) → IsRefused command before after line → RefusedFrom command before after line

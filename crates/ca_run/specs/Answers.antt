@@ -12,6 +12,7 @@ use Rattle.ca_reader.specs.Kind.{kind_name}
 use Rattle.ca_check.specs.Kind.{kind_name as check_kind_name}
 use Rattle.ca_words.specs.declared.command.Command.{Command}
 use Rattle.ca_words.specs.declared.command.Command.TheVariants.{Check, Load, Run}
+use Rattle.ca_pool.specs.PoolEnds.{IsScheduled}
 use Rattle.ca_run.specs.declared.run.ScriptRun.{ScriptRun}
 use Rattle.ca_run.specs.declared.run.ScriptEnd.{ScriptEnd}
 use Rattle.ca_run.specs.declared.run.ScriptEnd.TheVariants.{Ended, Faulted, Limit, Stuck}
@@ -20,7 +21,7 @@ use Rattle.ca_run.specs.declared.answer.Answer.TheVariants.{Usage, Refused, Acce
 use Rattle.ca_run.specs.declared.answer.Refusal.{Refusal}
 use Rattle.ca_run.specs.declared.answer.Refusal.TheVariants.{TooLong, Unreadable, Unchecked}
 use Rattle.ca_journal.specs.Events.{events}
-use Rattle.ca_run.specs.Top.{budget_of, runs, shows_journal, usage, error_line, first_place, ProgramOf, RefusedFor, RunOf, EndLine, Refused as RefusedFrom, Accepted as AcceptedFrom, Ran as RanFrom}
+use Rattle.ca_run.specs.Top.{budget_of, runs, shows_journal, usage, error_line, first_place, ProgramOf, RefusedFor, RunOf, EndLine, workers_of, Refused as RefusedFrom, Accepted as AcceptedFrom, Ran as RanFrom}
 
 abbrev pub refusal_line : Refusal → List ℕ
 refusal_line TooLong = error_line (codes "TooLong") first_place
@@ -71,11 +72,12 @@ RunsNothing (Refused r) = Unit {0}
 RunsNothing Accepted = Unit {0}
 RunsNothing (Ran m shown) = ⊥
 
--- the run of the program has come to that end for the budget, which its line tells
-pub record IsRun (budget : ℕ) (program : ProgramView) (m : ScriptRun) : Type 0 where
+-- the run of the program has come to that end for the budget, which its line tells; with one worker it is the schedule's
+pub record IsRun (workers budget : ℕ) (program : ProgramView) (m : ScriptRun) : Type 0 where
   pub legal : Legal program (events m.journal)
   pub has_end : HasEnd program budget (events m.journal) (end_of m.end)
   pub told : EndLine (events m.journal) (end_of m.end) (line_of_end m.end)
+  pub solo : workers ≡ 1 → IsScheduled program (events m.journal)
 
 -- its workers and its budget are such as words can ask for
 abbrev pub IsFit : Command → Type 0
@@ -88,14 +90,14 @@ abbrev pub JudgedProgram : Command → ProgramView → Answer → Type 0
 JudgedProgram command program Usage = ⊥
 JudgedProgram command program (Refused r) = ⊥
 JudgedProgram command program Accepted = command ≡ Check
-JudgedProgram command program (Ran m shown) = (runs command ≡ true) × (shown ≡ shows_journal command) × IsRun (budget_of command) program m
+JudgedProgram command program (Ran m shown) = (runs command ≡ true) × (shown ≡ shows_journal command) × IsRun (workers_of command) (budget_of command) program m
 
 -- what a text comes to under a command
 abbrev pub Judged : Command → List ℕ → Answer → Type 0
 Judged command input Usage = ⊥
 Judged command input (Refused r) = RefusedFor input (refusal_line r)
 Judged command input Accepted = (command ≡ Check) × ((program : ProgramView) × ProgramOf input program)
-Judged command input (Ran m shown) = (runs command ≡ true) × (shown ≡ shows_journal command) × RunOf (budget_of command) input (events m.journal) (end_of m.end) × EndLine (events m.journal) (end_of m.end) (line_of_end m.end)
+Judged command input (Ran m shown) = (runs command ≡ true) × (shown ≡ shows_journal command) × RunOf (workers_of command) (budget_of command) input (events m.journal) (end_of m.end) × EndLine (events m.journal) (end_of m.end) (line_of_end m.end)
 
 -- what the words and the source come to
 abbrev pub AnswersTo : Option Command → Option (List ℕ) → Option (List ℕ) → Answer → Type 0

@@ -24,6 +24,7 @@ use Rattle.ca_words.specs.declared.command.Command.{Command}
 use Rattle.ca_words.specs.declared.command.Command.TheVariants.{Check, Load, Run}
 use Rattle.ca_journal.specs.Events.{events}
 use Rattle.ca_sealed.specs.KeepsLaws.{KeepsLaws}
+use Rattle.ca_pool.specs.PoolEnds.{IsScheduled}
 use Rattle.ca_run.specs.Generator.{load_text}
 
 -- the greatest length of a script, in bytes
@@ -35,6 +36,12 @@ abbrev pub budget_of : Command → ℕ
 budget_of (Run workers budget journal) = budget
 budget_of Check = 0
 budget_of (Load n workers) = 4_000_000
+
+-- how many workers run it
+abbrev pub workers_of : Command → ℕ
+workers_of (Run workers budget journal) = workers
+workers_of Check = 0
+workers_of (Load n workers) = workers
 
 -- a script is run, and not only checked
 abbrev pub runs : Command → Bool
@@ -58,12 +65,14 @@ shows_journal (Load n workers) = false
 abbrev pub ProgramOf : List ℕ → ProgramView → Type 0
 ProgramOf input program = (forms : FormTrees) × Reads input forms × (expansion_of forms ≡ Ok program)
 
--- the events are a run of the text's program, which came to that end for the budget
-pub record RunOf (budget : ℕ) (input : List ℕ) (journal : List EventView) (end : RunEnd) : Type 0 where
+-- The events are a run of the text's program, which came to that end for the budget. With one worker they are the run of
+-- the stated schedule over answers of the clock.
+pub record RunOf (workers budget : ℕ) (input : List ℕ) (journal : List EventView) (end : RunEnd) : Type 0 where
   pub program : ProgramView
   pub is_program : ProgramOf input program
   pub legal : Legal program journal
   pub has_end : HasEnd program budget journal end
+  pub solo : workers ≡ 1 → IsScheduled program journal
 
 -- the line that tells of an end
 abbrev pub EndLine : List EventView → RunEnd → List ℕ → Type 0
@@ -87,7 +96,7 @@ Given (Load n workers) before after input = (after ≡ before) × (input ≡ loa
 
 -- the events are a run of the command's script
 abbrev pub Ran : Command → Option (List ℕ) → Option (List ℕ) → List EventView → RunEnd → Type 0
-Ran command before after journal end = (input : List ℕ) × Given command before after input × RunOf (budget_of command) input journal end
+Ran command before after journal end = (input : List ℕ) × Given command before after input × RunOf (workers_of command) (budget_of command) input journal end
 
 -- the events are a run of the command's script, and keep the laws that each run of its program keeps
 abbrev pub IsLawful : Option Command → Option (List ℕ) → Option (List ℕ) → List EventView → Type 0

@@ -8,7 +8,7 @@ ghost use Rattle.ca_value.specs.declared.value.PortId.{PortId};
 ghost use Rattle.ca_meaning.specs.Ends.{EndsWith, HasEnd};
 ghost use Rattle.ca_meaning.specs.Legal.{Legal};
 ghost use Rattle.ca_journal.specs.Events.{events};
-ghost use Rattle.ca_pool.specs.PoolEnds.{end_view};
+ghost use Rattle.ca_pool.specs.PoolEnds.{IsScheduled, end_view};
 ghost use Rattle.ca_run.specs.Answers.{end_of, line_of_end};
 ghost use Rattle.ca_run.specs.Top.{EndLine};
 
@@ -64,13 +64,12 @@ fn last_fault(journal: &Journal) -> Option<(Fault, Place)>
 }
 
 // The same end, with the fault that the journal tells.
-fn told(run: PoolRun) -> ScriptRun
-    requires end { (program : ProgramView) × (budget : ℕ) × HasEnd program budget (events run.journal) (end_view run.end) }
-    ensures journal { result.journal ≡ run.journal }
-    ensures end { end_of result.end ≡ end_view run.end }
+fn told(journal: Journal, end: PoolEnd) -> ScriptRun
+    requires end { (program : ProgramView) × (budget : ℕ) × HasEnd program budget (events journal) (end_view end) }
+    ensures journal { result.journal ≡ journal }
+    ensures end { end_of result.end ≡ end_view end }
     ensures line { EndLine (events result.journal) (end_of result.end) (line_of_end result.end) }
 {
-    let PoolRun { journal, end } = run;
     let end = match end {
         PoolEnd::Ended => ScriptEnd::Ended,
         PoolEnd::Limit => ScriptEnd::Limit,
@@ -83,7 +82,8 @@ fn told(run: PoolRun) -> ScriptRun
     ScriptRun { journal, end }
 }
 
-/// Compiles the program, and runs it with 1 to 16 workers, until an end or until its events cost the budget.
+/// Compiles the program, and runs it with 1 to 16 workers, until an end or until its events cost the budget. With one
+/// worker the run is that of the stated schedule, over answers of the clock that never fall.
 pub fn run_script<R: Threads + Wait + Sync, C: Clock + Send, G: Gate + Sync>(
     rt: &R,
     alloc: Global,
@@ -98,11 +98,17 @@ pub fn run_script<R: Threads + Wait + Sync, C: Clock + Send, G: Gate + Sync>(
     ensures legal { IfOk result (λ m. Legal (program_view program.now) (events m.journal)) }
     ensures end { IfOk result (λ m. HasEnd (program_view program.now) budget (events m.journal) (end_of m.end)) }
     ensures line { IfOk result (λ m. EndLine (events m.journal) (end_of m.end) (line_of_end m.end)) }
+    ensures solo { IfOk result (λ m. workers ≡ 1 → IsScheduled (program_view program.now) (events m.journal)) }
 {
     let code = lower_moving(alloc, program)?;
     let main = AnyTask::main(alloc, &code)?;
     let run = run_pool(
         rt, alloc, program, &code, main, workers, budget, clock, gate,
     )?;
-    Ok(told(run))
+    let PoolRun {
+        journal,
+        end,
+        clock: _,
+    } = run;
+    Ok(told(journal, end))
 }

@@ -183,7 +183,8 @@ pub fn main_call<R: Threads + Wait + Sync, S: Source, K: Sink, C: Clock + Send, 
     gate: &G,
 ) -> Finish
     // The headline: whatever the number of workers, and however their steps fall, a run of the script's text in which no
-    // body is ever cut. It ends with the main text's end, a fault of the main text, where nothing can go on, or at its budget.
+    // body is ever cut. It ends with the main text's end, a fault of the main text, where nothing can go on, or at its
+    // budget. With one worker it is the run of the stated schedule over answers of the clock.
     ensures ended { (command : Command) → command_in (map string_bytes words.now) ≡ Some command → runs command ≡ true → result.status ≡ 0 → Completed command (S.left source.old) (S.left source.new) (K.held sink.old) (K.held sink.new) result.journal ended }
     ensures faulted { result.status ≡ 3 → CompletedFor (command_in (map string_bytes words.now)) (S.left source.old) (S.left source.new) (K.held sink.old) (K.held sink.new) result.journal faulted }
     ensures stuck { result.status ≡ 4 → CompletedFor (command_in (map string_bytes words.now)) (S.left source.old) (S.left source.new) (K.held sink.old) (K.held sink.new) result.journal stuck }

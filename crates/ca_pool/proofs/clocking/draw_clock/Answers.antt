@@ -1,4 +1,4 @@
-use Rattle.std.proofs.Common.{List, [], Some, ap, arith, length, refl, subst}
+use Rattle.std.proofs.Common.{List, Some, ap, arith, length, refl, subst}
 use Rattle.ca_term.specs.Event.{EventView}
 use Rattle.ca_meaning.specs.Cost.{cost}
 use Rattle.ca_table.specs.Draws.{turn_view}
@@ -33,3 +33,11 @@ pub returns-clause-carries : goal.returns-clause-carries
 returns-clause-carries g c = λ P n l clock0 held0 s show t. let a = g.A.Agent in let K = g.C.Clock in let held = c.args.held.now in let clock = c.args.clockwork in
     c.draw_aside.ensures.carries P n l (Some clock0) held0 s (same_shown (Some clock0) (Some clock) held0 held refl show)
     (timed_moved a.over a.place a.advances a.gives a.starts K.least K.faults K.readings c.args.code.now n c.args.worker.now.number l clock0 clock held0 held (turn_view c.args.what) show c.requires.ready t)
+
+pub returns-clause-turn : goal.returns-clause-turn
+returns-clause-turn g c = let d = c.draw_aside.ensures in record { turn = d.turns.0; is = ap turn_view d.turns.2; after = record { opening = d.hand.opening; turns = d.turns.1 } }
+
+pub returns-clause-timed : goal.returns-clause-timed
+returns-clause-timed g c = λ P n l clock0 held0 s show t alone. let a = g.A.Agent in let K = g.C.Clock in let held = c.args.held.now in let clock = c.args.clockwork in
+    c.draw_aside.ensures.timed P n l (Some clock0) held0 s (same_shown (Some clock0) (Some clock) held0 held refl show)
+    (timed_moved a.over a.place a.advances a.gives a.starts K.least K.faults K.readings c.args.code.now n c.args.worker.now.number l clock0 clock held0 held (turn_view c.args.what) show c.requires.ready t) alone

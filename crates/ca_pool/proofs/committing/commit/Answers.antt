@@ -1,4 +1,4 @@
-use Rattle.std.proofs.Common.{◌≡◌, ◌∙◌, ℕ, ◌<◌, None, Some, refl, sym, ap, subst, is_some}
+use Rattle.std.proofs.Common.{◌≡◌, ◌∙◌, ℕ, ◌<◌, None, Some, refl, sym, ap, subst, is_some, []}
 use Rattle.std.specs.Prelude.{IfSome}
 use Rattle.ca_value.specs.Seq.{spare}
 use Rattle.ca_term.specs.Operation.{SeedView}
@@ -24,6 +24,8 @@ use Rattle.ca_pool.proofs.AtEvents.{clock_shown, kept_carrying, own_number, same
 use Rattle.ca_pool.proofs.PlansReadied.{if_some, no_channel_kept, no_registry_kept, numbers_moved, paused_kept, placed_kept, plan_kept, resolved_apart, resolved_rest, rest_ready}
 use Rattle.ca_pool.proofs.Preparations.{all_parts}
 use Rattle.ca_pool.proofs.Resolutions.{err_is, if_ok_is, ok_is}
+use Rattle.ca_alone.specs.Schedule.{MaySettle, to_turn}
+use Rattle.ca_pool.proofs.Lone.{same_may}
 use Rattle.ca_pool.proofs.committing.commit.Goals as goal
 
 pub prepare-clock-requires-clause-paused : goal.prepare-clock-requires-clause-paused
@@ -105,3 +107,7 @@ returns-in-Err-clause-refused g c = let t = c.take_others-clock in let p = c.pre
 pub returns-in-Err-clause-kept : goal.returns-in-Err-clause-kept
 returns-in-Err-clause-kept g c = λ program n l s. let a = g.A.Agent in let K = g.C.Clock in let code = c.args.code.now in let id = c.args.table.now.id in let w = c.args.worker.now in let t = c.take_others-clock in let o = t.ensures in let w1 = t.new.worker in let held1 = t.new.held in let clock0 = t.result in let p = c.prepare-clock in let q = p.ensures in let w2 = p.new.worker in let held2 = p.new.held in let shows : Part g.row.A.Denot g.row.C.Denot → PartSeen g.row.A.Denot = part_seen K.least K.faults K.readings in let plan = plan_view c.args.plan in
     c.put_off.ensures.carries program n l (clock_shown a.over a.stands code id program n l K.least K.faults K.readings w2 clock0 p.result.0 held2 (err_is p.result.1 _ q.kept c.in-Err.is) (taken_shown a.over a.stands code id program n l K.least K.faults K.readings w2 clock0 held1 held2 q.shown (own_number a.over a.stands code id program n l K.least K.faults K.readings w1 w2 clock0 held1 q.same.number (kept_carrying a.over a.stands code id program n w1 w2 (taken shows n code w1.number l clock0 held1) q.same q.hand q.entries (o.carries program n l s)))))
+
+pub returns-in-Ok-clause-solo : goal.returns-in-Ok-clause-solo
+returns-in-Ok-clause-solo g c = λ few most may. let a = g.A.Agent in let m = g.met.A.Agent in let code = c.args.code.now in let t = c.take_others-clock in let p = c.prepare-clock in
+    c.draw_plan.ensures.solo few most (same_may a.over a.place a.stands a.advances a.gives a.starts m.advanced m.answered m.started code {P = MaySettle to_turn []} p.ensures.same (same_turns t.new.worker.hand p.new.worker.hand p.ensures.hand) (same_may a.over a.place a.stands a.advances a.gives a.starts m.advanced m.answered m.started code {P = MaySettle to_turn []} t.ensures.same t.ensures.turns may))

@@ -10,6 +10,8 @@ use Rattle.ca_table.proofs.Drawing.{drew_as, drew_weaker}
 use Rattle.ca_pool.specs.Leaving.{TaskOver}
 use Rattle.ca_pool.proofs.EndsMoved.{cost_one}
 use Rattle.ca_pool.proofs.PlansDrawn.{is_timely, plan_moved, plan_same, runs_within}
+use Rattle.ca_pool.proofs.LoneSteps.{plan_leads}
+use Rattle.ca_commit.specs.Applying.{number_of}
 use Rattle.ca_pool.proofs.committing.draw_plan.Goals as goal
 
 pub commit_plan-event-requires-clause-timely : goal.commit_plan-event-requires-clause-timely
@@ -36,3 +38,8 @@ returns-clause-stepped g c = λ program n l clock0 s gone asked started. let a =
     let drew = d.ensures.carries program n l clock0 c.args.held.now s same moves in
     carries_seated a.over a.stands program code id n d.new.worker d.result.value (ap (λ (b : LaneBox g.row.A.Denot). program_view b.value.program.value) d.ensures.lane ∙ q.done.1.program ∙ ap (λ x. program_view x.value) gone.left.program_is ∙ gone.program_is)
     (subst (λ (b : LaneBox g.row.A.Denot). IsCarrying a.over a.stands program code id n d.new.worker (just_lane n code b.value)) (sym d.ensures.lane) drew)
+
+pub returns-clause-solo : goal.returns-clause-solo
+returns-clause-solo g c = λ few most may. let a = g.A.Agent in let K = g.C.Clock in let m = g.met.A.Agent in let r = c.requires.carries in let p = c.commit_plan-event in let d = c.draw_turn-lane in
+    plan_leads a.over a.place a.stands a.advances a.gives a.starts m.advanced m.answered m.started K.least K.faults K.readings c.args.code.now c.args.table.now.id r.0 r.1 r.2 c.args.lane.value r.3 c.args.held.now c.args.worker.now d.new.worker c.args.task r.4 r.5 d.ensures.same d.ensures.hand few most may
+    (number_of c.args.spawned) (plan_view c.args.plan) (event_view p.result.event) _ c.args.clock c.requires.ready.plan_for p.ensures.event c.stirred_by-stirred.ensures r.6 _ refl d.ensures.turns

@@ -7,11 +7,12 @@ use Rattle.ca_table.specs.Parts.{part_seen}
 use Rattle.ca_table.specs.Seen.{PartSeen}
 use Rattle.ca_table.specs.declared.drawn.Drawn.{Drawn}
 use Rattle.ca_table.specs.declared.part.Part.{Part}
-use Rattle.ca_table.proofs.Drawing.{drew_what}
 use Rattle.ca_table.specs.Grips.{settled_one}
+use Rattle.ca_table.proofs.Drawing.{drew_what}
 use Rattle.ca_table.proofs.Loads.{then_worker}
 use Rattle.ca_pool.specs.Desk.{laid, laid_aside}
 use Rattle.ca_pool.proofs.Desk.{beside_desk, desk_after, laid_after, moved_told, ready_laid, then_hand}
+use Rattle.ca_pool.proofs.LeftTimers.{lone_now, timers_drawn}
 use Rattle.ca_pool.proofs.drawing.draw_aside.Goals as goal
 
 pub lay_back-laid-requires : goal.lay_back-laid-requires
@@ -58,3 +59,12 @@ returns-clause-carries g c = λ P n l clock0 held0 s same m. let a = g.A.Agent i
     let own = subst (λ (k : ℕ). IsCarrying a.over a.stands P code id n d.new.worker (desk_after seen n code w.number l clock0 clock held0 held h.lane k)) (sym (d.ensures.same.number ∙ lay.ensures.same.number)) drew in
     let after = desk_after seen n code w.number l clock0 clock held0 held h.lane w.number in
     c.give_back.ensures.carries P code n h.lane after.banks after.shards after.timers (settled_one seen (ready_laid seen n code w.number l held0 held)) (laid_after seen n code w.number l lay.result clock0 clock held0 held same lay.ensures.tells) own
+
+pub returns-clause-timed : goal.returns-clause-timed
+returns-clause-timed g c = λ P n l clock0 held0 s same moved0 alone. let a = g.A.Agent in let K = g.C.Clock in let seen = part_seen K.least K.faults K.readings in let code = c.args.code.now in let w = c.args.worker.now in let clock = c.args.clock in let held = c.args.held.now in let lay = c.lay_back-laid in let d = c.draw_laid_aside in let id = c.args.table.now.id in let give = c.give_back in
+    let h = laid seen n code w.number l clock0 held0 clock held in
+    let moved = moved_told a.over a.place a.advances a.gives a.starts seen code n lay.new.worker.number w.number lay.result (is_some clock) held (turn_view c.args.what) (laid_aside seen n code w.number l clock0 held0 clock held) lay.ensures.same.number lay.ensures.tells moved0 in
+    let drew = subst (λ (h : Carries (Part g.row.A.Denot g.row.C.Denot × PartSeen g.row.A.Denot)). IsCarrying a.over a.stands P code id n d.new.worker h) (beside_desk seen n code w.number l h.lane h.banks h.shards h.timers (ready_laid seen n code w.number l held0 held))
+    (d.ensures.carries P n h (lay.ensures.carries P id n l clock0 held0 same s) moved) in
+    let after = then_hand w.hand lay.new.worker.hand d.new.worker.hand lay.ensures.turns.same d.ensures.hand in
+    timers_drawn a.over a.stands seen code id P n w.number l clock0 clock held0 held d.new.worker give.new.worker drew (lone_now w.hand d.new.worker.hand after alone) give.ensures.turns same.timers

@@ -1,4 +1,4 @@
-use Rattle.std.proofs.Common.{◌≡◌, ◌∙◌, ℕ, ◌<◌, refl, sym, ap, subst, None}
+use Rattle.std.proofs.Common.{◌≡◌, ◌∙◌, ℕ, ◌<◌, refl, sym, ap, subst, None, []}
 use Rattle.ca_value.specs.Seq.{spare}
 use Rattle.ca_meaning.specs.Body.{ended}
 use Rattle.ca_table.specs.Carriers.{just_lane}
@@ -7,6 +7,8 @@ use Rattle.ca_table.proofs.Drawing.{drew_later, drew_none}
 use Rattle.ca_table.proofs.HaltMoved.{ends_draw}
 use Rattle.ca_pool.proofs.AtEvents.{kept_carrying, lane_bare, same_turns}
 use Rattle.ca_pool.proofs.Resolutions.{err_any}
+use Rattle.ca_alone.specs.Schedule.{MaySettle, to_turn}
+use Rattle.ca_pool.proofs.Lone.{same_may}
 use Rattle.ca_pool.proofs.ending.end.Goals as goal
 
 pub take_last-clock-requires-clause-carries : goal.take_last-clock-requires-clause-carries
@@ -52,3 +54,7 @@ returns-in_err-make_room-clause-kept g c = err_any c.from_residual.result (λ pr
 
 pub returns-in_err-make_room-clause-refused : goal.returns-in_err-make_room-clause-refused
 returns-in_err-make_room-clause-refused g c = let q = c.make_room.ensures in err_any c.from_residual.result (drew_none q.same (same_turns c.args.worker.now.hand c.make_room.new.worker.hand q.hand))
+
+pub returns-clause-solo : goal.returns-clause-solo
+returns-clause-solo g c = λ few most may. let a = g.A.Agent in let m = g.met.A.Agent in let code = c.args.code.now in let q = c.make_room in let t = c.take_last-clock in
+    c.finish.ensures.solo few most (same_may a.over a.place a.stands a.advances a.gives a.starts m.advanced m.answered m.started code {P = MaySettle to_turn []} t.ensures.same t.ensures.turns (same_may a.over a.place a.stands a.advances a.gives a.starts m.advanced m.answered m.started code {P = MaySettle to_turn []} q.ensures.same (same_turns c.args.worker.now.hand q.new.worker.hand q.ensures.hand) may))

@@ -1,4 +1,4 @@
-use Rattle.std.proofs.Common.{◌≡◌, ◌∙◌, ℕ, ◌<◌, Some, None, refl, sym, ap, subst, true}
+use Rattle.std.proofs.Common.{◌≡◌, ◌∙◌, ℕ, ◌<◌, Some, None, refl, sym, ap, subst, true, []}
 use Rattle.std.specs.Prelude.{option_map}
 use Rattle.ca_value.specs.Seq.{spare}
 use Rattle.ca_term.specs.Event.{port_number}
@@ -10,6 +10,8 @@ use Rattle.ca_table.proofs.HaltMoved.{faults_draw}
 use Rattle.ca_pool.proofs.AtEvents.{bare_lane, kept_carrying, lane_bare, own_number, same_turns}
 use Rattle.ca_pool.proofs.BanksHeld.{has_banks}
 use Rattle.ca_pool.proofs.Resolutions.{err_any}
+use Rattle.ca_alone.specs.Schedule.{MaySettle, to_turn}
+use Rattle.ca_pool.proofs.Lone.{same_may}
 use Rattle.ca_pool.proofs.ending.fault.Goals as goal
 
 pub take_banks-requires-clause-carries : goal.take_banks-requires-clause-carries
@@ -59,3 +61,7 @@ returns-in_err-take_banks-clause-kept g c = err_any c.from_residual-in_err-take_
 
 pub returns-in_err-take_banks-clause-refused : goal.returns-in_err-take_banks-clause-refused
 returns-in_err-take_banks-clause-refused g c = let q = c.make_room.ensures in err_any c.from_residual-in_err-take_banks.result (drew_later q.same (same_turns c.args.worker.now.hand c.make_room.new.worker.hand q.hand) (drew_none c.take_banks.ensures.same c.take_banks.ensures.turns))
+
+pub returns-clause-solo : goal.returns-clause-solo
+returns-clause-solo g c = λ few most may. let a = g.A.Agent in let m = g.met.A.Agent in let code = c.args.code.now in let q = c.make_room in let t = c.take_banks in
+    c.finish_by_fault.ensures.solo few most (same_may a.over a.place a.stands a.advances a.gives a.starts m.advanced m.answered m.started code {P = MaySettle to_turn []} t.ensures.same t.ensures.turns (same_may a.over a.place a.stands a.advances a.gives a.starts m.advanced m.answered m.started code {P = MaySettle to_turn []} q.ensures.same (same_turns c.args.worker.now.hand q.new.worker.hand q.ensures.hand) may))

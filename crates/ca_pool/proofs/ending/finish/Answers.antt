@@ -6,6 +6,7 @@ use Rattle.ca_table.specs.declared.part.Lane.{Lane}
 use Rattle.ca_table.proofs.Carriers.{carries_seated}
 use Rattle.ca_table.proofs.Drawing.{drew_as}
 use Rattle.ca_pool.proofs.EndsMoved.{cost_one, ending_moved, ending_same}
+use Rattle.ca_pool.proofs.LoneSteps.{end_leads}
 use Rattle.ca_pool.proofs.ending.finish.Goals as goal
 
 pub draw_turn-lane-requires-clause-moved : goal.draw_turn-lane-requires-clause-moved
@@ -24,3 +25,8 @@ returns-clause-stepped g c = λ program n l held0 e. let a = g.A.Agent in let K 
     let drew = d.ensures.carries program n l c.args.clock held0 e.carries same moves in
     carries_seated a.over a.stands program code id n d.new.worker d.result.value (ap (λ (b : LaneBox g.row.A.Denot). program_view b.value.program.value) d.ensures.lane ∙ ap (λ p. program_view p.value) (q.program ∙ e.gone.left.program_is) ∙ e.gone.program_is)
     (subst (λ (b : LaneBox g.row.A.Denot). IsCarrying a.over a.stands program code id n d.new.worker (just_lane n code b.value)) (sym d.ensures.lane) drew)
+
+pub returns-clause-solo : goal.returns-clause-solo
+returns-clause-solo g c = λ few most may. let a = g.A.Agent in let K = g.C.Clock in let m = g.met.A.Agent in let r = c.requires.ending in let d = c.draw_turn-lane in
+    end_leads a.over a.place a.stands a.advances a.gives a.starts m.advanced m.answered m.started K.least K.faults K.readings c.args.code.now c.args.table.now.id r.0 r.1 r.2 c.args.lane.value c.args.clock r.3 c.args.worker.now d.new.worker c.args.task.now r.4.carries r.4.gone d.ensures.same d.ensures.hand few most may
+    c.args.ending _ _ c.requires.stirs refl _ refl d.ensures.turns

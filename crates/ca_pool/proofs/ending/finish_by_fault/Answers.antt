@@ -1,4 +1,4 @@
-use Rattle.std.proofs.Common.{◌≡◌, ◌∙◌, ℕ, ◌<◌, refl, sym, ap, subst, is_some}
+use Rattle.std.proofs.Common.{◌≡◌, ◌∙◌, ℕ, ◌<◌, refl, sym, ap, subst, is_some, []}
 use Rattle.ca_value.specs.Seq.{spare}
 use Rattle.ca_term.specs.Event.{port_number}
 use Rattle.std.specs.Prelude.{option_map}
@@ -6,6 +6,8 @@ use Rattle.ca_commit.specs.Showing.{channels_held}
 use Rattle.ca_table.proofs.Drawing.{drew_later}
 use Rattle.ca_table.proofs.Staying.{closed_still}
 use Rattle.ca_pool.proofs.StaleHandlers.{keep_all, same_held}
+use Rattle.ca_alone.specs.Schedule.{MaySettle, to_turn}
+use Rattle.ca_pool.proofs.Lone.{same_may}
 use Rattle.ca_pool.proofs.ending.finish_by_fault.Goals as goal
 
 pub finish-requires-clause-ending : goal.finish-requires-clause-ending
@@ -44,3 +46,7 @@ returns-clause-stepped g c = λ program n l s gone. let q = c.apply_fault.ensure
       keep = keep_all held held2 q.others q.registries;
       may = c.requires.may held2 (record { held = c.requires.result; banks = q.channels });
     })
+
+pub returns-clause-solo : goal.returns-clause-solo
+returns-clause-solo g c = λ few most may. let a = g.A.Agent in let m = g.met.A.Agent in let code = c.args.code.now in let t = c.take_last-clock in
+    c.finish.ensures.solo few most (same_may a.over a.place a.stands a.advances a.gives a.starts m.advanced m.answered m.started code {P = MaySettle to_turn []} t.ensures.same t.ensures.turns may)

@@ -1,4 +1,4 @@
-use Rattle.std.proofs.Common.{◌≡◌, ◌∙◌, ℕ, ◌<◌, Some, None, refl, sym, ap, subst, true}
+use Rattle.std.proofs.Common.{◌≡◌, ◌∙◌, ℕ, ◌<◌, Some, None, refl, sym, ap, subst, true, []}
 use Rattle.std.specs.Prelude.{option_map}
 use Rattle.ca_term.specs.declared.place.Place.{Place}
 use Rattle.ca_term.specs.Operation.{WantView}
@@ -14,6 +14,8 @@ use Rattle.ca_pool.specs.Desk.{taken}
 use Rattle.ca_pool.specs.Endings.{MayFault}
 use Rattle.ca_pool.proofs.AtEvents.{kept_carrying, own_number, same_turns}
 use Rattle.ca_pool.proofs.BanksHeld.{named_needed}
+use Rattle.ca_alone.specs.Schedule.{MaySettle, to_turn}
+use Rattle.ca_pool.proofs.Lone.{same_may}
 use Rattle.ca_pool.proofs.ending.refuse.Goals as goal
 
 same_want : (x y : WantView) → at_op x ≡ at_op y → x ≡ y
@@ -29,9 +31,9 @@ finish_by_fault-requires-clause-carries g c = let a = g.A.Agent in let K = g.C.C
 
 pub finish_by_fault-requires-clause-may : goal.finish_by_fault-requires-clause-may
 finish_by_fault-requires-clause-may g c = let a = g.A.Agent in let K = g.C.Clock in let f = c.args.fault in let s = c.requires.resolved in let plan = s.plan_for in let held = c.args.held.now in let task = c.args.task in let seen = part_seen K.least K.faults K.readings in let code = c.args.code.now in
-    let place_is = ap (λ (x : WantView). x.place) (same_want plan.0 _ (sym plan.2 ∙ c.want.ensures)) in
+    let place_is = ap (λ (x : WantView). x.place) (same_want plan.0 _ (sym plan.1 ∙ c.want.ensures)) in
     subst (λ (p : Place). MayFault a.over a.place a.advances a.gives a.starts seen code f p task held) place_is
-    (λ held2 closes. (at_op plan.0, plan.2, λ w n h lane lane2 timers timers2 ports looked ends. refusals_draw a.over a.place a.advances a.gives a.starts seen code w n h f lane lane2 timers timers2 held held2 task ports looked plan (λ q e. s.named plan.0 plan.2 q (named_needed plan.0.op held.new_port q e)) ends closes))
+    (λ held2 closes. (at_op plan.0, plan.1, λ w n h lane lane2 timers timers2 ports looked ends. refusals_draw a.over a.place a.advances a.gives a.starts seen code w n h f lane lane2 timers timers2 held held2 task ports looked plan (λ q e. s.named plan.0 plan.1 q (named_needed plan.0.op held.new_port q e)) ends closes))
 
 pub finish_by_fault-requires-clause-result : goal.finish_by_fault-requires-clause-result
 finish_by_fault-requires-clause-result g c = c.requires.resolved.result c.args.fault refl
@@ -49,3 +51,7 @@ returns-in-Err-clause-kept g c = λ program n l s. let a = g.A.Agent in let K = 
 
 pub returns-in-Err-clause-refused : goal.returns-in-Err-clause-refused
 returns-in-Err-clause-refused g c = let q = c.make_room.ensures in drew_later q.same (same_turns c.args.worker.now.hand c.make_room.new.worker.hand q.hand) (drew_none c.put_off.ensures.same c.put_off.ensures.turns)
+
+pub returns-in-Ok-clause-solo : goal.returns-in-Ok-clause-solo
+returns-in-Ok-clause-solo g c = λ few most may. let a = g.A.Agent in let m = g.met.A.Agent in let code = c.args.code.now in let q = c.make_room in
+    c.finish_by_fault.ensures.solo few most (same_may a.over a.place a.stands a.advances a.gives a.starts m.advanced m.answered m.started code {P = MaySettle to_turn []} q.ensures.same (same_turns c.args.worker.now.hand q.new.worker.hand q.ensures.hand) may)

@@ -1,11 +1,15 @@
-use Rattle.std.proofs.Common.{◌≡◌, ◌∙◌, Some, None, ap, false, refl, sym, true, zero-add}
+use Rattle.std.proofs.Common.{◌≡◌, ◌∙◌, ℕ, Some, None, ap, false, refl, sym, zero-add}
 use Rattle.ca_table.specs.Worked.{Drew}
 use Rattle.ca_table.proofs.Carriers.{carries_seated, seated_carries}
 use Rattle.ca_table.proofs.Drawing.{drew_as, drew_both, drew_weaker}
 use Rattle.ca_table.proofs.Having.{second_true}
+use Rattle.ca_alone.specs.Schedule.{AtEmpty, MaySettle, to_rest}
 use Rattle.ca_pool.specs.Costs.{cost_idle, is_over}
 use Rattle.ca_pool.specs.Surveys.{is_stuck}
+use Rattle.ca_pool.specs.Lone.{MayGo, Went}
 use Rattle.ca_pool.proofs.Takens.{if_ok}
+use Rattle.ca_pool.proofs.Lone.{stayed_both, stayed_may}
+use Rattle.ca_pool.proofs.LoneClocks.{rests_empty}
 use Rattle.ca_pool.proofs.idling.idle.Goals as goal
 
 pub obey-requires-clause-carries : goal.obey-requires-clause-carries
@@ -60,3 +64,27 @@ returns-in-Waits-clause-seated g c = λ P n s. let a = g.A.Agent in let l = c.ar
 pub returns-in-Waits-clause-drew : goal.returns-in-Waits-clause-drew
 returns-in-Waits-clause-drew g c = let t = c.look_round-lane in let k = c.await_deadline-came in
     if_ok (λ i. Drew (cost_idle i) (is_over i) t.new.worker k.new.worker) (λ i. Drew (cost_idle i) (is_over i) c.args.worker.now k.new.worker) k.result (λ i d. drew_as (zero-add (cost_idle i)) refl (drew_both (drew_weaker (drew_both c.obey.ensures.drew t.ensures.drew)) d)) k.ensures.drew
+
+pub returns-then-obey-clause-solo : goal.returns-then-obey-clause-solo
+returns-then-obey-clause-solo g c = λ most may. let a = g.A.Agent in let m = g.met.A.Agent in let K = g.C.Clock in let w = c.args.worker.now in let code = c.args.code.now in
+    rests_empty a.over a.place a.stands a.advances a.gives a.starts m.advanced m.answered m.started code c.args.due.now.items {most = most} {w = c.obey.new.worker} (stayed_may a.over a.place a.stands a.advances a.gives a.starts m.advanced m.answered m.started code {P = AtEmpty} {most = most} {old = w} {new = c.obey.new.worker} c.obey.ensures.stayed may)
+
+pub returns-in-Busy-clause-solo : goal.returns-in-Busy-clause-solo
+returns-in-Busy-clause-solo g c = λ most may. let a = g.A.Agent in let m = g.met.A.Agent in let K = g.C.Clock in let w = c.args.worker.now in let code = c.args.code.now in let t = c.look_round-lane in
+    rests_empty a.over a.place a.stands a.advances a.gives a.starts m.advanced m.answered m.started code c.args.due.now.items {most = most} {w = t.new.worker} (stayed_may a.over a.place a.stands a.advances a.gives a.starts m.advanced m.answered m.started code {P = AtEmpty} {most = most} {old = w} {new = t.new.worker} (stayed_both c.obey.ensures.stayed t.ensures.stayed) may)
+
+pub returns-in-Stuck-clause-solo : goal.returns-in-Stuck-clause-solo
+returns-in-Stuck-clause-solo g c = λ most may. let a = g.A.Agent in let m = g.met.A.Agent in let K = g.C.Clock in let w = c.args.worker.now in let code = c.args.code.now in let t = c.look_round-lane in
+    rests_empty a.over a.place a.stands a.advances a.gives a.starts m.advanced m.answered m.started code c.args.due.now.items {most = most} {w = t.new.worker} (stayed_may a.over a.place a.stands a.advances a.gives a.starts m.advanced m.answered m.started code {P = AtEmpty} {most = most} {old = w} {new = t.new.worker} (stayed_both c.obey.ensures.stayed t.ensures.stayed) may)
+
+pub returns-in-Stirs-clause-solo : goal.returns-in-Stirs-clause-solo
+returns-in-Stirs-clause-solo g c = let a = g.A.Agent in let m = g.met.A.Agent in let K = g.C.Clock in let w = c.args.worker.now in let code = c.args.code.now in let t = c.look_round-lane in let k = c.name_port in let us = k.new.ports.items in
+    if_ok (λ i. (cost_idle i ≡ 0) × (is_over i ≡ false)) (λ i. (most : ℕ) → MayGo a.over a.place a.stands a.advances a.gives a.starts code AtEmpty most w → Went a.over a.place a.stands a.advances a.gives a.starts code (MaySettle to_rest us) most t.new.worker) k.result
+    (λ i e most may. rests_empty a.over a.place a.stands a.advances a.gives a.starts m.advanced m.answered m.started code us {most = most} {w = t.new.worker} (stayed_may a.over a.place a.stands a.advances a.gives a.starts m.advanced m.answered m.started code {P = AtEmpty} {most = most} {old = w} {new = t.new.worker} (stayed_both c.obey.ensures.stayed t.ensures.stayed) may)) k.ensures
+
+pub returns-in-Waits-clause-solo : goal.returns-in-Waits-clause-solo
+returns-in-Waits-clause-solo g c = let a = g.A.Agent in let m = g.met.A.Agent in let K = g.C.Clock in let w = c.args.worker.now in let code = c.args.code.now in let t = c.look_round-lane in let k = c.await_deadline-came in let us = k.new.ports.items in
+    if_ok
+    (λ i. (most : ℕ) → MayGo a.over a.place a.stands a.advances a.gives a.starts code AtEmpty most t.new.worker → Went a.over a.place a.stands a.advances a.gives a.starts code (MaySettle to_rest us) most k.new.worker)
+    (λ i. (most : ℕ) → MayGo a.over a.place a.stands a.advances a.gives a.starts code AtEmpty most w → Went a.over a.place a.stands a.advances a.gives a.starts code (MaySettle to_rest us) most k.new.worker)
+    k.result (λ i f most may. f most (stayed_may a.over a.place a.stands a.advances a.gives a.starts m.advanced m.answered m.started code {P = AtEmpty} {most = most} {old = w} {new = t.new.worker} (stayed_both c.obey.ensures.stayed t.ensures.stayed) may)) k.ensures.solo

@@ -2,6 +2,7 @@ use Rattle.std.proofs.Common.{◌≡◌, Bool, true, false, refl}
 use Rattle.std.specs.Prelude.{◌||◌}
 use Rattle.ca_table.proofs.Drawing.{drew_as, drew_both}
 use Rattle.ca_pool.specs.Surveys.{is_stuck}
+use Rattle.ca_pool.proofs.Lone.{stayed_both, stayed_same}
 use Rattle.ca_pool.proofs.idling.look_round.Goals as goal
 
 or_false : (b : Bool) → b || false ≡ b
@@ -22,3 +23,6 @@ returns-clause-drew g c = drew_as refl (or_false (is_stuck c.survey-found.result
 
 pub returns-clause-seated : goal.returns-clause-seated
 returns-clause-seated g c = λ P n s. c.sit.ensures.seated P n (c.survey-found.ensures.ready P n (c.rise.ensures.ready P n s))
+
+pub returns-clause-stayed : goal.returns-clause-stayed
+returns-clause-stayed g c = let r = c.rise.ensures in let s = c.sit.ensures in stayed_both (stayed_both (stayed_same r.same r.turns) c.survey-found.ensures.stayed) (stayed_same s.same s.turns)

@@ -1,10 +1,10 @@
-use Rattle.std.proofs.Common.{◌≢◌, None, Some, refl, subst}
+use Rattle.std.proofs.Common.{◌≢◌, Some, refl, subst}
 use Rattle.ca_commit.specs.Contents.{unmarked}
+use Rattle.ca_commit.specs.Touched as said
 use Rattle.ca_table.specs.Parts.{mark_view}
 use Rattle.ca_table.specs.declared.part.Clockwork.{Clockwork}
-use Rattle.ca_table.proofs.Drawing.{drew_later, drew_none}
-use Rattle.ca_pool.proofs.Ranges.{workers_then}
 use Rattle.ca_pool.proofs.Takens.{as_number, bare_in, bare_out, same_show}
+use Rattle.ca_pool.proofs.Lone.{stayed_both, stayed_one, stayed_same}
 use Rattle.ca_pool.proofs.idling.obey.Goals as goal
 
 pub try_clock-requires : goal.try_clock-requires
@@ -50,3 +50,12 @@ returns-else-is_marked-clause-carries g c = λ P n l s. let a = g.A.Agent in let
     c.put_off.ensures.carries P n l
     (as_number a.over a.stands K.least K.faults K.readings P code id n t.new.worker l w.number t.new.worker.number (Some c.in-Some.clockwork) held t.ensures.same.number
     (c.in-Some.ensures.carries P n l (bare_in a.over a.stands K.least K.faults K.readings P code id n w l w.number held c.requires.bare s)))
+
+pub returns-in-None-clause-stayed : goal.returns-in-None-clause-stayed
+returns-in-None-clause-stayed g c = stayed_same c.try_clock.ensures.same c.try_clock.ensures.turns
+
+pub returns-then-is_marked-clause-stayed : goal.returns-then-is_marked-clause-stayed
+returns-then-is_marked-clause-stayed g c = let t = c.try_clock.ensures in let d = c.draw_clock.ensures in stayed_both (stayed_same t.same t.turns) (stayed_one {what = said.halts} d.same d.hand d.turn tt)
+
+pub returns-else-is_marked-clause-stayed : goal.returns-else-is_marked-clause-stayed
+returns-else-is_marked-clause-stayed g c = let t = c.try_clock.ensures in let p = c.put_off.ensures in stayed_both (stayed_same t.same t.turns) (stayed_same p.same p.turns)

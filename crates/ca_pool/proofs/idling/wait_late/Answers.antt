@@ -1,7 +1,12 @@
+use Rattle.std.proofs.Common.{◌≤◌, List, subst, sym}
+use Rattle.ca_value.specs.Deadlines.{Deadline}
 use Rattle.ca_table.specs.Parts.{clockwork_seen}
+use Rattle.ca_alone.specs.OwnTurn.{IsDue}
+use Rattle.ca_alone.specs.Schedule.{to_rest}
 use Rattle.ca_pool.specs.Asking.{IsAsked}
 use Rattle.ca_pool.proofs.Asides.{failed_fails}
 use Rattle.ca_pool.proofs.Takens.{for_answer, for_err, same_show}
+use Rattle.ca_pool.proofs.LoneClocks.{is_due}
 use Rattle.ca_pool.proofs.idling.wait_late.Goals as goal
 
 pub draw_clock-requires-clause-carries : goal.draw_clock-requires-clause-carries
@@ -23,3 +28,9 @@ returns-in_err-asked-in-Ok-clause-carries g c = λ P n l s. let K = g.C.Clock in
 pub returns-in_ok-asked-in-Ok-clause-carries : goal.returns-in_ok-asked-in-Ok-clause-carries
 returns-in_ok-asked-in-Ok-clause-carries g c = λ P n l s. let K = g.C.Clock in let t = c.answer_late-clockwork in
     c.pass.ensures.carries P n l c.args.clockwork s (for_answer (λ now. IsAsked now (clockwork_seen K.least K.faults K.readings c.args.clockwork.value) (clockwork_seen K.least K.faults K.readings t.result.0.value)) t.result.1 c.in-Ok.now c.in-Ok.is t.ensures.asked)
+
+pub returns-in_ok-asked-in-Ok-clause-solo : goal.returns-in_ok-asked-in-Ok-clause-solo
+returns-in_ok-asked-in-Ok-clause-solo g c = λ first most may. let K = g.C.Clock in let t = c.answer_late-clockwork in let now = c.in-Ok.now in
+    let asked = for_answer (λ now. IsAsked now (clockwork_seen K.least K.faults K.readings c.args.clockwork.value) (clockwork_seen K.least K.faults K.readings t.result.0.value)) t.result.1 now c.in-Ok.is t.ensures.asked in
+    let reached = for_answer (λ now. c.args.first ≤ now) t.result.1 now c.in-Ok.is t.ensures.reached in
+    (c.in_ok-asked-in-Ok.ensures.solo to_rest most (subst (λ (ds : List Deadline). IsDue ds now) (sym asked.deadlines) (is_due c.args.first now c.args.clockwork.value.timers.deadlines first reached)) may).2

@@ -1,9 +1,16 @@
-use Rattle.std.proofs.Common.{Some}
+use Rattle.std.proofs.Common.{ℕ, Some, subst, sym}
+use Rattle.ca_commit.specs.Contents.{TimersPart}
 use Rattle.ca_table.specs.Worked.{Drew}
+use Rattle.ca_table.specs.declared.part.Clockwork.{Clockwork}
 use Rattle.ca_table.proofs.Drawing.{drew_later}
+use Rattle.ca_alone.specs.Schedule.{AtEmpty, MaySettle, to_rest}
 use Rattle.ca_pool.specs.Costs.{cost_idle, is_over}
+use Rattle.ca_pool.specs.Lone.{MayGo, Went}
+use Rattle.ca_pool.specs.Asking.{IsFirst}
 use Rattle.ca_pool.proofs.Stays.{same_turns}
 use Rattle.ca_pool.proofs.Takens.{as_clocked, for_ok, if_ok, made_room, same_show}
+use Rattle.ca_pool.proofs.Lone.{same_may}
+use Rattle.ca_pool.proofs.LoneClocks.{rests_empty}
 use Rattle.ca_pool.proofs.idling.wait_with.Goals as goal
 
 pub wait_late-requires-clause-carries : goal.wait_late-requires-clause-carries
@@ -43,3 +50,17 @@ pub returns-in-Err-clause-carries : goal.returns-in-Err-clause-carries
 returns-in-Err-clause-carries g c = λ P n l s. let a = g.A.Agent in let K = g.C.Clock in let t = c.ready_to_ask-clockwork in let e = t.ensures in let w = c.args.worker.now in let held = c.args.held.now in let code = c.args.code.now in let id = c.args.table.now.id in
     c.put_off-in-Err.ensures.carries P n l (made_room a.over a.stands K.least K.faults K.readings P code id n w t.new.worker l w.number (Some t.result.0) held held e.same e.hand e.entries e.same.number (same_show held)
     (as_clocked a.over a.stands K.least K.faults K.readings P code id n w l w.number c.args.clockwork t.result.0 held e.seen s))
+
+pub returns-then-not-is_first-clause-solo : goal.returns-then-not-is_first-clause-solo
+returns-then-not-is_first-clause-solo g c = λ most may. let a = g.A.Agent in let m = g.met.A.Agent in let K = g.C.Clock in let p = c.put_off in let w = c.args.worker.now in let code = c.args.code.now in
+    rests_empty a.over a.place a.stands a.advances a.gives a.starts m.advanced m.answered m.started code c.args.ports.now.items {most = most} {w = p.new.worker} (same_may a.over a.place a.stands a.advances a.gives a.starts m.advanced m.answered m.started code {P = AtEmpty} {most = most} {old = w} {new = p.new.worker} p.ensures.same p.ensures.turns may)
+
+pub returns-in-Ok-clause-solo : goal.returns-in-Ok-clause-solo
+returns-in-Ok-clause-solo g c = let a = g.A.Agent in let m = g.met.A.Agent in let K = g.C.Clock in let t = c.ready_to_ask-clockwork in let k = c.wait_late in let code = c.args.code.now in let w = c.args.worker.now in let us = k.new.ports.items in let first = c.args.first in let is = subst (λ (x : Clockwork g.row.C.Denot). IsFirst first x.timers.deadlines) c.deref.ensures (c.is_first.ensures c.if-not-is_first.false) in
+    if_ok
+    (λ x. IsFirst first t.result.0.value.timers.deadlines → (most : ℕ) → MayGo a.over a.place a.stands a.advances a.gives a.starts code AtEmpty most t.new.worker → Went a.over a.place a.stands a.advances a.gives a.starts code (MaySettle to_rest us) most k.new.worker)
+    (λ x. (most : ℕ) → MayGo a.over a.place a.stands a.advances a.gives a.starts code AtEmpty most w → Went a.over a.place a.stands a.advances a.gives a.starts code (MaySettle to_rest us) most k.new.worker)
+    k.result
+    (λ x f most may. f (subst (λ (z : TimersPart). IsFirst first z.deadlines) (sym t.ensures.seen) is) most
+    (same_may a.over a.place a.stands a.advances a.gives a.starts m.advanced m.answered m.started code {P = AtEmpty} {most = most} {old = w} {new = t.new.worker} t.ensures.same (same_turns w.hand t.new.worker.hand t.ensures.hand) may))
+    k.ensures.solo

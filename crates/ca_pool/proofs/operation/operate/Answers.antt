@@ -1,4 +1,4 @@
-use Rattle.std.proofs.Common.{◌≡◌, ◌∙◌, ℕ, ◌+◌, None, refl, sym, ap, subst, zero-add}
+use Rattle.std.proofs.Common.{◌≡◌, ◌∙◌, ℕ, ◌+◌, None, refl, sym, ap, subst, zero-add, []}
 use Rattle.ca_term.specs.Operation.{WantView, want_view}
 use Rattle.ca_term.specs.Program.{ProgramView, program_view}
 use Rattle.ca_lower.specs.Gos.{SameGos}
@@ -15,6 +15,8 @@ use Rattle.ca_pool.specs.AtEvent.{HasNumbers}
 use Rattle.ca_pool.specs.Resolving.{IsResolved}
 use Rattle.ca_pool.proofs.PlansReadied.{numbers_moved}
 use Rattle.ca_pool.proofs.Resolutions.{err_any, err_map, event_else, if_ok_map, same_both}
+use Rattle.ca_alone.specs.Schedule.{MaySettle, to_turn}
+use Rattle.ca_pool.proofs.Lone.{stayed_may}
 use Rattle.ca_pool.proofs.operation.operate.Goals as goal
 
 same_want : (x y : WantView) → at_op x ≡ at_op y → x ≡ y
@@ -89,3 +91,9 @@ returns-in_default-clause-kept g c = err_map c.commit.result (λ k. λ program n
 
 pub returns-in_default-clause-refused : goal.returns-in_default-clause-refused
 returns-in_default-clause-refused g c = err_map c.commit.result (λ d. drew_both c.resolve.ensures.drew d) c.commit.ensures.refused
+
+pub returns-in-Refused-clause-solo : goal.returns-in-Refused-clause-solo
+returns-in-Refused-clause-solo g c = let a = g.A.Agent in let m = g.met.A.Agent in let code = c.args.code.now in if_ok_map c.refuse.result (λ s st. λ few most may. st few most (stayed_may a.over a.place a.stands a.advances a.gives a.starts m.advanced m.answered m.started code {P = MaySettle to_turn []} c.resolve.ensures.stayed may)) c.refuse.ensures.solo
+
+pub returns-in_default-clause-solo : goal.returns-in_default-clause-solo
+returns-in_default-clause-solo g c = let a = g.A.Agent in let m = g.met.A.Agent in let code = c.args.code.now in if_ok_map c.commit.result (λ s st. λ few most may. st few most (stayed_may a.over a.place a.stands a.advances a.gives a.starts m.advanced m.answered m.started code {P = MaySettle to_turn []} c.resolve.ensures.stayed may)) c.commit.ensures.solo

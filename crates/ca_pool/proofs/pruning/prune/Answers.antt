@@ -1,5 +1,8 @@
-use Rattle.std.proofs.Common.{◌≡◌, ◌∙◌, ℕ, None, refl}
+use Rattle.std.proofs.Common.{◌≡◌, ◌∙◌, ℕ, None, refl, ap}
 use Rattle.ca_pool.proofs.StaleHandlers.{pruned_held, pruned_moved}
+use Rattle.ca_table.specs.Draws.{turn_view}
+use Rattle.ca_pool.proofs.Lone.{drew_turn, stayed_one}
+use Rattle.ca_commit.specs.Touched as said
 use Rattle.ca_pool.proofs.pruning.prune.Goals as goal
 
 pub draw_aside-requires-clause-moved : goal.draw_aside-requires-clause-moved
@@ -26,3 +29,7 @@ returns-clause-carries g c = λ program n l s. let a = g.A.Agent in let K = g.C.
     let same = pruned_held {C = g.row.C.Denot} a.over a.place a.advances a.gives a.starts K.least K.faults K.readings c.args.code.now w p c.args.place wait c.args.side held held2 c.requires.ready c.requires.stale q.wait q.channels q.registries q.others in
     let moves = pruned_moved a.over a.place a.advances a.gives a.starts K.least K.faults K.readings c.args.code.now w p c.args.place wait c.args.side held held2 c.requires.ready c.requires.stale q.wait q.channels q.registries q.others n l in
     c.draw_aside.ensures.carries program n l None held s same moves
+
+pub returns-clause-stayed : goal.returns-clause-stayed
+returns-clause-stayed g c = let d = c.draw_aside in let t = d.ensures.turns in let what = said.prunes c.args.side c.args.port.n c.prune_held-wait.result.n in
+    stayed_one {what = what} d.ensures.same d.ensures.hand (drew_turn c.args.worker.now d.new.worker what t.0 d.ensures.hand t.1 (ap turn_view t.2)) tt

@@ -5,6 +5,7 @@ use Rattle.ca_table.specs.declared.part.Lane.{Lane}
 use Rattle.ca_table.proofs.Drawing.{drew_both}
 use Rattle.ca_pool.specs.AtEvent.{HasLane, HasTaken}
 use Rattle.ca_pool.proofs.Resolutions.{err_map, left_from, numbers_both, ok_map, took_from}
+use Rattle.ca_pool.proofs.Lone.{stayed_both}
 use Rattle.ca_pool.proofs.resolving.prune_first.Goals as goal
 
 pub take_all-requires-clause-carries : goal.take_all-requires-clause-carries
@@ -27,3 +28,6 @@ returns-clause-refused g c = let a = g.A.Agent in let K = g.C.Clock in let seen 
     err_map c.take_all.result (left_from a.over a.stands a.place seen code id
     (λ program n l. HasLane a.over a.stands code id program n l c.prune.new.worker) (λ program n l. HasTaken a.over a.stands code id program n l seen None c.args.held.now c.args.worker.now) c.prune.ensures.carries
     c.take_all.new.held c.take_all.new.worker) c.take_all.ensures.refused
+
+pub returns-clause-stayed : goal.returns-clause-stayed
+returns-clause-stayed g c = stayed_both c.prune.ensures.stayed c.take_all.ensures.stayed

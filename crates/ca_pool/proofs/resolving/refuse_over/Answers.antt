@@ -5,6 +5,7 @@ use Rattle.ca_commit.specs.Planning.{to_refuse}
 use Rattle.ca_table.proofs.Drawing.{drew_none}
 use Rattle.ca_pool.proofs.BanksHeld.{has_banks}
 use Rattle.ca_pool.proofs.Resolutions.{named_held, wants_more}
+use Rattle.ca_pool.proofs.LoneSteps.{stayed_nothing}
 use Rattle.ca_pool.proofs.resolving.refuse_over.Goals as goal
 
 pub returns-then-has_bank-clause-drew : goal.returns-then-has_bank-clause-drew
@@ -22,3 +23,6 @@ returns-then-has_bank-clause-resolved g c = let wanted = c.args.wanted.now in le
   named = named_held g.A.Agent.place wanted.banks wanted.shards held task c.requires.these c.requires.wants;
   result = λ f e. has_banks held wanted.banks (λ (q : ℕ). option_map port_number task.result ≡ Some q) c.requires.these.banks (c.has_bank.ensures c.if-has_bank.true);
 }
+
+pub returns-then-has_bank-clause-stayed : goal.returns-then-has_bank-clause-stayed
+returns-then-has_bank-clause-stayed g c = stayed_nothing c.args.worker.now

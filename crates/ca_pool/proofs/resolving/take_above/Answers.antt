@@ -8,6 +8,7 @@ use Rattle.ca_table.proofs.Drawing.{drew_later, drew_none}
 use Rattle.ca_pool.proofs.AtEvents.{own_number}
 use Rattle.ca_pool.proofs.Resolutions.{numbers_both}
 use Rattle.ca_pool.proofs.ShardsAbove.{more_held, none_from}
+use Rattle.ca_pool.proofs.Lone.{stayed_both, stayed_same}
 use Rattle.ca_pool.proofs.resolving.take_above.Goals as goal
 
 pub take_shard-requires-clause-above : goal.take_shard-requires-clause-above
@@ -47,3 +48,9 @@ returns-in-Err-clause-refused g c = let a = g.A.Agent in let K = g.C.Clock in le
   bare = c.put_off.ensures.bare;
   carries = λ program n l s. c.put_off.ensures.carries program n l (own_number a.over a.stands c.args.code.now c.args.table.now.id program n l K.least K.faults K.readings c.args.worker.now t.new.worker None t.new.held t.ensures.same.number (t.ensures.carries program n l s));
 }
+
+pub returns-in-Ok-clause-stayed : goal.returns-in-Ok-clause-stayed
+returns-in-Ok-clause-stayed g c = stayed_same c.take_shard.ensures.same c.take_shard.ensures.turns
+
+pub returns-in-Err-clause-stayed : goal.returns-in-Err-clause-stayed
+returns-in-Err-clause-stayed g c = stayed_both (stayed_same c.take_shard.ensures.same c.take_shard.ensures.turns) (stayed_same c.put_off.ensures.same c.put_off.ensures.turns)

@@ -7,6 +7,7 @@ use Rattle.ca_commit.specs.Showing.{channels_held}
 use Rattle.ca_table.proofs.Drawing.{drew_later, drew_none}
 use Rattle.ca_pool.proofs.AtEvents.{bare_lane, lane_bare, own_number}
 use Rattle.ca_pool.proofs.Resolutions.{err_any, numbers_both}
+use Rattle.ca_pool.proofs.Lone.{stayed_both, stayed_same}
 use Rattle.ca_pool.proofs.resolving.take_all.Goals as goal
 
 pub take_banks-requires-clause-carries : goal.take_banks-requires-clause-carries
@@ -86,3 +87,12 @@ returns-in-Err-clause-refused g c = let a = g.A.Agent in let K = g.C.Clock in le
           (own_number a.over a.stands code id program n l K.least K.faults K.readings b.new.worker s.new.worker None s.new.held s.ensures.same.number (s.ensures.carries program n l
           (own_number a.over a.stands code id program n l K.least K.faults K.readings c.args.worker.now b.new.worker None b.new.held b.ensures.same.number (b.ensures.carries program n l (lane_bare a.over a.stands code id program n l K.least K.faults K.readings c.args.worker.now c.args.held.now c.requires.bare lane)))));
     }
+
+pub returns-in_err-take_banks-clause-stayed : goal.returns-in_err-take_banks-clause-stayed
+returns-in_err-take_banks-clause-stayed g c = stayed_same c.take_banks.ensures.same c.take_banks.ensures.turns
+
+pub returns-in-Ok-clause-stayed : goal.returns-in-Ok-clause-stayed
+returns-in-Ok-clause-stayed g c = stayed_both (stayed_same c.take_banks.ensures.same c.take_banks.ensures.turns) (stayed_same c.take_shards.ensures.same c.take_shards.ensures.turns)
+
+pub returns-in-Err-clause-stayed : goal.returns-in-Err-clause-stayed
+returns-in-Err-clause-stayed g c = stayed_both (stayed_same c.take_banks.ensures.same c.take_banks.ensures.turns) (stayed_both (stayed_same c.take_shards.ensures.same c.take_shards.ensures.turns) (stayed_same c.put_off.ensures.same c.put_off.ensures.turns))

@@ -9,11 +9,12 @@ use Rattle.ca_table.specs.Bearing.{parts_held}
 use Rattle.ca_table.specs.Homes.{has_home}
 use Rattle.ca_pool.proofs.AtEvents.{drew_nothing}
 use Rattle.ca_pool.proofs.Resolutions.{decided_else, named_held, refused_is, seen_held}
+use Rattle.ca_pool.proofs.LoneSteps.{stayed_nothing}
 use Rattle.ca_pool.proofs.resolving.take_up.Goals as goal
 
 pub prune_first-requires-clause-stale : goal.prune_first-requires-clause-stale
 prune_first-requires-clause-stale g c = let plan = c.requires.planned in let held = c.args.held.now in let h = parts_held c.args.worker.now.number None None held in
-    subst (λ (q : Planned). PlanTells h plan.0.op q) (sym plan.3 ∙ ap plan_view c.in-Prune.is) (plan_tells h plan.0.op plan.1)
+    subst (λ (q : Planned). PlanTells h plan.0.op q) (sym plan.2 ∙ ap plan_view c.in-Prune.is) (plan_tells h plan.0.op c.args.task.now.alts)
 
 pub refuse_over-requires-clause-planned : goal.refuse_over-requires-clause-planned
 refuse_over-requires-clause-planned g c = subst (λ (q : Planned). IsPlanFor g.A.Agent.place c.args.held.now q (agent_of c.args.task.now)) (ap plan_view c.in-Refused.is) c.requires.planned
@@ -33,3 +34,6 @@ returns-in_default-clause-resolved g c = let wanted = c.args.wanted.now in let h
   named = named_held g.A.Agent.place wanted.banks wanted.shards held task c.requires.these c.requires.wants;
   result = λ f e. absurd (c.in_default.not-Refused f (refused_is plan f e));
 }
+
+pub returns-in_default-clause-stayed : goal.returns-in_default-clause-stayed
+returns-in_default-clause-stayed g c = stayed_nothing c.args.worker.now

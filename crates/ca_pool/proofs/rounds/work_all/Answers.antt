@@ -1,7 +1,12 @@
 use denote.Builtin.{u64}
 use denote.Param.{param}
 use denote.Param.Send.{IsSync, sendable}
+use Rattle.std.proofs.Common.{length, subst}
 use Rattle.std.proofs.Crossing.{sync}
+use Rattle.std.specs.Prelude.{slice_index_or}
+use Rattle.ca_term.specs.Program.{program_view}
+use Rattle.ca_table.specs.declared.worker.Worker.{Worker}
+use Rattle.ca_pool.specs.Answers.{HasCalled}
 use Rattle.ca_table.specs.contracts.pool.Pool as Pool
 use Rattle.ca_table.specs.contracts.pool.PoolObject.TheImpl.{ghosts, no_dict}
 use Rattle.ca_states.proofs.Sending.{valid_code_sync}
@@ -18,3 +23,8 @@ for_each_mut-requires-sync-F g c κs within =
     let number : IsSync u64 = search sendable in
     let table = pool_sync _ _ bounds.send-A bounds.send-C (Pool.the_row (param 1 g.row.A) (param 2 g.row.C)) (ghosts (param 1 g.row.A) (param 2 g.row.C) g.A.Agent no_dict g.C.Clock no_dict no_dict no_dict) in
     record { shared = λ x d o κ. ((((λ q. tt), bounds.sync-R.shared x.0.now x.0.ref_ptr.0 x.0.ref_ptr.1 _), (((λ q. tt), sync.shared x.1.now x.1.ref_ptr.0 x.1.ref_ptr.1 κ), (((λ q. tt), table.shared x.2.now x.2.ref_ptr.0 x.2.ref_ptr.1 _), (((λ q. tt), number.shared x.3.now x.3.ref_ptr.0 x.3.ref_ptr.1 κ), (((λ q. tt), text_sync.shared x.4.now x.4.ref_ptr.0 x.4.ref_ptr.1 κ), (((λ q. tt), valid_code_sync.shared x.5.now x.5.ref_ptr.0 x.5.ref_ptr.1 _), (((λ q. tt), number.shared x.6.now x.6.ref_ptr.0 x.6.ref_ptr.1 κ), (((λ q. tt), bounds.sync-G.shared x.7.now x.7.ref_ptr.0 x.7.ref_ptr.1 _), tt)))))))), λ q. tt) }
+
+pub returns-clause-called : goal.returns-clause-called
+returns-clause-called g c = λ k d lt. let a = g.A.Agent in let xs = c.args.workers.now in let h = (c.for_each_mut.ensures k d lt).1 in
+    subst (λ (y : Worker g.row.A.Denot g.row.C.Denot). HasCalled a.over a.place a.stands a.advances a.gives a.starts c.args.code.now c.args.allowance (program_view c.args.program.now.value) c.args.table.now.id (length xs) (slice_index_or xs k d) y) h.left
+    (subst (λ (x : Worker g.row.A.Denot g.row.C.Denot). HasCalled a.over a.place a.stands a.advances a.gives a.starts c.args.code.now c.args.allowance (program_view c.args.program.now.value) c.args.table.now.id (length xs) x h.after_call.now) h.argument_is h.call)

@@ -3,7 +3,7 @@ use Rattle.ca_term.specs.Program.{ProgramView, program_view}
 use Rattle.ca_lower.specs.Gos.{SameGos}
 use Rattle.ca_lower.specs.Lowered.{Lowered}
 use Rattle.ca_states.specs.ValidCode.{valid_code}
-use Rattle.ca_pool.proofs.Rounding.{answered, own_ready}
+use Rattle.ca_pool.proofs.Rounding.{answered, answered_alone, own_ready}
 use Rattle.ca_pool.proofs.rounds.work_once.Goals as goal
 
 pub work-worker-requires-clause-ready : goal.work-worker-requires-clause-ready
@@ -16,4 +16,7 @@ pub work-worker-requires-clause-gos : goal.work-worker-requires-clause-gos
 work-worker-requires-clause-gos g c = subst (λ (p : ProgramView). SameGos p (valid_code c.args.code.now)) (sym c.requires.ready.one.of_program) c.requires.gos
 
 pub returns : goal.returns
-returns g c = let w = c.work-worker.ensures in answered g.A.Agent.over g.A.Agent.stands (program_view c.args.program.now.value) (valid_code c.args.code.now) c.args.table.now.id c.args.count c.args.allowance c.args.worker.now c.work-worker.new.worker c.work-worker.result c.requires.ready w.ready w.worked w.going w.spent w.over
+returns g c = let a = g.A.Agent in let w = c.work-worker.ensures in record {
+  worked = answered g.A.Agent.over g.A.Agent.stands (program_view c.args.program.now.value) (valid_code c.args.code.now) c.args.table.now.id c.args.count c.args.allowance c.args.worker.now c.work-worker.new.worker c.work-worker.result c.requires.ready w.ready w.worked w.going w.spent w.over;
+  alone = answered_alone a.over a.place a.stands a.advances a.gives a.starts c.args.code.now c.args.allowance c.args.worker.now c.work-worker.new.worker c.work-worker.result w.worked w.solo;
+}

@@ -1,4 +1,4 @@
-use Rattle.std.proofs.Common.{List, sym, subst}
+use Rattle.std.proofs.Common.{◌∙◌, List, sym, subst}
 use Rattle.ca_term.specs.Event.{EventView}
 use Rattle.ca_meaning.specs.Ends.{HasEnd, RunEnd}
 use Rattle.ca_meaning.specs.Legal.{Legal}
@@ -6,6 +6,7 @@ use Rattle.std.specs.Prelude.{option_map}
 use Rattle.ca_journal.specs.Cut.{End, end_in}
 use Rattle.ca_journal.specs.Events.{events}
 use Rattle.ca_pool.specs.PoolEnds.{ended_by}
+use Rattle.ca_alone.proofs.CutWhole.{cut_whole}
 use Rattle.ca_pool.proofs.CutRuns.{cut_run}
 use Rattle.ca_pool.proofs.run_end.end_run.Goals as goal
 
@@ -13,6 +14,7 @@ pub returns : goal.returns
 returns c = record {
   ends = λ program s reaches quiet. let budget = c.args.budget in let es = events c.args.journal in let k = cut_run program budget es s c.requires.budget reaches quiet in let e = c.cut_run.ensures in (
     subst (Legal program) (sym e.journal) k.0,
-    subst (λ (end : RunEnd). HasEnd program budget (events c.cut_run.result.journal) end) (sym e.end) (subst (λ (journal : List EventView). HasEnd program budget journal (ended_by (option_map (λ (d : End). d.1) (end_in budget es)))) (sym e.journal) k.1),
+    subst (λ (end : RunEnd). HasEnd program budget (events c.cut_run.result.0) end) (sym e.end) (subst (λ (journal : List EventView). HasEnd program budget journal (ended_by (option_map (λ (d : End). d.1) (end_in budget es)))) (sym e.journal) k.1),
   );
+  whole = λ within on. c.cut_run.ensures.journal ∙ cut_whole c.args.budget (events c.args.journal) within on;
 }

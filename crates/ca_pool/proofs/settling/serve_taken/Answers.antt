@@ -1,7 +1,10 @@
-use Rattle.std.proofs.Common.{◌∙◌, None, sym, subst}
+use Rattle.std.proofs.Common.{◌∙◌, ◌∷◌, None, sym, subst}
 use Rattle.ca_commit.specs.Contents.{whole}
 use Rattle.ca_commit.specs.Showing.{waits_held}
 use Rattle.ca_commit.specs.Waking.{IsPaused}
+use Rattle.ca_alone.specs.Schedule.{MaySettle}
+use Rattle.ca_pool.proofs.Lone.{same_may}
+use Rattle.ca_pool.proofs.Stays.{same_turns}
 use Rattle.ca_pool.proofs.Takens.{made_room, ready_same, served_ready, served_same}
 use Rattle.ca_pool.proofs.settling.serve_taken.Goals as goal
 
@@ -50,3 +53,8 @@ returns-in-Ok-clause-carries g c = λ P n l s. let a = g.A.Agent in let K = g.C.
 pub returns-in-Err-clause-carries : goal.returns-in-Err-clause-carries
 returns-in-Err-clause-carries g c = λ P n l s. let a = g.A.Agent in let K = g.C.Clock in let w = c.args.worker.now in let t = c.take_ready in let p = c.prepare in let e = p.ensures in
     c.put_off.ensures.carries P n l (made_room a.over a.stands K.least K.faults K.readings P c.args.code.now c.args.table.now.id n t.new.worker p.new.worker l w.number None t.new.held p.new.held e.same e.hand e.entries (e.same.number ∙ t.ensures.same.number) e.shows (t.ensures.carries P n l None s))
+
+pub returns-in-Ok-clause-solo : goal.returns-in-Ok-clause-solo
+returns-in-Ok-clause-solo g c = λ k us most m. let a = g.A.Agent in let w = c.args.worker.now in let t = c.take_ready in let p = c.prepare in let at = MaySettle k (c.args.port.n ∷ us) in
+    let taken_may = same_may a.over a.place a.stands a.advances a.gives a.starts g.met.A.Agent.advanced g.met.A.Agent.answered g.met.A.Agent.started c.args.code.now {P = at} {old = w} {new = t.new.worker} t.ensures.same t.ensures.turns m in
+    c.draw_served-cost.ensures.solo k us most (same_may a.over a.place a.stands a.advances a.gives a.starts g.met.A.Agent.advanced g.met.A.Agent.answered g.met.A.Agent.started c.args.code.now {P = at} {old = t.new.worker} {new = p.new.worker} p.ensures.same (same_turns t.new.worker.hand p.new.worker.hand p.ensures.hand) taken_may)

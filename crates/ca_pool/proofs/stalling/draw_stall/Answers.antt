@@ -1,11 +1,13 @@
 use Rattle.std.proofs.Common.{◌∙◌, ℕ, ap}
-use Rattle.ca_commit.specs.Touched as said
 use Rattle.ca_states.specs.ValidCode.{valid_code}
+use Rattle.ca_turns.specs.Views.{turn}
+use Rattle.ca_commit.specs.Touched as said
 use Rattle.ca_table.specs.Covering.{plain}
-use Rattle.ca_table.specs.Draws.{drawn_touches}
+use Rattle.ca_table.specs.Draws.{drawn_touches, turn_view}
 use Rattle.ca_table.specs.Parts.{part_seen}
 use Rattle.ca_pool.specs.Surveys.{as_settled}
 use Rattle.ca_pool.proofs.Stalls.{stall_keeps, stall_moves}
+use Rattle.ca_pool.proofs.Lone.{stayed_one}
 use Rattle.ca_pool.proofs.stalling.draw_stall.Goals as goal
 
 pub draw_event-requires-clause-moved : goal.draw_event-requires-clause-moved
@@ -18,3 +20,7 @@ returns-clause-holds g c = λ P n one f s full. let a = g.A.Agent in let K = g.C
   e.one P code n one,
   stall_keeps a.over a.place a.advances a.gives a.starts K.least K.faults K.readings n w.number code one.below w.hand f s full c.draw_event.new.worker.hand (drawn_touches c.silent-drawn.result) (e.grips (as_settled (part_seen K.least K.faults K.readings) f) s.grips),
 )
+
+pub returns-clause-stayed : goal.returns-clause-stayed
+returns-clause-stayed g c = let e = c.draw_event.ensures in let d = c.silent-drawn in
+    stayed_one {what = said.stalls} e.same e.hand (record { turn = turn e.drew.0 d.result e.drew.1 e.drew.2; is = ap turn_view d.ensures.what; after = record { opening = e.hand.opening; turns = e.drew.3 } }) tt

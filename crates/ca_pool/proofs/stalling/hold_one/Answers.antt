@@ -2,6 +2,7 @@ use Rattle.std.proofs.Common.{ℕ, Some, None, ap, arith, eqb}
 use Rattle.std.specs.Map.{update}
 use Rattle.ca_table.specs.Parts.{part_seen}
 use Rattle.ca_pool.proofs.AllParts.{only_there, surveys_more, surveys_nothing}
+use Rattle.ca_pool.proofs.Lefts.{held_left}
 use Rattle.ca_pool.proofs.stalling.hold_one.Goals as goal
 
 pub hold-requires-clause-table : goal.hold-requires-clause-table
@@ -20,3 +21,7 @@ returns-clause-holds g c = λ P code n one. let a = g.A.Agent in let m = g.met.A
       (surveys_nothing (part_seen K.least K.faults K.readings) n code old c.requires.nothing),
   only_there c.args.at q.settled.0,
 )
+
+pub returns-clause-left : goal.returns-clause-left
+returns-clause-left g c = let a = g.A.Agent in let K = g.C.Clock in let q = c.hold.ensures in
+    held_left a.over a.place a.advances a.gives a.starts c.args.worker.now.hand.view c.hold.new.hand.view q.held.1 c.args.at (part_seen K.least K.faults K.readings q.held.0) q.held.3 q.history

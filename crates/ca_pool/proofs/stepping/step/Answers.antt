@@ -1,6 +1,9 @@
 use Rattle.ca_term.specs.Program.{program_view}
 use Rattle.ca_table.proofs.Carriers.{seated_carries}
 use Rattle.ca_pool.proofs.AtWork.{any_err, at_later, has_left, if_both, lost_later, lost_now, on_err}
+use Rattle.std.proofs.Common.{ℕ, ◌<◌, sym, subst}
+use Rattle.ca_meaning.specs.Solo.{patience}
+use Rattle.ca_pool.proofs.Resolutions.{if_ok_map}
 use Rattle.ca_pool.proofs.stepping.step.Goals as goal
 
 pub advance-requires : goal.advance-requires
@@ -25,3 +28,6 @@ pub returns-clause-lost : goal.returns-clause-lost
 returns-clause-lost g c = let p = program_view c.args.worker.now.program.value in let n = c.args.worker.now.workers in let l = c.args.lane.value in let at = c.requires.at in let e = c.in_ok-task.ensures in let out = c.leave_lane-left in
     let carries = seated_carries g.A.Agent.over g.A.Agent.stands p c.args.code.now c.args.table.now.id n c.args.worker.now l at.seated in
     on_err c.act.result (λ kept. lost_later g.A.Agent.over g.A.Agent.stands c.args.code.now c.args.table.now.id c.act.ensures.same l (kept p n l carries)) c.act.ensures.kept
+
+pub returns-clause-solo : goal.returns-clause-solo
+returns-clause-solo g c = if_ok_map c.act.result (λ s st. λ few most may. st (subst (λ (k : ℕ). k < patience) (sym c.leave_lane-left.ensures.since) few) most may) c.act.ensures.solo

@@ -1,6 +1,6 @@
 use Rattle.std.proofs.Common.{◌≡◌, ◌∙◌, ℕ, ◌+◌, List, ap, sym, arith, subst, is_some}
-use Rattle.ca_states.specs.ValidCode.{valid_code}
 use Rattle.std.specs.Prelude.{option_map}
+use Rattle.ca_states.specs.ValidCode.{valid_code}
 use Rattle.ca_commit.specs.Listing.{listed}
 use Rattle.ca_commit.specs.Listings.{parts}
 use Rattle.ca_commit.specs.Numbers.{number_of_bank}
@@ -47,3 +47,6 @@ pub returns-else-number-clause-carries : goal.returns-else-number-clause-carries
 returns-else-number-clause-carries g c = λ P n h s. let a = g.A.Agent in let K = g.C.Clock in let seen = part_seen K.least K.faults K.readings in let code = c.args.code.now in let w = c.args.worker.now in let k = c.args.number in let x = c.bank_of-bank.result in let is : number_of_bank x ≡ k = (let m = c.number.ensures in let f = c.if-number.false in omega (arith, m, f)) in
     lifted_there a.over a.stands code c.args.table.now.id seen bank_row Bank number_of_bank P n c.try_hold_at.new.worker h (parts c.args.banks.now) (parts c.push.new.self) k x c.in-Some.contents c.bank_of-bank.ensures is c.push.ensures.parts c.requires.none
     (c.in-Some.ensures.carries P n (with_all bank_row (lifted n code Bank seen number_of_bank (parts c.args.banks.now)) h) (bank_place k) s c.requires.number (ap (λ (m : ℕ). m + k) s.one.of))
+
+pub returns-in-None-clause-free : goal.returns-in-None-clause-free
+returns-in-None-clause-free g c = λ e. c.in-None.ensures.lone

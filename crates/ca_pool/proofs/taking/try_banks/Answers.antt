@@ -15,3 +15,6 @@ returns-clause-placed g c = let K = g.C.Clock in placed_by g.A.Agent.over g.A.Ag
 pub returns-clause-carries : goal.returns-clause-carries
 returns-clause-carries g c = λ P n l clock s. let K = g.C.Clock in let seen = part_seen K.least K.faults K.readings in let code = c.args.code.now in let w = c.args.worker.now in let held = c.args.held.now in
     c.try_load.ensures.carries P n (taken seen n code w.number l clock held) (no_banks seen n code w.number l held c.requires.banks) s
+
+pub returns-clause-free : goal.returns-clause-free
+returns-clause-free g c = c.try_load.ensures.free

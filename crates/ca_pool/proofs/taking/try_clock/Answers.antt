@@ -18,3 +18,6 @@ pub returns-in-Timers-clause-carries : goal.returns-in-Timers-clause-carries
 returns-in-Timers-clause-carries g c = λ P n l s. let a = g.A.Agent in let K = g.C.Clock in let seen = part_seen K.least K.faults K.readings in let code = c.args.code.now in let w = c.args.worker.now in let held = c.args.held.now in
     subst (λ (x : Contents g.row.A.Denot g.row.C.Denot). IsCarrying a.over a.stands P code c.args.table.now.id n c.try_hold_at.new.worker (with_at timers_place (Some (away n code, seen (part_of n code x))) (taken seen n code w.number l None held))) c.in-Timers.is
     (c.in-Some.ensures.carries P n (taken seen n code w.number l None held) timers_place s tt (ap (λ (k : ℕ). k + 32) s.one.of))
+
+pub returns-in-None-clause-free : goal.returns-in-None-clause-free
+returns-in-None-clause-free g c = c.in-None.ensures.lone

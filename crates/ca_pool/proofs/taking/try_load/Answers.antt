@@ -5,7 +5,7 @@ use Rattle.ca_commit.specs.Listings.{parts}
 use Rattle.ca_commit.specs.Numbers.{number_of_bank}
 use Rattle.ca_table.specs.Homes.{has_home}
 use Rattle.ca_table.proofs.HomeMembers.{own}
-use Rattle.ca_pool.proofs.Trying.{none_tried, one_tried, still_carries, still_sound}
+use Rattle.ca_pool.proofs.Trying.{fewer_before, none_tried, one_tried, still_carries, still_sound}
 use Rattle.ca_pool.proofs.taking.try_load.Goals as goal
 
 pub loop-number-init : goal.loop-number-init
@@ -34,3 +34,6 @@ returns-then-not-free-clause-sound g c = let a = g.A.Agent in let K = g.C.Clock 
 pub returns-then-not-free-clause-carries : goal.returns-then-not-free-clause-carries
 returns-then-not-free-clause-carries g c = let a = g.A.Agent in let K = g.C.Clock in let t = c.try_wanted-free in
     still_carries a.over a.stands a.place c.args.code.now c.args.table.now.id K.least K.faults K.readings (has_home c.args.homes.now) c.args.worker.now c.loop-number.worker (parts c.loop-number.banks) c.loop-number.number c.loop-number.invariant.1 t.new.worker (parts t.new.banks) t.ensures.kept t.ensures.sound t.ensures.carries
+
+pub returns-then-not-free-clause-free : goal.returns-then-not-free-clause-free
+returns-then-not-free-clause-free g c = λ e. fewer_before c.args.worker.now.hand c.loop-number.worker.hand c.loop-number.invariant.1.turns.same (c.try_wanted-free.ensures.free c.if-not-free.true)

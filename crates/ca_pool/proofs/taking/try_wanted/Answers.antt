@@ -19,3 +19,6 @@ returns-else-wanted-clause-sound g c = λ x e. absurd (let z : None ≡ Some x =
 
 pub returns-else-wanted-clause-carries : goal.returns-else-wanted-clause-carries
 returns-else-wanted-clause-carries g c = λ P n h s. s
+
+pub returns-then-wanted-clause-free : goal.returns-then-wanted-clause-free
+returns-then-wanted-clause-free g c = c.try_bank.ensures.free

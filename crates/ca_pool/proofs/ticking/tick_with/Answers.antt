@@ -1,4 +1,4 @@
-use Rattle.std.proofs.Common.{◌≡◌, ◌∙◌, ℕ, List, Some, ap, subst, sym, true, is_some}
+use Rattle.std.proofs.Common.{◌≡◌, ℕ, List, Some, ap, subst, sym, true, is_some}
 use Rattle.ca_value.specs.Deadlines.{due}
 use Rattle.ca_meaning.specs.Wait.{is_among}
 use Rattle.ca_commit.specs.Contents.{TimersPart, home}
@@ -7,7 +7,9 @@ use Rattle.ca_commit.specs.Listings.{parts}
 use Rattle.ca_commit.specs.Numbers.{number_of_bank}
 use Rattle.ca_commit.specs.Running.{Placed}
 use Rattle.ca_commit.specs.Showing.{channels_held}
+use Rattle.ca_solo.specs.Stirs.{Ordered}
 use Rattle.ca_table.specs.Parts.{clockwork_seen}
+use Rattle.ca_alone.specs.OwnTurn.{IsDue}
 use Rattle.ca_pool.specs.Asking.{HasBanksOf, IsMadeFor}
 use Rattle.ca_pool.proofs.Asides.{asked_before, asked_reads}
 use Rattle.ca_pool.proofs.Takens.{as_shown, for_ok, show_kept}
@@ -53,3 +55,7 @@ returns-in-Ok-clause-carries g c = λ P n l clock0 s asked. let a = g.A.Agent in
 pub returns-in-Err-clause-carries : goal.returns-in-Err-clause-carries
 returns-in-Err-clause-carries g c = λ P n l clock0 s asked. let K = g.C.Clock in let t = c.reserve_due-clockwork in let e = t.ensures in let old = c.args.held.now in let new = t.new.held in let c0 = clockwork_seen K.least K.faults K.readings clock0.value in let d = clockwork_seen K.least K.faults K.readings t.result.0.value in
     c.draw_clock.ensures.carries P n l clock0 old s (show_kept old new e.banks e.shards e.ready) (asked_reads c.args.now c0 d (asked_before c.args.now c0 (clockwork_seen K.least K.faults K.readings c.args.clockwork.value) d e.seen asked))
+
+pub returns-in-Ok-clause-solo : goal.returns-in-Ok-clause-solo
+returns-in-Ok-clause-solo g c = λ k us most is up may. let t = c.reserve_due-clockwork in let now = c.args.now in
+    c.draw_tick.ensures.solo k us most (subst (λ (x : TimersPart). IsDue x.deadlines now) (sym t.ensures.seen) is) (subst (λ (x : TimersPart). Ordered (due now x.deadlines) us) (sym t.ensures.seen) up) may

@@ -1,4 +1,7 @@
+use Rattle.ca_alone.specs.Schedule.{AtPicked}
 use Rattle.ca_pool.proofs.AtWork.{at_kept, carried_at, lost_kept, spent_by}
+use Rattle.ca_pool.proofs.Lone.{running_may_go}
+use Rattle.ca_pool.proofs.LoneVisits.{goes_asked}
 use Rattle.ca_pool.proofs.visiting.ask_clock.Goals as goal
 
 pub ask-requires-clause-carries : goal.ask-requires-clause-carries
@@ -12,3 +15,7 @@ returns-in-Ok-clause-spent g c = λ start w h. let r = c.count_asked.ensures in 
 
 pub returns-in-Err-clause-given_up : goal.returns-in-Err-clause-given_up
 returns-in-Err-clause-given_up g c = lost_kept g.A.Agent.over g.A.Agent.stands c.args.code.now c.args.table.now.id c.ask.ensures.same c.requires.at c.ask.ensures.carries
+
+pub returns-in-Ok-clause-solo : goal.returns-in-Ok-clause-solo
+returns-in-Ok-clause-solo g c = λ most empty r. let a = g.A.Agent in let m = g.met.A.Agent in let k = c.count_asked.ensures in
+    goes_asked a.over a.place a.stands a.advances a.gives a.starts m.advanced m.answered m.started c.args.code.now r (returns-in-Ok-clause-spent g c) c.ask.new.due.items c.in-Ok.asked k.left k.found (c.in-Ok.ensures.solo most empty (running_may_go a.over a.place a.stands a.advances a.gives a.starts m.advanced m.answered m.started c.args.code.now {P = AtPicked} r))

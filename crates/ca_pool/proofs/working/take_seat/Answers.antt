@@ -1,6 +1,7 @@
 use Rattle.std.proofs.Common.{arith}
 use Rattle.ca_term.specs.Program.{program_view}
 use Rattle.ca_pool.proofs.AtWork.{at_first}
+use Rattle.ca_pool.proofs.LoneVisits.{goes_first}
 use Rattle.ca_pool.proofs.working.take_seat.Goals as goal
 
 pub sit-lane-requires : goal.sit-lane-requires
@@ -11,3 +12,7 @@ returns-clause-at g c = let y = c.sit-lane in at_first g.A.Agent.over g.A.Agent.
 
 pub returns-clause-spent : goal.returns-clause-spent
 returns-clause-spent g c = record { spends = 0; drew = c.sit-lane.ensures.drew; left_is = omega arith }
+
+pub returns-clause-solo : goal.returns-clause-solo
+returns-clause-solo g c = λ alone fresh some. let a = g.A.Agent in let m = g.met.A.Agent in let y = c.sit-lane.ensures in
+    goes_first a.over a.place a.stands a.advances a.gives a.starts m.advanced m.answered m.started c.args.code.now y.same c.args.table.now.id c.args.allowance c.requires.ready y.turns alone fresh some

@@ -10,14 +10,14 @@ use Rattle.ca_run.proofs.run.told.Goals.{in-Ended, in-Limit, in-Stuck, in-Faulte
 pub unreachable-requires : goal.unreachable-requires
 unreachable-requires c =
     let r = c.requires.end in
-    is_told r.0 r.1 (events c.args.run.journal) (end_view c.args.run.end) c.last_fault.result r.2 (ap end_view c.in-Faulted.is) c.last_fault.ensures c.in-None.is
+    is_told r.0 r.1 (events c.args.journal) (end_view c.args.end) c.last_fault.result r.2 (ap end_view c.in-Faulted.is) c.last_fault.ensures c.in-None.is
 
 pub returns-clause-line : goal.returns-clause-line
 returns-clause-line c =
     let r = c.requires.end in
     elim c.match-end.branch [
-      | in-Ended w ↦ subst (λ y. EndLine (events c.args.run.journal) (end_of y) (line_of_end y)) (sym w.end-is) refl
-      | in-Limit w ↦ subst (λ y. EndLine (events c.args.run.journal) (end_of y) (line_of_end y)) (sym w.end-is) refl
-      | in-Stuck w ↦ subst (λ y. EndLine (events c.args.run.journal) (end_of y) (line_of_end y)) (sym w.end-is) refl
-      | in-Faulted+in-Some w ↦ subst (λ y. EndLine (events c.args.run.journal) (end_of y) (line_of_end y)) (sym w.end-is) (fault_line r.0 r.1 (events c.args.run.journal) (end_view c.args.run.end) w.in-Some.fault w.in-Some.place w.last_fault.result r.2 (ap end_view w.in-Faulted.is) w.last_fault.ensures w.in-Some.is)
+      | in-Ended w ↦ subst (λ y. EndLine (events c.args.journal) (end_of y) (line_of_end y)) (sym w.end-is) refl
+      | in-Limit w ↦ subst (λ y. EndLine (events c.args.journal) (end_of y) (line_of_end y)) (sym w.end-is) refl
+      | in-Stuck w ↦ subst (λ y. EndLine (events c.args.journal) (end_of y) (line_of_end y)) (sym w.end-is) refl
+      | in-Faulted+in-Some w ↦ subst (λ y. EndLine (events c.args.journal) (end_of y) (line_of_end y)) (sym w.end-is) (fault_line r.0 r.1 (events c.args.journal) (end_view c.args.end) w.in-Some.fault w.in-Some.place w.last_fault.result r.2 (ap end_view w.in-Faulted.is) w.last_fault.ensures w.in-Some.is)
     ]

@@ -1,0 +1,13 @@
+use Rattle.std.proofs.Common.{◌∙◌, sym, ap}
+use Rattle.std.specs.Prelude.{is_some, not}
+use Rattle.ca_table.specs.declared.part.Lane.{Lane}
+use Rattle.ca_pool.proofs.LoneVisits.{not_there, then_ok}
+use Rattle.ca_pool.proofs.visiting.seek.Goals as goal
+
+pub returns-then-is_none-clause-solo : goal.returns-then-is_none-clause-solo
+returns-then-is_none-clause-solo g c = let none = not_there c.find_task-going.result.lane.value.task (ap (λ (l : Lane g.row.A.Denot). is_some l.task) (sym c.deref.ensures) ∙ c.is_none.ensures ∙ ap not c.if-is_none.true) in
+    then_ok c.rest_and_settle.result (λ x f most free r. f most (c.find_task-going.ensures.empty most free none r)) c.rest_and_settle.ensures.solo
+
+pub returns-else-is_none-clause-solo : goal.returns-else-is_none-clause-solo
+returns-else-is_none-clause-solo g c = let some = ap (λ (l : Lane g.row.A.Denot). is_some l.task) (sym c.deref.ensures) ∙ c.is_none.ensures ∙ ap not c.if-is_none.false in
+    then_ok c.run_picked.result (λ x f most free r. f most (c.find_task-going.ensures.picked most free some r)) c.run_picked.ensures.solo
