@@ -66,7 +66,7 @@ abbrev pub ProgramOf : List ℕ → ProgramView → Type 0
 ProgramOf input program = (forms : FormTrees) × Reads input forms × (expansion_of forms ≡ Ok program)
 
 -- The events are a run of the text's program, which came to that end for the budget. With one worker they are the run of
--- the stated schedule over answers of the clock.
+-- the stated schedule over some moments that never fall.
 pub record RunOf (workers budget : ℕ) (input : List ℕ) (journal : List EventView) (end : RunEnd) : Type 0 where
   pub program : ProgramView
   pub is_program : ProgramOf input program

@@ -83,7 +83,7 @@ fn told(journal: Journal, end: PoolEnd) -> ScriptRun
 }
 
 /// Compiles the program, and runs it with 1 to 16 workers, until an end or until its events cost the budget. With one
-/// worker the run is that of the stated schedule, over answers of the clock that never fall.
+/// worker the run is that of the stated schedule, over some moments that never fall.
 pub fn run_script<R: Threads + Wait + Sync, C: Clock + Send, G: Gate + Sync>(
     rt: &R,
     alloc: Global,
