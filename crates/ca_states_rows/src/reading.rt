@@ -149,6 +149,27 @@ fn instr(alloc: Global, word: &str, place: Place) -> Result<Option<Instr>, RowEr
         b"clear" => Instr::Clear {
             slot: parts.number()?,
         },
+        b"push" => Instr::Push {
+            to: parts.number()?,
+            collection: parts.number()?,
+            item: parts.number()?,
+            place,
+        },
+        b"put" => Instr::Put {
+            to: parts.number()?,
+            collection: parts.number()?,
+            key: parts.number()?,
+            value: parts.number()?,
+            place,
+        },
+        kind => return applied(kind, parts, place),
+    };
+    Ok(Some(instr))
+}
+
+// The instruction of that kind that applies a builtin, if there is one.
+fn applied(kind: &[u8], mut parts: Parts<'_>, place: Place) -> Result<Option<Instr>, RowError> {
+    let instr = match kind {
         b"one" => Instr::One {
             builtin: parts.builtin()?,
             to: parts.number()?,
@@ -167,19 +188,6 @@ fn instr(alloc: Global, word: &str, place: Place) -> Result<Option<Instr>, RowEr
             to: parts.number()?,
             left: parts.number()?,
             right: parts.integer()?,
-            place,
-        },
-        b"push" => Instr::Push {
-            to: parts.number()?,
-            collection: parts.number()?,
-            item: parts.number()?,
-            place,
-        },
-        b"put" => Instr::Put {
-            to: parts.number()?,
-            collection: parts.number()?,
-            key: parts.number()?,
-            value: parts.number()?,
             place,
         },
         b"many" => Instr::Many {
