@@ -1,16 +1,14 @@
 -- Splits that are taken from the top of a list, one after another.
-use Rattle.std.proofs.Common.{◌≡◌, ℕ, ◌+◌, ◌<◌, List, [], ◌∷◌, ◌++◌, length, get_or, Option, Some, None, ℤ, Result, Ok, Err, refl, sym, ap, ap₂, ◌∙◌, subst, arith, length-append}
+use Rattle.std.proofs.Common.{◌≡◌, List, [], ◌∷◌, length, get_or, Result, Ok, Err, sym, ap, ap₂, ◌∙◌, subst}
 use Rattle.std.specs.Prelude.{OnOk}
 use Rattle.ca_value.specs.declared.builtin.Builtin.{Builtin as BuiltinName}
 use Rattle.ca_value.specs.declared.builtin.Builtin.TheVariants.{Conj, Assoc}
 use Rattle.ca_term.specs.declared.term.Term.{Term}
-use Rattle.ca_term.specs.Kernel.{Kernel, const, var}
 use Rattle.ca_term.specs.View.{kernel, kernels}
 use Rattle.ca_lower.specs.declared.emit.Layout.{Layout}
 use Rattle.ca_lower.specs.declared.sizes.Split.{Split}
-use Rattle.ca_lower.specs.Implements.{integer_of}
 use Rattle.ca_lower.specs.Layouts.{layout_of}
-use Rattle.ca_lower.specs.Splits.{on_top, stacked, stacked_all, IsOnTop, Takes}
+use Rattle.ca_lower.specs.Splits.{stacked, stacked_all, IsOnTop, Takes}
 
 abbrev pub Splits : Type 0
 Splits = List Split

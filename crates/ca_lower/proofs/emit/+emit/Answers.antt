@@ -44,7 +44,7 @@ emit_in_order-loop-term-preserved t c =
       names = c.in_ok-emit_term.ensures.names ∙ c.loop-term.invariant.names;
       left = let s = c.saturating_sub-left.ensures in omega (arith, s, all, lt);
       splits = passes_next (stacked (kernel x)) (stacked_all (kernels (drop (i + 1) ts))) (stacked_all (kernels ts)) (list c.args.splits.now) (list c.loop-term.splits) (list c.emit_term.new.splits)
-        (subst (λ us. Passes (stacked_all (kernels ts)) (stacked_all (kernels us)) (list c.args.splits.now) (list c.loop-term.splits)) d c.loop-term.invariant.splits) c.in_ok-emit_term.ensures.splits;
+          (subst (λ us. Passes (stacked_all (kernels ts)) (stacked_all (kernels us)) (list c.args.splits.now) (list c.loop-term.splits)) d c.loop-term.invariant.splits) c.in_ok-emit_term.ensures.splits;
     }
 
 pub emit_term-returns-in_ok-emit_term-in-Let-clause-code : goal.emit_term-returns-in_ok-emit_term-in-Let-clause-code
@@ -208,30 +208,36 @@ emit_builtin-emit_second-requires t c =
     let b = c.args.builtin in
     let ts = list c.args.operands.now in
     let x = c.index-as_slice-0-in-Two.result in
-    let y = c.index-as_slice-1.result in
-    (search (rules, the_lemmas), two_second_on ts x y (list c.args.splits.now) (list c.emit_operand-in-Two.new.splits) (list c.emit_operand-in-Two.new.splits)
-      (two_listed b ts x y (lays_by b ts c.len.result c.layout_of.result Layout.Two c.layout_of.ensures c.len.ensures c.in-Two.is) (seen c.as_slice-in-Two.result.now ts 0 x c.as_slice-in-Two.ensures c.index-as_slice-0-in-Two.is) (seen c.as_slice-in-Two-2.result.now ts 1 y c.as_slice-in-Two-2.ensures c.index-as_slice-1.is))
-      c.requires c.in_ok-left-in-Two.ensures.splits)
+    let y = c.index-as_slice-1.result in (
+      search (rules, the_lemmas),
+      two_second_on ts x y (list c.args.splits.now) (list c.emit_operand-in-Two.new.splits) (list c.emit_operand-in-Two.new.splits)
+          (two_listed b ts x y (lays_by b ts c.len.result c.layout_of.result Layout.Two c.layout_of.ensures c.len.ensures c.in-Two.is) (seen c.as_slice-in-Two.result.now ts 0 x c.as_slice-in-Two.ensures c.index-as_slice-0-in-Two.is) (seen c.as_slice-in-Two-2.result.now ts 1 y c.as_slice-in-Two-2.ensures c.index-as_slice-1.is))
+          c.requires c.in_ok-left-in-Two.ensures.splits,
+    )
 
 pub emit_push-emit_operand-requires : goal.emit_push-emit_operand-requires
 emit_push-emit_operand-requires t c =
     let b = c.args.builtin in
     let ts = list c.args.operands.now in
     let x = c.index-as_slice-0.result in
-    let y = c.index-as_slice-1.result in
-    (search (rules, the_lemmas), two_second_on ts x y (list c.args.splits.now) (list c.emit_term.new.splits) (list c.emit_term.new.splits)
-      (push_listed b ts x y c.requires.layout (seen c.as_slice.result.now ts 0 x c.as_slice.ensures c.index-as_slice-0.is) (seen c.as_slice-2.result.now ts 1 y c.as_slice-2.ensures c.index-as_slice-1.is))
-      c.requires.on_top c.in_ok-emit_term.ensures.splits)
+    let y = c.index-as_slice-1.result in (
+      search (rules, the_lemmas),
+      two_second_on ts x y (list c.args.splits.now) (list c.emit_term.new.splits) (list c.emit_term.new.splits)
+          (push_listed b ts x y c.requires.layout (seen c.as_slice.result.now ts 0 x c.as_slice.ensures c.index-as_slice-0.is) (seen c.as_slice-2.result.now ts 1 y c.as_slice-2.ensures c.index-as_slice-1.is))
+          c.requires.on_top c.in_ok-emit_term.ensures.splits,
+    )
 
 pub emit_put-emit_operand-requires : goal.emit_put-emit_operand-requires
 emit_put-emit_operand-requires t c =
     let b = c.args.builtin in
     let ts = list c.args.operands.now in
     let x = c.index-as_slice-0.result in
-    let y = c.index-as_slice-1.result in
-    (search (rules, the_lemmas), put_second_on b ts x y (list c.args.splits.now) (list c.emit_term.new.splits) c.requires.layout
-      (seen c.as_slice.result.now ts 0 x c.as_slice.ensures c.index-as_slice-0.is) (seen c.as_slice-2.result.now ts 1 y c.as_slice-2.ensures c.index-as_slice-1.is)
-      c.requires.on_top c.in_ok-emit_term.ensures.splits)
+    let y = c.index-as_slice-1.result in (
+      search (rules, the_lemmas),
+      put_second_on b ts x y (list c.args.splits.now) (list c.emit_term.new.splits) c.requires.layout
+          (seen c.as_slice.result.now ts 0 x c.as_slice.ensures c.index-as_slice-0.is) (seen c.as_slice-2.result.now ts 1 y c.as_slice-2.ensures c.index-as_slice-1.is)
+          c.requires.on_top c.in_ok-emit_term.ensures.splits,
+    )
 
 pub emit_put-emit_operand-requires-2 : goal.emit_put-emit_operand-requires-2
 emit_put-emit_operand-requires-2 t c =
@@ -239,10 +245,12 @@ emit_put-emit_operand-requires-2 t c =
     let ts = list c.args.operands.now in
     let x = c.index-as_slice-0.result in
     let y = c.index-as_slice-1.result in
-    let z = c.index-as_slice-2.result in
-    (search (rules, the_lemmas), three_third_on ts x y z (list c.args.splits.now) (list c.emit_term.new.splits) (list c.emit_operand.new.splits) (list c.emit_operand.new.splits)
-      (put_listed b ts x y z c.requires.layout (seen c.as_slice.result.now ts 0 x c.as_slice.ensures c.index-as_slice-0.is) (seen c.as_slice-2.result.now ts 1 y c.as_slice-2.ensures c.index-as_slice-1.is) (seen c.as_slice-3.result.now ts 2 z c.as_slice-3.ensures c.index-as_slice-2.is))
-      c.requires.on_top c.in_ok-emit_term.ensures.splits c.in_ok-key.ensures.splits)
+    let z = c.index-as_slice-2.result in (
+      search (rules, the_lemmas),
+      three_third_on ts x y z (list c.args.splits.now) (list c.emit_term.new.splits) (list c.emit_operand.new.splits) (list c.emit_operand.new.splits)
+          (put_listed b ts x y z c.requires.layout (seen c.as_slice.result.now ts 0 x c.as_slice.ensures c.index-as_slice-0.is) (seen c.as_slice-2.result.now ts 1 y c.as_slice-2.ensures c.index-as_slice-1.is) (seen c.as_slice-3.result.now ts 2 z c.as_slice-3.ensures c.index-as_slice-2.is))
+          c.requires.on_top c.in_ok-emit_term.ensures.splits c.in_ok-key.ensures.splits,
+    )
 
 pub emit_builtin-returns-in_ok-operand-in-One-clause-splits : goal.emit_builtin-returns-in_ok-operand-in-One-clause-splits
 emit_builtin-returns-in_ok-operand-in-One-clause-splits t c =
@@ -251,8 +259,8 @@ emit_builtin-returns-in_ok-operand-in-One-clause-splits t c =
     let x = c.index-as_slice-0.result in
     kept c.put.result (Takes (stacked_all (kernels ts)) (list c.args.splits.now) (list c.emit_operand.new.splits))
     (one_taken ts x (list c.args.splits.now) (list c.emit_operand.new.splits)
-      (one_listed b ts x (lays_by b ts c.len.result c.layout_of.result Layout.One c.layout_of.ensures c.len.ensures c.in-One.is) (seen c.as_slice.result.now ts 0 x c.as_slice.ensures c.index-as_slice-0.is))
-      c.in_ok-operand-in-One.ensures.splits)
+    (one_listed b ts x (lays_by b ts c.len.result c.layout_of.result Layout.One c.layout_of.ensures c.len.ensures c.in-One.is) (seen c.as_slice.result.now ts 0 x c.as_slice.ensures c.index-as_slice-0.is))
+    c.in_ok-operand-in-One.ensures.splits)
 
 pub emit_builtin-returns-in_ok-right-in-Two-clause-splits : goal.emit_builtin-returns-in_ok-right-in-Two-clause-splits
 emit_builtin-returns-in_ok-right-in-Two-clause-splits t c =
@@ -262,8 +270,8 @@ emit_builtin-returns-in_ok-right-in-Two-clause-splits t c =
     let y = c.index-as_slice-1.result in
     kept c.put-in-Two.result (Takes (stacked_all (kernels ts)) (list c.args.splits.now) (list c.emit_second.new.splits))
     (two_taken ts x y (list c.args.splits.now) (list c.emit_operand-in-Two.new.splits) (list c.emit_second.new.splits)
-      (two_listed b ts x y (lays_by b ts c.len.result c.layout_of.result Layout.Two c.layout_of.ensures c.len.ensures c.in-Two.is) (seen c.as_slice-in-Two.result.now ts 0 x c.as_slice-in-Two.ensures c.index-as_slice-0-in-Two.is) (seen c.as_slice-in-Two-2.result.now ts 1 y c.as_slice-in-Two-2.ensures c.index-as_slice-1.is))
-      c.in_ok-left-in-Two.ensures.splits c.in_ok-right-in-Two.ensures.splits)
+    (two_listed b ts x y (lays_by b ts c.len.result c.layout_of.result Layout.Two c.layout_of.ensures c.len.ensures c.in-Two.is) (seen c.as_slice-in-Two.result.now ts 0 x c.as_slice-in-Two.ensures c.index-as_slice-0-in-Two.is) (seen c.as_slice-in-Two-2.result.now ts 1 y c.as_slice-in-Two-2.ensures c.index-as_slice-1.is))
+    c.in_ok-left-in-Two.ensures.splits c.in_ok-right-in-Two.ensures.splits)
 
 pub emit_push-returns-clause-splits : goal.emit_push-returns-clause-splits
 emit_push-returns-clause-splits t c =
@@ -273,8 +281,8 @@ emit_push-returns-clause-splits t c =
     let y = c.index-as_slice-1.result in
     kept c.put.result (Takes (stacked_all (kernels ts)) (list c.args.splits.now) (list c.emit_operand.new.splits))
     (two_taken ts x y (list c.args.splits.now) (list c.emit_term.new.splits) (list c.emit_operand.new.splits)
-      (push_listed b ts x y c.requires.layout (seen c.as_slice.result.now ts 0 x c.as_slice.ensures c.index-as_slice-0.is) (seen c.as_slice-2.result.now ts 1 y c.as_slice-2.ensures c.index-as_slice-1.is))
-      c.in_ok-emit_term.ensures.splits c.in_ok-item.ensures.splits)
+    (push_listed b ts x y c.requires.layout (seen c.as_slice.result.now ts 0 x c.as_slice.ensures c.index-as_slice-0.is) (seen c.as_slice-2.result.now ts 1 y c.as_slice-2.ensures c.index-as_slice-1.is))
+    c.in_ok-emit_term.ensures.splits c.in_ok-item.ensures.splits)
 
 pub emit_put-returns-clause-splits : goal.emit_put-returns-clause-splits
 emit_put-returns-clause-splits t c =
@@ -285,5 +293,5 @@ emit_put-returns-clause-splits t c =
     let z = c.index-as_slice-2.result in
     kept c.put.result (Takes (stacked_all (kernels ts)) (list c.args.splits.now) (list c.emit_operand-2.new.splits))
     (three_taken ts x y z (list c.args.splits.now) (list c.emit_term.new.splits) (list c.emit_operand.new.splits) (list c.emit_operand-2.new.splits)
-      (put_listed b ts x y z c.requires.layout (seen c.as_slice.result.now ts 0 x c.as_slice.ensures c.index-as_slice-0.is) (seen c.as_slice-2.result.now ts 1 y c.as_slice-2.ensures c.index-as_slice-1.is) (seen c.as_slice-3.result.now ts 2 z c.as_slice-3.ensures c.index-as_slice-2.is))
-      c.in_ok-emit_term.ensures.splits c.in_ok-key.ensures.splits c.in_ok-value.ensures.splits)
+    (put_listed b ts x y z c.requires.layout (seen c.as_slice.result.now ts 0 x c.as_slice.ensures c.index-as_slice-0.is) (seen c.as_slice-2.result.now ts 1 y c.as_slice-2.ensures c.index-as_slice-1.is) (seen c.as_slice-3.result.now ts 2 z c.as_slice-3.ensures c.index-as_slice-2.is))
+    c.in_ok-emit_term.ensures.splits c.in_ok-key.ensures.splits c.in_ok-value.ensures.splits)
