@@ -24,6 +24,7 @@ use ca_value::seq::Seq;
 use ca_value::value::Value;
 use std::alloc::Global;
 
+/// The term's value comes into slot h. The splits of its branches are taken from the end of the list.
 #[cycle(emit)]
 pub(crate) fn emit_term(
     alloc: Global,
