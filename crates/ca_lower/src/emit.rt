@@ -74,17 +74,39 @@ pub(crate) fn emit_term(
         }
         Term::Do(terms) => emit_in_order(alloc, b, splits, width, target, names, h, terms),
         Term::Frame(_) | Term::Turn(_, _, _) => Ok(()),
-        Term::Apply(head, operands, place) => match head {
-            Head::Builtin(builtin) => {
-                emit_builtin(
-                    alloc, b, splits, width, names, h, *builtin, operands, *place,
-                )
-            }
-            _ => {
-                emit_all(alloc, b, splits, width, names, h, operands)?;
-                b.finish(alloc, width, target, *head, h, operands.len(), *place)
-            }
-        },
+        Term::Apply(head, operands, place) => emit_apply(
+            alloc, b, splits, width, target, names, h, *head, operands, *place,
+        ),
+    }
+}
+
+// What is done with operands: a builtin reads them where they are, any other head in a row of slots.
+#[cycle(emit)]
+fn emit_apply(
+    alloc: Global,
+    b: &mut Builder,
+    splits: &mut Seq<Split>,
+    width: u64,
+    target: Option<Loop>,
+    names: &mut Seq<Name>,
+    h: u64,
+    head: Head,
+    operands: &Seq<Term>,
+    place: Place,
+) -> Result<(), OutOfMemory>
+    requires { IsOnTop (stacked_all (kernels (list operands.now))) (list splits.old) }
+    ensures code { OnOk result (builder_view b.new ≡ emit width (target_view target) (scope_view (list names.old)) h (apply head (kernels (list operands.now)) place) (builder_view b.old)) }
+    ensures names { OnOk result (list names.new ≡ list names.old) }
+    ensures splits { OnOk result (Takes (stacked_all (kernels (list operands.now))) (list splits.old) (list splits.new)) }
+{
+    match head {
+        Head::Builtin(builtin) => {
+            emit_builtin(alloc, b, splits, width, names, h, builtin, operands, place)
+        }
+        _ => {
+            emit_all(alloc, b, splits, width, names, h, operands)?;
+            b.finish(alloc, width, target, head, h, operands.len(), place)
+        }
     }
 }
 

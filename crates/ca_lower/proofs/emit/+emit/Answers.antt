@@ -183,24 +183,23 @@ emit_builtin-returns-in_ok-emit_all-in-Row-clause-code t c =
     (λ e. row_done w S h p b ts c.len-in-Row.result B (builder_view c.emit_all.new.b) (builder_view c.put-in-Row.new.self)
     (lays_by b ts c.len.result c.layout_of.result Layout.Row c.layout_of.ensures c.len.ensures c.in-Row.is) (c.len-in-Row.ensures ∙ sym (count-terms ts)) c.in_ok-emit_all-in-Row.ensures.code e) c.put-in-Row.ensures
 
-pub emit_term-returns-in_ok-emit_all-in_default : goal.emit_term-returns-in_ok-emit_all-in_default
-emit_term-returns-in_ok-emit_all-in_default t c =
+pub emit_apply-returns-in_ok-emit_all-in_default : goal.emit_apply-returns-in_ok-emit_all-in_default
+emit_apply-returns-in_ok-emit_all-in_default t c =
     let w = c.args.width in
     let lp = target_view c.args.target in
     let S = scope_view (list c.args.names.now) in
     let h = c.args.h in
-    let ts = list c.in-Apply.operands in
-    let f = c.in-Apply.head in
-    let p = c.in-Apply.place in
+    let ts = list c.args.operands.now in
+    let f = c.args.head in
+    let p = c.args.place in
     let B = builder_view c.args.b.now in
-    let k : kernel c.args.term.now ≡ apply f (kernels ts) p = search (rules, the_lemmas) in
-    let n = c.len-in_default.ensures ∙ sym (count-terms ts) in
+    let n = c.len.ensures ∙ sym (count-terms ts) in
     let e = ap₂ (λ m b. finish w lp f h m p b) n c.in_ok-emit_all-in_default.ensures.code in
     let other : (b : BuiltinName) → f ≡ Builtin b → ⊥ = c.in_default.not-Builtin in
     record {
-      code = subst (λ z. OnOk c.finish.result (builder_view c.finish.new.self ≡ z)) (e ∙ sym (other_laid w lp S h p f (kernels ts) B other) ∙ ap (λ z. emit w lp S h z B) (sym k)) c.finish.ensures;
+      code = subst (λ z. OnOk c.finish.result (builder_view c.finish.new.self ≡ z)) (e ∙ sym (other_laid w lp S h p f (kernels ts) B other)) c.finish.ensures;
       names = search (rules, c.in_ok-emit_all-in_default.ensures.names);
-      splits = search (rules, the_lemmas, c.in_ok-emit_all-in_default.ensures.splits);
+      splits = search (rules, c.in_ok-emit_all-in_default.ensures.splits);
     }
 
 pub emit_builtin-emit_second-requires : goal.emit_builtin-emit_second-requires
