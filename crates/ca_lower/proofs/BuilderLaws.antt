@@ -1,7 +1,6 @@
 -- Instructions that are put one after another, and terms one after another.
 use Rattle.std.proofs.Common.{◌≡◌, ℕ, zero, suc, ◌+◌, ◌-◌, ◌<◌, List, [], ◌∷◌, ◌++◌, length, drop, get_or, Option, Some, None, true, false, cond, refl, sym, ap, ap₂, ◌∙◌, arith, append_assoc, eq-eqb, ne_eqb}
 use Rattle.std.specs.Prelude.{◌==◌}
-use Rattle.ca_term.specs.declared.place.Place.{Place}
 use Rattle.ca_term.specs.declared.term.Term.{Term}
 use Rattle.ca_term.specs.declared.term.Binding.{Binding}
 use Rattle.ca_term.specs.Kernel.{Kernel, Bindings, Founds, bind, loop}
@@ -42,26 +41,20 @@ bind_laid w lp S S1 h from bs body B0 B1 B2 ef es e1 e2 =
     ap (add (moving h from ∷ [])) (e2 ∙ ap₂ (λ s b. emit w lp s from body b) es e1)
     ∙ ap (λ f. add (moving h f ∷ []) (emit w lp (S ++ in_slots (names_bound bs) h) f body (emit_bindings w S h bs B0))) ef
 
-abbrev looped : ℕ → ℕ → Kernel → ℕ → ℕ → ℕ → Place → Scope → Builder → Builder
-looped w h body count from to p s b = add (moving h from ∷ []) (emit w (Some (record { first = h; count = count; head = to })) s from body (close w (Jump to p) from b))
-
 -- bindings and then a loop's text
-pub loop_laid : (w : ℕ) (lp : Option Target) (S S1 : Scope) (h count from to : ℕ) (p : Place) (gs : Founds) (bs : Bindings) (body : Kernel) (B0 B1 B2 B3 : Builder)
-    → count ≡ count_bindings bs → from ≡ h + count → to ≡ at_work B1 + 1 → p ≡ nowhere → S1 ≡ S ++ in_slots (names_bound bs) h → B1 ≡ emit_bindings w S h bs B0
-    → B2 ≡ close w (Jump to p) from B1 → B3 ≡ emit w (Some (record { first = h; count = count; head = to })) S1 from body B2
+pub loop_laid : (w : ℕ) (lp inner : Option Target) (S S1 : Scope) (h count from : ℕ) (gs : Founds) (bs : Bindings) (body : Kernel) (B0 B1 B2 B3 : Builder)
+    → count ≡ count_bindings bs → from ≡ h + count → inner ≡ Some (record { first = h; count = count; head = at_work B1 + 1 }) → S1 ≡ S ++ in_slots (names_bound bs) h → B1 ≡ emit_bindings w S h bs B0
+    → B2 ≡ close w (Jump (at_work B1 + 1) nowhere) (h + count) B1 → B3 ≡ emit w inner S1 from body B2
     → add (moving h from ∷ []) B3 ≡ emit w lp S h (loop gs bs body) B0
-loop_laid w lp S S1 h count from to p gs bs body B0 B1 B2 B3 ec ef et ep es e1 e2 e3 =
+loop_laid w lp inner S S1 h count from gs bs body B0 B1 B2 B3 ec ef ei es e1 e2 e3 =
     let c = count_bindings bs in
     let S2 = S ++ in_slots (names_bound bs) h in
     let E = emit_bindings w S h bs B0 in
     let f : from ≡ h + c = ef ∙ ap (λ k. h + k) ec in
-    let t : to ≡ at_work E + 1 = et ∙ ap (λ b. at_work b + 1) e1 in
-    ap (add (moving h from ∷ [])) (e3 ∙ ap (emit w (Some (record { first = h; count = count; head = to })) S1 from body) e2)
-    ∙ ap (λ k. looped w h body k from to p S1 B1) ec
-    ∙ ap (λ k. looped w h body c k to p S1 B1) f
-    ∙ ap (λ k. looped w h body c (h + c) k p S1 B1) t
-    ∙ ap (λ k. looped w h body c (h + c) (at_work E + 1) k S1 B1) ep
-    ∙ ap₂ (λ s b. looped w h body c (h + c) (at_work E + 1) nowhere s b) es e1
+    let i : inner ≡ Some (record { first = h; count = c; head = at_work E + 1 }) = ei ∙ ap₂ (λ k b. Some (record { first = h; count = k; head = at_work b + 1 })) ec e1 in
+    let g : B2 ≡ close w (Jump (at_work E + 1) nowhere) (h + c) E = e2 ∙ ap₂ (λ k b. close w (Jump (at_work b + 1) nowhere) (h + k) b) ec e1 in
+    ap (add (moving h from ∷ [])) (e3 ∙ ap₂ (λ o b. emit w o S1 from body b) i g)
+    ∙ ap₂ (λ s k. add (moving h k ∷ []) (emit w (Some (record { first = h; count = c; head = at_work E + 1 })) s k body (close w (Jump (at_work E + 1) nowhere) (h + c) E))) es f
 
 -- one more of the terms in order
 pub rest_next : (w : ℕ) (lp own : Option Target) (S : Scope) (h left : ℕ) (t : Term) (ts : List Term) (B : Builder) → own ≡ cond (left == 1) lp None → left ≡ suc (length ts)

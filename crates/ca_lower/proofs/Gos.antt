@@ -1,12 +1,10 @@
 -- The code that is laid out for a program has the go bodies of the program alone.
-use Rattle.std.proofs.Common.{◌≡◌, ◌∙◌, ℕ, zero, suc, ◌<◌, List, [], ◌∷◌, length, get_or, refl, sym, ap, subst, arith, Result, Ok, Err, IfOk, nat_lt, ◌==◌}
+use Rattle.std.proofs.Common.{◌≡◌, ◌∙◌, ℕ, zero, suc, ◌<◌, List, [], ◌∷◌, length, get_or, refl, sym, subst, arith, nat_lt, ◌==◌}
 use Rattle.std.proofs.lemmas.Bool.{and_parts, eqb-true, ltb-true}
-use Rattle.ca_value.specs.declared.memory.OutOfMemory.{OutOfMemory}
 use Rattle.ca_term.specs.Program.{ProcedureView, ProgramView, arity}
 use Rattle.ca_meaning.specs.Started.{procedure_at}
-use Rattle.ca_states.specs.declared.code.Code.{Code}
 use Rattle.ca_states.specs.declared.runner.Start.TheVariants.{Go}
-use Rattle.ca_states.specs.Code.{code_view, no_entry}
+use Rattle.ca_states.specs.Code.{no_entry}
 use Rattle.ca_states.specs.Standing.{IsStart}
 use Rattle.ca_lower.specs.Emit.{Builder, code_of, emit_text, emit_texts, entries, nothing_built}
 use Rattle.ca_lower.specs.Gos.{SameGos}
@@ -27,7 +25,3 @@ one_of P n count start =
 
 pub same_gos : (P : ProgramView) → SameGos P (code_of P)
 same_gos P = record { each = one_of P }
-
-pub made_gos : (P : ProgramView) (r : Result Code OutOfMemory) → IfOk r (λ c. code_view c ≡ code_of P) → IfOk r (λ c. SameGos P (code_view c))
-made_gos P (Ok c) e = subst (SameGos P) (sym e) (same_gos P)
-made_gos P (Err x) e = tt

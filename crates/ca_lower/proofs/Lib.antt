@@ -15,6 +15,7 @@ pub mod Lowers
 pub mod Puts
 pub mod Slots
 pub mod Sound
+pub mod SplitLaws
 pub mod Stands
 pub mod Texts
 pub mod Whole

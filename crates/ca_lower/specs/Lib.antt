@@ -4,4 +4,5 @@ pub mod Implements
 pub mod InOrder
 pub mod Layouts
 pub mod Lowered
+pub mod Splits
 pub mod Views

@@ -1,12 +1,14 @@
 //! Code as it is laid out: blocks are appended, and none is changed afterwards.
-ghost use Rattle.std.specs.Prelude.{◌≡◌, ◌+◌, ◌∷◌, [], suc, IfOk, OnOk};
+ghost use Rattle.std.specs.Prelude.{◌≡◌, ◌+◌, ◌∷◌, [], suc, Some, IfOk, OnOk};
 ghost use Rattle.ca_value.specs.Seq.{list};
 ghost use Rattle.ca_value.specs.View.{view};
 ghost use Rattle.ca_states.specs.Code.{constant, instruction};
+ghost use Rattle.ca_states.specs.declared.code.Exit.TheVariants.{Jump, Branch};
 ghost use Rattle.ca_lower.specs.Implements.{moves, slot_of};
 ghost use Rattle.ca_lower.specs.Emit.{add, at_work, close, finish, nowhere, recur_code, recur_exit};
 ghost use Rattle.ca_lower.specs.Views.{builder_view, scope_view, target_view};
 
+use crate::sizes::Split;
 use ca_states::code::{Block, Exit, Instr, SlotSet};
 use ca_term::head::Head;
 use ca_term::place::Place;
@@ -135,6 +137,55 @@ impl Builder {
         });
         self.below = next;
         Ok(())
+    }
+
+    /// The block at work leads on to one of a greater number, which is no turn.
+    pub(crate) fn jump_to(
+        &mut self,
+        alloc: Global,
+        width: u64,
+        to: u64,
+        next: u64,
+    ) -> Result<(), OutOfMemory>
+        ensures { OnOk result (builder_view self.new ≡ close width (Jump to nowhere) next (builder_view self.old)) }
+    {
+        let place = no_place();
+        self.close(alloc, width, Exit::Jump { next: to, place }, next)
+    }
+
+    /// The block at work leads to one side of a branch or to the other, by the slot's value. The answer is the number
+    /// of the block behind both.
+    pub(crate) fn branch_on(
+        &mut self,
+        alloc: Global,
+        width: u64,
+        slot: u64,
+        split: Split,
+    ) -> Result<u64, OutOfMemory>
+        ensures code { let n = at_work (builder_view self.old) in OnOk result (builder_view self.new ≡ close width (Branch slot (n + 1) (n + 1 + split.then + 1)) slot (builder_view self.old)) }
+        ensures behind { let n = at_work (builder_view self.old) in IfOk result (λ m. m ≡ n + 1 + split.then + 1 + split.otherwise + 1) }
+    {
+        let yes = sum(self.number(), 1)?;
+        let no = sum(sum(yes, split.then)?, 1)?;
+        let behind = sum(sum(no, split.otherwise)?, 1)?;
+        self.close(alloc, width, Exit::Branch { slot, yes, no }, slot)?;
+        Ok(behind)
+    }
+
+    /// The block at work leads to the first one of a loop, which takes so many values, from a slot on.
+    pub(crate) fn enter_loop(
+        &mut self,
+        alloc: Global,
+        width: u64,
+        first: u64,
+        count: u64,
+    ) -> Result<Loop, OutOfMemory>
+        ensures code { OnOk result (builder_view self.new ≡ close width (Jump (at_work (builder_view self.old) + 1) nowhere) (first + count) (builder_view self.old)) }
+        ensures target { IfOk result (λ l. target_view (Some l) ≡ Some (record { first = first; count = count; head = at_work (builder_view self.old) + 1 })) }
+    {
+        let head = sum(self.number(), 1)?;
+        self.jump_to(alloc, width, head, sum(first, count)?)?;
+        Ok(Loop { first, count, head })
     }
 
     // A recur goes back to its loop.

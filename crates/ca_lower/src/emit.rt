@@ -8,12 +8,13 @@ ghost use Rattle.ca_states.specs.Code.{instruction};
 ghost use Rattle.ca_lower.specs.Implements.{Target, in_slots, integer_of, names_bound, next_slot, operand_slot, paired};
 ghost use Rattle.ca_lower.specs.Emit.{emit, emit_all, emit_bindings, emit_in_order, operand, second};
 ghost use Rattle.ca_lower.specs.Layouts.{layout_of};
+ghost use Rattle.ca_lower.specs.Splits.{stacked, stacked_all, stacked_bound, IsOnTop, Takes};
 ghost use Rattle.ca_lower.specs.declared.emit.Layout.TheVariants.{Push, Put};
 ghost use Rattle.ca_lower.specs.Views.{builder_view, scope_view, target_view};
 
-use crate::builder::{Builder, Loop, Name, no_place, slot_of, sum};
-use crate::sizes::blocks_of;
-use ca_states::code::{Exit, Instr};
+use crate::builder::{Builder, Loop, Name, slot_of, sum};
+use crate::sizes::{Split, next_split};
+use ca_states::code::Instr;
 use ca_term::head::Head;
 use ca_term::place::Place;
 use ca_term::term::{Binding, Term};
@@ -23,18 +24,22 @@ use ca_value::seq::Seq;
 use ca_value::value::Value;
 use std::alloc::Global;
 
+/// The term's value comes into slot h. The splits of its branches are taken from the end of the list.
 #[cycle(emit)]
 pub(crate) fn emit_term(
     alloc: Global,
     b: &mut Builder,
+    splits: &mut Seq<Split>,
     width: u64,
     target: Option<Loop>,
     names: &mut Seq<Name>,
     h: u64,
     term: &Term,
 ) -> Result<(), OutOfMemory>
+    requires { IsOnTop (stacked (kernel term.now)) (list splits.old) }
     ensures code { OnOk result (builder_view b.new ≡ emit width (target_view target) (scope_view (list names.old)) h (kernel term.now) (builder_view b.old)) }
     ensures names { OnOk result (list names.new ≡ list names.old) }
+    ensures splits { OnOk result (Takes (stacked (kernel term.now)) (list splits.old) (list splits.new)) }
 {
     match term {
         Term::Const(value) => b.put_constant(alloc, h, value),
@@ -43,82 +48,65 @@ pub(crate) fn emit_term(
             b.put(Instr::Copy { to: h, from })
         }
         Term::If(test, then, otherwise) => {
-            emit_term(alloc, b, width, None, names, h, test)?;
-            let yes = sum(b.number(), 1)?;
-            let no = sum(sum(yes, blocks_of(then)?)?, 1)?;
-            let next = sum(sum(no, blocks_of(otherwise)?)?, 1)?;
-            b.close(alloc, width, Exit::Branch { slot: h, yes, no }, h)?;
-            emit_term(alloc, b, width, target, names, h, then)?;
-            b.close(
-                alloc,
-                width,
-                Exit::Jump {
-                    next,
-                    place: no_place(),
-                },
-                h,
-            )?;
-            emit_term(alloc, b, width, target, names, h, otherwise)?;
-            b.close(
-                alloc,
-                width,
-                Exit::Jump {
-                    next,
-                    place: no_place(),
-                },
-                sum(h, 1)?,
-            )
+            emit_term(alloc, b, splits, width, None, names, h, test)?;
+            let behind = b.branch_on(alloc, width, h, next_split(splits))?;
+            emit_term(alloc, b, splits, width, target, names, h, then)?;
+            b.jump_to(alloc, width, behind, h)?;
+            emit_term(alloc, b, splits, width, target, names, h, otherwise)?;
+            b.jump_to(alloc, width, behind, sum(h, 1)?)
         }
         Term::Let(bindings, body) => {
             let from = sum(h, bindings.len())?;
             let kept = names.len();
-            emit_bindings(alloc, b, width, names, h, bindings)?;
-            emit_term(alloc, b, width, target, names, from, body)?;
+            emit_bindings(alloc, b, splits, width, names, h, bindings)?;
+            emit_term(alloc, b, splits, width, target, names, from, body)?;
             names.truncate(kept);
             b.put(Instr::Move { to: h, from })
         }
         Term::Loop(_, bindings, body) => {
-            let count = bindings.len();
-            let from = sum(h, count)?;
+            let from = sum(h, bindings.len())?;
             let kept = names.len();
-            emit_bindings(alloc, b, width, names, h, bindings)?;
-            let head = sum(b.number(), 1)?;
-            b.close(
-                alloc,
-                width,
-                Exit::Jump {
-                    next: head,
-                    place: no_place(),
-                },
-                from,
-            )?;
-            emit_term(
-                alloc,
-                b,
-                width,
-                Some(Loop {
-                    first: h,
-                    count,
-                    head,
-                }),
-                names,
-                from,
-                body,
-            )?;
+            emit_bindings(alloc, b, splits, width, names, h, bindings)?;
+            let inner = b.enter_loop(alloc, width, h, bindings.len())?;
+            emit_term(alloc, b, splits, width, Some(inner), names, from, body)?;
             names.truncate(kept);
             b.put(Instr::Move { to: h, from })
         }
-        Term::Do(terms) => emit_in_order(alloc, b, width, target, names, h, terms),
+        Term::Do(terms) => emit_in_order(alloc, b, splits, width, target, names, h, terms),
         Term::Frame(_) | Term::Turn(_, _, _) => Ok(()),
-        Term::Apply(head, operands, place) => match head {
-            Head::Builtin(builtin) => {
-                emit_builtin(alloc, b, width, names, h, *builtin, operands, *place)
-            }
-            _ => {
-                emit_all(alloc, b, width, names, h, operands)?;
-                b.finish(alloc, width, target, *head, h, operands.len(), *place)
-            }
-        },
+        Term::Apply(head, operands, place) => emit_apply(
+            alloc, b, splits, width, target, names, h, *head, operands, *place,
+        ),
+    }
+}
+
+// What is done with operands: a builtin reads them where they are, any other head in a row of slots.
+#[cycle(emit)]
+fn emit_apply(
+    alloc: Global,
+    b: &mut Builder,
+    splits: &mut Seq<Split>,
+    width: u64,
+    target: Option<Loop>,
+    names: &mut Seq<Name>,
+    h: u64,
+    head: Head,
+    operands: &Seq<Term>,
+    place: Place,
+) -> Result<(), OutOfMemory>
+    requires { IsOnTop (stacked_all (kernels (list operands.now))) (list splits.old) }
+    ensures code { OnOk result (builder_view b.new ≡ emit width (target_view target) (scope_view (list names.old)) h (apply head (kernels (list operands.now)) place) (builder_view b.old)) }
+    ensures names { OnOk result (list names.new ≡ list names.old) }
+    ensures splits { OnOk result (Takes (stacked_all (kernels (list operands.now))) (list splits.old) (list splits.new)) }
+{
+    match head {
+        Head::Builtin(builtin) => {
+            emit_builtin(alloc, b, splits, width, names, h, builtin, operands, place)
+        }
+        _ => {
+            emit_all(alloc, b, splits, width, names, h, operands)?;
+            b.finish(alloc, width, target, head, h, operands.len(), place)
+        }
     }
 }
 
@@ -134,15 +122,18 @@ struct Operand {
 fn emit_operand(
     alloc: Global,
     b: &mut Builder,
+    splits: &mut Seq<Split>,
     width: u64,
     names: &mut Seq<Name>,
     h: u64,
     term: &Term,
 ) -> Result<Operand, OutOfMemory>
+    requires { IsOnTop (stacked (kernel term.now)) (list splits.old) }
     ensures code { OnOk result (builder_view b.new ≡ operand (kernel term.now) (emit width None (scope_view (list names.old)) h (kernel term.now) (builder_view b.old)) (builder_view b.old)) }
     ensures names { OnOk result (list names.new ≡ list names.old) }
     ensures slot { IfOk result (λ o. o.slot ≡ operand_slot (scope_view (list names.old)) h (kernel term.now)) }
     ensures next { IfOk result (λ o. o.next ≡ next_slot h (kernel term.now)) }
+    ensures splits { OnOk result (Takes (stacked (kernel term.now)) (list splits.old) (list splits.new)) }
 {
     match term {
         Term::Var(name) => Ok(Operand {
@@ -150,7 +141,7 @@ fn emit_operand(
             next: h,
         }),
         _ => {
-            emit_term(alloc, b, width, None, names, h, term)?;
+            emit_term(alloc, b, splits, width, None, names, h, term)?;
             Ok(Operand {
                 slot: h,
                 next: sum(h, 1)?,
@@ -185,15 +176,18 @@ fn integer_of(term: &Term) -> Option<i64>
 fn emit_second(
     alloc: Global,
     b: &mut Builder,
+    splits: &mut Seq<Split>,
     width: u64,
     names: &mut Seq<Name>,
     h: u64,
     term: &Term,
 ) -> Result<Second, OutOfMemory>
+    requires { IsOnTop (stacked (kernel term.now)) (list splits.old) }
     ensures code { OnOk result (builder_view b.new ≡ second (integer_of (kernel term.now)) (operand (kernel term.now) (emit width None (scope_view (list names.old)) h (kernel term.now) (builder_view b.old)) (builder_view b.old)) (builder_view b.old)) }
     ensures names { OnOk result (list names.new ≡ list names.old) }
     ensures integer { IfOk result (λ s. s.integer ≡ integer_of (kernel term.now)) }
     ensures slot { IfOk result (λ s. s.slot ≡ operand_slot (scope_view (list names.old)) h (kernel term.now)) }
+    ensures splits { OnOk result (Takes (stacked (kernel term.now)) (list splits.old) (list splits.new)) }
 {
     match integer_of(term) {
         Some(n) => Ok(Second {
@@ -201,7 +195,7 @@ fn emit_second(
             slot: h,
         }),
         None => {
-            let operand = emit_operand(alloc, b, width, names, h, term)?;
+            let operand = emit_operand(alloc, b, splits, width, names, h, term)?;
             Ok(Second {
                 integer: None,
                 slot: operand.slot,
@@ -237,6 +231,7 @@ fn paired(builtin: Builtin, to: u64, left: u64, right: Second, place: Place) -> 
 fn emit_builtin(
     alloc: Global,
     b: &mut Builder,
+    splits: &mut Seq<Split>,
     width: u64,
     names: &mut Seq<Name>,
     h: u64,
@@ -244,12 +239,14 @@ fn emit_builtin(
     operands: &Seq<Term>,
     place: Place,
 ) -> Result<(), OutOfMemory>
+    requires { IsOnTop (stacked_all (kernels (list operands.now))) (list splits.old) }
     ensures code { OnOk result ((lp : Option Target) → builder_view b.new ≡ emit width lp (scope_view (list names.old)) h (apply (heads.Builtin builtin) (kernels (list operands.now)) place) (builder_view b.old)) }
     ensures names { OnOk result (list names.new ≡ list names.old) }
+    ensures splits { OnOk result (Takes (stacked_all (kernels (list operands.now))) (list splits.old) (list splits.new)) }
 {
     match layout_of(builtin, operands.len()) {
         Layout::One => {
-            let operand = emit_operand(alloc, b, width, names, h, &operands.as_slice()[0])?;
+            let operand = emit_operand(alloc, b, splits, width, names, h, &operands.as_slice()[0])?;
             b.put(Instr::One {
                 builtin,
                 to: h,
@@ -258,14 +255,22 @@ fn emit_builtin(
             })
         }
         Layout::Two => {
-            let left = emit_operand(alloc, b, width, names, h, &operands.as_slice()[0])?;
-            let right = emit_second(alloc, b, width, names, left.next, &operands.as_slice()[1])?;
+            let left = emit_operand(alloc, b, splits, width, names, h, &operands.as_slice()[0])?;
+            let right = emit_second(
+                alloc,
+                b,
+                splits,
+                width,
+                names,
+                left.next,
+                &operands.as_slice()[1],
+            )?;
             b.put(paired(builtin, h, left.slot, right, place))
         }
-        Layout::Push => emit_push(alloc, b, width, names, h, builtin, operands, place),
-        Layout::Put => emit_put(alloc, b, width, names, h, builtin, operands, place),
+        Layout::Push => emit_push(alloc, b, splits, width, names, h, builtin, operands, place),
+        Layout::Put => emit_put(alloc, b, splits, width, names, h, builtin, operands, place),
         Layout::Row => {
-            emit_all(alloc, b, width, names, h, operands)?;
+            emit_all(alloc, b, splits, width, names, h, operands)?;
             b.put(Instr::Many {
                 builtin,
                 to: h,
@@ -282,6 +287,7 @@ fn emit_builtin(
 fn emit_push(
     alloc: Global,
     b: &mut Builder,
+    splits: &mut Seq<Split>,
     width: u64,
     names: &mut Seq<Name>,
     h: u64,
@@ -289,13 +295,32 @@ fn emit_push(
     operands: &Seq<Term>,
     place: Place,
 ) -> Result<(), OutOfMemory>
-    requires { layout_of builtin (length (list operands.now)) ≡ Push }
+    requires layout { layout_of builtin (length (list operands.now)) ≡ Push }
+    requires on_top { IsOnTop (stacked_all (kernels (list operands.now))) (list splits.old) }
     ensures code { OnOk result ((lp : Option Target) → builder_view b.new ≡ emit width lp (scope_view (list names.old)) h (apply (heads.Builtin builtin) (kernels (list operands.now)) place) (builder_view b.old)) }
     ensures names { OnOk result (list names.new ≡ list names.old) }
+    ensures splits { OnOk result (Takes (stacked_all (kernels (list operands.now))) (list splits.old) (list splits.new)) }
 {
-    emit_term(alloc, b, width, None, names, h, &operands.as_slice()[0])?;
+    emit_term(
+        alloc,
+        b,
+        splits,
+        width,
+        None,
+        names,
+        h,
+        &operands.as_slice()[0],
+    )?;
     let next = sum(h, 1)?;
-    let item = emit_operand(alloc, b, width, names, next, &operands.as_slice()[1])?;
+    let item = emit_operand(
+        alloc,
+        b,
+        splits,
+        width,
+        names,
+        next,
+        &operands.as_slice()[1],
+    )?;
     b.put(Instr::Push {
         to: h,
         collection: h,
@@ -309,6 +334,7 @@ fn emit_push(
 fn emit_put(
     alloc: Global,
     b: &mut Builder,
+    splits: &mut Seq<Split>,
     width: u64,
     names: &mut Seq<Name>,
     h: u64,
@@ -316,14 +342,41 @@ fn emit_put(
     operands: &Seq<Term>,
     place: Place,
 ) -> Result<(), OutOfMemory>
-    requires { layout_of builtin (length (list operands.now)) ≡ Put }
+    requires layout { layout_of builtin (length (list operands.now)) ≡ Put }
+    requires on_top { IsOnTop (stacked_all (kernels (list operands.now))) (list splits.old) }
     ensures code { OnOk result ((lp : Option Target) → builder_view b.new ≡ emit width lp (scope_view (list names.old)) h (apply (heads.Builtin builtin) (kernels (list operands.now)) place) (builder_view b.old)) }
     ensures names { OnOk result (list names.new ≡ list names.old) }
+    ensures splits { OnOk result (Takes (stacked_all (kernels (list operands.now))) (list splits.old) (list splits.new)) }
 {
-    emit_term(alloc, b, width, None, names, h, &operands.as_slice()[0])?;
+    emit_term(
+        alloc,
+        b,
+        splits,
+        width,
+        None,
+        names,
+        h,
+        &operands.as_slice()[0],
+    )?;
     let next = sum(h, 1)?;
-    let key = emit_operand(alloc, b, width, names, next, &operands.as_slice()[1])?;
-    let value = emit_operand(alloc, b, width, names, key.next, &operands.as_slice()[2])?;
+    let key = emit_operand(
+        alloc,
+        b,
+        splits,
+        width,
+        names,
+        next,
+        &operands.as_slice()[1],
+    )?;
+    let value = emit_operand(
+        alloc,
+        b,
+        splits,
+        width,
+        names,
+        key.next,
+        &operands.as_slice()[2],
+    )?;
     b.put(Instr::Put {
         to: h,
         collection: h,
@@ -365,17 +418,20 @@ fn layout_of(builtin: Builtin, count: u64) -> Layout
 fn emit_all(
     alloc: Global,
     b: &mut Builder,
+    splits: &mut Seq<Split>,
     width: u64,
     names: &mut Seq<Name>,
     h: u64,
     terms: &Seq<Term>,
 ) -> Result<(), OutOfMemory>
+    requires { IsOnTop (stacked_all (kernels (list terms.now))) (list splits.old) }
     ensures code { OnOk result (builder_view b.new ≡ emit_all width (scope_view (list names.old)) h (kernels (list terms.now)) (builder_view b.old)) }
     ensures names { OnOk result (list names.new ≡ list names.old) }
+    ensures splits { OnOk result (Takes (stacked_all (kernels (list terms.now))) (list splits.old) (list splits.new)) }
 {
     let mut slot = h;
     for term in terms.as_slice() {
-        emit_term(alloc, b, width, None, names, slot, term)?;
+        emit_term(alloc, b, splits, width, None, names, slot, term)?;
         slot = sum(slot, 1)?;
     }
     Ok(())
@@ -392,14 +448,17 @@ fn last_target(left: u64, target: Option<Loop>) -> Option<Loop>
 fn emit_in_order(
     alloc: Global,
     b: &mut Builder,
+    splits: &mut Seq<Split>,
     width: u64,
     target: Option<Loop>,
     names: &mut Seq<Name>,
     h: u64,
     terms: &Seq<Term>,
 ) -> Result<(), OutOfMemory>
+    requires { IsOnTop (stacked_all (kernels (list terms.now))) (list splits.old) }
     ensures code { OnOk result (builder_view b.new ≡ emit_in_order width (target_view target) (scope_view (list names.old)) h (kernels (list terms.now)) (builder_view b.old)) }
     ensures names { OnOk result (list names.new ≡ list names.old) }
+    ensures splits { OnOk result (Takes (stacked_all (kernels (list terms.now))) (list splits.old) (list splits.new)) }
 {
     if terms.is_empty() {
         return b.put_constant(alloc, h, &Value::Nil);
@@ -407,7 +466,7 @@ fn emit_in_order(
     let mut left = terms.len();
     for term in terms.as_slice() {
         let own = last_target(left, target);
-        emit_term(alloc, b, width, own, names, h, term)?;
+        emit_term(alloc, b, splits, width, own, names, h, term)?;
         left = left.saturating_sub(1);
     }
     Ok(())
@@ -417,18 +476,21 @@ fn emit_in_order(
 fn emit_bindings(
     alloc: Global,
     b: &mut Builder,
+    splits: &mut Seq<Split>,
     width: u64,
     names: &mut Seq<Name>,
     h: u64,
     bindings: &Seq<Binding>,
 ) -> Result<(), OutOfMemory>
+    requires { IsOnTop (stacked_bound (bindings_view (list bindings.now))) (list splits.old) }
     ensures code { OnOk result (builder_view b.new ≡ emit_bindings width (scope_view (list names.old)) h (bindings_view (list bindings.now)) (builder_view b.old)) }
     ensures scope { OnOk result (scope_view (list names.new) ≡ scope_view (list names.old) ++ in_slots (names_bound (bindings_view (list bindings.now))) h) }
     ensures kept { OnOk result (take (length (list names.old)) (list names.new) ≡ list names.old) }
+    ensures splits { OnOk result (Takes (stacked_bound (bindings_view (list bindings.now))) (list splits.old) (list splits.new)) }
 {
     let mut slot = h;
     for binding in bindings.as_slice() {
-        emit_term(alloc, b, width, None, names, slot, &binding.term)?;
+        emit_term(alloc, b, splits, width, None, names, slot, &binding.term)?;
         names.reserve(1)?;
         names.push(Name {
             name: binding.name,

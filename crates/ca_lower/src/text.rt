@@ -8,6 +8,7 @@ ghost use Rattle.ca_lower.specs.Views.{builder_view, scope_view};
 
 use crate::builder::{Builder, Name, sum};
 use crate::emit::emit_term;
+use crate::sizes::splits_of;
 use crate::width::slots_for;
 use ca_states::code::Exit;
 use ca_term::term::Term;
@@ -50,8 +51,18 @@ pub(crate) fn emit_text(
     let count = parameters.len() as u64;
     let width = slots_for(count, body)?;
     let mut names = parameters_in_slots(alloc, parameters)?;
+    let mut splits = splits_of(alloc, body)?;
     open(alloc, builder, count);
-    emit_term(alloc, builder, width, None, &mut names, count, body)?;
+    emit_term(
+        alloc,
+        builder,
+        &mut splits,
+        width,
+        None,
+        &mut names,
+        count,
+        body,
+    )?;
     builder.close(alloc, width, Exit::Return { slot: count }, 0)?;
     Ok(width)
 }

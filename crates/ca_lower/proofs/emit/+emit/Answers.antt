@@ -1,4 +1,4 @@
-use Rattle.std.proofs.Common.{◌≡◌, ℕ, ◌+◌, ◌<◌, List, [], ◌∷◌, length, drop, get_or, sym, ap, ap₂, ◌∙◌, subst, arith, rules, Option}
+use Rattle.std.proofs.Common.{◌≡◌, ℕ, ◌+◌, ◌<◌, List, [], ◌∷◌, length, drop, get_or, Some, sym, ap, ap₂, ◌∙◌, subst, arith, rules, Option}
 use Rattle.std.specs.Prelude.{OnOk}
 use Rattle.ca_value.specs.Seq.{list}
 use Rattle.ca_term.specs.declared.term.Term.{Term, the_lemmas}
@@ -12,9 +12,11 @@ use Rattle.ca_lower.specs.Layouts.{layout_of}
 use Rattle.ca_lower.specs.Implements.{Target, paired}
 use Rattle.ca_lower.specs.Emit.{add, emit, finish}
 use Rattle.ca_lower.specs.InOrder.{emit_rest}
+use Rattle.ca_lower.specs.Splits.{stacked, stacked_all, Takes}
 use Rattle.ca_lower.specs.Views.{builder_view, scope_view, target_view}
 use Rattle.ca_lower.proofs.LayoutLaws.{on_ok, one_done, two_done, push_done, put_done, row_done, other_laid}
 use Rattle.ca_lower.proofs.BuilderLaws.{bind_laid, loop_laid, count_bindings_length, count-terms, rest_next, drop_one, length_drop}
+use Rattle.ca_lower.proofs.SplitLaws.{Passes, kept, passes_next, one_listed, two_listed, push_listed, put_listed, put_second_on, one_taken, two_second_on, two_taken, three_taken, three_third_on}
 use Rattle.ca_lower.proofs.emit.+emit.Goals as goal
 
 pub emit_in_order-loop-term-preserved : goal.emit_in_order-loop-term-preserved
@@ -41,6 +43,8 @@ emit_in_order-loop-term-preserved t c =
       code = ap (emit_rest w lp S h (kernels (drop (i + 1) ts))) b ∙ one ∙ c.loop-term.invariant.code;
       names = c.in_ok-emit_term.ensures.names ∙ c.loop-term.invariant.names;
       left = let s = c.saturating_sub-left.ensures in omega (arith, s, all, lt);
+      splits = passes_next (stacked (kernel x)) (stacked_all (kernels (drop (i + 1) ts))) (stacked_all (kernels ts)) (list c.args.splits.now) (list c.loop-term.splits) (list c.emit_term.new.splits)
+          (subst (λ us. Passes (stacked_all (kernels ts)) (stacked_all (kernels us)) (list c.args.splits.now) (list c.loop-term.splits)) d c.loop-term.invariant.splits) c.in_ok-emit_term.ensures.splits;
     }
 
 pub emit_term-returns-in_ok-emit_term-in-Let-clause-code : goal.emit_term-returns-in_ok-emit_term-in-Let-clause-code
@@ -69,12 +73,13 @@ emit_term-returns-in_ok-emit_term-in-Loop-clause-code t c =
     let body = kernel c.deref-in-Loop.result.now in
     let B0 = builder_view c.args.b.now in
     let k : kernel c.args.term.now ≡ loop gs bs body = search (rules, the_lemmas) in
-    let count = c.len-count.ensures ∙ sym (count_bindings_length (list c.in-Loop.bindings)) in
-    let to = c.in_ok-head-in-Loop.ensures ∙ ap (λ n. n + 1) c.number-in-Loop.ensures in
-    let e = loop_laid w lp S (scope_view (list c.emit_bindings-in-Loop.new.names)) h c.len-count.result c.in_ok-from-in-Loop.from c.in_ok-head-in-Loop.head c.no_place-in-Loop.result gs bs body B0
-    (builder_view c.emit_bindings-in-Loop.new.b) (builder_view c.close-in-Loop.new.self) (builder_view c.emit_term-in-Loop.new.b)
-    count c.in_ok-from-in-Loop.ensures to c.no_place-in-Loop.ensures c.in_ok-emit_bindings-in-Loop.ensures.scope c.in_ok-emit_bindings-in-Loop.ensures.code
-    c.in_ok-close-in-Loop.ensures c.in_ok-emit_term-in-Loop.ensures.code in
+    let n = count_bindings_length (list c.in-Loop.bindings) in
+    let count = c.len-in-Loop-2.ensures ∙ sym n in
+    let from = c.in_ok-from-in-Loop.ensures ∙ ap (λ m. h + m) (c.len-in-Loop.ensures ∙ sym n ∙ sym count) in
+    let e = loop_laid w lp (target_view (Some c.in_ok-inner-in-Loop.inner)) S (scope_view (list c.emit_bindings-in-Loop.new.names)) h c.len-in-Loop-2.result c.in_ok-from-in-Loop.from gs bs body B0
+    (builder_view c.emit_bindings-in-Loop.new.b) (builder_view c.enter_loop.new.self) (builder_view c.emit_term-in-Loop.new.b)
+    count from c.in_ok-inner-in-Loop.ensures.target c.in_ok-emit_bindings-in-Loop.ensures.scope c.in_ok-emit_bindings-in-Loop.ensures.code
+    c.in_ok-inner-in-Loop.ensures.code c.in_ok-emit_term-in-Loop.ensures.code in
     subst (λ z. OnOk c.put-in-Loop.result (builder_view c.put-in-Loop.new.self ≡ z)) (e ∙ ap (λ z. emit w lp S h z B0) (sym k)) c.put-in-Loop.ensures
 
 -- an operand of the slice is one of the list
@@ -139,7 +144,7 @@ emit_push-returns-clause-code t c =
     ((lp : Option Target) → builder_view c.put.new.self ≡ emit w lp S h (apply (Builtin b) (kernels ts) p) B)
     (λ e. push_done w S h p b ts c.index-as_slice-0.result c.index-as_slice-1.result c.in_ok-next.next item.slot (scope_view (list c.emit_term.new.names)) B
     (builder_view c.emit_term.new.b) (builder_view c.emit_operand.new.b) (builder_view c.put.new.self)
-    c.requires (seen c.as_slice.result.now ts 0 c.index-as_slice-0.result c.as_slice.ensures c.index-as_slice-0.is) (seen c.as_slice-2.result.now ts 1 c.index-as_slice-1.result c.as_slice-2.ensures c.index-as_slice-1.is)
+    c.requires.layout (seen c.as_slice.result.now ts 0 c.index-as_slice-0.result c.as_slice.ensures c.index-as_slice-0.is) (seen c.as_slice-2.result.now ts 1 c.index-as_slice-1.result c.as_slice-2.ensures c.index-as_slice-1.is)
     (ap scope_view c.in_ok-emit_term.ensures.names) (omega (arith, next)) c.in_ok-item.ensures.slot c.in_ok-emit_term.ensures.code c.in_ok-item.ensures.code e) c.put.ensures
 
 pub emit_put-returns-clause-code : goal.emit_put-returns-clause-code
@@ -160,7 +165,7 @@ emit_put-returns-clause-code t c =
     (λ e. put_done w S h p b ts c.index-as_slice-0.result c.index-as_slice-1.result c.index-as_slice-2.result c.in_ok-next.next key.next key.slot value.slot
     (scope_view (list c.emit_term.new.names)) (scope_view (list c.emit_operand.new.names)) B
     (builder_view c.emit_term.new.b) (builder_view c.emit_operand.new.b) (builder_view c.emit_operand-2.new.b) (builder_view c.put.new.self)
-    c.requires (seen c.as_slice.result.now ts 0 c.index-as_slice-0.result c.as_slice.ensures c.index-as_slice-0.is) (seen c.as_slice-2.result.now ts 1 c.index-as_slice-1.result c.as_slice-2.ensures c.index-as_slice-1.is) (seen c.as_slice-3.result.now ts 2 c.index-as_slice-2.result c.as_slice-3.ensures c.index-as_slice-2.is)
+    c.requires.layout (seen c.as_slice.result.now ts 0 c.index-as_slice-0.result c.as_slice.ensures c.index-as_slice-0.is) (seen c.as_slice-2.result.now ts 1 c.index-as_slice-1.result c.as_slice-2.ensures c.index-as_slice-1.is) (seen c.as_slice-3.result.now ts 2 c.index-as_slice-2.result c.as_slice-3.ensures c.index-as_slice-2.is)
     (ap scope_view names1) (ap scope_view (c.in_ok-key.ensures.names ∙ names1)) (omega (arith, next)) c.in_ok-key.ensures.next c.in_ok-key.ensures.slot c.in_ok-value.ensures.slot
     c.in_ok-emit_term.ensures.code c.in_ok-key.ensures.code c.in_ok-value.ensures.code e) c.put.ensures
 
@@ -178,21 +183,114 @@ emit_builtin-returns-in_ok-emit_all-in-Row-clause-code t c =
     (λ e. row_done w S h p b ts c.len-in-Row.result B (builder_view c.emit_all.new.b) (builder_view c.put-in-Row.new.self)
     (lays_by b ts c.len.result c.layout_of.result Layout.Row c.layout_of.ensures c.len.ensures c.in-Row.is) (c.len-in-Row.ensures ∙ sym (count-terms ts)) c.in_ok-emit_all-in-Row.ensures.code e) c.put-in-Row.ensures
 
-pub emit_term-returns-in_ok-emit_all-in_default : goal.emit_term-returns-in_ok-emit_all-in_default
-emit_term-returns-in_ok-emit_all-in_default t c =
+pub emit_apply-returns-in_ok-emit_all-in_default : goal.emit_apply-returns-in_ok-emit_all-in_default
+emit_apply-returns-in_ok-emit_all-in_default t c =
     let w = c.args.width in
     let lp = target_view c.args.target in
     let S = scope_view (list c.args.names.now) in
     let h = c.args.h in
-    let ts = list c.in-Apply.operands in
-    let f = c.in-Apply.head in
-    let p = c.in-Apply.place in
+    let ts = list c.args.operands.now in
+    let f = c.args.head in
+    let p = c.args.place in
     let B = builder_view c.args.b.now in
-    let k : kernel c.args.term.now ≡ apply f (kernels ts) p = search (rules, the_lemmas) in
-    let n = c.len-in_default.ensures ∙ sym (count-terms ts) in
+    let n = c.len.ensures ∙ sym (count-terms ts) in
     let e = ap₂ (λ m b. finish w lp f h m p b) n c.in_ok-emit_all-in_default.ensures.code in
     let other : (b : BuiltinName) → f ≡ Builtin b → ⊥ = c.in_default.not-Builtin in
     record {
-      code = subst (λ z. OnOk c.finish.result (builder_view c.finish.new.self ≡ z)) (e ∙ sym (other_laid w lp S h p f (kernels ts) B other) ∙ ap (λ z. emit w lp S h z B) (sym k)) c.finish.ensures;
+      code = subst (λ z. OnOk c.finish.result (builder_view c.finish.new.self ≡ z)) (e ∙ sym (other_laid w lp S h p f (kernels ts) B other)) c.finish.ensures;
       names = search (rules, c.in_ok-emit_all-in_default.ensures.names);
+      splits = search (rules, c.in_ok-emit_all-in_default.ensures.splits);
     }
+
+pub emit_builtin-emit_second-requires : goal.emit_builtin-emit_second-requires
+emit_builtin-emit_second-requires t c =
+    let b = c.args.builtin in
+    let ts = list c.args.operands.now in
+    let x = c.index-as_slice-0-in-Two.result in
+    let y = c.index-as_slice-1.result in (
+      search (rules, the_lemmas),
+      two_second_on ts x y (list c.args.splits.now) (list c.emit_operand-in-Two.new.splits) (list c.emit_operand-in-Two.new.splits)
+          (two_listed b ts x y (lays_by b ts c.len.result c.layout_of.result Layout.Two c.layout_of.ensures c.len.ensures c.in-Two.is) (seen c.as_slice-in-Two.result.now ts 0 x c.as_slice-in-Two.ensures c.index-as_slice-0-in-Two.is) (seen c.as_slice-in-Two-2.result.now ts 1 y c.as_slice-in-Two-2.ensures c.index-as_slice-1.is))
+          c.requires c.in_ok-left-in-Two.ensures.splits,
+    )
+
+pub emit_push-emit_operand-requires : goal.emit_push-emit_operand-requires
+emit_push-emit_operand-requires t c =
+    let b = c.args.builtin in
+    let ts = list c.args.operands.now in
+    let x = c.index-as_slice-0.result in
+    let y = c.index-as_slice-1.result in (
+      search (rules, the_lemmas),
+      two_second_on ts x y (list c.args.splits.now) (list c.emit_term.new.splits) (list c.emit_term.new.splits)
+          (push_listed b ts x y c.requires.layout (seen c.as_slice.result.now ts 0 x c.as_slice.ensures c.index-as_slice-0.is) (seen c.as_slice-2.result.now ts 1 y c.as_slice-2.ensures c.index-as_slice-1.is))
+          c.requires.on_top c.in_ok-emit_term.ensures.splits,
+    )
+
+pub emit_put-emit_operand-requires : goal.emit_put-emit_operand-requires
+emit_put-emit_operand-requires t c =
+    let b = c.args.builtin in
+    let ts = list c.args.operands.now in
+    let x = c.index-as_slice-0.result in
+    let y = c.index-as_slice-1.result in (
+      search (rules, the_lemmas),
+      put_second_on b ts x y (list c.args.splits.now) (list c.emit_term.new.splits) c.requires.layout
+          (seen c.as_slice.result.now ts 0 x c.as_slice.ensures c.index-as_slice-0.is) (seen c.as_slice-2.result.now ts 1 y c.as_slice-2.ensures c.index-as_slice-1.is)
+          c.requires.on_top c.in_ok-emit_term.ensures.splits,
+    )
+
+pub emit_put-emit_operand-requires-2 : goal.emit_put-emit_operand-requires-2
+emit_put-emit_operand-requires-2 t c =
+    let b = c.args.builtin in
+    let ts = list c.args.operands.now in
+    let x = c.index-as_slice-0.result in
+    let y = c.index-as_slice-1.result in
+    let z = c.index-as_slice-2.result in (
+      search (rules, the_lemmas),
+      three_third_on ts x y z (list c.args.splits.now) (list c.emit_term.new.splits) (list c.emit_operand.new.splits) (list c.emit_operand.new.splits)
+          (put_listed b ts x y z c.requires.layout (seen c.as_slice.result.now ts 0 x c.as_slice.ensures c.index-as_slice-0.is) (seen c.as_slice-2.result.now ts 1 y c.as_slice-2.ensures c.index-as_slice-1.is) (seen c.as_slice-3.result.now ts 2 z c.as_slice-3.ensures c.index-as_slice-2.is))
+          c.requires.on_top c.in_ok-emit_term.ensures.splits c.in_ok-key.ensures.splits,
+    )
+
+pub emit_builtin-returns-in_ok-operand-in-One-clause-splits : goal.emit_builtin-returns-in_ok-operand-in-One-clause-splits
+emit_builtin-returns-in_ok-operand-in-One-clause-splits t c =
+    let b = c.args.builtin in
+    let ts = list c.args.operands.now in
+    let x = c.index-as_slice-0.result in
+    kept c.put.result (Takes (stacked_all (kernels ts)) (list c.args.splits.now) (list c.emit_operand.new.splits))
+    (one_taken ts x (list c.args.splits.now) (list c.emit_operand.new.splits)
+    (one_listed b ts x (lays_by b ts c.len.result c.layout_of.result Layout.One c.layout_of.ensures c.len.ensures c.in-One.is) (seen c.as_slice.result.now ts 0 x c.as_slice.ensures c.index-as_slice-0.is))
+    c.in_ok-operand-in-One.ensures.splits)
+
+pub emit_builtin-returns-in_ok-right-in-Two-clause-splits : goal.emit_builtin-returns-in_ok-right-in-Two-clause-splits
+emit_builtin-returns-in_ok-right-in-Two-clause-splits t c =
+    let b = c.args.builtin in
+    let ts = list c.args.operands.now in
+    let x = c.index-as_slice-0-in-Two.result in
+    let y = c.index-as_slice-1.result in
+    kept c.put-in-Two.result (Takes (stacked_all (kernels ts)) (list c.args.splits.now) (list c.emit_second.new.splits))
+    (two_taken ts x y (list c.args.splits.now) (list c.emit_operand-in-Two.new.splits) (list c.emit_second.new.splits)
+    (two_listed b ts x y (lays_by b ts c.len.result c.layout_of.result Layout.Two c.layout_of.ensures c.len.ensures c.in-Two.is) (seen c.as_slice-in-Two.result.now ts 0 x c.as_slice-in-Two.ensures c.index-as_slice-0-in-Two.is) (seen c.as_slice-in-Two-2.result.now ts 1 y c.as_slice-in-Two-2.ensures c.index-as_slice-1.is))
+    c.in_ok-left-in-Two.ensures.splits c.in_ok-right-in-Two.ensures.splits)
+
+pub emit_push-returns-clause-splits : goal.emit_push-returns-clause-splits
+emit_push-returns-clause-splits t c =
+    let b = c.args.builtin in
+    let ts = list c.args.operands.now in
+    let x = c.index-as_slice-0.result in
+    let y = c.index-as_slice-1.result in
+    kept c.put.result (Takes (stacked_all (kernels ts)) (list c.args.splits.now) (list c.emit_operand.new.splits))
+    (two_taken ts x y (list c.args.splits.now) (list c.emit_term.new.splits) (list c.emit_operand.new.splits)
+    (push_listed b ts x y c.requires.layout (seen c.as_slice.result.now ts 0 x c.as_slice.ensures c.index-as_slice-0.is) (seen c.as_slice-2.result.now ts 1 y c.as_slice-2.ensures c.index-as_slice-1.is))
+    c.in_ok-emit_term.ensures.splits c.in_ok-item.ensures.splits)
+
+pub emit_put-returns-clause-splits : goal.emit_put-returns-clause-splits
+emit_put-returns-clause-splits t c =
+    let b = c.args.builtin in
+    let ts = list c.args.operands.now in
+    let x = c.index-as_slice-0.result in
+    let y = c.index-as_slice-1.result in
+    let z = c.index-as_slice-2.result in
+    kept c.put.result (Takes (stacked_all (kernels ts)) (list c.args.splits.now) (list c.emit_operand-2.new.splits))
+    (three_taken ts x y z (list c.args.splits.now) (list c.emit_term.new.splits) (list c.emit_operand.new.splits) (list c.emit_operand-2.new.splits)
+    (put_listed b ts x y z c.requires.layout (seen c.as_slice.result.now ts 0 x c.as_slice.ensures c.index-as_slice-0.is) (seen c.as_slice-2.result.now ts 1 y c.as_slice-2.ensures c.index-as_slice-1.is) (seen c.as_slice-3.result.now ts 2 z c.as_slice-3.ensures c.index-as_slice-2.is))
+    c.in_ok-emit_term.ensures.splits c.in_ok-key.ensures.splits c.in_ok-value.ensures.splits)
