@@ -1,5 +1,5 @@
 // A whole run.
-ghost use Rattle.std.specs.Prelude.{◌≡◌, ℕ, ◌+◌, ◌*◌, ◌<◌, ◌≤◌, All, List, IfOk, OnOk, None, Some, length, map, slice_index_or, false, true};
+ghost use Rattle.std.specs.Prelude.{◌≡◌, ℕ, ◌+◌, ◌*◌, ◌<◌, ◌≤◌, All, List, Err, IfOk, OnOk, None, Some, length, map, slice_index_or, false, true};
 ghost use Rattle.ca_term.specs.Program.{program_view};
 ghost use Rattle.ca_meaning.specs.Body.{new_body};
 ghost use Rattle.ca_meaning.specs.Cost.{cost};
@@ -24,8 +24,9 @@ ghost use Rattle.ca_table.specs.Parts.{contents_seen, part_seen};
 ghost use Rattle.ca_table.specs.Running.{contents_at};
 ghost use Rattle.ca_table.specs.Seen.{PartSeen, held_of};
 ghost use Rattle.ca_table.specs.declared.part.Part.{Part};
-ghost use Rattle.ca_table.specs.Worked.{HasMainEnd, any_drew, ends_main, gives_up, leaves, obeys_mark, spent, stays_stuck};
+ghost use Rattle.ca_table.specs.Worked.{HasMainEnd, any_drew, ends_main, fails_clock, gives_up, leaves, obeys_mark, spent, stays_stuck};
 ghost use Rattle.ca_table.specs.Workers.{IsReady, stands_for};
+ghost use Rattle.ca_table.specs.declared.answer.PoolStop.TheVariants.{ClockFailed};
 ghost use Rattle.ca_table.specs.declared.answer.WorkEnd.TheVariants.{Over, Spent};
 ghost use Rattle.ca_pool.specs.Answers.{BeginsAlone, StopsAlone};
 ghost use Rattle.ca_pool.specs.PoolEnds.{IsSolo, end_view};
@@ -70,6 +71,7 @@ fn round_of<R: Threads + Wait + Sync, A: Starting + Send, C: Clock + Drop + Send
     requires gos { SameGos (program_view program.now) (valid_code code.now) }
     ensures many { length workers.new.items ≡ length workers.old.items }
     ensures ready { OnOk result (All (IsReady A.over A.stands (program_view program.now) (valid_code code.now) table.now.id (length workers.old.items)) workers.new.items) }
+    ensures failed { result ≡ Err ClockFailed → All (IsReady A.over A.stands (program_view program.now) (valid_code code.now) table.now.id (length workers.old.items)) workers.new.items × (total stands_for workers.new.items ≡ total stands_for workers.old.items) × (any_drew fails_clock workers.new.items ≡ true) }
     ensures stay { OnOk result (total stands_for workers.new.items ≡ total stands_for workers.old.items) }
     ensures going { OnOk result (any_drew gives_up workers.old.items ≡ false → any_drew gives_up workers.new.items ≡ false) }
     ensures spent { IfOk result (λ e. e ≡ Spent → length workers.old.items * allowance + total spent workers.old.items ≤ total spent workers.new.items) }
