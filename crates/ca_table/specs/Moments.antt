@@ -1,12 +1,13 @@
 -- The moments that a journal tells, and what became of the clock in a run.
-use Rattle.std.specs.Prelude.{◌≡◌, ◌⊎◌, ℕ, ◌≤◌, List, [], ◌∷◌, ◌++◌, Option, Some, None, Bool, true}
+use Rattle.std.specs.Prelude.{◌≡◌, ◌⊎◌, ℕ, ◌≤◌, List, [], ◌∷◌, ◌++◌, Option, Some, None, Bool, true, option_to_list}
 use Rattle.ca_term.specs.Event.{EventView, made, ticked}
 use Rattle.ca_timers.specs.Causes.{Rose}
 use Rattle.ca_commit.specs.Contents.{TimersPart}
+use Rattle.ca_commit.specs.Touched.{Turn, asks_clock, shown}
 
 -- the moment at which a timeout is made, or of a tick
 abbrev pub moment_told : EventView → List ℕ
-moment_told (made t p what (Some m)) = m ∷ []
+moment_told (made t p what m) = option_to_list m
 moment_told (ticked m ports) = m ∷ []
 moment_told other = []
 
@@ -14,6 +15,12 @@ moment_told other = []
 abbrev pub moments_told : List EventView → List ℕ
 moments_told [] = []
 moments_told (e ∷ es) = moment_told e ++ moments_told es
+
+-- the answers of the clock that a turn took, after which the clock is at `least`; where it fails it gave none
+abbrev pub turn_asked : Turn → ℕ → List ℕ
+turn_asked (shown e) least = moment_told e
+turn_asked asks_clock least = least ∷ []
+turn_asked other least = []
 
 -- each answer is at least the one before it; from `first` on, and none is above `last`
 abbrev pub NeverFall : ℕ → List ℕ → ℕ → Type 0
