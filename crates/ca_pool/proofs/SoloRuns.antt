@@ -28,6 +28,7 @@ use Rattle.ca_commit.proofs.Seats.{some_same}
 use Rattle.ca_table.specs.Carrying.{timers_place}
 use Rattle.ca_table.specs.Draws.{drawn_moves, drawn_touches}
 use Rattle.ca_table.specs.LoneHands.{left_now}
+use Rattle.ca_table.specs.Moments.{NeverFall, WentOn}
 use Rattle.ca_table.specs.Opening.{opening_list}
 use Rattle.ca_table.specs.Parts.{clockwork_seen, contents_seen, part_seen}
 use Rattle.ca_table.specs.Running.{TableStands, as_option, contents_at, shown_by}
@@ -41,7 +42,6 @@ use Rattle.ca_table.specs.declared.part.Part.{Part}
 use Rattle.ca_table.specs.declared.worker.Worker.{Worker}
 use Rattle.ca_table.proofs.Carriers.{kind_placed}
 use Rattle.ca_table.proofs.Openings.{opens}
-use Rattle.ca_alone.specs.Answers.{NeverFall, WentOn}
 use Rattle.ca_alone.proofs.Stopping.{is_schedule}
 use Rattle.ca_pool.specs.Answers.{BeginsAlone, StopsAlone}
 use Rattle.ca_pool.specs.PoolEnds.{IsSolo}

@@ -4,9 +4,9 @@ use Rattle.ca_term.specs.Event.{EventView}
 use Rattle.ca_term.specs.Program.{ProgramView}
 use Rattle.ca_meaning.specs.Ends.{RunEnd, ended, faulted, limit, stuck}
 use Rattle.ca_meaning.specs.Solo.{Solo}
-use Rattle.ca_alone.specs.Answers.{NeverFall, WentOn}
 use Rattle.ca_journal.specs.Cut.{end_of}
 use Rattle.ca_journal.specs.declared.cut.CutAt.{CutAt}
+use Rattle.ca_table.specs.Moments.{NeverFall, WentOn}
 use Rattle.ca_pool.specs.declared.run_end.PoolEnd.{PoolEnd}
 use Rattle.ca_pool.specs.declared.run_end.PoolEnd.TheVariants.{Ended, Faulted, Limit, Stuck}
 
