@@ -17,7 +17,8 @@ use Rattle.ca_commit.specs.Touched.{Drawn, Turn, asks_clock, fails, halts, picks
 use Rattle.ca_commit.proofs.Laid.{IsPart, laid_parts}
 use Rattle.ca_commit.proofs.Landing.{timers_as_before}
 use Rattle.ca_commit.proofs.Seats.{some_same}
-use Rattle.ca_alone.specs.Answers.{Gave, HasGiven, IsLater, NeverFall, WentOn, turn_asked}
+use Rattle.ca_table.specs.Moments.{NeverFall, WentOn}
+use Rattle.ca_alone.specs.Answers.{Gave, HasGiven, IsLater, turn_asked}
 use Rattle.ca_alone.proofs.Laying.{held_before, laid_over}
 
 fall_more : (a m b c : ℕ) (ms : List ℕ) → NeverFall a ms b → b ≤ m → m ≤ c → NeverFall a (ms ++ m ∷ []) c

@@ -24,7 +24,8 @@ use Rattle.ca_table.specs.Seen.{PartSeen, content_of}
 use Rattle.ca_table.specs.declared.drawn.Drawn.{Drawn}
 use Rattle.ca_table.proofs.Openings.{opens}
 use Rattle.ca_solo.specs.Positions.{Position, in_time, picked}
-use Rattle.ca_alone.specs.Answers.{HasGiven, IsLater, NeverFall, turn_asked}
+use Rattle.ca_table.specs.Moments.{NeverFall}
+use Rattle.ca_alone.specs.Answers.{HasGiven, IsLater, turn_asked}
 use Rattle.ca_table.specs.LoneHands.{IsAfter, left_by, left_now}
 use Rattle.ca_alone.specs.Lone.{AloneAt, StandsAlone}
 use Rattle.ca_alone.specs.OwnTurn.{IsEarly}

@@ -1,22 +1,13 @@
 -- The answers that the clock gave to a lone worker.
-use Rattle.std.specs.Prelude.{◌≡◌, ℕ, ◌≤◌, List, [], ◌∷◌, ◌++◌, Option, Some, None}
+use Rattle.std.specs.Prelude.{◌≡◌, ℕ, ◌≤◌, List, [], ◌∷◌, Option, Some}
 use Rattle.ca_term.specs.Event.{made, ticked}
 use Rattle.ca_meaning.specs.Sound.{Each}
 use Rattle.ca_commit.specs.Contents.{Content, TimersPart}
 use Rattle.ca_commit.specs.Agents.{TaskAgent}
 use Rattle.ca_commit.specs.Gathered.{parts_of}
 use Rattle.ca_commit.specs.Touched.{Turn, asks_clock, shown}
+use Rattle.ca_table.specs.Moments.{NeverFall, WentOn}
 use Rattle.ca_alone.specs.Standing.{moment_list}
-
--- each answer is at least the one before it; from `first` on, and none is above `last`
-abbrev pub NeverFall : ℕ → List ℕ → ℕ → Type 0
-NeverFall first [] last = first ≤ last
-NeverFall first (m ∷ ms) last = (first ≤ m) × NeverFall m ms last
-
--- told answers went on by these
-abbrev pub WentOn : List ℕ → Option (List ℕ) → Option (List ℕ) → Type 0
-WentOn ms None new = Unit {0}
-WentOn ms (Some told) new = new ≡ Some (told ++ ms)
 
 -- since it was as in the first timers' part
 pub record Gave (first : TimersPart) (answers : List ℕ) (c : TimersPart) : Type 0 where

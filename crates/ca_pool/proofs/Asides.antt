@@ -251,6 +251,7 @@ module _ {A C : Type 0} (over : CodeView → A → Type 0) (place : A → At) (a
     reads : Ticks least faults readings clock0 clock held0 held m c1 e → Reads m (clockwork_seen least faults readings clock0.value) (clockwork_seen least faults readings clock.value)
     reads t = let q = t.passed_by in record {
       now = ap (λ (x : TimersPart). x.now) q;
+      later = t.asked.later;
       least = ap (λ (x : TimersPart). x.least) q ∙ t.asked.least;
       faults = ap (λ (x : TimersPart). x.faults) q ∙ t.asked.faults;
       readings = subst (λ (r : Option (List ℕ)). GoOnBy m (clockwork_seen least faults readings clock0.value).readings r) (sym (ap (λ (x : TimersPart). x.readings) q)) t.asked.readings;

@@ -85,7 +85,7 @@ module _ {C : Type 0} (least faults : C → ℕ) (readings : C → Option (List 
         (let l = answered.later in omega (arith, early_s, l)),
         answered.bound,
         came ∙ ap (timed p (timeout n) m) (λ i. record { deadlines = answered.deadlines i; now = answered.now i }),
-        record { now = ap (λ z. z.now) came; least = answered.least; faults = answered.faults; readings = answered.readings; mark = answered.mark },
+        record { now = ap (λ z. z.now) came; later = answered.later; least = answered.least; faults = answered.faults; readings = answered.readings; mark = answered.mark },
       )
 
   timed_what : (what : WhatView) (s : Option TimersPart) (clock : Option (ClockBox C)) (old new : Option TimersView) → is_some s ≡ is_timeout what → is_some old ≡ is_some s → ((c : TimersPart) → s ≡ Some c → c.now ≤ c.least) → AskedFor m s (timed_with clock old) → times_in new ≡ option_map (timed p what m) (times_in old) → TimesMade p what m s (timed_with clock new)

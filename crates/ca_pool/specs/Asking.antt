@@ -36,7 +36,7 @@ pub record HasFailed (c c2 : TimersPart) : Type 0 where
   pub deadlines : c2.deadlines ≡ c.deadlines
   pub now : c2.now ≡ c.now
   pub least : c.least ≤ c2.least
-  pub faults : silent.one_more c.faults ≤ c2.faults
+  pub faults : silent.HasFault c.faults c2.faults
   pub readings : silent.StayTold c.readings c2.readings
   pub mark : c2.mark ≡ c.mark
 

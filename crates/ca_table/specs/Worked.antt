@@ -18,11 +18,19 @@ use Rattle.ca_table.specs.Workers.{SameWorker}
 use Rattle.ca_table.specs.declared.drawn.Drawn.{Drawn}
 use Rattle.ca_table.specs.declared.worker.Worker.{Worker}
 
+-- the clock failed
+abbrev pub fails_clock : said.Turn → Bool
+fails_clock said.fails = true
+fails_clock other = false
+
+-- want of memory was told
+abbrev pub tells_stop : said.Turn → Bool
+tells_stop said.stops = true
+tells_stop other = false
+
 -- the run is given up
 abbrev pub gives_up : said.Turn → Bool
-gives_up said.fails = true
-gives_up said.stops = true
-gives_up other = false
+gives_up turn = fails_clock turn || tells_stop turn
 
 -- the worker leaves because nothing can go on
 abbrev pub stays_stuck : said.Turn → Bool

@@ -6,7 +6,7 @@ use Rattle.ca_meaning.specs.Ends.{HasEnd}
 use Rattle.ca_meaning.specs.Task.{script}
 use Rattle.ca_meaning.proofs.Possible.{body_rests}
 use Rattle.ca_journal.specs.Events.{events}
-use Rattle.ca_alone.specs.Answers.{NeverFall}
+use Rattle.ca_table.specs.Moments.{NeverFall}
 use Rattle.ca_pool.specs.PoolEnds.{IsScheduled}
 use Rattle.ca_run.specs.Answers.{end_of}
 use Rattle.ca_tasks.proofs.Sending.{task_send}
