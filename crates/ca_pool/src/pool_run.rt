@@ -28,10 +28,10 @@ ghost use Rattle.ca_table.specs.Seen.{PartSeen, held_of};
 ghost use Rattle.ca_table.specs.declared.part.Part.{Part};
 ghost use Rattle.ca_table.specs.Worked.{HasMainEnd, any_drew, ends_main, fails_clock, gives_up, leaves, obeys_mark, spent, stays_stuck};
 ghost use Rattle.ca_table.specs.Workers.{IsOpenedWith, IsReady, stands_for};
+ghost use Rattle.ca_table.specs.declared.answer.PoolStop.TheVariants.{ClockFailed};
 ghost use Rattle.ca_table.specs.declared.answer.WorkEnd.TheVariants.{Over, Spent};
 ghost use Rattle.ca_pool.specs.Answers.{BeginsAlone, StopsAlone};
 ghost use Rattle.ca_pool.specs.PoolEnds.{IsSolo, end_view};
-ghost use Rattle.ca_pool.specs.declared.run_end.RunStop.TheVariants.{ClockFailed};
 
 use crate::fitting::all_fit;
 use crate::gate::Gate;
@@ -73,6 +73,7 @@ fn round_of<R: Threads + Wait + Sync, A: Starting + Send, C: Clock + Drop + Send
     requires gos { SameGos (program_view program.now) (valid_code code.now) }
     ensures many { length workers.new.items ≡ length workers.old.items }
     ensures ready { OnOk result (All (IsReady A.over A.stands (program_view program.now) (valid_code code.now) table.now.id (length workers.old.items)) workers.new.items) }
+    ensures failed { result ≡ Err ClockFailed → All (IsReady A.over A.stands (program_view program.now) (valid_code code.now) table.now.id (length workers.old.items)) workers.new.items × (total stands_for workers.new.items ≡ total stands_for workers.old.items) × (any_drew fails_clock workers.new.items ≡ true) }
     ensures stay { OnOk result (total stands_for workers.new.items ≡ total stands_for workers.old.items) }
     ensures going { OnOk result (any_drew gives_up workers.old.items ≡ false → any_drew gives_up workers.new.items ≡ false) }
     ensures spent { IfOk result (λ e. e ≡ Spent → length workers.old.items * allowance + total spent workers.old.items ≤ total spent workers.new.items) }
@@ -178,7 +179,7 @@ fn work_through<
     requires gos { SameGos (program_view program.now) (valid_code code.now) }
     ensures run { IfOk result (λ j. (s : State) × Reaches (program_view program.now) (events j.0) s × (end_in budget (events j.0) ≡ None → IsQuiet s)) }
     ensures moments { IfOk result (λ j. KeepsTime (events j.0) (C.least clock) (C.readings clock) (C.readings j.1)) }
-    ensures failed { (c : C) → result ≡ Err (ClockFailed c) → Rose (C.faults clock) (C.faults c) }
+    ensures failed { (c : C) → result ≡ Err (RunStop.ClockFailed c) → Rose (C.faults clock) (C.faults c) }
     ensures solo { IfOk result (λ j. workers ≡ 1 → IsSolo (program_view program.now) (events j.0) (C.least clock) (C.readings clock) (C.readings j.1)) }
     ensures whole { IfOk result (λ j. workers ≡ 1 → IsWithin budget (events j.0) × GoesOn (events j.0)) }
 {
@@ -233,7 +234,7 @@ pub fn run_pool<
     ensures channels { IfOk result (λ run. ChannelLaw (events run.journal)) }
     ensures waits { IfOk result (λ run. WaitLaw (program_view program.now) (events run.journal)) }
     ensures moments { IfOk result (λ run. KeepsTime (events run.journal) (C.least clock) (C.readings clock) (C.readings run.clock)) }
-    ensures failed { (c : C) → result ≡ Err (ClockFailed c) → Rose (C.faults clock) (C.faults c) }
+    ensures failed { (c : C) → result ≡ Err (RunStop.ClockFailed c) → Rose (C.faults clock) (C.faults c) }
     ensures solo { IfOk result (λ run. workers ≡ 1 → IsSolo (program_view program.now) (events run.journal) (C.least clock) (C.readings clock) (C.readings run.clock)) }
 {
     let worked = work_through(rt, alloc, program, code, main, workers, budget, clock, gate)?;

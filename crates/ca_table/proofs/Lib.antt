@@ -22,6 +22,7 @@ pub mod Seeing
 pub mod Seats
 pub mod Carrying
 pub mod Noted
+pub mod Finding
 pub mod Drawing
 pub mod Carried
 pub mod Covered
