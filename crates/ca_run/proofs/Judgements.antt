@@ -1,5 +1,5 @@
 -- What a program, a text and the source come to, each by the one before.
-use Rattle.std.proofs.Common.{◌≡◌, ℕ, ◌≤◌, List, length, Option, Some, inl, inr, ap, refl, true, false}
+use Rattle.std.proofs.Common.{◌≡◌, ℕ, ◌≤◌, List, length, Option, Some, inl, inr, refl, true, false}
 use Rattle.std.specs.Io.KnownBytes.{Consumes, IsAtEnd}
 use Rattle.ca_term.specs.Program.{ProgramView}
 use Rattle.ca_words.specs.declared.command.Command.{Command}

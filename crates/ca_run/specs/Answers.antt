@@ -1,7 +1,6 @@
 -- The text, the status and the journal of an answer, and when the answer is right.
-use Rattle.std.specs.Prelude.{◌≡◌, ◌<◌, ◌≤◌, ℕ, List, [], ◌++◌, codes, cond, Bool, true, Option, Some, None}
+use Rattle.std.specs.Prelude.{◌≡◌, ◌<◌, ◌≤◌, ℕ, List, [], ◌++◌, codes, cond, true, Option, Some, None}
 use Rattle.ca_value.specs.declared.seq.Seq.{Seq}
-use Rattle.ca_term.specs.declared.place.Place.{Place}
 use Rattle.ca_term.specs.declared.event.Event.{Event}
 use Rattle.ca_term.specs.Program.{ProgramView}
 use Rattle.ca_meaning.specs.Journal.{journal_text}

@@ -16,7 +16,7 @@ returns g c = let a = g.A.Agent in let old = c.args.workers.now.items in let new
     let many = e.many ∙ ap (λ (l : List (Worker g.row.A.Denot g.row.C.Denot)). length l) lent in
     let back = sym (lent_back new old c.args.workers.now.len many len) in
     let came = subst (λ (l : List (Worker g.row.A.Denot g.row.C.Denot)). IsRound a.over a.stands p code id (length old) most r old l) back
-        (subst (λ (s : List (Worker g.row.A.Denot g.row.C.Denot)). IsRound a.over a.stands p code id (length s) most r s new) lent (record { before = subst (λ (l : List (Worker g.row.A.Denot g.row.C.Denot)). All (IsReady a.over a.stands p code id (length l)) l) (sym lent) c.requires.ready; many = e.many; ready = e.ready; failed = e.failed; worked = e.worked; answer = e.answer })) in
+    (subst (λ (s : List (Worker g.row.A.Denot g.row.C.Denot)). IsRound a.over a.stands p code id (length s) most r s new) lent (record { before = subst (λ (l : List (Worker g.row.A.Denot g.row.C.Denot)). All (IsReady a.over a.stands p code id (length l)) l) (sym lent) c.requires.ready; many = e.many; ready = e.ready; failed = e.failed; worked = e.worked; answer = e.answer })) in
     let solo = subst (λ (s : List (Worker g.row.A.Denot g.row.C.Denot)). OnOk r ((opening : List (PartSeen g.row.A.Denot)) → 0 < most → All (BeginsAlone opening) s → All (StopsAlone a.over a.place a.stands a.advances a.gives a.starts c.args.code.now most opening) new)) lent e.solo in
     record {
       many = came.many;
