@@ -1,6 +1,6 @@
 -- A worker in a call: it stays at work, what its events cost together, and what it may answer by what it drew.
 use Rattle.std.proofs.Common.{◌≡◌, ◌∙◌, ◌⊎◌, inl, inr, ⊎_elim, ℕ, ◌+◌, ◌-◌, ◌<◌, ◌≤◌, List, [], ◌∷◌, ◌++◌, length, refl, sym, ap, ap₂, subst, arith, Bool, true, false, Option, Some, None, Result, Ok, Err, IfOk}
-use Rattle.std.specs.Prelude.{◌||◌, IfErr, IsSome, OnErr, OnOk, option_map}
+use Rattle.std.specs.Prelude.{◌||◌, IfErr, IsErrAnd, IsSome, OnErr, OnOk, option_map}
 use mathlib.Core.List.{append-nil, append_assoc}
 use Rattle.ca_term.specs.Event.{EventView, port_number}
 use Rattle.ca_term.specs.Program.{ProgramView, program_view}
@@ -299,9 +299,10 @@ pub if_err : {X E : Type 0} {P Q : E → Type 0} (r : Result X E) → ((e : E) �
 if_err (Ok x) f p = tt
 if_err (Err e) f p = f e p
 
--- of an outcome that is known
-pub at_err : {X E : Type 0} {P : E → Type 0} (r : Result X E) (e : E) → r ≡ Err e → IfErr r P → P e
-at_err {X} {E} {P} r e is h = subst (λ (o : Result X E). IfErr o P) is h
+-- .. where that is said of one that is an error
+pub if_err_and : {X E : Type 0} {P Q : E → Type 0} (r : Result X E) → ((e : E) → P e → Q e) → IsErrAnd r P → IfErr r Q
+if_err_and (Ok x) f p = tt
+if_err_and (Err e) f p = f e p
 
 pub on_err : {X E P Q : Type 0} (r : Result X E) → (P → Q) → OnErr r P → OnErr r Q
 on_err (Ok x) f p = tt

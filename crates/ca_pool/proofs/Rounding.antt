@@ -169,7 +169,7 @@ module _ {A C : Type 0} where
   Notes w = entries w.entries ≡ noted w.hand.view.turns
 
   spent_one : (allowance : ℕ) (x y : Worker A C) → Notes x → Notes y → HasWorked allowance (Ok Spent) x y → allowance + spent x ≤ spent y
-  spent_one allowance x y before after h = let all = spent_more h.more h.drew before after in let k = h.answers.1 in omega (arith, all, k)
+  spent_one allowance x y before after h = let all = spent_more x y h.more h.drew before after in let k = h.answers.1 in omega (arith, all, k)
 
   spent_each : (allowance : ℕ) (xs ys : List (Worker A C)) → Pairs allowance xs ys → AllSpent ys → All Notes xs → All Notes ys → length xs * allowance + total spent xs ≤ total spent ys
   spent_each allowance [] [] p all before after = subst (λ (m : ℕ). m + 0 ≤ 0) (sym (zero-mul allowance)) (omega arith)
@@ -178,8 +178,8 @@ module _ {A C : Type 0} where
   spent_each allowance (x ∷ xs) (y ∷ ys) p all before after = subst (λ (m : ℕ). m + (spent x + total spent xs) ≤ spent y + total spent ys) (sym (suc-mul (length xs) allowance))
       (one_more (length xs * allowance) (spent_one allowance x y (before 0 x (omega arith)) (after 0 x (omega arith)) (answering (Ok Spent) all.0 p.0))
       (spent_each allowance xs ys p.1 all.1 (λ k d lt. before (suc k) d (omega (arith, lt))) (λ k d lt. after (suc k) d (omega (arith, lt))))) where
-    one_more : (m : ℕ) → allowance + spent x ≤ spent y → m + total spent xs ≤ total spent ys → (m + allowance) + (spent x + total spent xs) ≤ spent y + total spent ys
-    one_more m a b = omega (arith, a, b)
+        one_more : (m : ℕ) → allowance + spent x ≤ spent y → m + total spent xs ≤ total spent ys → (m + allowance) + (spent x + total spent xs) ≤ spent y + total spent ys
+        one_more m a b = omega (arith, a, b)
 
   over_each : (allowance : ℕ) (xs ys : List (Worker A C)) → Pairs allowance xs ys → SomeOver ys → any_drew leaves ys ≡ true
   over_each allowance [] [] p some = absurd some

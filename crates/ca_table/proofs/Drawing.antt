@@ -1,5 +1,5 @@
 -- What calls of a worker drew, one after another: what it cost, and what it found.
-use Rattle.std.proofs.Common.{◌≡◌, ◌∙◌, ℕ, ◌+◌, ◌≤◌, List, [], ◌∷◌, ◌++◌, length, refl, sym, ap, ap₂, subst, arith, Bool, true, false, zero-add, Result, Ok}
+use Rattle.std.proofs.Common.{◌≡◌, ◌∙◌, ℕ, ◌+◌, List, [], ◌∷◌, ◌++◌, refl, sym, ap, ap₂, subst, arith, Bool, true, false, zero-add, Ok}
 use Rattle.std.specs.Prelude.{◌||◌}
 use mathlib.Core.List.{append-nil, append_assoc}
 use Rattle.ca_term.specs.Event.{EventView}
@@ -16,9 +16,8 @@ use Rattle.ca_table.specs.Grips.{SameHand, SameTurns}
 use Rattle.ca_table.specs.LoneHands.{DrewTurn}
 use Rattle.ca_table.specs.Running.{shown_by}
 use Rattle.ca_table.specs.Seen.{PartSeen}
-use Rattle.ca_table.specs.Worked.{AnswersFor, Drew, HasWorked, finds_end, gives_up, has, has_drawn, leaves, spent}
+use Rattle.ca_table.specs.Worked.{AnswersFor, Drew, HasWorked, gives_up, has, has_drawn, leaves, spent}
 use Rattle.ca_table.specs.Workers.{SameWorker, noted}
-use Rattle.ca_table.specs.declared.answer.PoolStop.{PoolStop}
 use Rattle.ca_table.specs.declared.answer.WorkEnd.{WorkEnd}
 use Rattle.ca_table.specs.declared.answer.WorkEnd.TheVariants.{Over, Spent}
 use Rattle.ca_table.specs.declared.drawn.Drawn.{Drawn}
@@ -40,6 +39,18 @@ shown_both (t ∷ ts) us = ap (λ l. visible (turn_view t.event.what) ++ l) (sho
 
 pub cost_shown : {C : Type 0} (ts us : List (Turn C Drawn)) → cost (shown_by (ts ++ us)) ≡ cost (shown_by ts) + cost (shown_by us)
 cost_shown ts us = ap cost (shown_both ts us) ∙ cost_both (shown_by ts) (shown_by us)
+
+-- an event shows itself, or nothing
+few_visible : (what : said.Turn) → but_last (visible what) ≡ []
+few_visible (said.shown e) = refl
+few_visible (said.picks r) = refl
+few_visible said.yields = refl
+few_visible (said.prunes side p w) = refl
+few_visible said.asks_clock = refl
+few_visible said.fails = refl
+few_visible said.stops = refl
+few_visible said.halts = refl
+few_visible said.stalls = refl
 
 module _ {A C : Type 0} where
   pub workers_both : (o m n : Worker A C) → SameWorker o m → SameWorker m n → SameWorker o n
@@ -74,18 +85,6 @@ module _ {A C : Type 0} where
   -- nothing, by a call that changed the hand alone
   pub drew_held : (w : Worker A C) (h : Held (Part A C) (PartSeen A) Drawn) → SameTurns w.hand h → Drew 0 false w (with_hand w h)
   drew_held w h turns = drew_none {o = w} {n = with_hand w h} (record { number = refl; workers = refl; program = refl; code = refl }) turns
-
-  -- an event shows itself, or nothing
-  few_visible : (what : said.Turn) → but_last (visible what) ≡ []
-  few_visible (said.shown e) = refl
-  few_visible (said.picks r) = refl
-  few_visible said.yields = refl
-  few_visible (said.prunes side p w) = refl
-  few_visible said.asks_clock = refl
-  few_visible said.fails = refl
-  few_visible said.stops = refl
-  few_visible said.halts = refl
-  few_visible said.stalls = refl
 
   -- one turn
   pub drew_one : {o n : Worker A C} (k : ℕ) (d : Drawn) (before after : List (PartSeen A)) → SameWorker o n → SameHand o.hand n.hand → n.hand.view.turns ≡ o.hand.view.turns ++ turn k d before after ∷ [] → gives_up (turn_view d.what) ≡ false
@@ -162,8 +161,8 @@ module _ {A C : Type 0} where
   drew_as {a} {b} {x} {y} {o} {n} e f p = subst (λ (i : ℕ). Drew i y o n) e (subst (λ (c : Bool). Drew a c o n) f p)
 
   -- it noted so much more
-  pub spent_more : {o n : Worker A C} (more : List (Turn (PartSeen A) Drawn)) → n.hand.view.turns ≡ o.hand.view.turns ++ more → entries o.entries ≡ noted o.hand.view.turns → entries n.entries ≡ noted n.hand.view.turns → spent n ≡ spent o + cost (shown_by more)
-  spent_more {o} {n} more drew old new = worth n new ∙ ap (λ ts. cost (shown_by ts)) drew ∙ cost_shown o.hand.view.turns more ∙ ap (λ (i : ℕ). i + cost (shown_by more)) (sym (worth o old)) where
+  pub spent_more : (o n : Worker A C) (more : List (Turn (PartSeen A) Drawn)) → n.hand.view.turns ≡ o.hand.view.turns ++ more → entries o.entries ≡ noted o.hand.view.turns → entries n.entries ≡ noted n.hand.view.turns → spent n ≡ spent o + cost (shown_by more)
+  spent_more o n more drew old new = worth n new ∙ ap (λ ts. cost (shown_by ts)) drew ∙ cost_shown o.hand.view.turns more ∙ ap (λ (i : ℕ). i + cost (shown_by more)) (sym (worth o old)) where
     worth : (w : Worker A C) → entries w.entries ≡ noted w.hand.view.turns → spent w ≡ cost (shown_by w.hand.view.turns)
     worth w is = ap (λ (es : List Numbered). cost (events_of es)) is ∙ ap cost (shown_noted w.hand.view.turns)
 

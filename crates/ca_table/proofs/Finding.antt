@@ -1,8 +1,8 @@
 -- The end of a run among turns, and what all events but the last of them cost.
-use Rattle.std.proofs.Common.{◌≡◌, ◌∙◌, ◌⊎◌, inl, inr, ⊎_elim, ℕ, ◌+◌, ◌<◌, ◌/◌, suc, List, [], ◌∷◌, ◌++◌, refl, sym, ap, subst, arith, Bool, true, false}
+use Rattle.std.proofs.Common.{◌≡◌, ◌∙◌, ◌⊎◌, ⊎_elim, ℕ, ◌+◌, ◌<◌, ◌/◌, suc, List, [], ◌∷◌, ◌++◌, refl, sym, ap, subst, arith, Bool, true, false}
 use Rattle.std.specs.Prelude.{◌||◌}
 use mathlib.Core.List.{append-nil}
-use Rattle.ca_term.specs.Cost.{cost_of, weight_shown}
+use Rattle.ca_term.specs.Cost.{weight_shown}
 use Rattle.ca_term.specs.Event.{EventView}
 use Rattle.ca_meaning.specs.Cost.{cost}
 use Rattle.ca_meaning.specs.Ends.{but_last}
@@ -81,9 +81,9 @@ module _ {C : Type 0} where
   finds_leaves ts e = ⊎_elim
       (λ k. has_other ends_main leaves (λ what main. second_true (stays_stuck what) (obeys_mark what || ends_main what) (second_true (obeys_mark what) (ends_main what) main)) ts k)
       (λ k. has_other leaves_run leaves (λ what run. left_by (stays_stuck what) (obeys_mark what) (ends_main what) run) ts (last_has leaves_run ts k)) (either_true (has ends_main ts) (ends_so leaves_run ts) e) where
-    left_by : (a b c : Bool) → (a || b) ≡ true → (a || (b || c)) ≡ true
-    left_by true b c k = refl
-    left_by false b c k = first_true b c k
+        left_by : (a b c : Bool) → (a || b) ≡ true → (a || (b || c)) ≡ true
+        left_by true b c k = refl
+        left_by false b c k = first_true b c k
 
   -- one turn finds it
   pub one_finds : (t : Turn C Drawn) → leaves (turn_view t.event.what) ≡ true → finds_end (t ∷ []) ≡ true
