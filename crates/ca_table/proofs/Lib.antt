@@ -14,6 +14,9 @@ pub mod Having
 pub mod Spending
 pub mod Marks
 pub mod Endings
+pub mod Moments
+pub mod ClockTurns
+pub mod ClockRuns
 pub mod LoneRun
 pub mod Gripping
 pub mod Whole
