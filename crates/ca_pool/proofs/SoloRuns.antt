@@ -87,10 +87,10 @@ module _ {A C : Type 0} (least faults : C → ℕ) (readings : C → Option (Lis
   same_timers x t u e f = cc
 
   -- a clock that lay in the timers
-  pub clock_told : (x : Contents A C) (box : Box (Clockwork C) Global) (w : Clockwork C) (t : TimersPart) → x ≡ V.Timers box → w ≡ box.value → held_of (contents_seen least faults readings x) ≡ the_timers t → (least w.clock ≡ t.least) × (readings w.clock ≡ t.readings)
+  pub clock_told : (x : Contents A C) (box : Box (Clockwork C) Global) (w : Clockwork C) (t : TimersPart) → x ≡ V.Timers box → w ≡ box.value → held_of (contents_seen least faults readings x) ≡ the_timers t → (least w.clock ≡ t.least) × (readings w.clock ≡ t.readings) × (faults w.clock ≡ t.faults)
   clock_told x box w t is opened e =
       let k = same_timers (held_of (contents_seen least faults readings x)) (clockwork_seen least faults readings w) t (ap (λ (y : Contents A C). held_of (contents_seen least faults readings y)) is ∙ ap (λ (v : Clockwork C). the_timers (clockwork_seen least faults readings v)) (sym opened)) e in
-      (ap (λ (z : TimersPart). z.least) k, ap (λ (z : TimersPart). z.readings) k)
+      (ap (λ (z : TimersPart). z.least) k, ap (λ (z : TimersPart). z.readings) k, ap (λ (z : TimersPart). z.faults) k)
 
   -- what the timers' part has in it
   pub timers_are : (n : ℕ) (ps : List (Part A C)) (p : Part A C) (t : TimersPart) → n + 32 < length ps → kind_of_part (held_of (contents_seen least faults readings (slice_index_or ps (n + 32) p).contents)) ≡ timers_kind
@@ -123,7 +123,7 @@ module _ {A C : Type 0} (over : CodeView → A → Type 0) (place : A → At) (s
     opening_timers one = ap (λ (k : ℕ). (parts_of 1 (contents_at (opening_list k (valid_code code) texts main clock))).timers) one ∙ ap (λ (f : ℕ → Option (Content (TaskAgent A))). (parts_of 1 f).timers) (opens 1 (valid_code code) texts main clock (omega arith))
 
     pub is_solo : (ws : List (Worker A C)) → length ws ≡ n → n ≡ 1 → All (IsReady over stands_as program (valid_code code) id n) ws → All (StopsAlone over place stands_as advances gives starts code allowance (opening_list n (valid_code code) texts main clock)) ws
-        → All (RanAlone (drawn_moves over place advances gives starts) journal parts) ws → ((t : TimersPart) → (parts_of n (contents_at parts)).timers ≡ Some t → (least last ≡ t.least) × (readings last ≡ t.readings))
+        → All (RanAlone (drawn_moves over place advances gives starts) journal parts) ws → ((t : TimersPart) → (parts_of n (contents_at parts)).timers ≡ Some t → (least last ≡ t.least) × (readings last ≡ t.readings) × (faults last ≡ t.faults))
         → IsSolo program journal (least first) (readings first) (readings last) × IsWithin allowance journal × GoesOn journal
     is_solo [] many one ready stops ran told = absurd (let k : 0 ≡ n = many in omega (arith, k, one))
     is_solo (w ∷ ws) many one ready stops ran told =

@@ -30,10 +30,3 @@ pub record IsSolo (program : ProgramView) (journal : List EventView) (least : �
   pub last : ℕ
   pub rise : NeverFall least answers last
   pub told : WentOn answers before after
-
--- .. over some answers that never fall, where nothing is known of the clock
-pub record IsScheduled (program : ProgramView) (journal : List EventView) : Type 0 where
-  pub answers : List ℕ
-  pub solo : Solo program answers journal
-  pub last : ℕ
-  pub rise : NeverFall 0 answers last

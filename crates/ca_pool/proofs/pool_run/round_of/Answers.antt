@@ -26,5 +26,6 @@ returns g c = let a = g.A.Agent in let old = c.args.workers.now.items in let new
       going = round_going a.over a.stands p code id (length old) most r old _ came;
       spent = round_spent a.over a.stands p code id (length old) most r old _ came;
       over = round_over a.over a.stands p code id (length old) most r old _ came;
+      opening = λ o all k d lt. let had : k < length old = omega (arith, lt, came.many) in (came.worked k d had).opening ∙ all k d had;
       solo = subst (λ (l : List (Worker g.row.A.Denot g.row.C.Denot)). OnOk r ((opening : List (PartSeen g.row.A.Denot)) → 0 < most → All (BeginsAlone opening) old → All (StopsAlone a.over a.place a.stands a.advances a.gives a.starts c.args.code.now most opening) l)) back solo;
     }
