@@ -1,10 +1,9 @@
 -- A worker in a call: it stays at work, what its events cost together, and what it may answer by what it drew.
-use Rattle.std.proofs.Common.{◌≡◌, ◌∙◌, ◌⊎◌, inl, inr, ⊎_elim, ℕ, ◌+◌, ◌-◌, ◌<◌, ◌≤◌, List, [], ◌∷◌, ◌++◌, length, refl, sym, ap, ap₂, subst, arith, Bool, true, false, Option, Some, None, Result, Ok, Err, IfOk}
+use Rattle.std.proofs.Common.{◌≡◌, ◌∙◌, ◌⊎◌, inl, inr, ⊎_elim, ℕ, ◌-◌, ◌<◌, List, [], ◌∷◌, ◌++◌, length, refl, sym, ap, ap₂, subst, arith, Bool, true, false, Option, Some, None, Result, Ok, Err, IfOk}
 use Rattle.std.specs.Prelude.{◌||◌, IfErr, IsErrAnd, IsSome, OnErr, OnOk, option_map}
 use mathlib.Core.List.{append-nil, append_assoc}
 use Rattle.ca_term.specs.Event.{EventView, port_number}
 use Rattle.ca_term.specs.Program.{ProgramView, program_view}
-use Rattle.ca_meaning.specs.Cost.{cost}
 use Rattle.ca_meaning.specs.Task.{TaskBody}
 use Rattle.ca_states.specs.Code.{CodeView}
 use Rattle.ca_states.specs.ValidCode.{valid_code}
@@ -18,11 +17,9 @@ use Rattle.ca_commit.specs.Tasks.{agent_of, task_view}
 use Rattle.ca_commit.specs.Touched as said
 use Rattle.ca_commit.specs.declared.task.Task.{Task}
 use Rattle.ca_table.specs.Carriers.{IsCarrying, LaneBox, just_lane}
-use Rattle.ca_table.specs.Draws.{turn_view}
 use Rattle.ca_table.specs.Grips.{SameHand, SameTurns}
 use Rattle.ca_table.specs.LoneHands.{DrewTurn}
 use Rattle.ca_table.specs.Running.{shown_by}
-use Rattle.ca_table.specs.Seen.{PartSeen}
 use Rattle.ca_table.specs.Worked.{AnswersFor, Drew, HasWorked, Sparing, fails_clock, gives_up, has, tells_stop}
 use Rattle.ca_table.specs.Workers.{IsReady, IsSeated, SameWorker}
 use Rattle.ca_table.specs.declared.answer.PoolStop.{PoolStop}

@@ -1,5 +1,5 @@
 -- The moments of the events that a cut keeps stand first among those of the journal, and so among the same answers.
-use Rattle.std.proofs.Common.{◌≡◌, ◌⊎◌, inl, inr, ℕ, zero, suc, List, [], ◌∷◌, ◌++◌, take, refl, sym, ap, subst, ◌∙◌, append_assoc, Option, Some, None}
+use Rattle.std.proofs.Common.{◌≡◌, inl, inr, ℕ, zero, suc, List, [], ◌∷◌, ◌++◌, take, refl, sym, ap, subst, ◌∙◌, append_assoc, Option, Some, None}
 use Rattle.ca_term.specs.Event.{EventView}
 use Rattle.ca_journal.specs.Cut.{End, kept}
 use Rattle.ca_table.specs.Moments.{KeepsTime, StandIn, moment_told, moments_told}

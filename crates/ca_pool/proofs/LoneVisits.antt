@@ -1,5 +1,5 @@
 -- A lone worker's visits to its lane: what it holds tells its position, and its own turns lead on.
-use Rattle.std.proofs.Common.{◌≡◌, ◌∙◌, ◌⊎◌, inl, inr, ⊎_elim, ℕ, ◌+◌, ◌-◌, ◌<◌, ◌≤◌, List, [], ◌∷◌, refl, sym, ap, subst, arith, Bool, true, false, Option, Some, None, Result, Ok, Err, IfOk, eqb}
+use Rattle.std.proofs.Common.{◌≡◌, ◌∙◌, ◌⊎◌, inr, ⊎_elim, ℕ, ◌+◌, ◌-◌, ◌<◌, ◌≤◌, List, [], refl, sym, ap, subst, arith, Bool, true, false, Option, Some, None, Result, Ok, Err, IfOk, eqb}
 use Rattle.std.specs.Prelude.{◌||◌, IsSome, is_some, option_map}
 use Rattle.std.specs.Map.{update}
 use Rattle.std.proofs.lemmas.Map.{update_here}

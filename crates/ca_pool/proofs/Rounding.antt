@@ -1,5 +1,5 @@
 -- What the calls of all workers come to together.
-use Rattle.std.proofs.Common.{◌≡◌, ◌∙◌, ◌⊎◌, inl, inr, ⊎_elim, ℕ, zero, suc, ◌+◌, ◌*◌, ◌<◌, ◌≤◌, List, [], ◌∷◌, ◌++◌, All, length, refl, sym, ap, ap₂, subst, arith, Bool, true, false, Result, Ok, Err, IfOk, suc-mul, zero-mul}
+use Rattle.std.proofs.Common.{◌≡◌, ◌∙◌, ◌⊎◌, inl, inr, ⊎_elim, ℕ, zero, suc, ◌+◌, ◌*◌, ◌<◌, ◌≤◌, List, [], ◌∷◌, All, length, refl, sym, ap, ap₂, subst, arith, Bool, true, false, Ok, Err, IfOk, suc-mul, zero-mul}
 use Rattle.std.specs.Prelude.{◌||◌, OnOk, slice_index_or}
 use Rattle.ca_value.specs.Tree.{Tree}
 use Rattle.ca_term.specs.Operation.{SeedView}

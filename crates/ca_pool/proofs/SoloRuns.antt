@@ -1,5 +1,5 @@
 -- What a run with one worker was: the schedule's, over the answers that the clock in its timers gave.
-use Rattle.std.proofs.Common.{◌≡◌, ◌∙◌, ℕ, zero, suc, ◌+◌, ◌-◌, ◌/◌, ◌<◌, List, [], ◌∷◌, ◌++◌, All, drop, length, map, take, refl, sym, ap, subst, arith, Bool, true, false, Option, Some, None}
+use Rattle.std.proofs.Common.{◌≡◌, ◌∙◌, ℕ, zero, suc, ◌+◌, ◌-◌, ◌/◌, ◌<◌, List, [], ◌∷◌, ◌++◌, All, drop, length, map, take, refl, sym, ap, subst, arith, true, false, Option, Some, None}
 use Rattle.std.specs.Prelude.{is_some, option_map, slice_index_or}
 use Rattle.std.specs.declared.boxed.Box.{Box}
 use Rattle.std.specs.declared.alloc.Global.{Global}
@@ -22,16 +22,15 @@ use Rattle.ca_agent.specs.Agents.{Advanced, Answered, Started}
 use Rattle.ca_turns.specs.Hands.{TableId}
 use Rattle.ca_commit.specs.Agents.{TaskAgent}
 use Rattle.ca_commit.specs.Contents.{Content, Held, TimersPart, a_bank, a_lane, a_ready, a_shard, away, the_timers}
-use Rattle.ca_commit.specs.Gathered.{kind_at, kind_of_part, parts_of, sorted, timers_kind, timers_of}
+use Rattle.ca_commit.specs.Gathered.{kind_of_part, parts_of, sorted, timers_kind, timers_of}
 use Rattle.ca_commit.specs.Opening.{unasked}
 use Rattle.ca_commit.proofs.Seats.{some_same}
 use Rattle.ca_table.specs.Carrying.{timers_place}
-use Rattle.ca_table.specs.Draws.{drawn_moves, drawn_touches}
-use Rattle.ca_table.specs.LoneHands.{left_now}
-use Rattle.ca_table.specs.Moments.{NeverFall, WentOn}
+use Rattle.ca_table.specs.Draws.{drawn_moves}
+use Rattle.ca_table.specs.Moments.{WentOn}
 use Rattle.ca_table.specs.Opening.{opening_list}
 use Rattle.ca_table.specs.Parts.{clockwork_seen, contents_seen, part_seen}
-use Rattle.ca_table.specs.Running.{TableStands, as_option, contents_at, shown_by}
+use Rattle.ca_table.specs.Running.{TableStands, as_option, contents_at}
 use Rattle.ca_table.specs.Seen.{PartSeen, content_of, held_of}
 use Rattle.ca_table.specs.Worked.{HasDrawnNothing, RanAlone}
 use Rattle.ca_table.specs.Workers.{IsOpenedWith, IsReady, stands_for}

@@ -4,7 +4,6 @@ use Rattle.ca_value.specs.Tree.{Tree}
 use Rattle.ca_term.specs.Operation.{SeedView}
 use Rattle.ca_term.specs.Program.{ProgramView}
 use Rattle.ca_meaning.specs.Body.{At}
-use Rattle.ca_meaning.specs.Ends.{RunEnd, ended, faulted, limit, stuck}
 use Rattle.ca_meaning.specs.Task.{TaskBody}
 use Rattle.ca_states.specs.Code.{CodeView}
 use Rattle.ca_states.specs.ValidCode.{valid_code}

@@ -1,5 +1,5 @@
 -- How the clock is asked, and what its timers' part is then.
-use Rattle.std.specs.Prelude.{◌≡◌, ◌≢◌, ℕ, ◌<◌, ◌≤◌, List, Some, option_map, is_some, slice_get, true}
+use Rattle.std.specs.Prelude.{◌≡◌, ℕ, ◌<◌, ◌≤◌, List, Some, option_map, is_some, slice_get, true}
 use Rattle.ca_value.specs.Deadlines.{Deadline, due, open_after}
 use Rattle.ca_commit.specs.Contents.{TimersPart, home}
 use Rattle.ca_commit.specs.Listing.{listed}

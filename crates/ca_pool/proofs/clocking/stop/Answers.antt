@@ -1,4 +1,4 @@
-use Rattle.std.proofs.Common.{None, Some}
+use Rattle.std.proofs.Common.{Some}
 use Rattle.ca_commit.specs.Touched as said
 use Rattle.ca_table.proofs.Drawing.{hands_both, turn_later}
 use Rattle.ca_pool.proofs.Takens.{as_number, bare_in, same_show}

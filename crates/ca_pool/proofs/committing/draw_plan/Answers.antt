@@ -1,9 +1,8 @@
-use Rattle.std.proofs.Common.{◌≡◌, ◌∙◌, ℕ, ◌<◌, None, Some, refl, sym, ap, subst, arith}
+use Rattle.std.proofs.Common.{◌∙◌, refl, sym, ap, subst}
 use Rattle.ca_term.specs.Event.{event_view}
 use Rattle.ca_term.specs.Program.{program_view}
 use Rattle.ca_states.specs.ValidCode.{valid_code}
 use Rattle.ca_commit.specs.Plans.{plan_view}
-use Rattle.ca_commit.specs.declared.task.Task.{Task}
 use Rattle.ca_table.specs.Carriers.{IsCarrying, LaneBox, just_lane}
 use Rattle.ca_table.proofs.Carriers.{carries_seated}
 use Rattle.ca_table.proofs.Drawing.{drew_as, drew_weaker}

@@ -1,10 +1,9 @@
-use Rattle.std.proofs.Common.{◌≡◌, ◌∙◌, ℕ, ◌+◌, None, refl, sym, ap, subst, zero-add, []}
+use Rattle.std.proofs.Common.{◌≡◌, ◌∙◌, sym, ap, subst, []}
 use Rattle.ca_term.specs.Operation.{WantView, want_view}
 use Rattle.ca_term.specs.Program.{ProgramView, program_view}
 use Rattle.ca_lower.specs.Gos.{SameGos}
 use Rattle.ca_lower.specs.Lowered.{Lowered}
 use Rattle.ca_meaning.specs.Body.{at_op}
-use Rattle.ca_meaning.specs.State.{State}
 use Rattle.ca_states.specs.ValidCode.{valid_code}
 use Rattle.ca_commit.specs.Registering.{AreApart}
 use Rattle.ca_table.proofs.Drawing.{drew_both}

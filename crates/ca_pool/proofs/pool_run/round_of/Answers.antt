@@ -1,4 +1,4 @@
-use Rattle.std.proofs.Common.{◌≡◌, ◌∙◌, ℕ, ◌<◌, List, All, length, sym, ap, subst, arith}
+use Rattle.std.proofs.Common.{◌≡◌, ◌∙◌, ◌<◌, List, All, length, sym, ap, subst, arith}
 use Rattle.std.specs.Prelude.{OnOk}
 use Rattle.ca_term.specs.Program.{program_view}
 use Rattle.ca_states.specs.ValidCode.{valid_code}

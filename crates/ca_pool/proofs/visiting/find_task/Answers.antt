@@ -1,4 +1,4 @@
-use Rattle.std.proofs.Common.{◌≡◌, ◌∙◌, ◌<◌, arith}
+use Rattle.std.proofs.Common.{◌∙◌, arith}
 use Rattle.ca_pool.proofs.Resolutions.{same_both}
 use Rattle.ca_pool.proofs.visiting.find_task.Goals as goal
 
