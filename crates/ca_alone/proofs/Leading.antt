@@ -17,13 +17,14 @@ use Rattle.ca_commit.specs.Touched as said
 use Rattle.ca_commit.proofs.Seats.{some_same}
 use Rattle.ca_table.specs.Draws.{drawn_moves, drawn_touches}
 use Rattle.ca_table.specs.LoneHands.{DrewTurn, left_now}
+use Rattle.ca_table.specs.Moments.{turn_asked}
 use Rattle.ca_table.specs.Running.{contents_at}
 use Rattle.ca_table.specs.Seen.{PartSeen}
 use Rattle.ca_table.specs.Worked.{ends_main}
 use Rattle.ca_table.specs.declared.drawn.Drawn.{Drawn}
 use Rattle.ca_solo.specs.Positions.{HasUsed, Position}
 use Rattle.ca_solo.specs.Stirs.{Ordered}
-use Rattle.ca_alone.specs.Answers.{HasGiven, IsLater, turn_asked}
+use Rattle.ca_alone.specs.Answers.{HasGiven}
 use Rattle.ca_alone.specs.Lone.{DrewNext, StandsAlone}
 use Rattle.ca_alone.specs.OwnTurn.{IsDue, IsEarly}
 use Rattle.ca_alone.specs.Schedule.{AtFree, AtPicked, Follow, IsAt, IsFull, IsRun, MaySettle, MayTick, StandsAt, to_rest, to_turn}
@@ -55,48 +56,45 @@ module _ {A : Type 0} (over : CodeView → A → Type 0) (place : A → At) (sta
     abbrev Next : Type 0
     Next = DrewNext (drawn_moves over place advances gives starts) what v v2
 
-    abbrev Later : Type 0
-    Later = Ran v → (c : TimersPart) → (parts_of 1 (contents_at (left_now drawn_touches v))).timers ≡ Some c → IsLater what c
-
     -- a turn that may be told, and takes these answers
-    goes : {P Q : Position → Type 0} (rs : List ℕ) → ((least : ℕ) → turn_asked what least ≡ rs) → (what ≡ said.fails → ⊥) → ends_main what ≡ false → Later → Here P v → DrewTurn what v v2
+    goes : {P Q : Position → Type 0} (rs : List ℕ) → ((least : ℕ) → turn_asked what least ≡ rs) → ends_main what ≡ false → Here P v → DrewTurn what v v2
         → (Next → (x : Is P v) → (w2 : Position) × StandsAlone over place stands program code v2 (x.answers ++ rs) w2 × Q w2) → Here Q v2
-    goes rs asks ok main later s d f = record {
-      stand = leads over place stands advances gives starts advance_law answer_law start_law program code what v v2 rs ok asks later d s.stand f;
+    goes rs asks main s d f = record {
+      stand = leads over place stands advances gives starts advance_law answer_law start_law program code what v v2 rs asks d s.stand f;
       going = open_after what v v2 d s.going main;
     }
 
     -- one that takes none, and tells none
-    goes_quietly : {P Q : Position → Type 0} → ((least : ℕ) → turn_asked what least ≡ []) → (what ≡ said.fails → ⊥) → ends_main what ≡ false → Later → Here P v → DrewTurn what v v2
+    goes_quietly : {P Q : Position → Type 0} → ((least : ℕ) → turn_asked what least ≡ []) → ends_main what ≡ false → Here P v → DrewTurn what v v2
         → (Next → (x : Is P v) → (w2 : Position) × StandsAlone over place stands program code v2 x.answers w2 × Q w2) → Here Q v2
-    goes_quietly asks ok main later s d f = goes [] asks ok main later s d
+    goes_quietly asks main s d f = goes [] asks main s d
         (λ n x. let k = f n x in (k.0, subst (λ told. StandsAlone over place stands program code v2 told k.0) (sym (append-nil x.answers)) k.1, k.2))
 
   -- Pick and Yield
   pub picks : (v v2 : View (PartSeen A) Drawn) → Here AtFree v → DrewTurn (said.picks 0) v v2 → Here AtPicked v2
-  picks v v2 s d = goes_quietly (said.picks 0) v v2 (λ l. refl) (λ e. let z : said.picks 0 ≡ said.fails = e in absurd cc) refl (λ ran c e. tt) s d
+  picks v v2 s d = goes_quietly (said.picks 0) v v2 (λ l. refl) refl s d
       (λ n x. let k = lone_picks over place stands advances gives starts advance_law answer_law start_law program code v v2 n.turn n.goes n.after x.answers x.at x.alone n.is x.kind.0 in (k.0, k.1, (k.2, picked_lane program x.answers _ k.0 k.1.alone k.2)))
 
   pub yields : (v v2 : View (PartSeen A) Drawn) → Here (λ w. MaySettle to_turn [] w × IsFull w.desk.lane) v → DrewTurn said.yields v v2 → Here AtFree v2
-  yields v v2 s d = goes_quietly said.yields v v2 (λ l. refl) (λ e. let z : said.yields ≡ said.fails = e in absurd cc) refl (λ ran c e. tt) s d
+  yields v v2 s d = goes_quietly said.yields v v2 (λ l. refl) refl s d
       (λ n x. let k = lone_yields over place stands advances gives starts advance_law answer_law start_law program code v v2 n.turn n.goes n.after x.answers x.at x.alone n.is (⊎_elim (λ e. e) (λ y. absurd (not_both x.at.desk.lane y.2 x.kind.1)) x.kind.0) (full_enough x.at.desk.lane x.kind.1) in (k.0, k.1, free_now over place stands advances gives starts advance_law answer_law start_law program code v2 x.answers k.0 k.1 k.2))
 
   -- what is silent, and no move
   pub prunes : {P : Position → Type 0} (v v2 : View (PartSeen A) Drawn) (side : Side) (p wait : ℕ) → Here P v → DrewTurn (said.prunes side p wait) v v2 → Here P v2
-  prunes v v2 side p wait s d = goes_quietly (said.prunes side p wait) v v2 (λ l. refl) (λ e. let z : said.prunes side p wait ≡ said.fails = e in absurd cc) refl (λ ran c e. tt) s d
+  prunes v v2 side p wait s d = goes_quietly (said.prunes side p wait) v v2 (λ l. refl) refl s d
       (λ n x. (x.at, lone_prunes over place stands advances gives starts advance_law answer_law start_law program code v v2 n.turn n.goes n.after x.answers x.at x.alone side p wait n.is, x.kind))
 
   pub stalls : {P : Position → Type 0} (v v2 : View (PartSeen A) Drawn) → Here P v → DrewTurn said.stalls v v2 → Here P v2
-  stalls v v2 s d = goes_quietly said.stalls v v2 (λ l. refl) (λ e. let z : said.stalls ≡ said.fails = e in absurd cc) refl (λ ran c e. tt) s d
+  stalls v v2 s d = goes_quietly said.stalls v v2 (λ l. refl) refl s d
       (λ n x. (x.at, lone_stalls over place stands advances gives starts advance_law answer_law start_law program code v v2 n.turn n.goes n.after x.answers x.at x.alone n.is, x.kind))
 
   pub halts : {P : Position → Type 0} (v v2 : View (PartSeen A) Drawn) → Here P v → DrewTurn said.halts v v2 → Here P v2
-  halts v v2 s d = goes_quietly said.halts v v2 (λ l. refl) (λ e. let z : said.halts ≡ said.fails = e in absurd cc) refl (λ ran c e. tt) s d
+  halts v v2 s d = goes_quietly said.halts v v2 (λ l. refl) refl s d
       (λ n x. (x.at, lone_halts over place stands advances gives starts advance_law answer_law start_law program code v v2 n.turn n.goes n.after x.answers x.at x.alone n.is, x.kind))
 
   -- the least channel that may settle does
   pub settles : (v v2 : View (PartSeen A) Drawn) (k : Follow) (p : ℕ) (us : List ℕ) (wait o : ℕ) (side : Side) (x : Tree) → Here (MaySettle k (p ∷ us)) v → DrewTurn (said.shown (settled wait o side p x)) v v2 → Here (MaySettle k (p ∷ us)) v2
-  settles v v2 k p us wait o side x s d = goes_quietly (said.shown (settled wait o side p x)) v v2 (λ l. refl) (λ e. let z : said.shown (settled wait o side p x) ≡ said.fails = e in absurd cc) refl (λ ran c e. tt) s d (by k) where
+  settles v v2 k p us wait o side x s d = goes_quietly (said.shown (settled wait o side p x)) v v2 (λ l. refl) refl s d (by k) where
     by : (k : Follow) → DrewNext (drawn_moves over place advances gives starts) (said.shown (settled wait o side p x)) v v2 → (y : Is (MaySettle k (p ∷ us)) v) → (w2 : Position) × StandsAlone over place stands program code v2 y.answers w2 × MaySettle k (p ∷ us) w2
     by to_turn n y = ⊎_elim (λ e. let k = lone_settles over place stands advances gives starts advance_law answer_law start_law program code v v2 n.turn n.goes n.after y.answers y.at y.alone wait o side p x us n.is e in (k.0, k.1, inl k.2)) (λ h. absurd (let z : p ∷ us ≡ [] = h.1 in cc)) y.kind
     by to_rest n y = ⊎_elim (λ e. let k = lone_settles over place stands advances gives starts advance_law answer_law start_law program code v v2 n.turn n.goes n.after y.answers y.at y.alone wait o side p x us n.is e in (k.0, k.1, (k.3 ∙ y.kind.0, inl k.2)))
@@ -127,8 +125,8 @@ module _ {A : Type 0} (over : CodeView → A → Type 0) (place : A → At) (sta
   }
 
   -- A Tick, at a pick or where nobody is ready. The run may end with it.
-  pub ticks : (v v2 : View (PartSeen A) Drawn) (k : Follow) (m : ℕ) (ports us : List ℕ) → Here (λ w. MayTick k w × IsDue w.state.deadlines m) v → DrewTurn (said.shown (ticked m ports)) v v2 → (Ran v → (c : TimersPart) → (parts_of 1 (contents_at (left_now drawn_touches v))).timers ≡ Some c → c.least ≤ m) → Ordered ports us → Here (λ w. MaySettle k us w × HasUsed w.phase) v2
-  ticks v v2 k m ports us s d later order = goes (said.shown (ticked m ports)) v v2 (m ∷ []) (λ l. refl) (λ e. let z : said.shown (ticked m ports) ≡ said.fails = e in absurd cc) refl (λ ran c e. (later ran c e, tt)) s d (by k) where
+  pub ticks : (v v2 : View (PartSeen A) Drawn) (k : Follow) (m : ℕ) (ports us : List ℕ) → Here (λ w. MayTick k w × IsDue w.state.deadlines m) v → DrewTurn (said.shown (ticked m ports)) v v2 → Ordered ports us → Here (λ w. MaySettle k us w × HasUsed w.phase) v2
+  ticks v v2 k m ports us s d order = goes (said.shown (ticked m ports)) v v2 (m ∷ []) (λ l. refl) refl s d (by k) where
     by : (k : Follow) → DrewNext (drawn_moves over place advances gives starts) (said.shown (ticked m ports)) v v2 → (x : Is (λ w. MayTick k w × IsDue w.state.deadlines m) v) → (w2 : Position) × StandsAlone over place stands program code v2 (x.answers ++ m ∷ []) w2 × (MaySettle k us w2 × HasUsed w2.phase)
     by to_turn n x = let k = lone_is_late over place stands advances gives starts advance_law answer_law start_law program code v v2 n.turn n.goes n.after x.answers x.at x.alone m ports us n.is x.kind.0.0 x.kind.1 order in (k.0, k.1, (inl k.2, subst HasUsed (sym k.2) tt))
     by to_rest n x = let k = lone_waits over place stands advances gives starts advance_law answer_law start_law program code v v2 n.turn n.goes n.after x.answers x.at x.alone m ports us n.is x.kind.0.0.0 x.kind.0.1 x.kind.1 order in (k.0, k.1, ((k.3 ∙ x.kind.0.0.1, inl k.2), subst HasUsed (sym k.2) tt))

@@ -1,5 +1,6 @@
 -- What an event of the lane's task leaves of the parts is what it leaves of the desk.
 use Rattle.std.proofs.Common.{⊎_elim, ◌≡◌, ℕ, suc, List, [], ◌∷◌, ◌++◌, refl, sym, ap, ◌∙◌, subst, true, false, Option, Some, None, arith, eqb}
+use Rattle.std.specs.Prelude.{option_to_list}
 use Rattle.std.specs.Map.{update}
 use Rattle.ca_value.specs.Tree.{Tree, bool, nil, port}
 use Rattle.ca_term.specs.declared.event.Ending.TheVariants.{Ended, Faulted}
@@ -25,12 +26,12 @@ use Rattle.ca_commit.specs.TaskMoves.{Halts}
 use Rattle.ca_commit.proofs.Laid.{IsPart, laid_parts, seen, untouched}
 use Rattle.ca_commit.proofs.Seats.{some_same}
 use Rattle.ca_alone.specs.Reading.{Reads, ReadsOff}
-use Rattle.ca_alone.specs.Standing.{ChoosesWell, asked, moment_list}
+use Rattle.ca_alone.specs.Standing.{ChoosesWell, asked}
 use Rattle.ca_alone.proofs.Counting.{counts_fewer, counts_joined, counts_less, counts_parked, owner_left, owner_stays, with_alts}
 use Rattle.ca_alone.proofs.Turned.{and_wait, elsewhere, lane_found, lane_left, none_counted, one_counted, only_lane, op_found, queue_left, same_alts}
 
 -- the clock is asked where the event tells a moment
-moment_desk : (m : Option ℕ) (d : Desk) → d.readings ≡ moment_list m → (rs : List ℕ) × ReadsMoment m d (record d { readings = rs }) × (rs ≡ [])
+moment_desk : (m : Option ℕ) (d : Desk) → d.readings ≡ option_to_list m → (rs : List ℕ) × ReadsMoment m d (record d { readings = rs }) × (rs ≡ [])
 moment_desk None d e = (d.readings, refl, e)
 moment_desk (Some m) d e = ([], ([], e, refl), refl)
 

@@ -24,7 +24,8 @@ use Rattle.ca_table.specs.Seen.{PartSeen, content_of}
 use Rattle.ca_table.specs.declared.drawn.Drawn.{Drawn}
 use Rattle.ca_table.proofs.Openings.{opens}
 use Rattle.ca_solo.specs.Positions.{Position, in_time, picked}
-use Rattle.ca_alone.specs.Answers.{HasGiven, IsLater, NeverFall, turn_asked}
+use Rattle.ca_table.specs.Moments.{NeverFall, turn_asked}
+use Rattle.ca_alone.specs.Answers.{HasGiven}
 use Rattle.ca_table.specs.LoneHands.{IsAfter, left_by, left_now}
 use Rattle.ca_alone.specs.Lone.{AloneAt, StandsAlone}
 use Rattle.ca_alone.specs.OwnTurn.{IsEarly}
@@ -50,12 +51,12 @@ module _ {A : Type 0} (over : CodeView → A → Type 0) (place : A → At) (sta
     (advance_law : Advanced stands place advances) (answer_law : Answered stands place gives) (start_law : Started stands place starts) (program : ProgramView) (code : CodeView)
     (v v2 : View (PartSeen A) Drawn) (t : Turn (PartSeen A) Drawn) (g : Goes drawn_touches (drawn_moves over place advances gives starts) (left_now drawn_touches v) t) (more : IsAfter v v2 t) (first : TimersPart) (answers : List ℕ) (given : HasGiven first answers (contents_at (left_now drawn_touches v))) where
   -- the answers that the turn took are what the clock gave more
-  pub lone_given : HaveCode code (left_now drawn_touches v) → (s : State) → TableStands place (stands_over over code stands) program 1 (left_now drawn_touches v) s → (what : said.Turn) → turn_view t.event.what ≡ what → (what ≡ said.fails → ⊥) → IsLater what given.clock → (least : ℕ) × HasGiven first (answers ++ turn_asked what least) (contents_at (left_now drawn_touches v2))
-  lone_given coded s run what is ok later =
+  pub lone_given : HaveCode code (left_now drawn_touches v) → (s : State) → TableStands place (stands_over over code stands) program 1 (left_now drawn_touches v) s → (what : said.Turn) → turn_view t.event.what ≡ what → (least : ℕ) × HasGiven first (answers ++ turn_asked what least) (contents_at (left_now drawn_touches v2))
+  lone_given coded s run what is =
       let k = answers_go_on place (advances_over over code advances) (gives_over over code gives) (starts_over over code starts) (drawn_view t.event) (contents_at (left_now drawn_touches v)) (map content_of t.before) (map content_of t.after)
       (one_works over place stands advances gives starts advance_law answer_law start_law program code v v2 t g more coded s run)
       (found_at over place stands advances gives starts program code v v2 t g more) (moved_by over place stands advances gives starts program code v v2 t g more coded)
-      first answers given (λ e. ok (sym is ∙ e)) (subst (λ z. IsLater z given.clock) (sym is) later) in (
+      first answers given in (
         k.0,
         subst (λ (f : ℕ → Option (Content (TaskAgent A))). HasGiven first (answers ++ turn_asked what k.0) f) (sym (contents_after over place stands advances gives starts program code v v2 t g more))
             (subst (λ z. HasGiven first (answers ++ turn_asked z k.0) (written (contents_at (left_now drawn_touches v)) (drawn_touches t.event) (map content_of t.after))) is k.1),
@@ -65,6 +66,6 @@ module _ {A : Type 0} (over : CodeView → A → Type 0) (place : A → At) (sta
   pub lone_reads_given : (w : Position) (a : StandsAlone over place stands program code v answers w) → turn_view t.event.what ≡ said.asks_clock → w.phase ≡ picked → ((c : TimersPart) → (parts_of 1 (contents_at (left_now drawn_touches v2))).timers ≡ Some c → IsEarly w.state.deadlines c.least)
       → (m : ℕ) × AloneAt over place stands program code v2 (answers ++ m ∷ []) in_time × HasGiven first (answers ++ m ∷ []) (contents_at (left_now drawn_touches v2))
   lone_reads_given w a is phase early =
-      let k = lone_given a.coded w.state a.position.run said.asks_clock is (λ e. (let z : said.asks_clock ≡ said.fails = e in absurd cc)) tt in
+      let k = lone_given a.coded w.state a.position.run said.asks_clock is in
       let m = k.0 in
       (m, lone_reads over place stands advances gives starts advance_law answer_law start_law program code v v2 t g more answers w a m is phase (earlier w.state.deadlines m k.1.clock.least (last_answer first.least answers m k.1.clock.least k.1.gave.rise) (early k.1.clock k.1.in_timers)), k.1)

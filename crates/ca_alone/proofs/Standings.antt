@@ -1,5 +1,5 @@
 -- Where a lone worker's turns have come to in the schedule: as it begins, by moves that are no turns, and by a turn more.
-use Rattle.std.proofs.Common.{⊎_elim, inl, inr, ◌≡◌, ◌∙◌, ℕ, ◌<◌, List, [], ◌∷◌, ◌++◌, refl, sym, ap, subst, arith, Bool, true, false, Some, None}
+use Rattle.std.proofs.Common.{⊎_elim, inl, inr, ◌≡◌, ◌∙◌, ℕ, ◌<◌, List, [], ◌∷◌, ◌++◌, refl, sym, ap, subst, arith, Bool, true, false, None}
 use Rattle.std.specs.Prelude.{◌||◌}
 use Rattle.ca_value.specs.Tree.{Tree}
 use Rattle.ca_term.specs.Event.{EventView}
@@ -12,11 +12,11 @@ use Rattle.ca_meaning.specs.Task.{TaskBody}
 use Rattle.ca_states.specs.Code.{CodeView}
 use Rattle.ca_agent.specs.Agents.{Advanced, Answered, Started}
 use Rattle.ca_turns.specs.declared.rule.View.{View}
-use Rattle.ca_commit.specs.Contents.{TimersPart}
 use Rattle.ca_commit.specs.Gathered.{parts_of}
 use Rattle.ca_commit.specs.Touched as said
 use Rattle.ca_table.specs.Draws.{drawn_moves, drawn_touches, turn_view}
 use Rattle.ca_table.specs.LoneHands.{DrewTurn, left_by, left_now}
+use Rattle.ca_table.specs.Moments.{turn_asked}
 use Rattle.ca_table.specs.OneCode.{HaveCode, stands_over}
 use Rattle.ca_table.specs.Running.{Knows, TableStands, contents_at}
 use Rattle.ca_table.specs.Seen.{PartSeen}
@@ -26,7 +26,7 @@ use Rattle.ca_table.proofs.Having.{both_false, has_append}
 use Rattle.ca_solo.specs.Alone.{Alone}
 use Rattle.ca_solo.specs.Positions.{Position, first_position, free, in_time, picked}
 use Rattle.ca_solo.proofs.Following.{follows_in}
-use Rattle.ca_alone.specs.Answers.{HasGiven, IsLater, turn_asked}
+use Rattle.ca_alone.specs.Answers.{HasGiven}
 use Rattle.ca_alone.specs.Lone.{DrewNext, StandsAlone}
 use Rattle.ca_alone.specs.Schedule.{AtFree, AtPicked, Follow, HasAnswered, IsAt, IsRun, MaySettle, StandsAt, to_rest, to_turn}
 use Rattle.ca_alone.specs.Standing.{IsOn}
@@ -147,20 +147,18 @@ module _ {A : Type 0} (over : CodeView → A → Type 0) (place : A → At) (sta
     pub next : DrewTurn what v v2 → Ran v2 → Next what v v2 × Ran v
     next d ran = ran_next (drawn_moves over place advances gives starts) what v v2 d.turn (left_now drawn_touches v2) ran d.after d.is
 
-    module _ (rs : List ℕ) (ok : what ≡ said.fails → ⊥) (asks : (least : ℕ) → turn_asked what least ≡ rs) where
+    module _ (rs : List ℕ) (asks : (least : ℕ) → turn_asked what least ≡ rs) where
       -- the clock gave the answers that it took
-      pub gives_more : Next what v v2 → (answers : List ℕ) (s : State) → HaveCode code (left_now drawn_touches v) → TableStands place (stands_over over code stands) program 1 (left_now drawn_touches v) s
-          → ((c : TimersPart) → (parts_of 1 (contents_at (left_now drawn_touches v))).timers ≡ Some c → IsLater what c) → Gives v answers → Gives v2 (answers ++ rs)
-      gives_more n answers s coded run later told first e =
+      pub gives_more : Next what v v2 → (answers : List ℕ) (s : State) → HaveCode code (left_now drawn_touches v) → TableStands place (stands_over over code stands) program 1 (left_now drawn_touches v) s → Gives v answers → Gives v2 (answers ++ rs)
+      gives_more n answers s coded run told first e =
           let given = told first (ap (λ cs. (parts_of 1 (contents_at cs)).timers) (sym n.after.opening) ∙ e) in
-          let k = lone_given over place stands advances gives starts advance_law answer_law start_law program code v v2 n.turn n.goes n.after first answers given coded s run what n.is ok (later given.clock given.in_timers) in
+          let k = lone_given over place stands advances gives starts advance_law answer_law start_law program code v v2 n.turn n.goes n.after first answers given coded s run what n.is in
           subst (λ zs. HasGiven first (answers ++ zs) (contents_at (left_now drawn_touches v2))) (asks k.0) k.1
 
       -- it leads from a position to another
-      pub leads : {P Q : Position → Type 0} → (Ran v → (c : TimersPart) → (parts_of 1 (contents_at (left_now drawn_touches v))).timers ≡ Some c → IsLater what c)
-          → DrewTurn what v v2 → (Ran v → Is P v) → (Next what v v2 → (x : Is P v) → (w2 : Position) × Standing v2 (x.answers ++ rs) w2 × Q w2) → Ran v2 → Is Q v2
-      leads later d stand f ran =
+      pub leads : {P Q : Position → Type 0} → DrewTurn what v v2 → (Ran v → Is P v) → (Next what v v2 → (x : Is P v) → (w2 : Position) × Standing v2 (x.answers ++ rs) w2 × Q w2) → Ran v2 → Is Q v2
+      leads d stand f ran =
           let n = next d ran in
           let x = stand n.1 in
           let k = f n.0 x in
-          record { answers = x.answers ++ rs; at = k.0; alone = k.1; answered = gives_more n.0 x.answers x.at.state x.alone.coded x.alone.position.run (later n.1) x.answered; kind = k.2 }
+          record { answers = x.answers ++ rs; at = k.0; alone = k.1; answered = gives_more n.0 x.answers x.at.state x.alone.coded x.alone.position.run x.answered; kind = k.2 }

@@ -1,5 +1,5 @@
 -- Where a lone worker may stop, and the events of its lane's task, after each of which it may have to.
-use Rattle.std.proofs.Common.{⊎_elim, inl, ◌≡◌, ◌∙◌, ℕ, ◌+◌, ◌<◌, ◌≤◌, List, [], ◌∷◌, ◌++◌, refl, sym, ap, subst, arith, append-nil, true, false, Some}
+use Rattle.std.proofs.Common.{⊎_elim, inl, ◌≡◌, ◌∙◌, ℕ, ◌+◌, ◌<◌, ◌≤◌, List, [], ◌∷◌, ◌++◌, refl, sym, ap, subst, arith, append-nil, true, false}
 use Rattle.ca_value.specs.Tree.{Tree}
 use Rattle.ca_term.specs.Cost.{cost_of}
 use Rattle.ca_term.specs.Event.{EventView, made, spawned, done, met, parked, posted, settled, defaulted, closed, registered, printed, ticked, over as is_over}
@@ -17,14 +17,13 @@ use Rattle.ca_states.specs.Code.{CodeView}
 use Rattle.ca_agent.specs.Agents.{Advanced, Answered, Started}
 use Rattle.ca_turns.specs.declared.rule.Turn.{Turn}
 use Rattle.ca_turns.specs.declared.rule.View.{View}
-use Rattle.ca_commit.specs.Contents.{TimersPart}
-use Rattle.ca_commit.specs.Gathered.{parts_of}
 use Rattle.ca_commit.specs.Moving.{visible}
 use Rattle.ca_commit.specs.Touched as said
 use Rattle.ca_table.specs.Draws.{drawn_touches, turn_view}
 use Rattle.ca_table.specs.LoneHands.{DrewTurn, left_now}
+use Rattle.ca_table.specs.Moments.{turn_asked}
 use Rattle.ca_table.specs.OneCode.{stands_over}
-use Rattle.ca_table.specs.Running.{TableStands, contents_at, shown_by}
+use Rattle.ca_table.specs.Running.{TableStands, shown_by}
 use Rattle.ca_table.specs.Seen.{PartSeen}
 use Rattle.ca_table.specs.Worked.{ends_main, has}
 use Rattle.ca_table.specs.declared.drawn.Drawn.{Drawn}
@@ -33,7 +32,6 @@ use Rattle.ca_table.proofs.Running.{turn_leads}
 use Rattle.ca_solo.specs.Moves.{MayMake}
 use Rattle.ca_solo.specs.Positions.{HasUsed, Position, settling}
 use Rattle.ca_solo.specs.Stirs.{stirred}
-use Rattle.ca_alone.specs.Answers.{IsLater, turn_asked}
 use Rattle.ca_alone.specs.Schedule.{HasStopped, IsAt, IsDone, IsRun, IsSchedule, MaySettle, StandsAt, to_turn}
 use Rattle.ca_alone.specs.Standing.{ChoosesWell, IsOn, asked}
 use Rattle.ca_alone.proofs.Lone.{coded_after, left_after, lone_makes, lone_solo, shown_more}
@@ -155,7 +153,7 @@ module _ {A : Type 0} (over : CodeView → A → Type 0) (place : A → At) (sta
             let k = turn_leads over place stands advances gives starts advance_law answer_law start_law program code 1 (left_now drawn_touches v) x.state n.0.turn x.coded x.stands_for n.0.goes in record {
               answers = x.answers ++ [];
               solo = subst (λ told. Solo program told (shown_by v2.turns)) (sym (append-nil x.answers)) (subst (Solo program x.answers) (sym same) x.solo);
-              answered = gives_more over place stands advances gives starts advance_law answer_law start_law program code said.yields v v2 [] (λ e. let z : said.yields ≡ said.fails = e in absurd cc) (λ l. refl) n.0 x.answers x.state x.coded x.stands_for (λ c e. tt) x.answered;
+              answered = gives_more over place stands advances gives starts advance_law answer_law start_law program code said.yields v v2 [] (λ l. refl) n.0 x.answers x.state x.coded x.stands_for x.answered;
               state = k.0;
               stands_for = subst (λ now. TableStands place (stands_over over code stands) program 1 now k.0) (sym (left_after over place stands advances gives starts program code v v2 n.0.turn n.0.goes n.0.after)) k.2;
               coded = coded_after over place stands advances gives starts program code v v2 n.0.turn n.0.goes n.0.after x.coded;
@@ -172,9 +170,9 @@ module _ {A : Type 0} (over : CodeView → A → Type 0) (place : A → At) (sta
   may_make : (w : Position) → MaySettle to_turn [] w → MayMake w.phase
   may_make w m = ⊎_elim (λ e. subst MayMake (sym e) tt) (λ y. subst MayMake (sym y.0) tt) m
 
-  pub makes : (v v2 : View (PartSeen A) Drawn) (t : ℕ) (e : EventView) (us : List ℕ) → Here (λ w. MaySettle to_turn [] w × IsOn w.desk.lane × (stirred w.state e ≡ us) × ChoosesWell w.state w.desk e) v → DrewTurn (said.shown e) v v2 → is_of t e ≡ true → (Ran v → (c : TimersPart) → (parts_of 1 (contents_at (left_now drawn_touches v))).timers ≡ Some c → IsLater (said.shown e) c)
+  pub makes : (v v2 : View (PartSeen A) Drawn) (t : ℕ) (e : EventView) (us : List ℕ) → Here (λ w. MaySettle to_turn [] w × IsOn w.desk.lane × (stirred w.state e ≡ us) × ChoosesWell w.state w.desk e) v → DrewTurn (said.shown e) v v2 → is_of t e ≡ true
       → (is_end_of_main e ≡ false → Here (MaySettle to_turn us) v2) × ((most : ℕ) → cost (shown_by v.turns) < most → Stopped most v2)
-  makes v v2 t e us s d is later = (
+  makes v v2 t e us s d is = (
     λ more. (let k : Here (λ w. w.phase ≡ settling us) v2 = record { stand = stand; going = open_after (said.shown e) v v2 d s.going more } in stands_as over place stands advances gives starts advance_law answer_law start_law program code v2 kept k),
     λ most less. shown_last most v v2 e stand (λ w k. subst HasUsed (sym k) tt) s.going d less,
   ) where
@@ -182,5 +180,5 @@ module _ {A : Type 0} (over : CodeView → A → Type 0) (place : A → At) (sta
     kept w k = inl k
 
     stand : Ran v2 → Is (λ w. w.phase ≡ settling us) v2
-    stand = leads over place stands advances gives starts advance_law answer_law start_law program code (said.shown e) v v2 (asked e) (λ k. let z : said.shown e ≡ said.fails = k in absurd cc) (tells t e is) later d s.stand
+    stand = leads over place stands advances gives starts advance_law answer_law start_law program code (said.shown e) v v2 (asked e) (tells t e is) d s.stand
         (λ n x. let k = lone_makes over place stands advances gives starts program code v v2 n.turn n.goes n.after x.answers x.at x.alone advance_law answer_law start_law t e n.is is (may_make x.at x.kind.0) x.kind.1 x.kind.3 in (k.0, k.1, k.2 ∙ ap settling x.kind.2))

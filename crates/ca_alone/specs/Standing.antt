@@ -1,5 +1,5 @@
 -- When the contents of a lone worker's parts stand for a position of the schedule.
-use Rattle.std.specs.Prelude.{◌≡◌, ℕ, ◌<◌, List, [], ◌∷◌, Option, Some, None}
+use Rattle.std.specs.Prelude.{◌≡◌, ℕ, ◌<◌, List, [], Option, Some, None, option_to_list}
 use Rattle.ca_term.specs.Event.{EventView, made, spawned, done, met, parked, posted, settled, defaulted, closed, registered, printed, ticked, over}
 use Rattle.ca_term.specs.Program.{ProgramView}
 use Rattle.ca_meaning.specs.Body.{At}
@@ -28,13 +28,9 @@ abbrev pub IsOn : Option Lane → Type 0
 IsOn None = ⊥
 IsOn (Some lane) = lane.events < patience
 
-abbrev pub moment_list : Option ℕ → List ℕ
-moment_list None = []
-moment_list (Some m) = m ∷ []
-
 -- the answers of the clock that an event of a task took
 abbrev pub asked : EventView → List ℕ
-asked (made t p what moment) = moment_list moment
+asked (made t p what moment) = option_to_list moment
 asked (spawned t u kind result) = []
 asked (done t k b v) = []
 asked (met t k side p v w o) = []

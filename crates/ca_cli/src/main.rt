@@ -26,14 +26,14 @@ fn main(rt: HostRuntime) -> ExitCode {
     };
     let mut source = ReaderSource::new(rt.reader());
     let mut sink = WriterSink::new(io::writer(&rt));
-    let mut clock = SteadyClock::new(&rt);
+    let clock = SteadyClock::new(&rt);
     let finish = main_call(
         &rt,
         rt.alloc(),
         words.as_slice(),
         &mut source,
         &mut sink,
-        &mut clock,
+        clock,
         &OpenGate,
     );
     ExitCode::from(finish.status)

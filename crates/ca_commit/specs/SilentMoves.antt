@@ -1,8 +1,9 @@
 -- How the silent events move the parts that they touch. They are in no journal, and leave the state as it is.
-use Rattle.std.specs.Prelude.{◌≡◌, ◌≢◌, ℕ, ◌+◌, ◌-◌, ◌^◌, ◌≤◌, min, List, [], ◌∷◌, ◌++◌, Option, Some, None}
+use Rattle.std.specs.Prelude.{◌≡◌, ◌≢◌, ℕ, ◌≤◌, List, [], ◌∷◌, ◌++◌, Option, Some, None}
 use Rattle.ca_term.specs.declared.event.Side.{Side}
 use Rattle.ca_meaning.specs.Wait.{Handler, head}
 use Rattle.ca_meaning.specs.Row.{unsettled, settle_row}
+use Rattle.ca_timers.specs.Causes.{Rose}
 use Rattle.ca_commit.specs.Contents.{Kept, LaneView, Parked, Parts, TimersPart, alive_in, clock_failed, home, on, put_on, stopped, unmarked, whole}
 use Rattle.ca_commit.specs.Holds.{live_of}
 use Rattle.ca_commit.specs.Moves.{Alters, Becomes, Stays}
@@ -71,16 +72,16 @@ abbrev pub StayTold : Option (List ℕ) → Option (List ℕ) → Type 0
 StayTold None new = Unit {0}
 StayTold (Some told) new = new ≡ Some told
 
--- a count that went up, or stands at its last value
-abbrev pub one_more : ℕ → ℕ
-one_more count = min (count + 1) (2 ^ 64 - 1)
+-- a count of faults doesn't fall, and rose
+abbrev pub HasFault : ℕ → ℕ → Type 0
+HasFault before now = (before ≤ now) × Rose before now
 
 -- what an asking of the clock does to the timers, with an answer or without; the moment of the run stays
 abbrev pub Asked : TimersPart → TimersPart → Type 0
 Asked c c2 = (c2.faults ≡ c.faults) × GoOnBy c2.least c.readings c2.readings × (c2.mark ≡ c.mark)
 
 abbrev pub Failed : TimersPart → TimersPart → Type 0
-Failed c c2 = StayTold c.readings c2.readings × (one_more c.faults ≤ c2.faults) × (c2.mark ≡ marked c.mark clock_failed)
+Failed c c2 = StayTold c.readings c2.readings × HasFault c.faults c2.faults × (c2.mark ≡ marked c.mark clock_failed)
 
 -- the timers alone are touched; deadlines and the moment of the run stay, and the clock never falls
 pub record MovesTimers {A : Type 0} (How : TimersPart → TimersPart → Type 0) (old new : Parts A) : Type 0 where

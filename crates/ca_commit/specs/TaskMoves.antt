@@ -29,6 +29,8 @@ GoOnBy m (Some told) new = new ≡ Some (told ++ m ∷ [])
 -- the clock answered the moment m, which is now
 pub record Reads (m : ℕ) (c c2 : TimersPart) : Type 0 where
   pub now : c2.now ≡ m
+  -- no answer lies below an earlier one
+  pub later : c.least ≤ m
   pub least : c2.least ≡ m
   pub faults : c2.faults ≡ c.faults
   pub readings : GoOnBy m c.readings c2.readings

@@ -19,14 +19,14 @@ pub fn run_text<R: Threads + Wait + Sync + AllocGlobal, G: Gate + Sync>(
     }
     let mut source = MemorySource::new(script.as_bytes(), usize::MAX);
     let mut sink = MemorySink::new(alloc, usize::MAX);
-    let mut clock = MemoryClock::new(alloc);
+    let clock = MemoryClock::new(alloc);
     let finish = main_call(
         rt,
         alloc,
         words.as_slice(),
         &mut source,
         &mut sink,
-        &mut clock,
+        clock,
         gate,
     );
     let text = str::from_utf8(sink.text().as_slice()).unwrap_or("no text");

@@ -1,8 +1,8 @@
 -- A worker that holds parts as they were settled, all of them at last.
-use Rattle.std.proofs.Common.{◌≡◌, ◌≢◌, ◌∙◌, ⊎_elim, inl, inr, ℕ, zero, suc, ◌+◌, ◌<◌, ◌≤◌, List, [], ◌∷◌, map, refl, sym, ap, subst, arith, Bool, true, false, cond, Option, Some, None, eqb, eq-eqb, eqb-true, ne_eqb, is_some}
-use Rattle.std.specs.Prelude.{option_map, nat_lt}
+use Rattle.std.proofs.Common.{◌≡◌, ◌∙◌, ⊎_elim, inl, inr, ℕ, ◌+◌, ◌<◌, ◌≤◌, List, refl, sym, ap, subst, arith, Bool, true, false, cond, Option, Some, None, eqb, eq-eqb, ne_eqb, is_some}
+use Rattle.std.specs.Prelude.{option_map}
 use Rattle.std.specs.Map.{update}
-use Rattle.std.proofs.lemmas.Bool.{cases_lt, lt-ltb}
+use Rattle.std.proofs.lemmas.Bool.{cases_lt}
 use Rattle.std.proofs.lemmas.Map.{update_here, update_apart}
 use mathlib.Core.Logic.{dite}
 use mathlib.Core.Option as core

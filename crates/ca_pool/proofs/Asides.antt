@@ -1,9 +1,8 @@
 -- What a worker draws beside its lane: what a channel served, what the clock did, and what it answered to a mark.
-use Rattle.std.proofs.Common.{◌≡◌, ◌≢◌, ◌∙◌, ℕ, ◌+◌, ◌≤◌, ◌<◌, List, [], ◌∷◌, ◌++◌, refl, sym, ap, subst, arith, Bool, true, false, cond, Option, Some, None, eqb, eq-eqb, is_some}
+use Rattle.std.proofs.Common.{◌≡◌, ◌≢◌, ◌∙◌, ℕ, ◌+◌, ◌<◌, List, [], ◌∷◌, ◌++◌, refl, sym, ap, subst, arith, Bool, true, false, cond, Option, Some, None, eqb, eq-eqb, is_some}
 use Rattle.std.specs.Prelude.{option_map}
 use Rattle.ca_value.specs.Tree.{Tree}
 use Rattle.ca_value.specs.Deadlines.{due, open_after}
-use Rattle.ca_value.specs.Seq.{list}
 use Rattle.ca_term.specs.declared.event.Event.{Event}
 use Rattle.ca_term.specs.declared.event.Side.{Side}
 use Rattle.ca_term.specs.Cost.{cost_of}
@@ -14,15 +13,15 @@ use Rattle.ca_agent.specs.Agents.{Stays}
 use Rattle.ca_bank.specs.Kept.{closed}
 use Rattle.ca_meaning.specs.Body.{At}
 use Rattle.ca_meaning.specs.Cost.{cost}
-use Rattle.ca_meaning.specs.Task.{TaskBody, reply_at}
+use Rattle.ca_meaning.specs.Task.{reply_at}
 use Rattle.ca_meaning.specs.Wait.{is_among, told}
 use Rattle.ca_commit.specs.Agents.{TaskAgent}
-use Rattle.ca_commit.specs.Contents.{Kept, Parked, Parts, TimersPart, clock_failed, home, nobody, owner, stopped, unmarked, whole}
+use Rattle.ca_commit.specs.Contents.{Kept, Parked, Parts, TimersPart, clock_failed, home, nobody, owner, stopped, whole}
 use Rattle.ca_commit.specs.EventMoves.{times}
-use Rattle.ca_commit.specs.Finding.{glance, serves, settle_at}
+use Rattle.ca_commit.specs.Finding.{serves}
 use Rattle.ca_commit.specs.Listing.{changed_at, listed}
 use Rattle.ca_commit.specs.Listings.{parts}
-use Rattle.ca_commit.specs.Moving.{MovesTurn, visible}
+use Rattle.ca_commit.specs.Moving.{MovesTurn}
 use Rattle.ca_commit.specs.Numbers.{number_of_bank, number_of_shard}
 use Rattle.ca_commit.specs.Running.{Placed}
 use Rattle.ca_commit.specs.Settling.{IsSettled, served_in, settle_change, settling}
@@ -30,7 +29,7 @@ use Rattle.ca_commit.specs.Showing.{bank_in, channels_held, registries_held, sha
 use Rattle.ca_commit.specs.SilentMoves.{Asked, Failed, Marked, MovesTimers, Stopped}
 use Rattle.ca_commit.specs.TaskMoves.{GoOnBy, MovesTick, Reads, marked, with_mark}
 use Rattle.ca_commit.specs.Tasks.{tasks_in}
-use Rattle.ca_commit.specs.Ticking.{closed_all, ticked_at}
+use Rattle.ca_commit.specs.Ticking.{closed_all}
 use Rattle.ca_commit.specs.Touched as said
 use Rattle.ca_commit.specs.Waking.{WakesBy, ready_in}
 use Rattle.ca_commit.specs.declared.held.Held.{Held}
@@ -41,9 +40,8 @@ use Rattle.ca_states.specs.ValidCode.{valid_code}
 use Rattle.ca_states.specs.declared.valid_code.ValidCode.{ValidCode}
 use Rattle.ca_table.specs.Bearing.{ShowSame, parts_held}
 use Rattle.ca_table.specs.Carriers.{IsMoved, is_now, was}
-use Rattle.ca_table.specs.Carrying.{Carries, carried}
-use Rattle.ca_table.specs.Covering.{Covers, names_of}
-use Rattle.ca_table.specs.DrawnEvents.{IsTurned}
+use Rattle.ca_table.specs.Carrying.{Carries}
+use Rattle.ca_table.specs.Covering.{names_of}
 use Rattle.ca_table.specs.Draws.{MayHold}
 use Rattle.ca_table.specs.Needing.{Brings, drawn_with}
 use Rattle.ca_table.specs.OneCode.{advances_over, gives_over, starts_over}
@@ -251,6 +249,7 @@ module _ {A C : Type 0} (over : CodeView → A → Type 0) (place : A → At) (a
     reads : Ticks least faults readings clock0 clock held0 held m c1 e → Reads m (clockwork_seen least faults readings clock0.value) (clockwork_seen least faults readings clock.value)
     reads t = let q = t.passed_by in record {
       now = ap (λ (x : TimersPart). x.now) q;
+      later = t.asked.later;
       least = ap (λ (x : TimersPart). x.least) q ∙ t.asked.least;
       faults = ap (λ (x : TimersPart). x.faults) q ∙ t.asked.faults;
       readings = subst (λ (r : Option (List ℕ)). GoOnBy m (clockwork_seen least faults readings clock0.value).readings r) (sym (ap (λ (x : TimersPart). x.readings) q)) t.asked.readings;

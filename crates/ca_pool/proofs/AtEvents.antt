@@ -1,10 +1,10 @@
 -- What a worker has between two events and at one, whoever says it.
-use Rattle.std.proofs.Common.{◌≡◌, ◌∙◌, ℕ, List, map as each, ◌<◌, refl, sym, ap, subst, Option, Some, None, false, is_some}
+use Rattle.std.proofs.Common.{◌≡◌, ◌∙◌, ℕ, List, map as each, ◌<◌, refl, sym, ap, subst, Option, Some, None, false}
 use Rattle.std.specs.Prelude.{option_map}
 use Rattle.ca_value.specs.Seq.{list}
 use Rattle.ca_term.specs.Program.{ProgramView, program_view}
 use Rattle.ca_meaning.specs.Task.{TaskBody}
-use Rattle.ca_journal.specs.Merge.{Numbered, entries, entry_view}
+use Rattle.ca_journal.specs.Merge.{Numbered, entry_view}
 use Rattle.ca_journal.specs.declared.entry.Entry.{Entry}
 use Rattle.ca_states.specs.Code.{CodeView}
 use Rattle.ca_states.specs.ValidCode.{valid_code}
@@ -14,7 +14,7 @@ use Rattle.ca_turns.specs.Views.{stands}
 use Rattle.ca_commit.specs.Contents.{TimersPart}
 use Rattle.ca_commit.specs.declared.held.Held.{Held}
 use Rattle.ca_table.specs.Bearing.{ShowSame}
-use Rattle.ca_table.specs.Carriers.{IsCarrying, just_lane}
+use Rattle.ca_table.specs.Carriers.{IsCarrying}
 use Rattle.ca_table.specs.Carrying.{Carries, at_places}
 use Rattle.ca_table.specs.Draws.{drawn_touches}
 use Rattle.ca_table.specs.Grips.{Grips, SameTurns}

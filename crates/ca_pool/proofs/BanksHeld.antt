@@ -1,6 +1,5 @@
 -- Which banks are held, by the homes for which they were taken.
-use Rattle.std.proofs.Common.{◌≡◌, ◌∙◌, ℕ, ◌<◌, List, ◌∷◌, sym, true, is_some}
-use Rattle.ca_value.specs.Tree.{Tree}
+use Rattle.std.proofs.Common.{◌≡◌, ◌∙◌, ℕ, ◌<◌, true}
 use Rattle.ca_term.specs.Operation.{OpView, choosing, closing, making, posting, printing, putting, registering, spawning, taking}
 use Rattle.ca_meaning.specs.Refusal.{operands_to_make}
 use Rattle.ca_meaning.specs.Wait.{is_among}
@@ -9,7 +8,7 @@ use Rattle.ca_commit.specs.Listing.{listed}
 use Rattle.ca_commit.specs.Listings.{parts}
 use Rattle.ca_commit.specs.Naming.{named_ports, ports_among}
 use Rattle.ca_commit.specs.Numbers.{number_of_bank}
-use Rattle.ca_commit.specs.Showing.{bank_in, channels_held}
+use Rattle.ca_commit.specs.Showing.{bank_in}
 use Rattle.ca_commit.specs.declared.held.Held.{Held}
 use Rattle.ca_commit.proofs.Among.{among_later}
 use Rattle.ca_commit.proofs.Holdings.{home_below}

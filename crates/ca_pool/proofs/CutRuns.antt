@@ -1,5 +1,5 @@
 -- The journal of a run that goes on to a quiet state has an end for each budget, where it is cut.
-use Rattle.std.proofs.Common.{◌≡◌, ◌∙◌, ◌⊎◌, inl, inr, ⊎_elim, ℕ, zero, suc, ◌+◌, ◌-◌, ◌<◌, ◌≤◌, List, [], ◌∷◌, ◌++◌, length, take, refl, sym, ap, subst, arith, Bool, true, false, Option, Some, None, eqb-true}
+use Rattle.std.proofs.Common.{◌≡◌, ◌∙◌, ⊎_elim, ℕ, zero, suc, ◌-◌, ◌<◌, ◌≤◌, List, [], ◌∷◌, ◌++◌, take, refl, sym, ap, subst, arith, Bool, true, false, Option, Some, None, eqb-true}
 use Rattle.std.specs.Prelude.{◌==◌, option_map, nat_le}
 use Rattle.std.proofs.lemmas.Bool.Decides.{nat_tests}
 use Rattle.ca_term.specs.declared.event.Ending.TheVariants.{Ended, Faulted}
@@ -7,17 +7,16 @@ use Rattle.ca_term.specs.Cost.{cost_of}
 use Rattle.ca_term.specs.Event.{EventView, over}
 use Rattle.ca_term.specs.Program.{ProgramView}
 use Rattle.ca_meaning.specs.Cost.{cost}
-use Rattle.ca_meaning.specs.Ends.{EndsWith, HasEnd, IsEnded, IsFaulted, IsOpen, RunEnd, but_last, stuck}
+use Rattle.ca_meaning.specs.Ends.{HasEnd, IsOpen, but_last}
 use Rattle.ca_meaning.specs.EndsLaw.{IsQuiet}
 use Rattle.ca_meaning.specs.Legal.{GoesOn, Legal, Reaches, is_end_of_main}
 use Rattle.ca_meaning.specs.State.{State}
 use Rattle.ca_meaning.specs.Steps.{Steps}
 use Rattle.ca_meaning.proofs.Possible.{quiet_stuck}
-use Rattle.ca_journal.specs.Cut.{End, end_in, end_of, first_end, kept, main_end, one_later, stops}
+use Rattle.ca_journal.specs.Cut.{End, end_in, first_end, kept, main_end, one_later, stops}
 use Rattle.ca_journal.specs.declared.cut.CutAt.{CutAt}
 use Rattle.ca_journal.specs.declared.cut.CutAt.TheVariants.{Limit}
 use Rattle.ca_journal.proofs.Cuts.{cut_ends}
-use Rattle.ca_table.specs.Members.{In}
 use Rattle.ca_pool.specs.PoolEnds.{ended_by}
 use Rattle.ca_table.specs.Worked.{HasMainEnd}
 use Rattle.ca_table.proofs.Having.{false_unless}

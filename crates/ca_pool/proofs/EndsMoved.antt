@@ -1,6 +1,6 @@
 -- The end of the lane's task, which the worker may draw.
 use Rattle.std.proofs.Common.{◌≡◌, ◌∙◌, ℕ, ◌+◌, List, [], ◌∷◌, refl, sym, ap, subst, Bool, true, false, Option, Some, None, eqb, is_some, add-zero}
-use Rattle.std.specs.Prelude.{option_map, ◌==◌}
+use Rattle.std.specs.Prelude.{option_map}
 use Rattle.ca_value.specs.Tree.{Tree}
 use Rattle.ca_term.specs.Cost.{cost_of}
 use Rattle.ca_term.specs.declared.event.Ending.{Ending}

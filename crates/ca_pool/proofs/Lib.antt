@@ -3,6 +3,7 @@ pub mod Asides
 pub mod AtEvents
 pub mod AtWork
 pub mod BanksHeld
+pub mod CutMoments
 pub mod CutRuns
 pub mod Desk
 pub mod EndsMoved

@@ -25,7 +25,6 @@ use Rattle.ca_table.specs.Seen.{PartSeen}
 use Rattle.ca_table.specs.Workers.{SameWorker}
 use Rattle.ca_table.specs.declared.drawn.Drawn.{Drawn}
 use Rattle.ca_table.specs.declared.worker.Worker.{Worker}
-use Rattle.ca_table.proofs.Drawing.{drew_none}
 use Rattle.ca_alone.specs.Schedule.{Follow, HasStopped, MaySettle, StandsAt, to_rest, to_turn}
 use Rattle.ca_alone.proofs.Leading as leading
 use Rattle.ca_alone.proofs.Standings as standings
@@ -207,9 +206,9 @@ module _ {A C : Type 0} (over : CodeView → A → Type 0) (place : A → At) (s
   -- What is left in a call.
   pub running_may_go : {P : Position → Type 0} {most left : ℕ} {found : Bool} {w : Worker A C} → Runs P most left found w → May P most w
   running_may_go {P} {most} {left} {found} {w} r =
-      let d = r.spent.drew in
-      let c : cost (shown_by w.hand.view.turns) ≡ r.spent.spends = ap (λ ts. cost (shown_by ts)) (d.turns ∙ ap (λ ts. ts ++ d.more) r.fresh) ∙ d.costs in
-      let e = r.spent.left_is in let some = r.some in record { at = r.at; below = omega (arith, c, e, some) }
+      let d = r.spent in
+      let c : cost (shown_by w.hand.view.turns) ≡ cost (shown_by d.more) = ap (λ ts. cost (shown_by ts)) (d.turns ∙ ap (λ ts. ts ++ d.more) r.fresh) in
+      let e = d.left_is in let some = r.some in record { at = r.at; below = omega (arith, c, e, some) }
 
   pub running_goes : {P : Position → Type 0} {most left : ℕ} {found : Bool} {w : Worker A C} → Runs P most left found w → Goes P most left found w
   running_goes r = record { first = r.first; fresh = r.fresh; spent = r.spent; at = λ some on. r.at; stopped = λ is. goes_still r.some r.on is }
@@ -229,7 +228,7 @@ module _ {A C : Type 0} (over : CodeView → A → Type 0) (place : A → At) (s
 
   -- no turn was drawn
   pub same_running : {P : Position → Type 0} {most left : ℕ} {found : Bool} {old new : Worker A C} → SameWorker old new → SameTurns old.hand new.hand → Runs P most left found old → Runs P most left found new
-  same_running {P} same turns r = record { first = r.first; fresh = r.fresh; spent = spent_none r.spent (drew_none same turns); some = r.some; on = r.on; at = same_lone {P = P} same turns r.at }
+  same_running {P} same turns r = record { first = r.first; fresh = r.fresh; spent = spent_none same turns r.spent; some = r.some; on = r.on; at = same_lone {P = P} same turns r.at }
 
   -- as the clause `spent` of a call says of what is left
   abbrev pub SpentOn : ℕ → Bool → ℕ → Bool → Worker A C → Worker A C → Type 0

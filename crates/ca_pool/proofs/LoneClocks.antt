@@ -165,4 +165,4 @@ module _ {A C : Type 0} (over : CodeView → A → Type 0) (place : A → At) (s
         (λ p here. leading.ticks over place stands_as advances gives starts advance_law answer_law start_law p (valid_code code) w.hand.view new.hand.view k m (due m c1.deadlines) us
         (standings.stands_as over place stands_as advances gives starts advance_law answer_law start_law p (valid_code code) {P = λ x. MayTick k x × (x.state.deadlines ≡ clock.value.timers.deadlines)} {Q = λ x. MayTick k x × IsDue x.state.deadlines m} w.hand.view
         (λ x e. (e.0, subst (λ (ds : List Deadline). IsDue ds m) (asked.deadlines ∙ sym e.1) is)) (dated {P = MayTick k} p here))
-        turn (λ r c e. subst (λ (t : TimersPart). t.least ≤ m) (some_same shown c (sym was ∙ e)) asked.later) up) may)
+        turn up) may)

@@ -1,13 +1,12 @@
 -- An event of its lane's task that a lone worker draws: what the worker carries tells where that leads in the schedule.
-use Rattle.std.proofs.Common.{◌≡◌, ◌∙◌, ℕ, ◌<◌, ◌≤◌, List, [], ◌∷◌, ◌++◌, refl, sym, ap, subst, Bool, true, false, Option, Some, None, eqb, is_some, eq-eqb}
-use Rattle.std.specs.Prelude.{option_map}
+use Rattle.std.proofs.Common.{◌≡◌, ◌∙◌, ℕ, ◌<◌, List, [], ◌∷◌, ◌++◌, refl, sym, ap, subst, Bool, true, false, Option, Some, eqb, eq-eqb}
 use mathlib.Core.Option as core
 use lib.ListN.{get_elem?}
 use Rattle.ca_value.specs.Tree.{Tree}
 use Rattle.ca_term.specs.declared.event.Ending.{Ending}
 use Rattle.ca_term.specs.declared.event.Ending.TheVariants.{Ended, Faulted}
 use Rattle.ca_term.specs.Event.{EventView, over as over_event}
-use Rattle.ca_term.specs.Operation.{SeedView, WhatView, timeout, unbuffered, fixed, dropping, sliding, promise, mult, mix, publication}
+use Rattle.ca_term.specs.Operation.{SeedView}
 use Rattle.ca_term.specs.Program.{ProgramView, program_view}
 use Rattle.ca_meaning.specs.Body.{At}
 use Rattle.ca_meaning.specs.Cost.{cost}
@@ -23,46 +22,41 @@ use Rattle.ca_turns.specs.Hands.{TableId}
 use Rattle.ca_turns.specs.declared.rule.Turn.{Turn}
 use Rattle.ca_turns.specs.declared.rule.View.{View}
 use Rattle.ca_commit.specs.Applying.{Channels, IsPlanFor, Members, event_of}
-use Rattle.ca_commit.specs.Contents.{Kept, TimersPart, whole}
+use Rattle.ca_commit.specs.Contents.{Kept, whole}
 use Rattle.ca_commit.specs.Planning.{Planned, to_close, to_default, to_do, to_look, to_make, to_meet, to_park, to_post, to_print, to_prune, to_refuse, to_register, to_spawn}
 use Rattle.ca_commit.specs.Showing.{channels_held, registries_held}
 use Rattle.ca_commit.specs.Tasks.{agent_of}
 use Rattle.ca_commit.specs.Touched as said
 use Rattle.ca_commit.specs.declared.held.Held.{Held}
 use Rattle.ca_commit.specs.declared.task.Task.{Task}
-use Rattle.ca_commit.proofs.Seats.{some_same}
-use Rattle.ca_table.specs.Carrying.{lane_place, timers_place}
+use Rattle.ca_table.specs.Carrying.{lane_place}
 use Rattle.ca_table.specs.Draws.{drawn_touches, turn_view}
 use Rattle.ca_table.specs.Grips.{SameHand}
 use Rattle.ca_table.specs.LoneHands.{DrewTurn, HoldsLeft}
-use Rattle.ca_table.specs.Needing.{needs_timers}
-use Rattle.ca_table.specs.Parts.{away, clockwork_seen, lane_seen, part_seen}
+use Rattle.ca_table.specs.Parts.{away, lane_seen, part_seen}
 use Rattle.ca_table.specs.Running.{shown_by}
 use Rattle.ca_table.specs.Seen.{PartSeen}
 use Rattle.ca_table.specs.Workers.{SameWorker, part_of_lane}
 use Rattle.ca_table.specs.declared.drawn.Drawn.{Drawn}
 use Rattle.ca_table.specs.declared.drawn.Turned.{Turned}
-use Rattle.ca_table.specs.declared.part.Contents.TheVariants as V
 use Rattle.ca_table.specs.declared.part.Lane.{Lane}
 use Rattle.ca_table.specs.declared.part.Part.{Part}
 use Rattle.ca_table.specs.declared.worker.Worker.{Worker}
 use Rattle.ca_solo.specs.Positions.{Position}
 use Rattle.ca_solo.specs.Stirs.{stirred}
-use Rattle.ca_alone.specs.Answers.{IsLater}
 use Rattle.ca_alone.specs.Reading.{lane_read}
 use Rattle.ca_alone.specs.Schedule.{HasStopped, MaySettle, StandsAt, to_turn}
 use Rattle.ca_alone.specs.Standing.{ChoosesWell, IsOn}
 use Rattle.ca_alone.specs.Stirring.{stirs_in}
-use Rattle.ca_alone.proofs.HeldDesk.{parts_now, timers_there}
+use Rattle.ca_alone.proofs.HeldDesk.{parts_now}
 use Rattle.ca_alone.proofs.HeldPosition.{with_choice, with_lane, with_plan_stirred, with_stirred}
 use Rattle.ca_alone.proofs.HeldWithin.{LiesIn, carried_lies, carried_settled}
 use Rattle.ca_alone.proofs.Standings.{stands_as as as_kind}
 use Rattle.ca_alone.proofs.Stopping.{makes}
 use Rattle.ca_pool.specs.AtEvent.{HasTaken}
-use Rattle.ca_pool.specs.Desk.{ClockBox, settled_as, taken}
+use Rattle.ca_pool.specs.Desk.{ClockBox, taken}
 use Rattle.ca_pool.specs.Lone.{HasStepped, IsLone, MayGo, Stayed}
-use Rattle.ca_pool.specs.Prepared.{HasGone, IsAsked}
-use Rattle.ca_pool.specs.Preparing.{AskedFor, clock_seen}
+use Rattle.ca_pool.specs.Prepared.{HasGone}
 use Rattle.ca_pool.specs.Stirred.{stirred_at_end, stirred_of}
 use Rattle.ca_pool.proofs.AtEvents.{same_turns}
 use Rattle.ca_pool.proofs.Lone.{drew_turn, lone_same, stayed_same}
@@ -122,34 +116,6 @@ module _ (cs : Channels) (rs : Members) (t u p w m : ℕ) where
   planned_stirs ports (to_prune q side i) = refl
   planned_stirs ports (to_refuse f) = refl
 
-  module _ (c : TimersPart) where
-    made_later : (what : WhatView) → (needs_timers (to_make what) ≡ true → c.least ≤ m) → IsLater (said.shown (event_of cs rs t u p w m (to_make what))) c
-    made_later (timeout n) asked = (asked refl, tt)
-    made_later unbuffered asked = tt
-    made_later (fixed n) asked = tt
-    made_later (dropping n) asked = tt
-    made_later (sliding n) asked = tt
-    made_later promise asked = tt
-    made_later (mult source) asked = tt
-    made_later (mix out changes) asked = tt
-    made_later (publication source) asked = tt
-
-    -- a timeout's moment is no earlier than the clock's
-    planned_later : (q : Planned) → (needs_timers q ≡ true → c.least ≤ m) → IsLater (said.shown (event_of cs rs t u p w m q)) c
-    planned_later (to_make what) asked = made_later what asked
-    planned_later (to_do k b alts) asked = tt
-    planned_later (to_meet k b alts v o) asked = tt
-    planned_later (to_park bs) asked = tt
-    planned_later (to_post bs) asked = tt
-    planned_later (to_default v) asked = tt
-    planned_later (to_spawn kind r) asked = tt
-    planned_later (to_close q) asked = tt
-    planned_later (to_register name args) asked = tt
-    planned_later (to_print line) asked = tt
-    planned_later (to_look v) asked = tt
-    planned_later (to_prune q side i) asked = tt
-    planned_later (to_refuse f) asked = tt
-
 end_stirs : (ports : ℕ → Option Kept) (t : ℕ) (ending : Ending) → stirs_in ports (over_event t ending) ≡ stirred_at_end ending
 end_stirs ports t Ended = refl
 end_stirs ports t (Faulted fault place result) = refl
@@ -157,12 +123,6 @@ end_stirs ports t (Faulted fault place result) = refl
 -- the lane's task may make an event
 is_on : {X : Type 0} (o : Option DeskLane) (task : Option (ℕ × X)) (since : ℕ) (x : ℕ × X) → o ≡ lane_read task since → task ≡ Some x → since < patience → IsOn o
 is_on o task since x e there few = subst IsOn (sym (e ∙ ap (λ k. lane_read k since) there)) few
-
--- a clock that answered m, where it is there
-answered : {C : Type 0} (least faults : C → ℕ) (readings : C → Option (List ℕ)) (clock : Option (ClockBox C)) (m : ℕ) (new : Option TimersPart) → is_some clock ≡ true → AskedFor m (clock_seen least faults readings clock) new
-    → (b : ClockBox C) × (clock ≡ Some b) × ((clockwork_seen least faults readings b.value).least ≤ m)
-answered least faults readings None m new there asked = absurd (let k : false ≡ true = there in cc)
-answered least faults readings (Some b) m new there asked = (b, refl, asked.2.later)
 
 module _ {A C : Type 0} (over : CodeView → A → Type 0) (place : A → At) (stands_as : ProgramView → A → TaskBody → Type 0) (advances : ProgramView → A → A → Type 0) (gives : A → Tree → A → Type 0) (starts : ProgramView → SeedView → A → Type 0)
     (advance_law : Advanced stands_as place advances) (answer_law : Answered stands_as place gives) (start_law : Started stands_as place starts) (least faults : C → ℕ) (readings : C → Option (List ℕ)) (code : ValidCode) (id : TableId) where
@@ -206,12 +166,6 @@ module _ {A C : Type 0} (over : CodeView → A → Type 0) (place : A → At) (s
     lane_on : (x : Position) → x.desk.lane ≡ lane_read (lane_seen l).task (lane_seen l).since → IsOn x.desk.lane
     lane_on x e = is_on x.desk.lane (lane_seen l).task (lane_seen l).since (task.number, gone.left.agent) e gone.left.was (subst (λ (k : ℕ). k < patience) gone.left.since_is few)
 
-    -- the timers, where they are held
-    clock_is : (b : ClockBox C) → clock ≡ Some b → (parts_now view).timers ≡ Some (clockwork_seen least faults readings b.value)
-    clock_is b e =
-        let part : PartSeen A = settled_as shows 1 code (V.Timers b) in let out : ClockBox C → Part A C × PartSeen A = λ t. (away 1 code, settled_as shows 1 code (V.Timers t)) in
-        timers_there view left part (clockwork_seen least faults readings b.value) (carried_settled over stands_as program code id w (taken shows 1 code w.number l clock held) carries timers_place (away 1 code, part) tt (ap (option_map out) e)) refl
-
     -- .. and what may settle after the event
     abbrev Stirred : EventView → Position → Type 0
     Stirred e x = Laned x × (stirred x.state e ≡ stirs_in (whole (channels_held held.banks)) e)
@@ -219,20 +173,20 @@ module _ {A C : Type 0} (over : CodeView → A → Type 0) (place : A → At) (s
     abbrev Facts : EventView → List ℕ → Position → Type 0
     Facts e us x = MaySettle to_turn [] x × IsOn x.desk.lane × (stirred x.state e ≡ us) × ChoosesWell x.state x.desk e
 
-    steps : (e : EventView) (us : List ℕ) (b : Bool) → Here (Facts e us) view → is_of task.number e ≡ true → is_end_of_main e ≡ b → ((c : TimersPart) → (parts_now view).timers ≡ Some c → IsLater (said.shown e) c) → DrewTurn (said.shown e) view v.hand.view
+    steps : (e : EventView) (us : List ℕ) (b : Bool) → Here (Facts e us) view → is_of task.number e ≡ true → is_end_of_main e ≡ b → DrewTurn (said.shown e) view v.hand.view
         → (most : ℕ) → cost (shown_by view.turns) < most → Steps us b most v
-    steps e us b facts is ends later drew most below =
+    steps e us b facts is ends drew most below =
         let lone = lone_same same hand alone in
         let by_program = sym (ap (λ x. program_view x.value) same.program ∙ carries.one.of_program) in
-        let led = makes over place stands_as advances gives starts advance_law answer_law start_law program (valid_code code) view v.hand.view task.number e us facts drew is (λ ran. later) in record {
+        let led = makes over place stands_as advances gives starts advance_law answer_law start_law program (valid_code code) view v.hand.view task.number e us facts drew is in record {
           at = λ k. record { lone = lone; at = subst (λ (p : ProgramView). StandsAt over place stands_as advances gives starts p (valid_code code) (MaySettle to_turn us) v.hand.view) by_program (led.0 (ends ∙ k)) };
           stopped = record { lone = lone; stopped = subst (λ (p : ProgramView). HasStopped over place stands_as advances gives starts p (valid_code code) most v.hand.view) by_program (led.1 most below) };
         }
 
     -- the event of a plan
     planned_steps : (u p k m : ℕ) (q : Planned) (e : EventView) (us : List ℕ) → IsPlanFor place held q (agent_of task) → e ≡ event_of (channels_held held.banks) (registries_held held.banks) task.number u p k m q → us ≡ stirred_of (whole (channels_held held.banks)) q
-        → (needs_timers q ≡ true → (b : ClockBox C) × (clock ≡ Some b) × ((clockwork_seen least faults readings b.value).least ≤ m)) → DrewTurn (said.shown e) view v.hand.view → Here (MaySettle to_turn []) view → (most : ℕ) → cost (shown_by view.turns) < most → Steps us false most v
-    planned_steps u p k m q e us plan is stirs asked drew h most below =
+        → DrewTurn (said.shown e) view v.hand.view → Here (MaySettle to_turn []) view → (most : ℕ) → cost (shown_by view.turns) < most → Steps us false most v
+    planned_steps u p k m q e us plan is stirs drew h most below =
         let cs = channels_held held.banks in let rs = registries_held held.banks in let want = plan.0 in
         let on_it = with_plan_stirred over place stands_as advances gives starts program (valid_code code) view Laned held want (agent_of task).alts task.number u p k m q e lies plan.2 is (laned h) in
         let chosen = with_choice over place stands_as advances gives starts program (valid_code code) view (Stirred e) advance_law left (part_of_lane 1 code l) (lane_seen l) held task.number gone.left.agent (agent_of task) want u p k m q e lane_held refl gone.left.was gone.left.advanced lies plan.1 plan.2 is on_it in
@@ -240,7 +194,6 @@ module _ {A C : Type 0} (over : CodeView → A → Type 0) (place : A → At) (s
         (as_kind over place stands_as advances gives starts advance_law answer_law start_law program (valid_code code) {P = λ x. Stirred e x × ChoosesWell x.state x.desk e} {Q = Facts e us} view (λ x f. (f.0.0.0, lane_on x f.0.0.1, f.0.1 ∙ ap (stirs_in (whole cs)) is ∙ planned_stirs cs rs task.number u p k m (whole cs) q ∙ sym stirs, f.1)) chosen)
         (ap (is_of task.number) is ∙ planned_is_of cs rs task.number u p k m q)
         (ap is_end_of_main is ∙ planned_goes_on cs rs task.number u p k m q)
-        (λ c there. subst (λ (x : EventView). IsLater (said.shown x) c) (sym is) (planned_later cs rs task.number u p k m c q (λ need. let a = asked need in subst (λ (x : TimersPart). x.least ≤ m) (some_same (clockwork_seen least faults readings a.0.value) c (sym (clock_is a.0 a.1) ∙ there)) a.2)))
         drew most below
 
     -- the end of the task
@@ -248,7 +201,7 @@ module _ {A C : Type 0} (over : CodeView → A → Type 0) (place : A → At) (s
     end_steps ending us b stirs main drew h most below =
         let e = over_event task.number ending in let ports = whole (channels_held held.banks) in
         let on_it = with_stirred over place stands_as advances gives starts program (valid_code code) view Laned held e lies tt (laned h) in
-        steps e us b (as_kind over place stands_as advances gives starts advance_law answer_law start_law program (valid_code code) {P = Stirred e} {Q = Facts e us} view (λ x f. (f.0.0, lane_on x f.0.1, f.1 ∙ end_stirs ports task.number ending ∙ sym stirs, tt)) on_it) (self task.number) main (λ c there. tt) drew most below
+        steps e us b (as_kind over place stands_as advances gives starts advance_law answer_law start_law program (valid_code code) {P = Stirred e} {Q = Facts e us} view (λ x f. (f.0.0, lane_on x f.0.1, f.1 ∙ end_stirs ports task.number ending ∙ sym stirs, tt)) on_it) (self task.number) main drew most below
 
   module _ (program : ProgramView) (n : ℕ) (l lane : Lane A) (clock : Option (ClockBox C)) (held : Held A) (w v : Worker A C) (task : Task A) (carries : HasTaken over stands_as code id program n l shows clock held w) (gone : HasGone over advances program code l lane task)
       (same : SameWorker w v) (hand : SameHand w.hand v.hand) (few : lane.since < patience) (most : ℕ) (may : Goes most w) where
@@ -261,11 +214,11 @@ module _ {A C : Type 0} (over : CodeView → A → Type 0) (place : A → At) (s
     drew_shown : (e : EventView) (what : Turned) → turn_view what ≡ said.shown e → Drew1 what w v → DrewTurn (said.shown e) w.hand.view v.hand.view
     drew_shown e what is drew = drew_turn w v (said.shown e) drew.0 hand drew.1 (ap turn_view drew.2 ∙ is)
 
-    -- where the clock has answered for a timeout
-    pub plan_leads : (u : ℕ) (q : Planned) (e : EventView) (us : List ℕ) (clock2 : Option (ClockBox C)) → IsPlanFor place held q (agent_of task) → e ≡ event_of (channels_held held.banks) (registries_held held.banks) task.number u held.new_port held.new_wait held.moment q
-        → us ≡ stirred_of (whole (channels_held held.banks)) q → IsAsked least faults readings q clock clock2 held → (what : Turned) → turn_view what ≡ said.shown e → Drew1 what w v → Steps us false most v
-    plan_leads u q e us clock2 plan is stirs asked what shows_it drew = planned_steps program l lane clock held w v task by_one gone may.at.lone same hand few u held.new_port held.new_wait held.moment q e us plan is stirs
-        (λ need. answered least faults readings clock held.moment _ (asked.needed ∙ need) asked.asked) (drew_shown e what shows_it drew) stands_there most may.below
+    -- an event of a plan
+    pub plan_leads : (u : ℕ) (q : Planned) (e : EventView) (us : List ℕ) → IsPlanFor place held q (agent_of task) → e ≡ event_of (channels_held held.banks) (registries_held held.banks) task.number u held.new_port held.new_wait held.moment q
+        → us ≡ stirred_of (whole (channels_held held.banks)) q → (what : Turned) → turn_view what ≡ said.shown e → Drew1 what w v → Steps us false most v
+    plan_leads u q e us plan is stirs what shows_it drew = planned_steps program l lane clock held w v task by_one gone may.at.lone same hand few u held.new_port held.new_wait held.moment q e us plan is stirs
+        (drew_shown e what shows_it drew) stands_there most may.below
 
     pub end_leads : (ending : Ending) (us : List ℕ) (b : Bool) → us ≡ stirred_at_end ending → is_end_of_main (over_event task.number ending) ≡ b → (what : Turned) → turn_view what ≡ said.shown (over_event task.number ending) → Drew1 what w v → Steps us b most v
     end_leads ending us b stirs main what shows_it drew = end_steps program l lane clock held w v task by_one gone may.at.lone same hand few ending us b stirs main (drew_shown (over_event task.number ending) what shows_it drew) stands_there most may.below

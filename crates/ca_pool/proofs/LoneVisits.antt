@@ -1,5 +1,5 @@
 -- A lone worker's visits to its lane: what it holds tells its position, and its own turns lead on.
-use Rattle.std.proofs.Common.{◌≡◌, ◌∙◌, ◌⊎◌, inl, inr, ⊎_elim, ℕ, ◌+◌, ◌-◌, ◌<◌, ◌≤◌, List, [], ◌∷◌, refl, sym, ap, subst, arith, Bool, true, false, Option, Some, None, Result, Ok, Err, IfOk, eqb}
+use Rattle.std.proofs.Common.{◌≡◌, ◌∙◌, ◌⊎◌, inr, ⊎_elim, ℕ, ◌+◌, ◌-◌, ◌<◌, ◌≤◌, List, [], refl, sym, ap, subst, arith, Bool, true, false, Option, Some, None, Result, Ok, Err, IfOk, eqb}
 use Rattle.std.specs.Prelude.{◌||◌, IsSome, is_some, option_map}
 use Rattle.std.specs.Map.{update}
 use Rattle.std.proofs.lemmas.Map.{update_here}
@@ -30,7 +30,6 @@ use Rattle.ca_table.specs.Worked.{Drew}
 use Rattle.ca_table.specs.Workers.{IsReady, SameWorker, part_of_lane}
 use Rattle.ca_table.specs.declared.part.Lane.{Lane}
 use Rattle.ca_table.specs.declared.worker.Worker.{Worker}
-use Rattle.ca_table.proofs.Drawing.{drew_none}
 use Rattle.ca_table.proofs.Gripping.{fit}
 use Rattle.ca_alone.specs.Reading.{lane_read}
 use Rattle.ca_alone.specs.Schedule.{AtEmpty, AtFree, AtPicked, HasStopped, IsFull, MaySettle, to_rest, to_turn}
@@ -43,7 +42,7 @@ use Rattle.ca_pool.specs.Costs.{cost_asked, is_marked}
 use Rattle.ca_pool.specs.Lone.{HasAsked, IsGoing, IsLone, IsRunning, LoneAt, LoneStopped}
 use Rattle.ca_pool.specs.declared.clocking.Asked.{Asked}
 use Rattle.ca_pool.specs.declared.clocking.Asked.TheVariants as Clocked
-use Rattle.ca_pool.proofs.AtWork.{some_of, spent_none}
+use Rattle.ca_pool.proofs.AtWork.{some_of, spent_first, spent_quiet}
 use Rattle.ca_pool.proofs.Lone as lone
 
 -- what a call that may fail says follows
@@ -125,11 +124,11 @@ module _ {A C : Type 0} (over : CodeView → A → Type 0) (place : A → At) (s
       }
 
       -- its task stands back
-      pub goes_back : {most left : ℕ} {found : Bool} → Drew 0 false w new → IsSome lane.task → (0 < left → found ≡ false → (lane.task ≡ None) ⊎ (patience ≤ lane.since)) → Goes (MaySettle to_turn []) most left found w → Goes AtFree most left found new
-      goes_back drew busy full g = record {
+      pub goes_back : {most left : ℕ} {found : Bool} → found ≡ false → Drew 0 false w new → IsSome lane.task → (0 < left → found ≡ false → (lane.task ≡ None) ⊎ (patience ≤ lane.since)) → Goes (MaySettle to_turn []) most left found w → Goes AtFree most left found new
+      goes_back on drew busy full g = record {
         first = g.first;
         fresh = g.fresh;
-        spent = spent_none g.spent drew;
+        spent = spent_quiet on g.spent drew;
         at = λ some on. ⊎_elim
             (λ none. absurd (let t = some_of lane.task busy in let z : None ≡ Some t.0 = sym none ∙ t.1 in cc))
             (λ le. lone.lone_by over place stands_as advances gives starts advance_law answer_law start_law code {P = λ (x : Position). MaySettle to_turn [] x × IsFull x.desk.lane} {Q = AtFree} same hand
@@ -144,7 +143,7 @@ module _ {A C : Type 0} (over : CodeView → A → Type 0) (place : A → At) (s
         let one = r.at.lone.0 in let zero_is : at ≡ 0 = omega (arith, below, one) in record {
           first = r.first;
           fresh = r.fresh;
-          spent = spent_none r.spent drew;
+          spent = spent_quiet r.on r.spent drew;
           some = r.some;
           on = r.on;
           at = lone.lone_by over place stands_as advances gives starts advance_law answer_law start_law code {P = AtFree} {Q = AtPicked} same hand
@@ -169,7 +168,7 @@ module _ {A C : Type 0} (over : CodeView → A → Type 0) (place : A → At) (s
         lone.running_goes over place stands_as advances gives starts advance_law answer_law start_law code {P = AtFree} (record {
           first = old;
           fresh = fresh;
-          spent = record { spends = 0; drew = drew_none same turns; left_is = omega arith };
+          spent = spent_first same turns;
           some = some;
           on = refl;
           at = lone.same_lone over place stands_as advances gives starts advance_law answer_law start_law code {P = AtFree} same turns begun;

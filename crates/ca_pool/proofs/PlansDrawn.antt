@@ -1,5 +1,5 @@
 -- The event of a plan that was applied to what a worker has taken: the worker may draw it.
-use Rattle.std.proofs.Common.{◌≡◌, ◌∙◌, ℕ, ◌+◌, ◌<◌, ◌≤◌, List, ◌∷◌, ◌++◌, [], refl, sym, ap, subst, arith, Bool, true, false, Option, Some, None, is_some}
+use Rattle.std.proofs.Common.{◌≡◌, ◌∙◌, ℕ, ◌+◌, ◌≤◌, List, ◌∷◌, ◌++◌, [], refl, sym, ap, subst, arith, true, false, Option, Some, None, is_some}
 use Rattle.std.specs.Prelude.{option_map}
 use Rattle.ca_value.specs.Tree.{Tree}
 use Rattle.ca_timers.specs.Timers.{TimersView}
@@ -15,16 +15,15 @@ use Rattle.ca_states.specs.ValidCode.{valid_code}
 use Rattle.ca_states.specs.declared.valid_code.ValidCode.{ValidCode}
 use Rattle.ca_agent.specs.Agents.{Stays}
 use Rattle.ca_turns.specs.Hands.{TableId}
-use Rattle.ca_commit.specs.Agents.{TaskAgent, advances_of, starts_of}
+use Rattle.ca_commit.specs.Agents.{TaskAgent, advances_of}
 use Rattle.ca_commit.specs.Applying.{IsTimely, ReadyBy, RunsBy, event_of, number_of, times_by}
 use Rattle.ca_commit.specs.Contents.{Counts, LaneView, Parked, TimersPart, nobody, owner, whole}
-use Rattle.ca_commit.specs.EventMoves.{TimesMade, times as times_seen}
-use Rattle.ca_commit.specs.NewPort.{IsNoEarlier, Times, timed, times_in, times_of}
+use Rattle.ca_commit.specs.EventMoves.{TimesMade}
+use Rattle.ca_commit.specs.NewPort.{IsNoEarlier, timed, times_in, times_of}
 use Rattle.ca_commit.specs.PlanMoves.{TimesTo, counts_by, next_port, next_task, next_wait}
 use Rattle.ca_commit.specs.Planning.{Planned, to_close, to_default, to_do, to_look, to_make, to_meet, to_park, to_post, to_print, to_prune, to_refuse, to_register, to_spawn}
 use Rattle.ca_commit.specs.Plans.{plan_view}
 use Rattle.ca_commit.specs.Showing.{channels_held, registries_held, waits_held}
-use Rattle.ca_commit.specs.TaskMoves.{Reads}
 use Rattle.ca_commit.specs.Tasks.{agent_of, task_view, tasks_in}
 use Rattle.ca_commit.specs.Touched.{shown}
 use Rattle.ca_commit.specs.Waking.{WakesBy, passing, ready_in}
@@ -36,10 +35,8 @@ use Rattle.ca_table.specs.Committing.{IsDone, IsDue}
 use Rattle.ca_table.specs.Needing.{is_timeout, needs_ready, needs_timers}
 use Rattle.ca_table.specs.OneCode.{advances_over, gives_over, starts_over}
 use Rattle.ca_table.specs.Parts.{clockwork_seen, counts_view, lane_seen, part_seen}
-use Rattle.ca_table.specs.Seen.{PartSeen, lane_of_seen}
-use Rattle.ca_table.specs.declared.part.Counts.{Counts as CountsHeld}
+use Rattle.ca_table.specs.Seen.{lane_of_seen}
 use Rattle.ca_table.specs.declared.part.Lane.{Lane}
-use Rattle.ca_table.specs.declared.part.Part.{Part}
 use Rattle.ca_table.specs.declared.worker.Worker.{Worker}
 use Rattle.ca_table.proofs.Committed.{commit_moved}
 use Rattle.ca_table.proofs.Lifted.{ready_more, runs_more}
@@ -85,7 +82,7 @@ module _ {C : Type 0} (least faults : C → ℕ) (readings : C → Option (List 
         (let l = answered.later in omega (arith, early_s, l)),
         answered.bound,
         came ∙ ap (timed p (timeout n) m) (λ i. record { deadlines = answered.deadlines i; now = answered.now i }),
-        record { now = ap (λ z. z.now) came; least = answered.least; faults = answered.faults; readings = answered.readings; mark = answered.mark },
+        record { now = ap (λ z. z.now) came; later = answered.later; least = answered.least; faults = answered.faults; readings = answered.readings; mark = answered.mark },
       )
 
   timed_what : (what : WhatView) (s : Option TimersPart) (clock : Option (ClockBox C)) (old new : Option TimersView) → is_some s ≡ is_timeout what → is_some old ≡ is_some s → ((c : TimersPart) → s ≡ Some c → c.now ≤ c.least) → AskedFor m s (timed_with clock old) → times_in new ≡ option_map (timed p what m) (times_in old) → TimesMade p what m s (timed_with clock new)

@@ -1,13 +1,13 @@
 -- What is true of a plan over what was held for it stays true once the event's other parts are taken, and all is made.
-use Rattle.std.proofs.Common.{◌≡◌, ◌∙◌, ℕ, ◌<◌, List, [], ◌∷◌, refl, sym, ap, subst, true, Option, Some, None, is_some, eq-eqb}
-use Rattle.std.specs.Prelude.{IfSome, cond, eqb, option_map}
-use Rattle.ca_term.specs.Operation.{OpView, WantView, making}
-use Rattle.ca_meaning.specs.Body.{At, at_op}
+use Rattle.std.proofs.Common.{◌≡◌, ◌∙◌, ℕ, refl, sym, ap, subst, true, Option, Some, None, is_some}
+use Rattle.std.specs.Prelude.{IfSome}
+use Rattle.ca_term.specs.Operation.{OpView}
+use Rattle.ca_meaning.specs.Body.{At}
 use Rattle.ca_meaning.specs.Refusal.{operands_to_make}
 use Rattle.ca_meaning.specs.Registry.{Registry}
 use Rattle.ca_meaning.specs.Wait.{is_among}
 use Rattle.ca_commit.specs.Agents.{TaskAgent}
-use Rattle.ca_commit.specs.Applying.{IsEvent, IsPlanFor, KeepsApart}
+use Rattle.ca_commit.specs.Applying.{IsPlanFor, KeepsApart}
 use Rattle.ca_commit.specs.Contents.{Counts, Kept, Parked, home, whole}
 use Rattle.ca_commit.specs.Deciding.{PlanTells}
 use Rattle.ca_commit.specs.Finding.{glance}

@@ -1,6 +1,5 @@
 -- What is made and asked for a plan's event leaves what is held as it was, as far as others see it.
-use Rattle.std.proofs.Common.{◌≡◌, ◌∙◌, ℕ, ◌<◌, ◌≤◌, ◌^◌, List, ◌∷◌, ◌++◌, [], refl, sym, ap, subst, Bool, true, false, Option, Some, None, is_some}
-use Rattle.std.specs.Prelude.{IsSome, option_map}
+use Rattle.std.proofs.Common.{◌≡◌, ◌∙◌, ℕ, ◌<◌, ◌≤◌, ◌^◌, List, refl, sym, ap, subst, Option, Some, None, is_some}
 use Rattle.ca_timers.specs.Readings.{Tells}
 use Rattle.ca_timers.specs.Timers.{TimersView}
 use Rattle.ca_term.specs.Operation.{SeedView, WantView, WhatView, dropping, fixed, mix, mult, promise, publication, sliding, spawning, timeout, unbuffered}

@@ -1,12 +1,11 @@
 -- What calls that hold parts for an operation come to, one after another.
-use Rattle.std.proofs.Common.{◌≡◌, ◌∙◌, ℕ, ◌<◌, ◌≤◌, refl, sym, ap, subst, rules, Bool, true, false, cond, Option, Some, None, Result, Ok, Err, eqb, is_some}
-use Rattle.std.specs.Prelude.{IfOk, OnErr, OnOk, option_map}
+use Rattle.std.proofs.Common.{◌≡◌, ◌∙◌, ℕ, refl, ap, subst, Bool, true, Result, Ok, Err}
+use Rattle.std.specs.Prelude.{IfOk, OnErr, OnOk}
 use Rattle.ca_value.specs.declared.value.PortId.{PortId}
 use Rattle.ca_term.specs.declared.event.Side.{Side}
 use Rattle.ca_term.specs.declared.fault.Fault.{Fault}
-use Rattle.ca_term.specs.Operation.{OpView, WantView, making}
 use Rattle.ca_term.specs.Program.{ProgramView}
-use Rattle.ca_meaning.specs.Body.{At, at_op}
+use Rattle.ca_meaning.specs.Body.{At}
 use Rattle.ca_meaning.specs.Task.{TaskBody}
 use Rattle.ca_meaning.specs.Wait.{is_among}
 use Rattle.ca_states.specs.Code.{CodeView}
@@ -16,8 +15,6 @@ use Rattle.ca_commit.specs.Applying.{IsEvent}
 use Rattle.ca_commit.specs.Contents.{home}
 use Rattle.ca_commit.specs.Planning.{Planned, to_close, to_default, to_do, to_look, to_make, to_meet, to_park, to_post, to_print, to_prune, to_refuse, to_register, to_spawn}
 use Rattle.ca_commit.specs.Plans.{plan_view}
-use Rattle.ca_commit.specs.Running.{Placed}
-use Rattle.ca_commit.specs.Showing.{channels_held}
 use Rattle.ca_commit.specs.declared.held.Held.{Held}
 use Rattle.ca_commit.specs.declared.planned.Plan.{Plan}
 use Rattle.ca_commit.specs.declared.planned.Plan.TheVariants as P
@@ -30,7 +27,7 @@ use Rattle.ca_table.specs.declared.homes.Homes.{Homes}
 use Rattle.ca_table.specs.declared.part.Lane.{Lane}
 use Rattle.ca_table.specs.declared.part.Part.{Part}
 use Rattle.ca_table.specs.declared.worker.Worker.{Worker}
-use Rattle.ca_pool.specs.Desk.{SameNumbers, holds_banks, holds_shards}
+use Rattle.ca_pool.specs.Desk.{SameNumbers, holds_shards}
 use Rattle.ca_pool.specs.Named.{ports_to_hold}
 use Rattle.ca_pool.specs.Resolving.{HoldsNamed, HoldsThese, IsDecided, IsSeen, LeftOff, Took, Wants}
 use Rattle.ca_pool.proofs.BanksHeld.{has_banks}

@@ -1,5 +1,5 @@
 -- What the calls of all workers come to together.
-use Rattle.std.proofs.Common.{◌≡◌, ◌∙◌, ◌⊎◌, inl, inr, ⊎_elim, ℕ, zero, suc, ◌+◌, ◌*◌, ◌<◌, ◌≤◌, List, [], ◌∷◌, All, length, refl, sym, ap, ap₂, subst, arith, Bool, true, false, Result, Ok, Err, IfOk, suc-mul, zero-mul}
+use Rattle.std.proofs.Common.{◌≡◌, ◌∙◌, ◌⊎◌, inl, inr, ⊎_elim, ℕ, zero, suc, ◌+◌, ◌*◌, ◌<◌, ◌≤◌, List, [], ◌∷◌, All, length, refl, sym, ap, ap₂, subst, arith, Bool, true, false, Ok, Err, IfOk, suc-mul, zero-mul}
 use Rattle.std.specs.Prelude.{◌||◌, OnOk, slice_index_or}
 use Rattle.ca_value.specs.Tree.{Tree}
 use Rattle.ca_term.specs.Operation.{SeedView}
@@ -10,20 +10,26 @@ use Rattle.ca_states.specs.Code.{CodeView}
 use Rattle.ca_states.specs.declared.valid_code.ValidCode.{ValidCode}
 use Rattle.ca_turns.specs.Hands.{TableId}
 use Rattle.ca_turns.specs.Places.{total}
-use Rattle.ca_pool.specs.Answers.{Answer, BeginsAlone, IsWorked, StopsAlone, WorkedAlone, WorkedAloneAt, WorkedAt, joined, joined_from}
+use Rattle.ca_journal.specs.Merge.{entries}
+use Rattle.ca_pool.specs.Answers.{Answer, BeginsAlone, EachWorked, IsWorked, StopsAlone, WorkedAlone, WorkedAloneAt, WorkedAt, joined, joined_from}
 use Rattle.ca_pool.specs.Lone.{IsLone, LoneStopped}
 use Rattle.ca_table.specs.Seen.{PartSeen}
-use Rattle.ca_table.specs.Worked.{HasWorked, any_drew, gives_up, has_drawn, leaves, spent}
-use Rattle.ca_table.specs.Workers.{IsReady, stands_for}
+use Rattle.ca_table.specs.Worked.{HasWorked, any_drew, fails_clock, gives_up, has, has_drawn, leaves, spent}
+use Rattle.ca_table.specs.Workers.{IsReady, noted, stands_for}
 use Rattle.ca_table.specs.declared.worker.Worker.{Worker}
 use Rattle.ca_table.specs.declared.answer.PoolStop.TheVariants.{ClockFailed, OutOfMemory}
 use Rattle.ca_table.specs.declared.answer.WorkEnd.{WorkEnd}
 use Rattle.ca_table.specs.declared.answer.WorkEnd.TheVariants.{Over, Spent}
-use Rattle.ca_table.proofs.Having.{both_false, first_true, second_true}
+use Rattle.ca_table.proofs.Drawing.{found_end, goes_on, spent_more}
+use Rattle.ca_table.proofs.Having.{both_false, first_true, has_append, second_true}
 
 pub on_ok : (r : Answer) (P : Type 0) → ((e : WorkEnd) → r ≡ Ok e → P) → OnOk r P
 on_ok (Ok e) P f = f e refl
 on_ok (Err x) P f = tt
+
+pub any_ok : {P : Type 0} (r : Answer) → P → OnOk r P
+any_ok (Ok e) p = p
+any_ok (Err x) p = tt
 
 pub if_ok : (r : Answer) (P : WorkEnd → Type 0) → ((e : WorkEnd) → r ≡ Ok e → P e) → IfOk r P
 if_ok (Ok e) P f = f e refl
@@ -65,6 +71,22 @@ one_over (Ok f) (Err x) h = absurd (let z : Err x ≡ Ok Over = h in cc)
 one_over (Ok f) (Ok Spent) h = inl h
 one_over (Ok f) (Ok Over) h = inr refl
 
+-- the clock failed for one of two, and neither wants memory
+abbrev Lasts : Answer → Type 0
+Lasts a = Comes a ⊎ (a ≡ Err ClockFailed)
+
+both_last : (a b : Answer) → joined a b ≡ Err ClockFailed → Lasts a × Lasts b × ((a ≡ Err ClockFailed) ⊎ (b ≡ Err ClockFailed))
+both_last (Err OutOfMemory) b h = absurd (let z : Err OutOfMemory ≡ Err ClockFailed = h in cc)
+both_last (Err ClockFailed) (Err OutOfMemory) h = absurd (let z : Err OutOfMemory ≡ Err ClockFailed = h in cc)
+both_last (Err ClockFailed) (Err ClockFailed) h = (inr refl, inr refl, inl refl)
+both_last (Err ClockFailed) (Ok f) h = (inr refl, inl (f, refl), inl refl)
+both_last (Ok f) (Err x) h = (inl (f, refl), inr h, inr h)
+both_last (Ok f) (Ok Spent) h = absurd (let z : Ok f ≡ Err ClockFailed = h in cc)
+both_last (Ok f) (Ok Over) h = absurd (let z : Ok Over ≡ Err ClockFailed = h in cc)
+
+both_lasting : (a b : Answer) → Lasts (joined a b) → Lasts a × Lasts b
+both_lasting a b h = ⊎_elim (λ k. let r = both_come a b k.0 k.1 in (inl r.0, inl r.1)) (λ k. let r = both_last a b k in (r.0, r.1)) h
+
 module _ {A C : Type 0} where
   -- each answer is a run's end
   abbrev AllCome : List (Worker A C) → Type 0
@@ -74,6 +96,14 @@ module _ {A C : Type 0} where
   abbrev AllSpent : List (Worker A C) → Type 0
   AllSpent [] = Unit {0}
   AllSpent (w ∷ ws) = (w.answer ≡ Ok Spent) × AllSpent ws
+
+  abbrev AllLast : List (Worker A C) → Type 0
+  AllLast [] = Unit {0}
+  AllLast (w ∷ ws) = Lasts w.answer × AllLast ws
+
+  abbrev SomeFailed : List (Worker A C) → Type 0
+  SomeFailed [] = ⊥
+  SomeFailed (w ∷ ws) = (w.answer ≡ Err ClockFailed) ⊎ SomeFailed ws
 
   abbrev SomeOver : List (Worker A C) → Type 0
   SomeOver [] = ⊥
@@ -96,76 +126,135 @@ module _ {A C : Type 0} where
   some_over a [] h = inl h
   some_over a (w ∷ ws) h = ⊎_elim (λ k. ⊎_elim inl (λ q. inr (inl q)) (one_over a w.answer k)) (λ k. inr (inr k)) (some_over (joined a w.answer) ws h)
 
+  all_last : (a : Answer) (ws : List (Worker A C)) → Lasts (joined_from a ws) → Lasts a × AllLast ws
+  all_last a [] h = (h, tt)
+  all_last a (w ∷ ws) h = let r = all_last (joined a w.answer) ws h in let b = both_lasting a w.answer r.0 in (b.0, (b.1, r.1))
+
+  some_failed : (a : Answer) (ws : List (Worker A C)) → joined_from a ws ≡ Err ClockFailed → (a ≡ Err ClockFailed) ⊎ SomeFailed ws
+  some_failed a [] h = inl h
+  some_failed a (w ∷ ws) h = ⊎_elim (λ k. ⊎_elim inl (λ q. inr (inl q)) (both_last a w.answer k).2) (λ k. inr (inr k)) (some_failed (joined a w.answer) ws h)
+
+  -- what each worker's call did, one after another
+  abbrev Pairs : ℕ → List (Worker A C) → List (Worker A C) → Type 0
+  Pairs allowance [] [] = Unit {0}
+  Pairs allowance [] (y ∷ ys) = ⊥
+  Pairs allowance (x ∷ xs) [] = ⊥
+  Pairs allowance (x ∷ xs) (y ∷ ys) = HasWorked allowance y.answer x y × Pairs allowance xs ys
+
+  pairs : (allowance : ℕ) (xs ys : List (Worker A C)) → length ys ≡ length xs → EachWorked allowance xs ys → Pairs allowance xs ys
+  pairs allowance [] [] e h = tt
+  pairs allowance [] (y ∷ ys) e h = absurd (omega (arith, e))
+  pairs allowance (x ∷ xs) [] e h = absurd (omega (arith, e))
+  pairs allowance (x ∷ xs) (y ∷ ys) e h = (h 0 x (omega arith), pairs allowance xs ys (omega (arith, e)) (λ k d lt. h (suc k) d (omega (arith, lt))))
+
+  -- a call with that answer
+  answering : {allowance : ℕ} {x y : Worker A C} (a : Answer) → y.answer ≡ a → HasWorked allowance y.answer x y → HasWorked allowance a x y
+  answering {allowance} {x} {y} a is h = subst (λ (b : Answer). HasWorked allowance b x y) is h
+
+  stay_each : (allowance : ℕ) (xs ys : List (Worker A C)) → Pairs allowance xs ys → total stands_for ys ≡ total stands_for xs
+  stay_each allowance [] [] p = refl
+  stay_each allowance [] (y ∷ ys) p = absurd p
+  stay_each allowance (x ∷ xs) [] p = absurd p
+  stay_each allowance (x ∷ xs) (y ∷ ys) p = ap₂ (λ (a b : ℕ). a + b) p.0.stays_for (stay_each allowance xs ys p.1)
+
+  none_gave : (allowance : ℕ) (xs ys : List (Worker A C)) → Pairs allowance xs ys → AllCome ys → any_drew gives_up xs ≡ false → any_drew gives_up ys ≡ false
+  none_gave allowance [] [] p all e = e
+  none_gave allowance [] (y ∷ ys) p all e = absurd p
+  none_gave allowance (x ∷ xs) [] p all e = absurd p
+  none_gave allowance (x ∷ xs) (y ∷ ys) p all e = let b = both_false (has_drawn gives_up x) (any_drew gives_up xs) e in
+      ap₂ (λ (c d : Bool). c || d) (goes_on all.0.0 (answering (Ok all.0.0) all.0.1 p.0) b.0) (none_gave allowance xs ys p.1 all.1 b.1)
+
+  -- it noted what it drew
+  abbrev Notes : Worker A C → Type 0
+  Notes w = entries w.entries ≡ noted w.hand.view.turns
+
+  spent_one : (allowance : ℕ) (x y : Worker A C) → Notes x → Notes y → HasWorked allowance (Ok Spent) x y → allowance + spent x ≤ spent y
+  spent_one allowance x y before after h = let all = spent_more x y h.more h.drew before after in let k = h.answers.1 in omega (arith, all, k)
+
+  spent_each : (allowance : ℕ) (xs ys : List (Worker A C)) → Pairs allowance xs ys → AllSpent ys → All Notes xs → All Notes ys → length xs * allowance + total spent xs ≤ total spent ys
+  spent_each allowance [] [] p all before after = subst (λ (m : ℕ). m + 0 ≤ 0) (sym (zero-mul allowance)) (omega arith)
+  spent_each allowance [] (y ∷ ys) p all before after = absurd p
+  spent_each allowance (x ∷ xs) [] p all before after = absurd p
+  spent_each allowance (x ∷ xs) (y ∷ ys) p all before after = subst (λ (m : ℕ). m + (spent x + total spent xs) ≤ spent y + total spent ys) (sym (suc-mul (length xs) allowance))
+      (one_more (length xs * allowance) (spent_one allowance x y (before 0 x (omega arith)) (after 0 x (omega arith)) (answering (Ok Spent) all.0 p.0))
+      (spent_each allowance xs ys p.1 all.1 (λ k d lt. before (suc k) d (omega (arith, lt))) (λ k d lt. after (suc k) d (omega (arith, lt))))) where
+        one_more : (m : ℕ) → allowance + spent x ≤ spent y → m + total spent xs ≤ total spent ys → (m + allowance) + (spent x + total spent xs) ≤ spent y + total spent ys
+        one_more m a b = omega (arith, a, b)
+
+  over_each : (allowance : ℕ) (xs ys : List (Worker A C)) → Pairs allowance xs ys → SomeOver ys → any_drew leaves ys ≡ true
+  over_each allowance [] [] p some = absurd some
+  over_each allowance [] (y ∷ ys) p some = absurd p
+  over_each allowance (x ∷ xs) [] p some = absurd p
+  over_each allowance (x ∷ xs) (y ∷ ys) p some = ⊎_elim
+      (λ is. first_true (has_drawn leaves y) (any_drew leaves ys) (found_end (answering (Ok Over) is p.0)))
+      (λ k. second_true (has_drawn leaves y) (any_drew leaves ys) (over_each allowance xs ys p.1 k)) some
+
+  failed_one : (allowance : ℕ) (x y : Worker A C) → HasWorked allowance (Err ClockFailed) x y → has_drawn fails_clock y ≡ true
+  failed_one allowance x y h = ap (has fails_clock) h.drew ∙ has_append fails_clock x.hand.view.turns h.more ∙ second_true (has fails_clock x.hand.view.turns) (has fails_clock h.more) h.answers.0
+
+  failed_each : (allowance : ℕ) (xs ys : List (Worker A C)) → Pairs allowance xs ys → SomeFailed ys → any_drew fails_clock ys ≡ true
+  failed_each allowance [] [] p some = absurd some
+  failed_each allowance [] (y ∷ ys) p some = absurd p
+  failed_each allowance (x ∷ xs) [] p some = absurd p
+  failed_each allowance (x ∷ xs) (y ∷ ys) p some = ⊎_elim
+      (λ is. first_true (has_drawn fails_clock y) (any_drew fails_clock ys) (failed_one allowance x y (answering (Err ClockFailed) is p.0)))
+      (λ k. second_true (has_drawn fails_clock y) (any_drew fails_clock ys) (failed_each allowance xs ys p.1 k)) some
+
 module _ {A C : Type 0} (over : CodeView → A → Type 0) (stands_as : ProgramView → A → TaskBody → Type 0) (program : ProgramView) (code : CodeView) (id : TableId) (n allowance : ℕ) where
-  abbrev Worked : Worker A C → Worker A C → Type 0
-  Worked = IsWorked over stands_as program code id n allowance
+  -- what a round says of its workers, before and after it
+  pub record IsRound (r : Answer) (xs ys : List (Worker A C)) : Type 0 where
+    pub before : All (IsReady over stands_as program code id n) xs
+    pub many : length ys ≡ length xs
+    pub ready : OnOk r (All (IsReady over stands_as program code id n) ys)
+    pub failed : r ≡ Err ClockFailed → All (IsReady over stands_as program code id n) ys
+    pub worked : EachWorked allowance xs ys
+    pub answer : r ≡ joined_from (Ok Spent) ys
 
-  abbrev Pairs : List (Worker A C) → List (Worker A C) → Type 0
-  Pairs [] [] = Unit {0}
-  Pairs [] (y ∷ ys) = ⊥
-  Pairs (x ∷ xs) [] = ⊥
-  Pairs (x ∷ xs) (y ∷ ys) = Worked x y × Pairs xs ys
+  module _ (r : Answer) (xs ys : List (Worker A C)) where
+    last_at : (ws : List (Worker A C)) → AllLast ws → (k : ℕ) (d : Worker A C) → k < length ws → Lasts (slice_index_or ws k d).answer
+    last_at [] all k d lt = absurd (omega (arith, lt))
+    last_at (w ∷ ws) all zero d lt = all.0
+    last_at (w ∷ ws) all (suc k) d lt = last_at ws all.1 k d (omega (arith, lt))
 
-  pairs : (xs ys : List (Worker A C)) → length ys ≡ length xs → WorkedAt over stands_as program code id n allowance xs ys → Pairs xs ys
-  pairs [] [] e h = tt
-  pairs [] (y ∷ ys) e h = absurd (omega (arith, e))
-  pairs (x ∷ xs) [] e h = absurd (omega (arith, e))
-  pairs (x ∷ xs) (y ∷ ys) e h = (h 0 x (omega arith), pairs xs ys (omega (arith, e)) (λ k d lt. h (suc k) d (omega (arith, lt))))
+    -- where none wants memory, each gave all back
+    ready_all : length ys ≡ length xs → WorkedAt over stands_as program code id n allowance xs ys → AllLast ys → All (IsReady over stands_as program code id n) ys
+    ready_all many worked all k d lt = let y = slice_index_or ys k d in let h = worked k d (omega (arith, lt, many)) in
+        ⊎_elim (λ come. of_ok y.answer (IsReady over stands_as program code id n y) come.0 come.1 h.ready) h.failed (last_at ys all k d lt)
 
-  ready_each : (xs ys : List (Worker A C)) → Pairs xs ys → AllCome ys → All (IsReady over stands_as program code id n) ys
-  ready_each [] [] p all k d lt = absurd (omega (arith, lt))
-  ready_each [] (y ∷ ys) p all k d lt = absurd p
-  ready_each (x ∷ xs) [] p all k d lt = absurd p
-  ready_each (x ∷ xs) (y ∷ ys) p all zero d lt = of_ok y.answer (IsReady over stands_as program code id n y) all.0.0 all.0.1 p.0.ready
-  ready_each (x ∷ xs) (y ∷ ys) p all (suc k) d lt = ready_each xs ys p.1 all.1 k d (omega (arith, lt))
+    pub round_of_all : All (IsReady over stands_as program code id n) xs → r ≡ joined_from (Ok Spent) ys → length ys ≡ length xs → WorkedAt over stands_as program code id n allowance xs ys → IsRound r xs ys
+    round_of_all before is many worked = record {
+      before = before;
+      many = many;
+      ready = on_ok r _ (λ e k. ready_all many worked (all_last (Ok Spent) ys (inl (e, sym is ∙ k))).1);
+      failed = λ k. ready_all many worked (all_last (Ok Spent) ys (inr (sym is ∙ k))).1;
+      worked = λ k d lt. (worked k d lt).worked;
+      answer = is;
+    }
 
-  stay_each : (xs ys : List (Worker A C)) → Pairs xs ys → AllCome ys → total stands_for ys ≡ total stands_for xs
-  stay_each [] [] p all = refl
-  stay_each [] (y ∷ ys) p all = absurd p
-  stay_each (x ∷ xs) [] p all = absurd p
-  stay_each (x ∷ xs) (y ∷ ys) p all = ap₂ (λ (a b : ℕ). a + b) (of_ok y.answer _ all.0.0 all.0.1 p.0.worked).stays_for (stay_each xs ys p.1 all.1)
+    module _ (round : IsRound r xs ys) where
+      pairs_in : Pairs allowance xs ys
+      pairs_in = pairs allowance xs ys round.many round.worked
 
-  none_gave : (xs ys : List (Worker A C)) → Pairs xs ys → AllCome ys → any_drew gives_up xs ≡ false → any_drew gives_up ys ≡ false
-  none_gave [] [] p all e = e
-  none_gave [] (y ∷ ys) p all e = absurd p
-  none_gave (x ∷ xs) [] p all e = absurd p
-  none_gave (x ∷ xs) (y ∷ ys) p all e = let b = both_false (has_drawn gives_up x) (any_drew gives_up xs) e in
-      ap₂ (λ (c d : Bool). c || d) (of_ok y.answer (has_drawn gives_up x ≡ false → has_drawn gives_up y ≡ false) all.0.0 all.0.1 p.0.going b.0) (none_gave xs ys p.1 all.1 b.1)
+      come : (e : WorkEnd) → r ≡ Ok e → AllCome ys
+      come e k = (all_come (Ok Spent) ys e (sym round.answer ∙ k)).1
 
-  spent_each : (xs ys : List (Worker A C)) → Pairs xs ys → AllSpent ys → length xs * allowance + total spent xs ≤ total spent ys
-  spent_each [] [] p all = subst (λ (m : ℕ). m + 0 ≤ 0) (sym (zero-mul allowance)) (omega arith)
-  spent_each [] (y ∷ ys) p all = absurd p
-  spent_each (x ∷ xs) [] p all = absurd p
-  spent_each (x ∷ xs) (y ∷ ys) p all = subst (λ (m : ℕ). m + (spent x + total spent xs) ≤ spent y + total spent ys) (sym (suc-mul (length xs) allowance)) (one_more (length xs * allowance) (at_ok y.answer (λ e. e ≡ Spent → allowance + spent x ≤ spent y) Spent all.0 p.0.spends refl) (spent_each xs ys p.1 all.1)) where
-    one_more : (m : ℕ) → allowance + spent x ≤ spent y → m + total spent xs ≤ total spent ys → (m + allowance) + (spent x + total spent xs) ≤ spent y + total spent ys
-    one_more m a b = omega (arith, a, b)
+      noted_all : (ws : List (Worker A C)) → All (IsReady over stands_as program code id n) ws → All Notes ws
+      noted_all ws all k d lt = (all k d lt).one.notes
 
-  over_each : (xs ys : List (Worker A C)) → Pairs xs ys → SomeOver ys → any_drew leaves ys ≡ true
-  over_each [] [] p some = absurd some
-  over_each [] (y ∷ ys) p some = absurd p
-  over_each (x ∷ xs) [] p some = absurd p
-  over_each (x ∷ xs) (y ∷ ys) p some = ⊎_elim
-      (λ is. first_true (has_drawn leaves y) (any_drew leaves ys) (at_ok y.answer (λ e. e ≡ Over → has_drawn leaves y ≡ true) Over is p.0.leaves_at refl))
-      (λ k. second_true (has_drawn leaves y) (any_drew leaves ys) (over_each xs ys p.1 k)) some
+      pub round_stays : total stands_for ys ≡ total stands_for xs
+      round_stays = stay_each allowance xs ys pairs_in
 
-  module _ (xs ys : List (Worker A C)) (r : Answer) (is : r ≡ joined_from (Ok Spent) ys) (many : length ys ≡ length xs) (worked : WorkedAt over stands_as program code id n allowance xs ys) where
-    come : (e : WorkEnd) → r ≡ Ok e → AllCome ys
-    come e k = (all_come (Ok Spent) ys e (sym is ∙ k)).1
+      pub round_going : OnOk r (any_drew gives_up xs ≡ false → any_drew gives_up ys ≡ false)
+      round_going = on_ok r _ (λ e k. none_gave allowance xs ys pairs_in (come e k))
 
-    pub round_ready : OnOk r (All (IsReady over stands_as program code id n) ys)
-    round_ready = on_ok r _ (λ e k. ready_each xs ys (pairs xs ys many worked) (come e k))
+      pub round_spent : IfOk r (λ e. e ≡ Spent → length xs * allowance + total spent xs ≤ total spent ys)
+      round_spent = if_ok r _ (λ e k s. spent_each allowance xs ys pairs_in (all_spent (Ok Spent) ys (sym round.answer ∙ k ∙ ap Ok s)).1 (noted_all xs round.before) (noted_all ys (of_ok r _ e k round.ready)))
 
-    pub round_stays : OnOk r (total stands_for ys ≡ total stands_for xs)
-    round_stays = on_ok r _ (λ e k. stay_each xs ys (pairs xs ys many worked) (come e k))
+      pub round_over : IfOk r (λ e. e ≡ Over → any_drew leaves ys ≡ true)
+      round_over = if_ok r _ (λ e k s. over_each allowance xs ys pairs_in (⊎_elim (λ never. absurd (let z : Ok Spent ≡ Ok Over = never in cc)) (λ some. some) (some_over (Ok Spent) ys (sym round.answer ∙ k ∙ ap Ok s))))
 
-    pub round_going : OnOk r (any_drew gives_up xs ≡ false → any_drew gives_up ys ≡ false)
-    round_going = on_ok r _ (λ e k. none_gave xs ys (pairs xs ys many worked) (come e k))
-
-    pub round_spent : IfOk r (λ e. e ≡ Spent → length xs * allowance + total spent xs ≤ total spent ys)
-    round_spent = if_ok r _ (λ e k s. spent_each xs ys (pairs xs ys many worked) (all_spent (Ok Spent) ys (sym is ∙ k ∙ ap Ok s)).1)
-
-    pub round_over : IfOk r (λ e. e ≡ Over → any_drew leaves ys ≡ true)
-    round_over = if_ok r _ (λ e k s. over_each xs ys (pairs xs ys many worked) (⊎_elim (λ never. absurd (let z : Ok Spent ≡ Ok Over = never in cc)) (λ some. some) (some_over (Ok Spent) ys (sym is ∙ k ∙ ap Ok s))))
+      pub round_failed : r ≡ Err ClockFailed → any_drew fails_clock ys ≡ true
+      round_failed k = failed_each allowance xs ys pairs_in (⊎_elim (λ never. absurd (let z : Ok Spent ≡ Err ClockFailed = never in cc)) (λ some. some) (some_failed (Ok Spent) ys (sym round.answer ∙ k)))
 
 module _ {A C : Type 0} (over : CodeView → A → Type 0) (stands_as : ProgramView → A → TaskBody → Type 0) (program : ProgramView) (code : CodeView) (id : TableId) (n : ℕ) where
   -- a worker is ready as one of its own program and number of workers
@@ -182,16 +271,16 @@ module _ {A C : Type 0} (over : CodeView → A → Type 0) (stands_as : ProgramV
   }
 
   -- a worker that keeps the answer of its call
+  keeps_worked : (allowance : ℕ) (old w : Worker A C) (a : Answer) → HasWorked allowance a old w → HasWorked allowance a old (record w { answer = a })
+  keeps_worked allowance old w a h = record { number = h.number; table = h.table; opening = h.opening; stays_for = h.stays_for; more = h.more; drew = h.drew; sparing = h.sparing; answers = h.answers }
+
   pub answered : (allowance : ℕ) (old w : Worker A C) (a : Answer) → IsReady over stands_as program code id n old
-      → OnOk a (IsReady over stands_as (program_view old.program.value) code id old.workers w) → OnOk a (HasWorked old w) → OnOk a (has_drawn gives_up old ≡ false → has_drawn gives_up w ≡ false)
-      → IfOk a (λ e. e ≡ Spent → allowance + spent old ≤ spent w) → IfOk a (λ e. e ≡ Over → has_drawn leaves w ≡ true)
+      → OnOk a (IsReady over stands_as (program_view old.program.value) code id old.workers w) → (a ≡ Err ClockFailed → IsReady over stands_as (program_view old.program.value) code id old.workers w) → HasWorked allowance a old w
       → IsWorked over stands_as program code id n allowance old (record w { answer = a })
-  answered allowance old w a r ready worked going spends leaves_at = record {
+  answered allowance old w a r ready failed worked = record {
     ready = on_ok a _ (λ e k. keeps_ready w a (shared_ready old w r (of_ok a _ e k ready)));
-    worked = on_ok a _ (λ e k. let h = of_ok a _ e k worked in record { number = h.number; table = h.table; opening = h.opening; stays_for = h.stays_for; more = h.more; drew = h.drew });
-    going = going;
-    spends = spends;
-    leaves_at = leaves_at;
+    failed = λ k. keeps_ready w a (shared_ready old w r (failed k));
+    worked = keeps_worked allowance old w a worked;
   }
 
 module _ {A C : Type 0} (over : CodeView → A → Type 0) (place : A → At) (stands_as : ProgramView → A → TaskBody → Type 0) (advances : ProgramView → A → A → Type 0) (gives : A → Tree → A → Type 0) (starts : ProgramView → SeedView → A → Type 0) (code : ValidCode) (allowance : ℕ) where
@@ -199,13 +288,13 @@ module _ {A C : Type 0} (over : CodeView → A → Type 0) (place : A → At) (s
   Stops opening w = StopsAlone over place stands_as advances gives starts code allowance opening w
 
   -- an only worker that keeps the answer of its first call
-  pub answered_alone : (old w : Worker A C) (a : Answer) → OnOk a (HasWorked old w)
+  pub answered_alone : (old w : Worker A C) (a : Answer) → HasWorked allowance a old w
       → IfOk a (λ e. IsLone old → old.hand.view.turns ≡ [] → 0 < allowance → LoneStopped over place stands_as advances gives starts code allowance w)
       → WorkedAlone over place stands_as advances gives starts code allowance old (record w { answer = a })
   answered_alone old w a worked solo = on_ok a ((opening : List (PartSeen A)) → 0 < allowance → BeginsAlone opening old → Stops opening (record w { answer = a })) (λ e k opening some b.
       (let s = at_ok a (λ e. IsLone old → old.hand.view.turns ≡ [] → 0 < allowance → LoneStopped over place stands_as advances gives starts code allowance w) e k solo b.lone b.fresh some in record {
         stopped = record { lone = s.lone; stopped = s.stopped };
-        opened = (of_ok a (HasWorked old w) e k worked).opening ∙ b.opened;
+        opened = worked.opening ∙ b.opened;
       }))
 
   pub round_alone : (xs ys : List (Worker A C)) (r : Answer) → r ≡ joined_from (Ok Spent) ys → length ys ≡ length xs → WorkedAloneAt over place stands_as advances gives starts code allowance xs ys

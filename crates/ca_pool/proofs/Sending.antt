@@ -1,18 +1,17 @@
 -- What the workers of a run share, and what each has, may go to other threads where agents and clocks may.
 use denote.RattleType.{RattleType}
 use denote.Param.Send.{IsSend, IsSync, sendable}
-use denote.Param.SendFields.{declared_send, declared_sync, variants_send, variants_sync}
+use denote.Param.SendFields.{declared_send, variants_send}
 use Rattle.std.proofs.Crossing.{crosses}
 use Rattle.std.specs.contracts.snapshot.Snapshot as Snapshot
 use Rattle.ca_term.specs.contracts.program.Program as Program
-use Rattle.ca_value.proofs.Crosses.{value_send, value_sync}
+use Rattle.ca_value.proofs.Crosses.{value_send}
 use Rattle.ca_value.proofs.seq.Seq.TheSendSync as seq
 use Rattle.ca_value.proofs.value.PortId.TheSendSync as port
 use Rattle.ca_term.proofs.event.Ending.TheSendSync as ending
 use Rattle.ca_term.proofs.event.Side.TheSendSync as side
 use Rattle.ca_term.proofs.event.WaitId.TheSendSync as wait
 use Rattle.ca_term.proofs.head.RegisterName.TheSendSync as name
-use Rattle.ca_term.proofs.place.Place.TheSendSync as place
 use Rattle.ca_term.proofs.head.SeedKind.TheSendSync as kind
 use Rattle.ca_term.specs.contracts.event.Branch as Branch
 use Rattle.ca_term.specs.contracts.event.Event as Event

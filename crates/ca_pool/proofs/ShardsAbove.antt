@@ -1,7 +1,7 @@
 -- One shard more, above all that are held.
-use Rattle.std.proofs.Common.{◌≡◌, ◌≢◌, ◌∙◌, ℕ, ◌+◌, ◌<◌, ◌≤◌, List, refl, sym, ap, Bool, true, false, cond, Option, Some, None, eqb, eqb-true, eq-eqb, is_some}
+use Rattle.std.proofs.Common.{◌≡◌, ◌≢◌, ◌∙◌, ℕ, ◌<◌, ◌≤◌, refl, sym, ap, Bool, true, false, cond, Option, Some, None, eqb, eqb-true, is_some}
 use Rattle.std.proofs.lemmas.Bool.{cases_lt, eqb-false}
-use Rattle.std.proofs.Common.{⊎_elim, arith}
+use Rattle.std.proofs.Common.{⊎_elim}
 use Rattle.std.specs.Prelude.{option_map}
 use Rattle.ca_term.specs.Program.{ProgramView}
 use Rattle.ca_meaning.specs.Task.{TaskBody}
@@ -13,7 +13,6 @@ use Rattle.ca_commit.specs.Listing.{listed}
 use Rattle.ca_commit.specs.Listings.{parts}
 use Rattle.ca_commit.specs.Numbers.{number_of_bank, number_of_shard}
 use Rattle.ca_commit.specs.declared.held.Held.{Held}
-use Rattle.ca_commit.specs.declared.held.HeldShard.{HeldShard}
 use Rattle.ca_table.specs.Homes.{has_home}
 use Rattle.ca_table.specs.Seen.{PartSeen}
 use Rattle.ca_table.specs.declared.homes.Homes.{Homes}
@@ -21,7 +20,7 @@ use Rattle.ca_table.specs.declared.part.Lane.{Lane}
 use Rattle.ca_table.specs.declared.part.Part.{Part}
 use Rattle.ca_table.specs.declared.worker.Worker.{Worker}
 use Rattle.ca_pool.specs.AtEvent.{HasTaken}
-use Rattle.ca_pool.specs.Desk.{ClockBox, holds_banks, holds_shards}
+use Rattle.ca_pool.specs.Desk.{ClockBox, holds_shards}
 use Rattle.ca_pool.specs.Resolving.{HoldsThese}
 
 pub none_there : {X : Type 0} (o : Option X) → is_some o ≡ false → o ≡ None

@@ -1,5 +1,5 @@
 -- What a run with one worker was: the schedule's, over the answers that the clock in its timers gave.
-use Rattle.std.proofs.Common.{◌≡◌, ◌∙◌, ℕ, zero, suc, ◌+◌, ◌-◌, ◌/◌, ◌<◌, List, [], ◌∷◌, ◌++◌, All, drop, length, map, take, refl, sym, ap, subst, arith, Bool, true, false, Option, Some, None}
+use Rattle.std.proofs.Common.{◌≡◌, ◌∙◌, ℕ, zero, suc, ◌+◌, ◌-◌, ◌/◌, ◌<◌, List, [], ◌∷◌, ◌++◌, All, drop, length, map, take, refl, sym, ap, subst, arith, true, false, Option, Some, None}
 use Rattle.std.specs.Prelude.{is_some, option_map, slice_index_or}
 use Rattle.std.specs.declared.boxed.Box.{Box}
 use Rattle.std.specs.declared.alloc.Global.{Global}
@@ -22,15 +22,15 @@ use Rattle.ca_agent.specs.Agents.{Advanced, Answered, Started}
 use Rattle.ca_turns.specs.Hands.{TableId}
 use Rattle.ca_commit.specs.Agents.{TaskAgent}
 use Rattle.ca_commit.specs.Contents.{Content, Held, TimersPart, a_bank, a_lane, a_ready, a_shard, away, the_timers}
-use Rattle.ca_commit.specs.Gathered.{kind_at, kind_of_part, parts_of, sorted, timers_kind, timers_of}
+use Rattle.ca_commit.specs.Gathered.{kind_of_part, parts_of, sorted, timers_kind, timers_of}
 use Rattle.ca_commit.specs.Opening.{unasked}
 use Rattle.ca_commit.proofs.Seats.{some_same}
 use Rattle.ca_table.specs.Carrying.{timers_place}
-use Rattle.ca_table.specs.Draws.{drawn_moves, drawn_touches}
-use Rattle.ca_table.specs.LoneHands.{left_now}
+use Rattle.ca_table.specs.Draws.{drawn_moves}
+use Rattle.ca_table.specs.Moments.{WentOn}
 use Rattle.ca_table.specs.Opening.{opening_list}
 use Rattle.ca_table.specs.Parts.{clockwork_seen, contents_seen, part_seen}
-use Rattle.ca_table.specs.Running.{TableStands, as_option, contents_at, shown_by}
+use Rattle.ca_table.specs.Running.{TableStands, as_option, contents_at}
 use Rattle.ca_table.specs.Seen.{PartSeen, content_of, held_of}
 use Rattle.ca_table.specs.Worked.{HasDrawnNothing, RanAlone}
 use Rattle.ca_table.specs.Workers.{IsOpenedWith, IsReady, stands_for}
@@ -41,7 +41,6 @@ use Rattle.ca_table.specs.declared.part.Part.{Part}
 use Rattle.ca_table.specs.declared.worker.Worker.{Worker}
 use Rattle.ca_table.proofs.Carriers.{kind_placed}
 use Rattle.ca_table.proofs.Openings.{opens}
-use Rattle.ca_alone.specs.Answers.{NeverFall, WentOn}
 use Rattle.ca_alone.proofs.Stopping.{is_schedule}
 use Rattle.ca_pool.specs.Answers.{BeginsAlone, StopsAlone}
 use Rattle.ca_pool.specs.PoolEnds.{IsSolo}
@@ -87,10 +86,10 @@ module _ {A C : Type 0} (least faults : C → ℕ) (readings : C → Option (Lis
   same_timers x t u e f = cc
 
   -- a clock that lay in the timers
-  pub clock_told : (x : Contents A C) (box : Box (Clockwork C) Global) (w : Clockwork C) (t : TimersPart) → x ≡ V.Timers box → w ≡ box.value → held_of (contents_seen least faults readings x) ≡ the_timers t → (least w.clock ≡ t.least) × (readings w.clock ≡ t.readings)
+  pub clock_told : (x : Contents A C) (box : Box (Clockwork C) Global) (w : Clockwork C) (t : TimersPart) → x ≡ V.Timers box → w ≡ box.value → held_of (contents_seen least faults readings x) ≡ the_timers t → (least w.clock ≡ t.least) × (readings w.clock ≡ t.readings) × (faults w.clock ≡ t.faults)
   clock_told x box w t is opened e =
       let k = same_timers (held_of (contents_seen least faults readings x)) (clockwork_seen least faults readings w) t (ap (λ (y : Contents A C). held_of (contents_seen least faults readings y)) is ∙ ap (λ (v : Clockwork C). the_timers (clockwork_seen least faults readings v)) (sym opened)) e in
-      (ap (λ (z : TimersPart). z.least) k, ap (λ (z : TimersPart). z.readings) k)
+      (ap (λ (z : TimersPart). z.least) k, ap (λ (z : TimersPart). z.readings) k, ap (λ (z : TimersPart). z.faults) k)
 
   -- what the timers' part has in it
   pub timers_are : (n : ℕ) (ps : List (Part A C)) (p : Part A C) (t : TimersPart) → n + 32 < length ps → kind_of_part (held_of (contents_seen least faults readings (slice_index_or ps (n + 32) p).contents)) ≡ timers_kind
@@ -123,7 +122,7 @@ module _ {A C : Type 0} (over : CodeView → A → Type 0) (place : A → At) (s
     opening_timers one = ap (λ (k : ℕ). (parts_of 1 (contents_at (opening_list k (valid_code code) texts main clock))).timers) one ∙ ap (λ (f : ℕ → Option (Content (TaskAgent A))). (parts_of 1 f).timers) (opens 1 (valid_code code) texts main clock (omega arith))
 
     pub is_solo : (ws : List (Worker A C)) → length ws ≡ n → n ≡ 1 → All (IsReady over stands_as program (valid_code code) id n) ws → All (StopsAlone over place stands_as advances gives starts code allowance (opening_list n (valid_code code) texts main clock)) ws
-        → All (RanAlone (drawn_moves over place advances gives starts) journal parts) ws → ((t : TimersPart) → (parts_of n (contents_at parts)).timers ≡ Some t → (least last ≡ t.least) × (readings last ≡ t.readings))
+        → All (RanAlone (drawn_moves over place advances gives starts) journal parts) ws → ((t : TimersPart) → (parts_of n (contents_at parts)).timers ≡ Some t → (least last ≡ t.least) × (readings last ≡ t.readings) × (faults last ≡ t.faults))
         → IsSolo program journal (least first) (readings first) (readings last) × IsWithin allowance journal × GoesOn journal
     is_solo [] many one ready stops ran told = absurd (let k : 0 ≡ n = many in omega (arith, k, one))
     is_solo (w ∷ ws) many one ready stops ran told =

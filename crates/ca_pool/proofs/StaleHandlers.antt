@@ -23,9 +23,7 @@ use Rattle.ca_commit.specs.declared.held.Held.{Held}
 use Rattle.ca_table.specs.Bearing.{parts_held}
 use Rattle.ca_table.specs.Halting.{KeepAll}
 use Rattle.ca_table.specs.Parts.{part_seen}
-use Rattle.ca_table.specs.Seen.{PartSeen}
 use Rattle.ca_table.specs.declared.part.Lane.{Lane}
-use Rattle.ca_table.specs.declared.part.Part.{Part}
 use Rattle.ca_table.proofs.SettleMoved.{prunes_draw}
 use Rattle.ca_table.proofs.Staying.{changed_still, shows_there}
 use Rattle.ca_pool.specs.Desk.{ClockBox, IsMovedWith, SameHeld, holds_banks, holds_shards, laid_aside}

@@ -1,22 +1,19 @@
 -- A worker that holds all parts, in which nothing can go on, may draw that it leaves the run.
-use Rattle.std.proofs.Common.{◌≡◌, ◌≢◌, ◌∙◌, ◌⊎◌, ⊎_elim, inl, inr, ℕ, zero, suc, ◌+◌, ◌<◌, ◌≤◌, List, [], ◌∷◌, map, refl, sym, ap, subst, arith, Bool, true, false, cond, Option, Some, None, eqb, eq-eqb, eqb-true, ne_eqb, is_some}
-use Rattle.std.specs.Prelude.{option_map, nat_lt}
+use Rattle.std.proofs.Common.{◌≡◌, ◌∙◌, ⊎_elim, ℕ, zero, suc, ◌+◌, ◌<◌, ◌≤◌, List, [], ◌∷◌, map, refl, sym, ap, subst, arith, Bool, true, false, cond, Option, Some, None, eqb, eq-eqb, eqb-true, ne_eqb}
+use Rattle.std.specs.Prelude.{option_map}
 use Rattle.std.proofs.lemmas.Bool.{cases_lt, lt-ltb}
 use mathlib.Core.Logic.{dite}
-use mathlib.Core.Option as core
 use native.Mathlib.Decide.{ℕ_discrete}
-use lib.ListN.{get_elem?}
 use Rattle.ca_value.specs.Tree.{Tree}
 use Rattle.ca_term.specs.Operation.{SeedView}
 use Rattle.ca_term.specs.Program.{ProgramView}
 use Rattle.ca_meaning.specs.Body.{At}
 use Rattle.ca_states.specs.Code.{CodeView}
 use Rattle.ca_turns.specs.Hands.{Held as Hand}
-use Rattle.ca_turns.specs.Places.{AllIn}
 use Rattle.ca_commit.specs.Agents.{TaskAgent}
 use Rattle.ca_commit.specs.Contents.{Content, Held, Kept, LaneView, Parts, TimersPart, a_bank, a_lane, a_ready, a_shard, at_key, away, home, the_timers}
-use Rattle.ca_commit.specs.Gathered.{Alike, AllAlike, bank_of, channels_of, gather, lane_of, parts_of, pick, ready_of, sorted, timers_of}
-use Rattle.ca_commit.specs.Moving.{Moves, MovesTurn}
+use Rattle.ca_commit.specs.Gathered.{AllAlike, bank_of, channels_of, gather, lane_of, parts_of, pick, ready_of, sorted, timers_of}
+use Rattle.ca_commit.specs.Moving.{Moves}
 use Rattle.ca_commit.specs.SilentMoves.{MovesStall}
 use Rattle.ca_commit.specs.Touched as said
 use Rattle.ca_table.specs.Covering.{plain}
@@ -24,12 +21,12 @@ use Rattle.ca_table.specs.Draws.{drawn_code, drawn_moves, drawn_touches, drawn_v
 use Rattle.ca_table.specs.Grips.{Grips, HasAll, add_settled, add_value, is_among, settle, settled, settled_one, values}
 use Rattle.ca_table.specs.OneCode.{AllCoded, HaveCode, advances_over, gives_over, starts_over}
 use Rattle.ca_table.specs.Parts.{part_seen}
-use Rattle.ca_table.specs.Seen.{PartSeen, content_of, held_of}
+use Rattle.ca_table.specs.Seen.{PartSeen, content_of}
 use Rattle.ca_table.specs.Workers.{part_count}
 use Rattle.ca_table.specs.declared.drawn.Drawn.{Drawn}
 use Rattle.ca_table.specs.declared.part.Part.{Part}
 use Rattle.ca_pool.specs.Surveys.{Fulls, HasNoDeadline, IsStill, IsStillAt, IsUndatedAt, Rests, Surveys, as_settled}
-use Rattle.ca_pool.proofs.AllParts.{lies_at, not_there, some_same, there_is}
+use Rattle.ca_pool.proofs.AllParts.{lies_at, some_same, there_is}
 
 -- all places from k on, so many
 abbrev pub places : ℕ → ℕ → List ℕ

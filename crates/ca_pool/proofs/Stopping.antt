@@ -1,6 +1,6 @@
 -- Where a round of workers ended, its journal has an end for their allowances together, or nothing can go on.
 use Rattle.std.proofs.Common.{◌≡◌, ◌∙◌, ◌⊎◌, inl, inr, ⊎_elim, ℕ, ◌+◌, ◌*◌, ◌-◌, ◌/◌, ◌<◌, ◌≤◌, suc, List, [], ◌∷◌, All, refl, sym, ap, subst, arith, Bool, true, false, None, add-mul, div-add-mod', mod-lt, mul_comm, one-mul}
-use Rattle.std.specs.Prelude.{◌||◌, ◌%◌, length}
+use Rattle.std.specs.Prelude.{◌||◌, ◌%◌}
 use Rattle.ca_term.specs.Event.{EventView}
 use Rattle.ca_meaning.specs.Cost.{cost}
 use Rattle.ca_meaning.specs.EndsLaw.{IsQuiet}

@@ -1,17 +1,16 @@
 -- How the calls of all workers ended, and what a call did to a worker that keeps its answer.
-use Rattle.std.specs.Prelude.{◌≡◌, ℕ, ◌+◌, ◌<◌, ◌≤◌, List, [], ◌∷◌, length, Result, Ok, Err, OnOk, IfOk, slice_index_or, true, false}
+use Rattle.std.specs.Prelude.{◌≡◌, ℕ, ◌<◌, List, [], ◌∷◌, length, Result, Ok, Err, OnOk, slice_index_or}
 use Rattle.ca_value.specs.Tree.{Tree}
 use Rattle.ca_term.specs.Operation.{SeedView}
 use Rattle.ca_term.specs.Program.{ProgramView}
 use Rattle.ca_meaning.specs.Body.{At}
-use Rattle.ca_meaning.specs.Ends.{RunEnd, ended, faulted, limit, stuck}
 use Rattle.ca_meaning.specs.Task.{TaskBody}
 use Rattle.ca_states.specs.Code.{CodeView}
 use Rattle.ca_states.specs.ValidCode.{valid_code}
 use Rattle.ca_states.specs.declared.valid_code.ValidCode.{ValidCode}
 use Rattle.ca_turns.specs.Hands.{TableId}
 use Rattle.ca_table.specs.Seen.{PartSeen}
-use Rattle.ca_table.specs.Worked.{HasWorked, gives_up, has_drawn, leaves, spent}
+use Rattle.ca_table.specs.Worked.{HasWorked}
 use Rattle.ca_table.specs.Workers.{IsOpenedWith, IsReady}
 use Rattle.ca_table.specs.declared.worker.Worker.{Worker}
 use Rattle.ca_table.specs.declared.answer.PoolStop.{PoolStop}
@@ -39,14 +38,16 @@ module _ {A C : Type 0} where
   joined_from answer [] = answer
   joined_from answer (w ∷ ws) = joined_from (joined answer w.answer) ws
 
+  -- what a call of `work` with that allowance did to each worker, by the answer that it keeps
+  abbrev pub EachWorked : ℕ → List (Worker A C) → List (Worker A C) → Type 0
+  EachWorked allowance old new = (k : ℕ) (d : Worker A C) → k < length old → HasWorked allowance (slice_index_or new k d).answer (slice_index_or old k d) (slice_index_or new k d)
+
 module _ {A C : Type 0} (over : CodeView → A → Type 0) (stands_as : ProgramView → A → TaskBody → Type 0) (program : ProgramView) (code : CodeView) (id : TableId) (n allowance : ℕ) where
   -- what a call of `work` did to the worker, by the answer that it keeps
   pub record IsWorked (old new : Worker A C) : Type 0 where
     pub ready : OnOk new.answer (IsReady over stands_as program code id n new)
-    pub worked : OnOk new.answer (HasWorked old new)
-    pub going : OnOk new.answer (has_drawn gives_up old ≡ false → has_drawn gives_up new ≡ false)
-    pub spends : IfOk new.answer (λ e. e ≡ Spent → allowance + spent old ≤ spent new)
-    pub leaves_at : IfOk new.answer (λ e. e ≡ Over → has_drawn leaves new ≡ true)
+    pub failed : new.answer ≡ Err ClockFailed → IsReady over stands_as program code id n new
+    pub worked : HasWorked allowance new.answer old new
 
   -- each of them has worked
   abbrev pub WorkedAt : List (Worker A C) → List (Worker A C) → Type 0

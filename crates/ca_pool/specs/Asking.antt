@@ -1,5 +1,5 @@
 -- How the clock is asked, and what its timers' part is then.
-use Rattle.std.specs.Prelude.{◌≡◌, ◌≢◌, ℕ, ◌<◌, ◌≤◌, List, Some, option_map, is_some, slice_get, true}
+use Rattle.std.specs.Prelude.{◌≡◌, ℕ, ◌<◌, ◌≤◌, List, Some, option_map, is_some, slice_get, true}
 use Rattle.ca_value.specs.Deadlines.{Deadline, due, open_after}
 use Rattle.ca_commit.specs.Contents.{TimersPart, home}
 use Rattle.ca_commit.specs.Listing.{listed}
@@ -36,7 +36,7 @@ pub record HasFailed (c c2 : TimersPart) : Type 0 where
   pub deadlines : c2.deadlines ≡ c.deadlines
   pub now : c2.now ≡ c.now
   pub least : c.least ≤ c2.least
-  pub faults : silent.one_more c.faults ≤ c2.faults
+  pub faults : silent.HasFault c.faults c2.faults
   pub readings : silent.StayTold c.readings c2.readings
   pub mark : c2.mark ≡ c.mark
 

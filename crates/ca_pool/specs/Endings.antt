@@ -1,5 +1,5 @@
 -- The end of the lane's task, over what is carried for it.
-use Rattle.std.specs.Prelude.{◌≡◌, ℕ, List, Option, Some, None, eqb}
+use Rattle.std.specs.Prelude.{◌≡◌, ℕ, List, Option}
 use Rattle.ca_value.specs.Tree.{Tree}
 use Rattle.ca_term.specs.declared.event.Ending.{Ending}
 use Rattle.ca_term.specs.declared.event.Ending.TheVariants.{Faulted}

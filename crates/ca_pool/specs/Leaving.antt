@@ -1,5 +1,5 @@
 -- A task that was taken out of its lane for its next event.
-use Rattle.std.specs.Prelude.{◌≡◌, ℕ, ◌+◌, ◌<◌, ◌^◌, Option, Some, option_map}
+use Rattle.std.specs.Prelude.{◌≡◌, Some, option_map}
 use Rattle.ca_term.specs.Program.{ProgramView}
 use Rattle.ca_commit.specs.Agents.{TaskAgent, advances_of}
 use Rattle.ca_commit.specs.Tasks.{agent_of, task_view}

@@ -4,9 +4,9 @@ use Rattle.ca_term.specs.Event.{EventView}
 use Rattle.ca_term.specs.Program.{ProgramView}
 use Rattle.ca_meaning.specs.Ends.{RunEnd, ended, faulted, limit, stuck}
 use Rattle.ca_meaning.specs.Solo.{Solo}
-use Rattle.ca_alone.specs.Answers.{NeverFall, WentOn}
 use Rattle.ca_journal.specs.Cut.{end_of}
 use Rattle.ca_journal.specs.declared.cut.CutAt.{CutAt}
+use Rattle.ca_table.specs.Moments.{NeverFall, WentOn}
 use Rattle.ca_pool.specs.declared.run_end.PoolEnd.{PoolEnd}
 use Rattle.ca_pool.specs.declared.run_end.PoolEnd.TheVariants.{Ended, Faulted, Limit, Stuck}
 
@@ -30,10 +30,3 @@ pub record IsSolo (program : ProgramView) (journal : List EventView) (least : �
   pub last : ℕ
   pub rise : NeverFall least answers last
   pub told : WentOn answers before after
-
--- .. over some answers that never fall, where nothing is known of the clock
-pub record IsScheduled (program : ProgramView) (journal : List EventView) : Type 0 where
-  pub answers : List ℕ
-  pub solo : Solo program answers journal
-  pub last : ℕ
-  pub rise : NeverFall 0 answers last

@@ -3,12 +3,8 @@ use Rattle.std.specs.Prelude.{◌≡◌, ℕ, List, Option, Some, None, is_some}
 use Rattle.ca_term.specs.Operation.{SeedView}
 use Rattle.ca_term.specs.Program.{ProgramView, program_view}
 use Rattle.ca_meaning.specs.Body.{At}
-use Rattle.ca_meaning.specs.Task.{TaskBody}
 use Rattle.ca_states.specs.Code.{CodeView}
-use Rattle.ca_states.specs.ValidCode.{valid_code}
 use Rattle.ca_states.specs.declared.valid_code.ValidCode.{ValidCode}
-use Rattle.ca_turns.specs.Hands.{TableId}
-use Rattle.ca_commit.specs.Agents.{starts_of}
 use Rattle.ca_commit.specs.Applying.{HasParts, HasSpawned, IsEvent, IsMade, IsPlanFor, KeepsApart}
 use Rattle.ca_commit.specs.Contents.{Counts, whole}
 use Rattle.ca_commit.specs.Planning.{Planned}
@@ -20,14 +16,12 @@ use Rattle.ca_commit.specs.Waking.{IsPaused}
 use Rattle.ca_commit.specs.declared.held.Held.{Held}
 use Rattle.ca_commit.specs.declared.planned.Plan.{Plan}
 use Rattle.ca_commit.specs.declared.task.Task.{Task}
-use Rattle.ca_pool.specs.AtEvent.{HasNumbers, HasTaken}
+use Rattle.ca_pool.specs.AtEvent.{HasNumbers}
 use Rattle.ca_pool.specs.Desk.{ClockBox}
 use Rattle.ca_pool.specs.Leaving.{HasLeft}
 use Rattle.ca_pool.specs.Preparing.{AskedFor, IsTimely, StartsFor, clock_seen, clock_with}
 use Rattle.ca_table.specs.Needing.{needs_ready, needs_timers}
-use Rattle.ca_table.specs.Parts.{part_seen}
 use Rattle.ca_table.specs.declared.part.Lane.{Lane}
-use Rattle.ca_table.specs.declared.worker.Worker.{Worker}
 
 -- The task has left its lane, which was settled as l, and the program is that of the lane.
 pub record HasGone {A : Type 0} (over : CodeView → A → Type 0) (advances : ProgramView → A → A → Type 0) (program : ProgramView) (code : ValidCode) (l lane : Lane A) (task : Task A) : Type 0 where

@@ -1,5 +1,5 @@
 -- What an event of a plan needs beside the plan's banks and shards: the clock for a timeout, and the worker's ready part.
-use Rattle.std.specs.Prelude.{◌≡◌, ℕ, ◌≤◌, ◌<◌, List, Option, Some, None, IsSome, option_map, is_some}
+use Rattle.std.specs.Prelude.{◌≡◌, ℕ, ◌≤◌, ◌<◌, List, Option, Some, None, IsSome, option_map}
 use Rattle.ca_timers.specs.Timers.{TimersView}
 use Rattle.ca_term.specs.Operation.{SeedView, WantView, spawning}
 use Rattle.ca_term.specs.Program.{ProgramView}

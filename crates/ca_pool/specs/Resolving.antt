@@ -1,8 +1,8 @@
 -- What is held for an operation, and what it became.
-use Rattle.std.specs.Prelude.{◌≡◌, ℕ, ◌<◌, Option, Some, None, IsSome, Bool, is_some, true, option_map}
+use Rattle.std.specs.Prelude.{◌≡◌, ℕ, ◌<◌, Some, None, Bool, true, option_map}
 use Rattle.ca_term.specs.declared.fault.Fault.{Fault}
 use Rattle.ca_term.specs.Event.{port_number}
-use Rattle.ca_term.specs.Operation.{OpView, WantView}
+use Rattle.ca_term.specs.Operation.{WantView}
 use Rattle.ca_term.specs.Program.{ProgramView}
 use Rattle.ca_meaning.specs.Body.{At, at_op}
 use Rattle.ca_meaning.specs.State.{State}

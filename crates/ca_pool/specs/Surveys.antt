@@ -6,7 +6,6 @@ use Rattle.ca_term.specs.declared.event.Side.TheVariants.{Put, Take}
 use Rattle.ca_meaning.specs.Row.{settle_row, unsettled}
 use Rattle.ca_meaning.specs.Wait.{head}
 use Rattle.ca_bank.specs.Kept.{is_closed_at, queue_at, takes_one_more}
-use Rattle.ca_commit.specs.Agents.{TaskAgent}
 use Rattle.ca_commit.specs.Contents.{Held, Kept, a_bank, a_lane, a_ready, the_timers}
 use Rattle.ca_commit.specs.Finding.{holds_one, is_fixed_at}
 use Rattle.ca_commit.specs.Holds.{live_of}

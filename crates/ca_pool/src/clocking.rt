@@ -9,6 +9,7 @@ ghost use Rattle.ca_turns.specs.Views.{stands};
 ghost use Rattle.ca_commit.specs.Contents.{unmarked};
 ghost use Rattle.ca_commit.specs.Moving.{visible};
 ghost use Rattle.ca_commit.specs.TaskMoves.{with_mark};
+ghost use Rattle.ca_commit.specs.Touched.{stops};
 ghost use Rattle.ca_commit.specs.declared.held.Held.{Held};
 ghost use Rattle.ca_table.specs.Bearing.{ShowSame};
 ghost use Rattle.ca_table.specs.Carriers.{IsCarrying, just_lane};
@@ -188,6 +189,7 @@ fn read_now<R: Wait, A: Agent, C: Clock + Drop>(
     ensures same { SameWorker worker.old worker.new }
     ensures bare { IsBare held.new }
     ensures drew { IfOk result (λ a. Drew (cost_asked a) (is_marked a) worker.old worker.new) }
+    ensures refused { OnErr result (Drew 0 false worker.old worker.new) }
     ensures carries { (program : ProgramView) (n : ℕ) (l : Lane A) → IsCarrying A.over A.stands program code.now table.now.id n worker.old (taken (part_seen C.least C.faults C.readings) n code.now worker.old.number l (Some clockwork) held.old) → IsCarrying A.over A.stands program code.now table.now.id n worker.new (just_lane n code.now l) }
     ensures solo { IfOk result (λ a. (most : ℕ) → ports.old.items ≡ [] → IsFirst first clockwork.value.timers.deadlines → MayGo A.over A.place A.stands A.advances A.gives A.starts code.now AtPicked most worker.old → HasAsked A.over A.place A.stands A.advances A.gives A.starts code.now ports.new.items most a worker.new) }
 {
@@ -217,6 +219,7 @@ fn read<R: Wait, A: Agent, C: Clock + Drop>(
     ensures same { SameWorker worker.old worker.new }
     ensures bare { IsBare held.new }
     ensures drew { IfOk result (λ a. Drew (cost_asked a) (is_marked a) worker.old worker.new) }
+    ensures refused { OnErr result (Drew 0 false worker.old worker.new) }
     ensures carries { (program : ProgramView) (n : ℕ) (l : Lane A) → IsCarrying A.over A.stands program code.now table.now.id n worker.old (taken (part_seen C.least C.faults C.readings) n code.now worker.old.number l (Some clockwork) held.old) → IsCarrying A.over A.stands program code.now table.now.id n worker.new (just_lane n code.now l) }
     ensures solo { IfOk result (λ a. (most : ℕ) → ports.old.items ≡ [] → IsFirst first clockwork.value.timers.deadlines → MayGo A.over A.place A.stands A.advances A.gives A.starts code.now AtPicked most worker.old → HasAsked A.over A.place A.stands A.advances A.gives A.starts code.now ports.new.items most a worker.new) }
 {
@@ -249,6 +252,7 @@ fn look<R: Wait, A: Agent, C: Clock + Drop>(
     ensures same { SameWorker worker.old worker.new }
     ensures bare { IsBare held.new }
     ensures drew { IfOk result (λ a. Drew (cost_asked a) (is_marked a) worker.old worker.new) }
+    ensures refused { OnErr result (Drew 0 false worker.old worker.new) }
     ensures carries { (program : ProgramView) (n : ℕ) (l : Lane A) → IsCarrying A.over A.stands program code.now table.now.id n worker.old (taken (part_seen C.least C.faults C.readings) n code.now worker.old.number l (Some clockwork) held.old) → IsCarrying A.over A.stands program code.now table.now.id n worker.new (just_lane n code.now l) }
     ensures solo { IfOk result (λ a. (most : ℕ) → ports.old.items ≡ [] → MayGo A.over A.place A.stands A.advances A.gives A.starts code.now AtPicked most worker.old → HasAsked A.over A.place A.stands A.advances A.gives A.starts code.now ports.new.items most a worker.new) }
 {
@@ -283,6 +287,7 @@ pub(crate) fn ask<R: Wait, A: Agent, C: Clock + Drop>(
     ensures same { SameWorker worker.old worker.new }
     ensures bare { IsBare held.new }
     ensures drew { IfOk result (λ a. Drew (cost_asked a) (is_marked a) worker.old worker.new) }
+    ensures refused { OnErr result (Drew 0 false worker.old worker.new) }
     ensures carries { (program : ProgramView) (n : ℕ) (l : Lane A) → IsCarrying A.over A.stands program code.now table.now.id n worker.old (just_lane n code.now l) → IsCarrying A.over A.stands program code.now table.now.id n worker.new (just_lane n code.now l) }
     ensures solo { IfOk result (λ a. (most : ℕ) → due.old.items ≡ [] → MayGo A.over A.place A.stands A.advances A.gives A.starts code.now AtPicked most worker.old → HasAsked A.over A.place A.stands A.advances A.gives A.starts code.now due.new.items most a worker.new) }
 {
@@ -305,6 +310,8 @@ pub(crate) fn stop<R: Wait, A: Agent, C: Clock + Drop>(
     ensures same { SameWorker worker.old worker.new }
     ensures bare { IsBare held.new }
     ensures carries { (program : ProgramView) (n : ℕ) (l : Lane A) → IsCarrying A.over A.stands program code.now table.now.id n worker.old (just_lane n code.now l) → IsCarrying A.over A.stands program code.now table.now.id n worker.new (just_lane n code.now l) }
+    ensures hand { SameHand worker.old.hand worker.new.hand }
+    ensures turn { DrewTurn stops worker.old.hand.view worker.new.hand.view }
 {
     let clockwork = take_clock(rt, table, code, worker, held);
     let stopped = with_mark(clockwork, Mark::Stopped);

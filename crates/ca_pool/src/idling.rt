@@ -1,13 +1,15 @@
 // A worker that finds no task: it waits for the clock, or leaves a run in which nothing can go on.
-ghost use Rattle.std.specs.Prelude.{◌≡◌, ◌≢◌, ℕ, ◌<◌, ◌≤◌, ◌^◌, Some, None, IfOk, false, true};
+ghost use Rattle.std.specs.Prelude.{◌≡◌, ◌≢◌, ℕ, ◌<◌, ◌≤◌, ◌^◌, Some, None, IfErr, IfOk, false, true};
 ghost use Rattle.ca_value.specs.Seq.{spare};
 ghost use Rattle.ca_term.specs.Program.{ProgramView};
 ghost use Rattle.ca_table.specs.Carriers.{IsCarrying, just_lane};
 ghost use Rattle.ca_table.specs.Parts.{part_seen};
 ghost use Rattle.ca_table.specs.Worked.{Drew};
 ghost use Rattle.ca_table.specs.Workers.{IsSeated, SameWorker};
+ghost use Rattle.ca_table.specs.declared.answer.PoolStop.TheVariants.{OutOfMemory};
 ghost use Rattle.ca_table.specs.declared.part.Lane.{Lane};
 ghost use Rattle.ca_alone.specs.Schedule.{AtEmpty, MaySettle, to_rest};
+ghost use Rattle.ca_pool.specs.AtWork.{GaveUp};
 ghost use Rattle.ca_pool.specs.Costs.{cost_asked, cost_idle, is_marked, is_over};
 ghost use Rattle.ca_pool.specs.Desk.{IsBare, taken};
 ghost use Rattle.ca_pool.specs.Leaving.{TaskOver};
@@ -117,6 +119,7 @@ fn wait_late<R: Wait, A: Agent, C: Clock + Drop>(
     ensures same { SameWorker worker.old worker.new }
     ensures bare { IsBare held.new }
     ensures drew { IfOk result (λ i. Drew (cost_idle i) (is_over i) worker.old worker.new) }
+    ensures stopped { IfErr result (λ s. GaveUp s worker.old worker.new) }
     ensures carries { (program : ProgramView) (n : ℕ) (l : Lane A) → IsCarrying A.over A.stands program code.now table.now.id n worker.old (taken (part_seen C.least C.faults C.readings) n code.now worker.old.number l (Some clockwork) held.old) → IsCarrying A.over A.stands program code.now table.now.id n worker.new (just_lane n code.now l) }
     ensures solo { IfOk result (λ r. IsFirst first clockwork.value.timers.deadlines → (most : ℕ) → MayGo A.over A.place A.stands A.advances A.gives A.starts code.now AtEmpty most worker.old → Went A.over A.place A.stands A.advances A.gives A.starts code.now (MaySettle to_rest ports.new.items) most worker.new) }
 {
@@ -162,6 +165,7 @@ fn wait_with<R: Wait, A: Agent, C: Clock + Drop>(
     ensures same { SameWorker worker.old worker.new }
     ensures bare { IsBare held.new }
     ensures drew { IfOk result (λ i. Drew (cost_idle i) (is_over i) worker.old worker.new) }
+    ensures stopped { IfErr result (λ s. GaveUp s worker.old worker.new) }
     ensures carries { (program : ProgramView) (n : ℕ) (l : Lane A) → IsCarrying A.over A.stands program code.now table.now.id n worker.old (taken (part_seen C.least C.faults C.readings) n code.now worker.old.number l (Some clockwork) held.old) → IsCarrying A.over A.stands program code.now table.now.id n worker.new (just_lane n code.now l) }
     ensures solo { IfOk result (λ r. (most : ℕ) → MayGo A.over A.place A.stands A.advances A.gives A.starts code.now AtEmpty most worker.old → Went A.over A.place A.stands A.advances A.gives A.starts code.now (MaySettle to_rest ports.new.items) most worker.new) }
 {
@@ -197,6 +201,7 @@ fn await_deadline<R: Wait, A: Agent, C: Clock + Drop>(
     ensures same { SameWorker worker.old worker.new }
     ensures bare { IsBare held.new }
     ensures drew { IfOk result (λ i. Drew (cost_idle i) (is_over i) worker.old worker.new) }
+    ensures stopped { IfErr result (λ s. GaveUp s worker.old worker.new) }
     ensures carries { (program : ProgramView) (n : ℕ) (l : Lane A) → IsCarrying A.over A.stands program code.now table.now.id n worker.old (just_lane n code.now l) → IsCarrying A.over A.stands program code.now table.now.id n worker.new (just_lane n code.now l) }
     ensures solo { IfOk result (λ r. (most : ℕ) → MayGo A.over A.place A.stands A.advances A.gives A.starts code.now AtEmpty most worker.old → Went A.over A.place A.stands A.advances A.gives A.starts code.now (MaySettle to_rest ports.new.items) most worker.new) }
 {
@@ -210,7 +215,8 @@ fn await_deadline<R: Wait, A: Agent, C: Clock + Drop>(
 
 // The channel is to be settled.
 fn name_port(ports: &mut Vec<u64>, port: PortId) -> Result<Rested, PoolStop>
-    ensures { IfOk result (λ i. (cost_idle i ≡ 0) × (is_over i ≡ false)) }
+    ensures cost { IfOk result (λ i. (cost_idle i ≡ 0) × (is_over i ≡ false)) }
+    ensures stopped { IfErr result (λ s. s ≡ OutOfMemory) }
 {
     ports.clear();
     match ports.push(port.n) {
@@ -266,6 +272,7 @@ pub(crate) fn idle<R: Wait, A: Agent, C: Clock + Drop>(
     ensures same { SameWorker worker.old worker.new }
     ensures bare { IsBare held.new }
     ensures drew { IfOk result.1 (λ i. Drew (cost_idle i) (is_over i) worker.old worker.new) }
+    ensures stopped { IfErr result.1 (λ s. GaveUp s worker.old worker.new) }
     ensures over { TaskOver A.over code.now result.0.value }
     ensures seated { (program : ProgramView) (n : ℕ) → IsSeated A.over A.stands program code.now table.now.id n worker.old lane.value → IsSeated A.over A.stands program code.now table.now.id n worker.new result.0.value }
     ensures solo { IfOk result.1 (λ r. (most : ℕ) → MayGo A.over A.place A.stands A.advances A.gives A.starts code.now AtEmpty most worker.old → Went A.over A.place A.stands A.advances A.gives A.starts code.now (MaySettle to_rest due.new.items) most worker.new) }

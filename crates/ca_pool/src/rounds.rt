@@ -1,15 +1,14 @@
 // All workers at once.
-ghost use Rattle.std.specs.Prelude.{◌≡◌, ℕ, ◌+◌, ◌*◌, ◌<◌, ◌≤◌, All, List, length, true, false, OnOk, IfOk, Ok};
+ghost use Rattle.std.specs.Prelude.{◌≡◌, ◌<◌, All, List, length, OnOk, Err, Ok};
 ghost use Rattle.ca_term.specs.Program.{program_view};
 ghost use Rattle.ca_lower.specs.Gos.{SameGos};
 ghost use Rattle.ca_lower.specs.Lowered.{Lowered};
 ghost use Rattle.ca_states.specs.ValidCode.{valid_code};
-ghost use Rattle.ca_turns.specs.Places.{total};
-ghost use Rattle.ca_pool.specs.Answers.{BeginsAlone, CalledAt, HasCalled, StopsAlone, joined, joined_from};
+ghost use Rattle.ca_pool.specs.Answers.{BeginsAlone, CalledAt, EachWorked, HasCalled, StopsAlone, joined, joined_from};
 ghost use Rattle.ca_table.specs.Seen.{PartSeen};
-ghost use Rattle.ca_table.specs.Worked.{any_drew, gives_up, leaves, spent};
-ghost use Rattle.ca_table.specs.Workers.{IsReady, stands_for};
-ghost use Rattle.ca_table.specs.declared.answer.WorkEnd.TheVariants.{Over, Spent};
+ghost use Rattle.ca_table.specs.Workers.{IsReady};
+ghost use Rattle.ca_table.specs.declared.answer.PoolStop.TheVariants.{ClockFailed};
+ghost use Rattle.ca_table.specs.declared.answer.WorkEnd.TheVariants.{Spent};
 
 use crate::gate::Gate;
 use crate::working::work;
@@ -84,7 +83,8 @@ fn work_all<R: Threads + Wait + Sync, A: Starting + Send, C: Clock + Drop + Send
 }
 
 /// Each worker with that allowance, in a thread of its own. It is spent where each of them spent it, and over where
-/// some worker found the run's end and none gave up. An only worker that begins keeps to the schedule.
+/// some worker found the run's end and none gave up. Otherwise some worker wanted memory, or, where none did, its clock
+/// failed. An only worker that begins keeps to the schedule.
 pub fn round<R: Threads + Wait + Sync, A: Starting + Send, C: Clock + Drop + Send, G: Gate + Sync>(
     rt: &R,
     alloc: Global,
@@ -101,10 +101,9 @@ pub fn round<R: Threads + Wait + Sync, A: Starting + Send, C: Clock + Drop + Sen
     requires gos { SameGos (program_view program.now) (valid_code code.now) }
     ensures many { length workers.new ≡ length workers.old }
     ensures ready { OnOk result (All (IsReady A.over A.stands (program_view program.now) (valid_code code.now) table.now.id (length workers.old)) workers.new) }
-    ensures stay { OnOk result (total stands_for workers.new ≡ total stands_for workers.old) }
-    ensures going { OnOk result (any_drew gives_up workers.old ≡ false → any_drew gives_up workers.new ≡ false) }
-    ensures spent { IfOk result (λ e. e ≡ Spent → length workers.old * allowance + total spent workers.old ≤ total spent workers.new) }
-    ensures over { IfOk result (λ e. e ≡ Over → any_drew leaves workers.new ≡ true) }
+    ensures failed { result ≡ Err ClockFailed → All (IsReady A.over A.stands (program_view program.now) (valid_code code.now) table.now.id (length workers.old)) workers.new }
+    ensures worked { EachWorked allowance workers.old workers.new }
+    ensures answer { result ≡ joined_from (Ok Spent) workers.new }
     ensures solo { OnOk result ((opening : List (PartSeen A)) → 0 < allowance → All (BeginsAlone opening) workers.old → All (StopsAlone A.over A.place A.stands A.advances A.gives A.starts code.now allowance opening) workers.new) }
 {
     let text = Snapshot::of(program);

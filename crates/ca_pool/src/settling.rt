@@ -186,6 +186,7 @@ fn serve_taken<R: Wait, A: Agent, C: Clock + Drop>(
     ensures same { SameWorker worker.old worker.new }
     ensures bare { IsBare held.new }
     ensures drew { IfOk result (λ s. Drew (cost_settling s) false worker.old worker.new) }
+    ensures refused { OnErr result (Drew 0 false worker.old worker.new) }
     ensures carries { (program : ProgramView) (n : ℕ) (l : Lane A) → IsCarrying A.over A.stands program code.now table.now.id n worker.old (taken (part_seen C.least C.faults C.readings) n code.now worker.old.number l None held.old) → IsCarrying A.over A.stands program code.now table.now.id n worker.new (just_lane n code.now l) }
     ensures solo { IfOk result (λ s. (k : Follow) (us : List ℕ) (most : ℕ) → MayGo A.over A.place A.stands A.advances A.gives A.starts code.now (MaySettle k (port.n ∷ us)) most worker.old → HasLooked A.over A.place A.stands A.advances A.gives A.starts code.now k port.n us most s worker.new) }
 {
@@ -218,6 +219,7 @@ fn look_once<R: Wait, A: Agent, C: Clock + Drop>(
     ensures same { SameWorker worker.old worker.new }
     ensures bare { IsBare held.new }
     ensures drew { IfOk result (λ s. Drew (cost_settling s) false worker.old worker.new) }
+    ensures refused { OnErr result (Drew 0 false worker.old worker.new) }
     ensures carries { (program : ProgramView) (n : ℕ) (l : Lane A) → IsCarrying A.over A.stands program code.now table.now.id n worker.old (just_lane n code.now l) → IsCarrying A.over A.stands program code.now table.now.id n worker.new (just_lane n code.now l) }
     ensures solo { IfOk result (λ s. (k : Follow) (us : List ℕ) (most : ℕ) → MayGo A.over A.place A.stands A.advances A.gives A.starts code.now (MaySettle k (port.n ∷ us)) most worker.old → HasLooked A.over A.place A.stands A.advances A.gives A.starts code.now k port.n us most s worker.new) }
 {
@@ -259,6 +261,7 @@ pub(crate) fn settle<R: Wait, A: Agent, C: Clock + Drop>(
     ensures same { SameWorker worker.old worker.new }
     ensures bare { IsBare held.new }
     ensures drew { IfOk result (λ o. Drew (unwrap_or o 0) false worker.old worker.new) }
+    ensures refused { OnErr result (Drew 0 false worker.old worker.new) }
     ensures carries { (program : ProgramView) (n : ℕ) (l : Lane A) → IsCarrying A.over A.stands program code.now table.now.id n worker.old (just_lane n code.now l) → IsCarrying A.over A.stands program code.now table.now.id n worker.new (just_lane n code.now l) }
     ensures solo { IfOk result (λ o. (k : Follow) (us : List ℕ) (most : ℕ) → MayGo A.over A.place A.stands A.advances A.gives A.starts code.now (MaySettle k (port.n ∷ us)) most worker.old → HasSettled A.over A.place A.stands A.advances A.gives A.starts code.now k port.n us most o worker.new) }
 {

@@ -1,5 +1,5 @@
 // A task's next event: the task leaves its lane and goes on to its next pause, and what it is paused at is done.
-ghost use Rattle.std.specs.Prelude.{◌≡◌, ℕ, IfOk, IsSome, OnErr, Some, [], ◌<◌, option_map};
+ghost use Rattle.std.specs.Prelude.{◌≡◌, ℕ, IfOk, IsSome, OnErr, Some, [], ◌<◌, option_map, false};
 ghost use Rattle.ca_term.specs.Program.{ProgramView, program_view};
 ghost use Rattle.ca_term.specs.Event.{port_number};
 ghost use Rattle.ca_meaning.specs.Solo.{patience};
@@ -89,6 +89,7 @@ fn act<R: Wait, A: Starting, C: Clock + Drop>(
     ensures stepped { IfOk result (λ s. (program : ProgramView) (n : ℕ) (l : Lane A) → IsCarrying A.over A.stands program code.now table.now.id n worker.old (just_lane n code.now l) → HasLeft A.over A.advances program code.now l lane.value task → program_view l.program.value ≡ program → IsSeated A.over A.stands program code.now table.now.id n worker.new s.lane.value) }
     ensures over { IfOk result (λ s. TaskOver A.over code.now s.lane.value) }
     ensures drew { IfOk result (λ s. Drew s.cost s.over worker.old worker.new) }
+    ensures refused { OnErr result (Drew 0 false worker.old worker.new) }
     ensures kept { OnErr result ((program : ProgramView) (n : ℕ) (l : Lane A) → IsCarrying A.over A.stands program code.now table.now.id n worker.old (just_lane n code.now l) → IsCarrying A.over A.stands program code.now table.now.id n worker.new (just_lane n code.now l)) }
     ensures solo { IfOk result (λ s. lane.value.since < patience → (most : ℕ) → MayGo A.over A.place A.stands A.advances A.gives A.starts code.now (MaySettle to_turn []) most worker.old → HasStepped A.over A.place A.stands A.advances A.gives A.starts code.now (port_if (option_map port_number s.stirred)) s.over most worker.new) }
 {
@@ -119,6 +120,7 @@ pub(crate) fn step<R: Wait, A: Starting, C: Clock + Drop, G: Gate>(
     ensures bare { IsBare held.new }
     ensures at { IfOk result (λ s. IsAtWork A.over A.stands code.now table.now.id worker.new s.lane.value) }
     ensures drew { IfOk result (λ s. Drew s.cost s.over worker.old worker.new) }
+    ensures refused { OnErr result (Drew 0 false worker.old worker.new) }
     ensures lost { OnErr result (HasLost A.over A.stands code.now table.now.id worker.new) }
     ensures solo { IfOk result (λ s. lane.value.since < patience → (most : ℕ) → MayGo A.over A.place A.stands A.advances A.gives A.starts code.now (MaySettle to_turn []) most worker.old → HasStepped A.over A.place A.stands A.advances A.gives A.starts code.now (port_if (option_map port_number s.stirred)) s.over most worker.new) }
 {

@@ -1,7 +1,8 @@
 // The channels that an event may bring to settle.
-ghost use Rattle.std.specs.Prelude.{◌≡◌, ℕ, ◌-◌, List, [], ◌∷◌, IfErr, IfOk, is_some, option_map, unwrap_or};
+ghost use Rattle.std.specs.Prelude.{◌≡◌, ℕ, ◌-◌, ◌<◌, List, [], ◌∷◌, Err, IfErr, IfOk, false, is_some, option_map, unwrap_or};
 ghost use Rattle.ca_term.specs.Event.{port_number};
 ghost use Rattle.ca_solo.specs.Stirs.{port_if};
+ghost use Rattle.ca_table.specs.Worked.{HasWorked};
 ghost use Rattle.ca_table.specs.Workers.{SameWorker};
 ghost use Rattle.ca_table.specs.declared.worker.Worker.{Worker};
 ghost use Rattle.ca_alone.specs.Schedule.{Follow, MaySettle};
@@ -50,11 +51,14 @@ fn settle_once<R: Wait, A: Agent, C: Clock + Drop>(
 ) -> Result<(Going<A>, bool), PoolStop>
     requires at { IsAtWork A.over A.stands code.now table.now.id worker.old going.lane.value }
     requires bare { IsBare held.old }
+    requires on { going.found ≡ false }
+    requires some { 0 < going.left }
     ensures same { SameWorker worker.old worker.new }
     ensures bare { IsBare held.new }
     ensures at { IfOk result (λ g. IsAtWork A.over A.stands code.now table.now.id worker.new g.0.lane.value) }
     ensures spent { IfOk result (λ g. (start : ℕ) (w : Worker A C) → HasSpent start going.left going.found w worker.old → HasSpent start g.0.left g.0.found w worker.new) }
     ensures given_up { IfErr result (λ s. IsGivenUp A.over A.stands code.now table.now.id s worker.new) }
+    ensures stopped { IfErr result (λ s. (start : ℕ) (w : Worker A C) → HasSpent start going.left going.found w worker.old → HasWorked start (Err s) w worker.new) }
     ensures solo { IfOk result (λ g. (k : Follow) (us : List ℕ) (most : ℕ) → IsRunning A.over A.place A.stands A.advances A.gives A.starts code.now (MaySettle k (port.n ∷ us)) most going.left going.found worker.old → HasCounted A.over A.place A.stands A.advances A.gives A.starts code.now k port.n us most g.1 g.0.left g.0.found worker.new) }
 {
     match settle(rt, alloc, table, code, worker, held, port) {
@@ -81,6 +85,7 @@ fn settle_port<R: Wait, A: Agent, C: Clock + Drop>(
     ensures at { IfOk result (λ g. IsAtWork A.over A.stands code.now table.now.id worker.new g.lane.value) }
     ensures spent { IfOk result (λ g. (start : ℕ) (w : Worker A C) → HasSpent start going.left going.found w worker.old → HasSpent start g.left g.found w worker.new) }
     ensures given_up { IfErr result (λ s. IsGivenUp A.over A.stands code.now table.now.id s worker.new) }
+    ensures stopped { IfErr result (λ s. (start : ℕ) (w : Worker A C) → HasSpent start going.left going.found w worker.old → HasWorked start (Err s) w worker.new) }
     ensures solo { IfOk result (λ g. (k : Follow) (us : List ℕ) (most : ℕ) → IsGoing A.over A.place A.stands A.advances A.gives A.starts code.now (MaySettle k (port.n ∷ us)) most going.left going.found worker.old → IsGoing A.over A.place A.stands A.advances A.gives A.starts code.now (MaySettle k us) most g.left g.found worker.new) }
 {
     let mut going = going;
@@ -115,6 +120,7 @@ pub(crate) fn settle_ports<R: Wait, A: Agent, C: Clock + Drop>(
     ensures at { IfOk result (λ g. IsAtWork A.over A.stands code.now table.now.id worker.new g.lane.value) }
     ensures spent { IfOk result (λ g. (start : ℕ) (w : Worker A C) → HasSpent start going.left going.found w worker.old → HasSpent start g.left g.found w worker.new) }
     ensures given_up { IfErr result (λ s. IsGivenUp A.over A.stands code.now table.now.id s worker.new) }
+    ensures stopped { IfErr result (λ s. (start : ℕ) (w : Worker A C) → HasSpent start going.left going.found w worker.old → HasWorked start (Err s) w worker.new) }
     ensures solo { IfOk result (λ g. (k : Follow) (most : ℕ) → IsGoing A.over A.place A.stands A.advances A.gives A.starts code.now (MaySettle k ports.now) most going.left going.found worker.old → IsGoing A.over A.place A.stands A.advances A.gives A.starts code.now (MaySettle k []) most g.left g.found worker.new) }
 {
     let mut going = going;
@@ -143,6 +149,7 @@ pub(crate) fn settle_stirred<R: Wait, A: Agent, C: Clock + Drop>(
     ensures at { IfOk result (λ g. IsAtWork A.over A.stands code.now table.now.id worker.new g.lane.value) }
     ensures spent { IfOk result (λ g. (start : ℕ) (w : Worker A C) → HasSpent start going.left going.found w worker.old → HasSpent start g.left g.found w worker.new) }
     ensures given_up { IfErr result (λ s. IsGivenUp A.over A.stands code.now table.now.id s worker.new) }
+    ensures stopped { IfErr result (λ s. (start : ℕ) (w : Worker A C) → HasSpent start going.left going.found w worker.old → HasWorked start (Err s) w worker.new) }
     ensures solo { IfOk result (λ g. (k : Follow) (most : ℕ) → IsGoing A.over A.place A.stands A.advances A.gives A.starts code.now (MaySettle k (port_if (option_map port_number stirred))) most going.left going.found worker.old → IsGoing A.over A.place A.stands A.advances A.gives A.starts code.now (MaySettle k []) most g.left g.found worker.new) }
 {
     match stirred {

@@ -1,5 +1,5 @@
 // A tick: the timeouts that are due are closed, where their banks are free.
-ghost use Rattle.std.specs.Prelude.{◌≡◌, ◌≢◌, ℕ, ◌+◌, ◌<◌, ◌≤◌, ◌^◌, [], Some, None, IfNone, IfOk, IfSome, OnOk, false, true, List};
+ghost use Rattle.std.specs.Prelude.{◌≡◌, ◌≢◌, ℕ, ◌+◌, ◌<◌, ◌≤◌, ◌^◌, [], Some, None, IfNone, IfOk, IfSome, OnErr, OnOk, false, true, List};
 ghost use Rattle.ca_value.specs.Deadlines.{due};
 ghost use Rattle.ca_value.specs.Seq.{list, spare};
 ghost use Rattle.ca_term.specs.Event.{event_view, ticked};
@@ -226,6 +226,7 @@ pub(crate) fn pass<R: Wait, A: Agent, C: Clock + Drop>(
     ensures same { SameWorker worker.old worker.new }
     ensures bare { IsBare held.new }
     ensures drew { IfOk result (λ a. Drew (cost_asked a) (is_marked a) worker.old worker.new) }
+    ensures refused { OnErr result (Drew 0 false worker.old worker.new) }
     ensures carries { (program : ProgramView) (n : ℕ) (l : Lane A) (clock0 : ClockBox C) → IsCarrying A.over A.stands program code.now table.now.id n worker.old (taken (part_seen C.least C.faults C.readings) n code.now worker.old.number l (Some clock0) held.old) → IsAsked now (clockwork_seen C.least C.faults C.readings clock0.value) (clockwork_seen C.least C.faults C.readings clockwork.value) → IsCarrying A.over A.stands program code.now table.now.id n worker.new (just_lane n code.now l) }
     ensures solo { IfOk result (λ a. (k : Follow) (most : ℕ) → IsDue clockwork.value.timers.deadlines now → MayGo A.over A.place A.stands A.advances A.gives A.starts code.now (MayTick k) most worker.old → (cost : ℕ) × (a ≡ Ticked cost) × Went A.over A.place A.stands A.advances A.gives A.starts code.now (MaySettle k ports.new.items) most worker.new) }
 {
@@ -258,6 +259,7 @@ fn tick_with<R: Wait, A: Agent, C: Clock + Drop>(
     ensures same { SameWorker worker.old worker.new }
     ensures bare { IsBare held.new }
     ensures drew { IfOk result (λ a. Drew (cost_asked a) (is_marked a) worker.old worker.new) }
+    ensures refused { OnErr result (Drew 0 false worker.old worker.new) }
     ensures carries { (program : ProgramView) (n : ℕ) (l : Lane A) (clock0 : ClockBox C) → IsCarrying A.over A.stands program code.now table.now.id n worker.old (taken (part_seen C.least C.faults C.readings) n code.now worker.old.number l (Some clock0) held.old) → IsAsked now (clockwork_seen C.least C.faults C.readings clock0.value) (clockwork_seen C.least C.faults C.readings clockwork.value) → IsCarrying A.over A.stands program code.now table.now.id n worker.new (just_lane n code.now l) }
     ensures solo { IfOk result (λ a. (k : Follow) (us : List ℕ) (most : ℕ) → IsDue clockwork.value.timers.deadlines now → Ordered (due now clockwork.value.timers.deadlines) us → MayGo A.over A.place A.stands A.advances A.gives A.starts code.now (MayTick k) most worker.old → (cost : ℕ) × (a ≡ Ticked cost) × Went A.over A.place A.stands A.advances A.gives A.starts code.now (MaySettle k us) most worker.new) }
 {
@@ -290,6 +292,7 @@ fn close_due<R: Wait, A: Agent, C: Clock + Drop>(
     ensures same { SameWorker worker.old worker.new }
     ensures bare { IsBare held.new }
     ensures drew { IfOk result (λ a. Drew (cost_asked a) (is_marked a) worker.old worker.new) }
+    ensures refused { OnErr result (Drew 0 false worker.old worker.new) }
     ensures carries { (program : ProgramView) (n : ℕ) (l : Lane A) (clock0 : ClockBox C) → IsCarrying A.over A.stands program code.now table.now.id n worker.old (taken (part_seen C.least C.faults C.readings) n code.now worker.old.number l (Some clock0) held.old) → IsAsked now (clockwork_seen C.least C.faults C.readings clock0.value) (clockwork_seen C.least C.faults C.readings clockwork.value) → IsCarrying A.over A.stands program code.now table.now.id n worker.new (just_lane n code.now l) }
     ensures solo { IfOk result (λ a. (k : Follow) (us : List ℕ) (most : ℕ) → IsDue clockwork.value.timers.deadlines now → Ordered (due now clockwork.value.timers.deadlines) us → MayGo A.over A.place A.stands A.advances A.gives A.starts code.now (MayTick k) most worker.old → (cost : ℕ) × (a ≡ Ticked cost) × Went A.over A.place A.stands A.advances A.gives A.starts code.now (MaySettle k us) most worker.new) }
 {

@@ -1,13 +1,13 @@
 // A worker's visit to its lane: it puts a task there, if none is, and lets it run.
-ghost use Rattle.std.specs.Prelude.{◌≡◌, ◌⊎◌, ℕ, ◌-◌, ◌<◌, ◌≤◌, ◌||◌, [], IfErr, IfOk, IsSome, None, false, option_map};
+ghost use Rattle.std.specs.Prelude.{◌≡◌, ◌⊎◌, ℕ, ◌-◌, ◌<◌, ◌≤◌, ◌||◌, [], Err, IfErr, IfOk, IsSome, None, false, option_map};
 ghost use Rattle.ca_term.specs.Event.{port_number};
 ghost use Rattle.ca_meaning.specs.Solo.{patience};
 ghost use Rattle.ca_solo.specs.Stirs.{port_if};
 ghost use Rattle.ca_alone.specs.Schedule.{AtEmpty, AtFree, AtPicked, MaySettle, to_rest, to_turn};
-ghost use Rattle.ca_table.specs.Worked.{Drew};
+ghost use Rattle.ca_table.specs.Worked.{Drew, HasWorked};
 ghost use Rattle.ca_table.specs.Workers.{SameWorker};
 ghost use Rattle.ca_table.specs.declared.worker.Worker.{Worker};
-ghost use Rattle.ca_pool.specs.AtWork.{HasSpent, IsAtWork, IsGivenUp};
+ghost use Rattle.ca_pool.specs.AtWork.{GaveUp, HasSpent, IsAtWork, IsGivenUp};
 ghost use Rattle.ca_pool.specs.Costs.{cost_asked, cost_idle, is_marked, is_over};
 ghost use Rattle.ca_pool.specs.Desk.{IsBare};
 ghost use Rattle.ca_pool.specs.Lone.{IsGoing, IsRunning, MayGo, Went};
@@ -46,6 +46,7 @@ fn give_up<A: Agent, C: Clock + Drop>(
 ) -> PoolStop
     requires at { IsAtWork A.over A.stands code.now table.now.id worker.old going.lane.value }
     ensures same { SameWorker worker.old worker.new }
+    ensures worked { (start : ℕ) (w : Worker A C) → HasWorked start (Err stop) w worker.old → HasWorked start (Err result) w worker.new }
     ensures given_up { IsGivenUp A.over A.stands code.now table.now.id result worker.new }
 {
     match stop {
@@ -77,11 +78,13 @@ fn make_one<R: Wait, A: Starting, C: Clock + Drop, G: Gate>(
     requires bare { IsBare held.old }
     requires busy { IsSome going.lane.value.task }
     requires on { going.found ≡ false }
+    requires some { 0 < going.left }
     ensures same { SameWorker worker.old worker.new }
     ensures bare { IsBare held.new }
     ensures at { IfOk result (λ g. IsAtWork A.over A.stands code.now table.now.id worker.new g.0.lane.value) }
     ensures spent { IfOk result (λ g. (start : ℕ) (w : Worker A C) → HasSpent start going.left going.found w worker.old → HasSpent start g.0.left g.0.found w worker.new) }
     ensures given_up { IfErr result (λ s. IsGivenUp A.over A.stands code.now table.now.id s worker.new) }
+    ensures stopped { IfErr result (λ s. (start : ℕ) (w : Worker A C) → HasSpent start going.left going.found w worker.old → HasWorked start (Err s) w worker.new) }
     ensures solo { IfOk result (λ g. (most : ℕ) → going.lane.value.since < patience → IsRunning A.over A.place A.stands A.advances A.gives A.starts code.now (MaySettle to_turn []) most going.left going.found worker.old → IsGoing A.over A.place A.stands A.advances A.gives A.starts code.now (MaySettle to_turn (port_if (option_map port_number g.1))) most g.0.left g.0.found worker.new) }
 {
     let Going {
@@ -120,11 +123,13 @@ fn make_event<R: Wait, A: Starting, C: Clock + Drop, G: Gate>(
     requires bare { IsBare held.old }
     requires busy { IsSome going.lane.value.task }
     requires on { going.found ≡ false }
+    requires some { 0 < going.left }
     ensures same { SameWorker worker.old worker.new }
     ensures bare { IsBare held.new }
     ensures at { IfOk result (λ g. IsAtWork A.over A.stands code.now table.now.id worker.new g.lane.value) }
     ensures spent { IfOk result (λ g. (start : ℕ) (w : Worker A C) → HasSpent start going.left going.found w worker.old → HasSpent start g.left g.found w worker.new) }
     ensures given_up { IfErr result (λ s. IsGivenUp A.over A.stands code.now table.now.id s worker.new) }
+    ensures stopped { IfErr result (λ s. (start : ℕ) (w : Worker A C) → HasSpent start going.left going.found w worker.old → HasWorked start (Err s) w worker.new) }
     ensures solo { IfOk result (λ g. (most : ℕ) → going.lane.value.since < patience → IsRunning A.over A.place A.stands A.advances A.gives A.starts code.now (MaySettle to_turn []) most going.left going.found worker.old → IsGoing A.over A.place A.stands A.advances A.gives A.starts code.now (MaySettle to_turn []) most g.left g.found worker.new) }
 {
     let (going, stirred) = make_one(rt, alloc, table, code, worker, held, gate, going)?;
@@ -149,6 +154,7 @@ fn run_task<R: Wait, A: Starting, C: Clock + Drop, G: Gate>(
     ensures at { IfOk result (λ g. IsAtWork A.over A.stands code.now table.now.id worker.new g.lane.value) }
     ensures spent { IfOk result (λ g. (start : ℕ) (w : Worker A C) → HasSpent start going.left going.found w worker.old → HasSpent start g.left g.found w worker.new) }
     ensures given_up { IfErr result (λ s. IsGivenUp A.over A.stands code.now table.now.id s worker.new) }
+    ensures stopped { IfErr result (λ s. (start : ℕ) (w : Worker A C) → HasSpent start going.left going.found w worker.old → HasWorked start (Err s) w worker.new) }
     ensures full { IfOk result (λ g. (0 < g.left → g.found ≡ false → (g.lane.value.task ≡ None) ⊎ (patience ≤ g.lane.value.since))) }
     ensures solo { IfOk result (λ g. (most : ℕ) → IsGoing A.over A.place A.stands A.advances A.gives A.starts code.now (MaySettle to_turn []) most going.left going.found worker.old → IsGoing A.over A.place A.stands A.advances A.gives A.starts code.now (MaySettle to_turn []) most g.left g.found worker.new) }
 {
@@ -172,10 +178,12 @@ fn yield_lane<R: Wait, A: Agent, C: Clock + Drop>(
 ) -> Result<Going<A>, PoolStop>
     requires at { IsAtWork A.over A.stands code.now table.now.id worker.old going.lane.value }
     requires busy { IsSome going.lane.value.task }
+    requires on { going.found ≡ false }
     ensures same { SameWorker worker.old worker.new }
     ensures at { IfOk result (λ g. IsAtWork A.over A.stands code.now table.now.id worker.new g.lane.value) }
     ensures spent { IfOk result (λ g. (start : ℕ) (w : Worker A C) → HasSpent start going.left going.found w worker.old → HasSpent start g.left g.found w worker.new) }
     ensures given_up { IfErr result (λ s. IsGivenUp A.over A.stands code.now table.now.id s worker.new) }
+    ensures stopped { IfErr result (λ s. (start : ℕ) (w : Worker A C) → HasSpent start going.left going.found w worker.old → HasWorked start (Err s) w worker.new) }
     ensures solo { IfOk result (λ g. (most : ℕ) → (0 < going.left → going.found ≡ false → (going.lane.value.task ≡ None) ⊎ (patience ≤ going.lane.value.since)) → IsGoing A.over A.place A.stands A.advances A.gives A.starts code.now (MaySettle to_turn []) most going.left going.found worker.old → IsGoing A.over A.place A.stands A.advances A.gives A.starts code.now AtFree most g.left g.found worker.new) }
 {
     check_turns(rt, worker);
@@ -200,6 +208,7 @@ fn stand_back<R: Wait, A: Agent, C: Clock + Drop>(
     ensures at { IfOk result (λ g. IsAtWork A.over A.stands code.now table.now.id worker.new g.lane.value) }
     ensures spent { IfOk result (λ g. (start : ℕ) (w : Worker A C) → HasSpent start going.left going.found w worker.old → HasSpent start g.left g.found w worker.new) }
     ensures given_up { IfErr result (λ s. IsGivenUp A.over A.stands code.now table.now.id s worker.new) }
+    ensures stopped { IfErr result (λ s. (start : ℕ) (w : Worker A C) → HasSpent start going.left going.found w worker.old → HasWorked start (Err s) w worker.new) }
     ensures solo { IfOk result (λ g. (most : ℕ) → (0 < going.left → going.found ≡ false → (going.lane.value.task ≡ None) ⊎ (patience ≤ going.lane.value.since)) → IsGoing A.over A.place A.stands A.advances A.gives A.starts code.now (MaySettle to_turn []) most going.left going.found worker.old → IsGoing A.over A.place A.stands A.advances A.gives A.starts code.now AtFree most g.left g.found worker.new) }
 {
     if going.found || going.lane.task.is_none() {
@@ -227,6 +236,7 @@ fn run_and_leave<R: Wait, A: Starting, C: Clock + Drop, G: Gate>(
     ensures at { IfOk result (λ g. IsAtWork A.over A.stands code.now table.now.id worker.new g.lane.value) }
     ensures spent { IfOk result (λ g. (start : ℕ) (w : Worker A C) → HasSpent start going.left going.found w worker.old → HasSpent start g.left g.found w worker.new) }
     ensures given_up { IfErr result (λ s. IsGivenUp A.over A.stands code.now table.now.id s worker.new) }
+    ensures stopped { IfErr result (λ s. (start : ℕ) (w : Worker A C) → HasSpent start going.left going.found w worker.old → HasWorked start (Err s) w worker.new) }
     ensures solo { IfOk result (λ g. (most : ℕ) → IsGoing A.over A.place A.stands A.advances A.gives A.starts code.now (MaySettle to_turn []) most going.left going.found worker.old → IsGoing A.over A.place A.stands A.advances A.gives A.starts code.now AtFree most g.left g.found worker.new) }
 {
     let going = run_task(rt, alloc, table, code, worker, held, gate, going)?;
@@ -245,8 +255,11 @@ fn find_at<R: Wait, A: Agent, C: Clock + Drop>(
     requires at { IsAtWork A.over A.stands code.now table.now.id worker.old going.lane.value }
     requires free { going.lane.value.task ≡ None }
     requires below { at < worker.old.workers }
+    requires on { going.found ≡ false }
     ensures same { SameWorker worker.old worker.new }
     ensures at { IsAtWork A.over A.stands code.now table.now.id worker.new result.lane.value }
+    ensures left { result.left ≡ going.left }
+    ensures found { result.found ≡ going.found }
     ensures spent { (start : ℕ) (w : Worker A C) → HasSpent start going.left going.found w worker.old → HasSpent start result.left result.found w worker.new }
     ensures empty { (most : ℕ) → result.lane.value.task ≡ None → IsRunning A.over A.place A.stands A.advances A.gives A.starts code.now AtFree most going.left going.found worker.old → IsRunning A.over A.place A.stands A.advances A.gives A.starts code.now AtEmpty most result.left result.found worker.new }
     ensures picked { (most : ℕ) → IsSome result.lane.value.task → IsRunning A.over A.place A.stands A.advances A.gives A.starts code.now AtFree most going.left going.found worker.old → IsRunning A.over A.place A.stands A.advances A.gives A.starts code.now AtPicked most result.left result.found worker.new }
@@ -266,8 +279,11 @@ fn find_task<R: Wait, A: Agent, C: Clock + Drop>(
     going: Going<A>,
 ) -> Going<A>
     requires at { IsAtWork A.over A.stands code.now table.now.id worker.old going.lane.value }
+    requires on { going.found ≡ false }
     ensures same { SameWorker worker.old worker.new }
     ensures at { IsAtWork A.over A.stands code.now table.now.id worker.new result.lane.value }
+    ensures left { result.left ≡ going.left }
+    ensures found { result.found ≡ going.found }
     ensures spent { (start : ℕ) (w : Worker A C) → HasSpent start going.left going.found w worker.old → HasSpent start result.left result.found w worker.new }
     ensures empty { (most : ℕ) → going.lane.value.task ≡ None → result.lane.value.task ≡ None → IsRunning A.over A.place A.stands A.advances A.gives A.starts code.now AtFree most going.left going.found worker.old → IsRunning A.over A.place A.stands A.advances A.gives A.starts code.now AtEmpty most result.left result.found worker.new }
     ensures picked { (most : ℕ) → going.lane.value.task ≡ None → IsSome result.lane.value.task → IsRunning A.over A.place A.stands A.advances A.gives A.starts code.now AtFree most going.left going.found worker.old → IsRunning A.over A.place A.stands A.advances A.gives A.starts code.now AtPicked most result.left result.found worker.new }
@@ -311,11 +327,14 @@ fn ask_clock<R: Wait, A: Agent, C: Clock + Drop>(
 ) -> Result<Going<A>, PoolStop>
     requires at { IsAtWork A.over A.stands code.now table.now.id worker.old going.lane.value }
     requires bare { IsBare held.old }
+    requires on { going.found ≡ false }
+    requires some { 0 < going.left }
     ensures same { SameWorker worker.old worker.new }
     ensures bare { IsBare held.new }
     ensures at { IfOk result (λ g. IsAtWork A.over A.stands code.now table.now.id worker.new g.lane.value) }
     ensures spent { IfOk result (λ g. (start : ℕ) (w : Worker A C) → HasSpent start going.left going.found w worker.old → HasSpent start g.left g.found w worker.new) }
     ensures given_up { IfErr result (λ s. IsGivenUp A.over A.stands code.now table.now.id s worker.new) }
+    ensures stopped { IfErr result (λ s. (start : ℕ) (w : Worker A C) → HasSpent start going.left going.found w worker.old → HasWorked start (Err s) w worker.new) }
     ensures solo { IfOk result (λ g. (most : ℕ) → due.old.items ≡ [] → IsRunning A.over A.place A.stands A.advances A.gives A.starts code.now AtPicked most going.left going.found worker.old → IsGoing A.over A.place A.stands A.advances A.gives A.starts code.now (MaySettle to_turn due.new.items) most g.left g.found worker.new) }
 {
     match ask(rt, alloc, table, code, worker, held, due) {
@@ -338,11 +357,14 @@ fn run_picked<R: Wait, A: Starting, C: Clock + Drop, G: Gate>(
 ) -> Result<Going<A>, PoolStop>
     requires at { IsAtWork A.over A.stands code.now table.now.id worker.old going.lane.value }
     requires bare { IsBare held.old }
+    requires on { going.found ≡ false }
+    requires some { 0 < going.left }
     ensures same { SameWorker worker.old worker.new }
     ensures bare { IsBare held.new }
     ensures at { IfOk result (λ g. IsAtWork A.over A.stands code.now table.now.id worker.new g.lane.value) }
     ensures spent { IfOk result (λ g. (start : ℕ) (w : Worker A C) → HasSpent start going.left going.found w worker.old → HasSpent start g.left g.found w worker.new) }
     ensures given_up { IfErr result (λ s. IsGivenUp A.over A.stands code.now table.now.id s worker.new) }
+    ensures stopped { IfErr result (λ s. (start : ℕ) (w : Worker A C) → HasSpent start going.left going.found w worker.old → HasWorked start (Err s) w worker.new) }
     ensures solo { IfOk result (λ g. (most : ℕ) → IsRunning A.over A.place A.stands A.advances A.gives A.starts code.now AtPicked most going.left going.found worker.old → IsGoing A.over A.place A.stands A.advances A.gives A.starts code.now AtFree most g.left g.found worker.new) }
 {
     due.clear();
@@ -384,6 +406,7 @@ fn look_idle<R: Wait, A: Agent, C: Clock + Drop>(
     ensures left { result.0.left ≡ going.left }
     ensures found { result.0.found ≡ going.found }
     ensures drew { IfOk result.1 (λ r. Drew (cost_idle r) (is_over r) worker.old worker.new) }
+    ensures stopped { IfErr result.1 (λ s. GaveUp s worker.old worker.new) }
     ensures solo { IfOk result.1 (λ r. (most : ℕ) → MayGo A.over A.place A.stands A.advances A.gives A.starts code.now AtEmpty most worker.old → Went A.over A.place A.stands A.advances A.gives A.starts code.now (MaySettle to_rest due.new.items) most worker.new) }
 {
     let Going { lane, left, found } = going;
@@ -405,11 +428,14 @@ fn rest<R: Wait, A: Agent, C: Clock + Drop>(
     requires at { IsAtWork A.over A.stands code.now table.now.id worker.old going.lane.value }
     requires bare { IsBare held.old }
     requires free { going.lane.value.task ≡ None }
+    requires on { going.found ≡ false }
+    requires some { 0 < going.left }
     ensures same { SameWorker worker.old worker.new }
     ensures bare { IsBare held.new }
     ensures at { IfOk result (λ g. IsAtWork A.over A.stands code.now table.now.id worker.new g.lane.value) }
     ensures spent { IfOk result (λ g. (start : ℕ) (w : Worker A C) → HasSpent start going.left going.found w worker.old → HasSpent start g.left g.found w worker.new) }
     ensures given_up { IfErr result (λ s. IsGivenUp A.over A.stands code.now table.now.id s worker.new) }
+    ensures stopped { IfErr result (λ s. (start : ℕ) (w : Worker A C) → HasSpent start going.left going.found w worker.old → HasWorked start (Err s) w worker.new) }
     ensures solo { IfOk result (λ g. (most : ℕ) → IsRunning A.over A.place A.stands A.advances A.gives A.starts code.now AtEmpty most going.left going.found worker.old → IsGoing A.over A.place A.stands A.advances A.gives A.starts code.now (MaySettle to_rest due.new.items) most g.left g.found worker.new) }
 {
     let (looked, came) = look_idle(rt, alloc, table, code, worker, held, due, going);
@@ -433,11 +459,14 @@ fn rest_and_settle<R: Wait, A: Agent, C: Clock + Drop>(
     requires at { IsAtWork A.over A.stands code.now table.now.id worker.old going.lane.value }
     requires bare { IsBare held.old }
     requires free { going.lane.value.task ≡ None }
+    requires on { going.found ≡ false }
+    requires some { 0 < going.left }
     ensures same { SameWorker worker.old worker.new }
     ensures bare { IsBare held.new }
     ensures at { IfOk result (λ g. IsAtWork A.over A.stands code.now table.now.id worker.new g.lane.value) }
     ensures spent { IfOk result (λ g. (start : ℕ) (w : Worker A C) → HasSpent start going.left going.found w worker.old → HasSpent start g.left g.found w worker.new) }
     ensures given_up { IfErr result (λ s. IsGivenUp A.over A.stands code.now table.now.id s worker.new) }
+    ensures stopped { IfErr result (λ s. (start : ℕ) (w : Worker A C) → HasSpent start going.left going.found w worker.old → HasWorked start (Err s) w worker.new) }
     ensures solo { IfOk result (λ g. (most : ℕ) → IsRunning A.over A.place A.stands A.advances A.gives A.starts code.now AtEmpty most going.left going.found worker.old → IsGoing A.over A.place A.stands A.advances A.gives A.starts code.now AtFree most g.left g.found worker.new) }
 {
     due.clear();
@@ -459,11 +488,14 @@ fn seek<R: Wait, A: Starting, C: Clock + Drop, G: Gate>(
 ) -> Result<Going<A>, PoolStop>
     requires at { IsAtWork A.over A.stands code.now table.now.id worker.old going.lane.value }
     requires bare { IsBare held.old }
+    requires on { going.found ≡ false }
+    requires some { 0 < going.left }
     ensures same { SameWorker worker.old worker.new }
     ensures bare { IsBare held.new }
     ensures at { IfOk result (λ g. IsAtWork A.over A.stands code.now table.now.id worker.new g.lane.value) }
     ensures spent { IfOk result (λ g. (start : ℕ) (w : Worker A C) → HasSpent start going.left going.found w worker.old → HasSpent start g.left g.found w worker.new) }
     ensures given_up { IfErr result (λ s. IsGivenUp A.over A.stands code.now table.now.id s worker.new) }
+    ensures stopped { IfErr result (λ s. (start : ℕ) (w : Worker A C) → HasSpent start going.left going.found w worker.old → HasWorked start (Err s) w worker.new) }
     ensures solo { IfOk result (λ g. (most : ℕ) → going.lane.value.task ≡ None → IsRunning A.over A.place A.stands A.advances A.gives A.starts code.now AtFree most going.left going.found worker.old → IsGoing A.over A.place A.stands A.advances A.gives A.starts code.now AtFree most g.left g.found worker.new) }
 {
     let going = find_task(rt, table, code, worker, going);
@@ -490,11 +522,14 @@ pub(crate) fn visit_lane<R: Wait, A: Starting, C: Clock + Drop, G: Gate>(
 ) -> Result<Going<A>, PoolStop>
     requires at { IsAtWork A.over A.stands code.now table.now.id worker.old going.lane.value }
     requires bare { IsBare held.old }
+    requires on { going.found ≡ false }
+    requires some { 0 < going.left }
     ensures same { SameWorker worker.old worker.new }
     ensures bare { IsBare held.new }
     ensures at { IfOk result (λ g. IsAtWork A.over A.stands code.now table.now.id worker.new g.lane.value) }
     ensures spent { IfOk result (λ g. (start : ℕ) (w : Worker A C) → HasSpent start going.left going.found w worker.old → HasSpent start g.left g.found w worker.new) }
     ensures given_up { IfErr result (λ s. IsGivenUp A.over A.stands code.now table.now.id s worker.new) }
+    ensures stopped { IfErr result (λ s. (start : ℕ) (w : Worker A C) → HasSpent start going.left going.found w worker.old → HasWorked start (Err s) w worker.new) }
     ensures solo { IfOk result (λ g. (most : ℕ) → IsRunning A.over A.place A.stands A.advances A.gives A.starts code.now AtFree most going.left going.found worker.old → IsGoing A.over A.place A.stands A.advances A.gives A.starts code.now AtFree most g.left g.found worker.new) }
 {
     if going.lane.task.is_some() {

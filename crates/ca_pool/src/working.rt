@@ -1,16 +1,15 @@
 // A worker's call: it makes events until they cost its allowance, or it finds an end.
-ghost use Rattle.std.specs.Prelude.{◌≡◌, ℕ, ◌+◌, ◌<◌, ◌≤◌, [], false, true, OnOk, IfErr, IfOk, Err};
+ghost use Rattle.std.specs.Prelude.{◌≡◌, ℕ, ◌<◌, [], true, OnOk, IfErr, IfOk, Err, Ok};
 ghost use Rattle.ca_term.specs.Program.{program_view};
 ghost use Rattle.ca_lower.specs.Gos.{SameGos};
 ghost use Rattle.ca_lower.specs.Lowered.{Lowered};
 ghost use Rattle.ca_states.specs.ValidCode.{valid_code};
-ghost use Rattle.ca_table.specs.Worked.{HasWorked, gives_up, has_drawn, leaves, spent};
+ghost use Rattle.ca_table.specs.Worked.{HasWorked};
 ghost use Rattle.ca_table.specs.Workers.{IsReady, SameWorker};
 ghost use Rattle.ca_table.specs.declared.answer.PoolStop.TheVariants.{ClockFailed};
-ghost use Rattle.ca_table.specs.declared.answer.WorkEnd.TheVariants.{Over, Spent};
 ghost use Rattle.ca_table.specs.declared.worker.Worker.{Worker};
 ghost use Rattle.ca_alone.specs.Schedule.{AtFree};
-ghost use Rattle.ca_pool.specs.AtWork.{HasDone, HasSpent, IsAtWork, IsGivenUp};
+ghost use Rattle.ca_pool.specs.AtWork.{HasSpent, IsAtWork, IsGivenUp};
 ghost use Rattle.ca_pool.specs.Desk.{IsBare};
 ghost use Rattle.ca_pool.specs.Lone.{IsGoing, IsLone, LoneStopped};
 
@@ -74,6 +73,7 @@ fn go_on<R: Wait, A: Starting, C: Clock + Drop, G: Gate>(
     ensures at { IfOk result (λ g. IsAtWork A.over A.stands code.now table.now.id worker.new g.lane.value) }
     ensures spent { IfOk result (λ g. (start : ℕ) (w : Worker A C) → HasSpent start going.left going.found w worker.old → HasSpent start g.left g.found w worker.new) }
     ensures given_up { IfErr result (λ s. IsGivenUp A.over A.stands code.now table.now.id s worker.new) }
+    ensures stopped { IfErr result (λ s. (start : ℕ) (w : Worker A C) → HasSpent start going.left going.found w worker.old → HasWorked start (Err s) w worker.new) }
     ensures over { IfOk result (λ g. 0 < g.left → g.found ≡ true) }
     ensures solo { IfOk result (λ g. (most : ℕ) → IsGoing A.over A.place A.stands A.advances A.gives A.starts code.now AtFree most going.left going.found worker.old → IsGoing A.over A.place A.stands A.advances A.gives A.starts code.now AtFree most g.left g.found worker.new) }
 {
@@ -98,7 +98,7 @@ fn leave_seat<A: Agent, C: Clock + Drop>(
     requires over { 0 < going.left → going.found ≡ true }
     ensures same { SameWorker worker.old worker.new }
     ensures ready { IsReady A.over A.stands (program_view worker.new.program.value) (valid_code code.now) table.now.id worker.new.workers worker.new }
-    ensures done { (start : ℕ) (w : Worker A C) → HasSpent start going.left going.found w worker.old → HasDone result start w worker.new }
+    ensures worked { (start : ℕ) (w : Worker A C) → HasSpent start going.left going.found w worker.old → HasWorked start (Ok result) w worker.new }
     ensures solo { (most : ℕ) → IsGoing A.over A.place A.stands A.advances A.gives A.starts code.now AtFree most going.left going.found worker.old → LoneStopped A.over A.place A.stands A.advances A.gives A.starts code.now most worker.new }
 {
     let Going {
@@ -132,8 +132,9 @@ fn take_turns<R: Wait, A: Starting, C: Clock + Drop, G: Gate>(
     ensures same { SameWorker worker.old worker.new }
     ensures bare { IsBare held.new }
     ensures ready { OnOk result (IsReady A.over A.stands (program_view worker.new.program.value) (valid_code code.now) table.now.id worker.new.workers worker.new) }
-    ensures done { IfOk result (λ e. HasDone e allowance worker.old worker.new) }
+    ensures worked { IfOk result (λ e. HasWorked allowance (Ok e) worker.old worker.new) }
     ensures given_up { IfErr result (λ s. IsGivenUp A.over A.stands code.now table.now.id s worker.new) }
+    ensures stopped { IfErr result (λ s. HasWorked allowance (Err s) worker.old worker.new) }
     ensures solo { IfOk result (λ e. IsLone worker.old → worker.old.hand.view.turns ≡ [] → 0 < allowance → LoneStopped A.over A.place A.stands A.advances A.gives A.starts code.now allowance worker.new) }
 {
     let mut due = Vec::new(alloc);
@@ -154,6 +155,7 @@ fn tell_stop<R: Wait, A: Agent, C: Clock + Drop>(
     requires given_up { IsGivenUp A.over A.stands code.now table.now.id stopped worker.old }
     requires bare { IsBare held.old }
     ensures same { SameWorker worker.old worker.new }
+    ensures worked { (start : ℕ) (w : Worker A C) → HasWorked start (Err stopped) w worker.old → HasWorked start (Err result) w worker.new }
     ensures failed { result ≡ ClockFailed → IsReady A.over A.stands (program_view worker.new.program.value) (valid_code code.now) table.now.id worker.new.workers worker.new }
 {
     match stopped {
@@ -181,11 +183,7 @@ pub fn work<R: Wait, A: Starting, C: Clock + Drop, G: Gate>(
     requires gos { SameGos (program_view worker.old.program.value) (valid_code code.now) }
     ensures ready { OnOk result (IsReady A.over A.stands (program_view worker.old.program.value) (valid_code code.now) table.now.id worker.old.workers worker.new) }
     ensures failed { result ≡ Err ClockFailed → IsReady A.over A.stands (program_view worker.old.program.value) (valid_code code.now) table.now.id worker.old.workers worker.new }
-    ensures worked { OnOk result (HasWorked worker.old worker.new) }
-    ensures going { OnOk result (has_drawn gives_up worker.old ≡ false → has_drawn gives_up worker.new ≡ false) }
-    ensures spent { IfOk result (λ e. e ≡ Spent → allowance + spent worker.old ≤ spent worker.new) }
-    ensures less { IfOk result (λ e. e ≡ Over → spent worker.new < allowance + spent worker.old) }
-    ensures over { IfOk result (λ e. e ≡ Over → has_drawn leaves worker.new ≡ true) }
+    ensures worked { HasWorked allowance result worker.old worker.new }
     ensures solo { IfOk result (λ e. IsLone worker.old → worker.old.hand.view.turns ≡ [] → 0 < allowance → LoneStopped A.over A.place A.stands A.advances A.gives A.starts code.now allowance worker.new) }
 {
     // Where there is not even the memory to begin with, the others come to the end without this worker.

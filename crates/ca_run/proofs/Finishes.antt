@@ -5,7 +5,7 @@ use Rattle.ca_meaning.specs.Ends.{RunEnd, ended, faulted, limit, stuck}
 use Rattle.ca_value.specs.declared.seq.Seq.{Seq}
 use Rattle.ca_term.specs.declared.event.Event.{Event}
 use Rattle.ca_words.specs.declared.command.Command.{Command}
-use Rattle.ca_words.specs.declared.command.Command.TheVariants.{Check, Load, Run}
+use Rattle.ca_words.specs.declared.command.Command.TheVariants.{Check}
 use Rattle.ca_run.specs.declared.run.ScriptRun.{ScriptRun}
 use Rattle.ca_run.specs.declared.run.ScriptEnd.{ScriptEnd}
 use Rattle.ca_run.specs.declared.run.ScriptEnd.TheVariants.{Ended, Faulted, Limit, Stuck}
@@ -13,7 +13,7 @@ use Rattle.ca_run.specs.declared.answer.Refusal.{Refusal}
 use Rattle.ca_run.specs.declared.answer.Answer.{Answer}
 use Rattle.ca_run.specs.declared.answer.Answer.TheVariants.{Usage, Refused, Accepted, Ran}
 use Rattle.ca_journal.specs.Events.{events}
-use Rattle.ca_run.specs.Top.{Refused as RefusedFrom, Accepted as AcceptedFrom, Completed, CompletedFor, Partly, RunText, runs, shows_journal, usage}
+use Rattle.ca_run.specs.Top.{ClockSpan, Refused as RefusedFrom, Accepted as AcceptedFrom, Completed, CompletedFor, Partly, RunText, runs, usage}
 use Rattle.ca_run.specs.Answers.{answer_text, status_of, status_of_end, journal_of, refusal_line, end_of, line_of_end, AnswersTo, RunsNothing}
 
 on_ok : {T E : Type 0} (r : Result T E) (P : Type 0) → OnOk r P → is_ok r ≡ true → P
@@ -99,61 +99,61 @@ no_end limit n a b q = omega (arith, b, q)
 no_end stuck n a b q = omega (arith, b, q)
 
 -- A run that has come to an end has completed with it.
-completed : (c : Command) (before after held taken : Option (List ℕ)) (m : ScriptRun) (shown : Bool) → AnswersTo (Some c) before after (Ran m shown) → Appends held taken (answer_text (Ran m shown)) → Completed c before after held taken (Some m.journal) (end_of m.end)
-completed c before after held taken m shown h p = (h.2, (answer_text (Ran m shown), subst (λ (b : Bool). RunText b (events m.journal) (end_of m.end) (answer_text (Ran m shown))) h.1 (line_of_end m.end, h.3, refl), p))
+completed : (c : Command) (span : ClockSpan) (before after held taken : Option (List ℕ)) (m : ScriptRun) (shown : Bool) → AnswersTo (Some c) span before after (Ran m shown) → Appends held taken (answer_text (Ran m shown)) → Completed c before after held taken (Some span) (Some m.journal) (end_of m.end)
+completed c span before after held taken m shown h p = (h.2, (answer_text (Ran m shown), subst (λ (b : Bool). RunText b (events m.journal) (end_of m.end) (answer_text (Ran m shown))) h.1 (line_of_end m.end, h.3, refl), p))
 
-run_for : (asked : Option Command) (before after held taken : Option (List ℕ)) (m : ScriptRun) (shown : Bool) (want : RunEnd) → status_of_end m.end ≡ number_of want → AnswersTo asked before after (Ran m shown) → Appends held taken (answer_text (Ran m shown)) → CompletedFor asked before after held taken (Some m.journal) want
-run_for None before after held taken m shown want s h p = absurd h
-run_for (Some c) before after held taken m shown want s h p = (c, refl, h.0, subst (λ (x : RunEnd). Completed c before after held taken (Some m.journal) x) (by_status m.end want s) (completed c before after held taken m shown h p))
+run_for : (asked : Option Command) (span : ClockSpan) (before after held taken : Option (List ℕ)) (m : ScriptRun) (shown : Bool) (want : RunEnd) → status_of_end m.end ≡ number_of want → AnswersTo asked span before after (Ran m shown) → Appends held taken (answer_text (Ran m shown)) → CompletedFor asked before after held taken (Some span) (Some m.journal) want
+run_for None span before after held taken m shown want s h p = absurd h
+run_for (Some c) span before after held taken m shown want s h p = (c, refl, h.0, subst (λ (x : RunEnd). Completed c before after held taken (Some span) (Some m.journal) x) (by_status m.end want s) (completed c span before after held taken m shown h p))
 
 -- a status past 2 is that of a run's end
-pub ends_of : (asked : Option Command) (before after held taken : Option (List ℕ)) (a : Answer) (want : RunEnd) → 0 < number_of want → status_of a ≡ number_of want → AnswersTo asked before after a → Appends held taken (answer_text a) → CompletedFor asked before after held taken (journal_of a) want
-ends_of asked before after held taken Usage want some s h p = absurd (no_end want 1 (omega arith) (omega arith) s)
-ends_of asked before after held taken (Refused r) want some s h p = absurd (no_end want 2 (omega arith) (omega arith) s)
-ends_of asked before after held taken Accepted want some s h p = absurd (omega (arith, some, s))
-ends_of asked before after held taken (Ran m shown) want some s h p = run_for asked before after held taken m shown want s h p
+pub ends_of : (asked : Option Command) (span : ClockSpan) (before after held taken : Option (List ℕ)) (a : Answer) (want : RunEnd) → 0 < number_of want → status_of a ≡ number_of want → AnswersTo asked span before after a → Appends held taken (answer_text a) → CompletedFor asked before after held taken (Some span) (journal_of a) want
+ends_of asked span before after held taken Usage want some s h p = absurd (no_end want 1 (omega arith) (omega arith) s)
+ends_of asked span before after held taken (Refused r) want some s h p = absurd (no_end want 2 (omega arith) (omega arith) s)
+ends_of asked span before after held taken Accepted want some s h p = absurd (omega (arith, some, s))
+ends_of asked span before after held taken (Ran m shown) want some s h p = run_for asked span before after held taken m shown want s h p
 
 same_command : (c d : Command) → Some c ≡ Some d → c ≡ d
 same_command c d e = cc
 
 -- where a script was accepted, a check was asked for
-check_asked : (asked : Option Command) (before after : Option (List ℕ)) → AnswersTo asked before after Accepted → asked ≡ Some Check
-check_asked None before after h = absurd h
-check_asked (Some c) before after h = ap Some h.0
+check_asked : (asked : Option Command) (span : ClockSpan) (before after : Option (List ℕ)) → AnswersTo asked span before after Accepted → asked ≡ Some Check
+check_asked None span before after h = absurd h
+check_asked (Some c) span before after h = ap Some h.0
 
 never_checks : {G : Type 0} (c : Command) → c ≡ Check → runs c ≡ true → G
 never_checks c e r = absurd (let z : false ≡ true = sym (ap runs e) ∙ r in cc)
 
-of_command : (asked : Option Command) (before after held taken : Option (List ℕ)) (journal : Option (Seq Event)) (end : RunEnd) (c : Command) → asked ≡ Some c → CompletedFor asked before after held taken journal end → Completed c before after held taken journal end
-of_command asked before after held taken journal end c e h = subst (λ (d : Command). Completed d before after held taken journal end) (same_command h.0 c (sym h.1 ∙ e)) h.3
+of_command : (asked : Option Command) (before after held taken : Option (List ℕ)) (clock : Option ClockSpan) (journal : Option (Seq Event)) (end : RunEnd) (c : Command) → asked ≡ Some c → CompletedFor asked before after held taken clock journal end → Completed c before after held taken clock journal end
+of_command asked before after held taken clock journal end c e h = subst (λ (d : Command). Completed d before after held taken clock journal end) (same_command h.0 c (sym h.1 ∙ e)) h.3
 
-pub ended_of : (asked : Option Command) (before after held taken : Option (List ℕ)) (a : Answer) (c : Command) → asked ≡ Some c → runs c ≡ true → status_of a ≡ 0 → AnswersTo asked before after a → Appends held taken (answer_text a) → Completed c before after held taken (journal_of a) ended
-ended_of asked before after held taken Usage c q r s h p = absurd (omega (arith, s))
-ended_of asked before after held taken (Refused f) c q r s h p = absurd (omega (arith, s))
-ended_of asked before after held taken Accepted c q r s h p = never_checks c (same_command c Check (sym q ∙ check_asked asked before after h)) r
-ended_of asked before after held taken (Ran m shown) c q r s h p = of_command asked before after held taken (Some m.journal) ended c q (run_for asked before after held taken m shown ended s h p)
+pub ended_of : (asked : Option Command) (span : ClockSpan) (before after held taken : Option (List ℕ)) (a : Answer) (c : Command) → asked ≡ Some c → runs c ≡ true → status_of a ≡ 0 → AnswersTo asked span before after a → Appends held taken (answer_text a) → Completed c before after held taken (Some span) (journal_of a) ended
+ended_of asked span before after held taken Usage c q r s h p = absurd (omega (arith, s))
+ended_of asked span before after held taken (Refused f) c q r s h p = absurd (omega (arith, s))
+ended_of asked span before after held taken Accepted c q r s h p = never_checks c (same_command c Check (sym q ∙ check_asked asked span before after h)) r
+ended_of asked span before after held taken (Ran m shown) c q r s h p = of_command asked before after held taken (Some span) (Some m.journal) ended c q (run_for asked span before after held taken m shown ended s h p)
 
-accepted_by : (asked : Option Command) (before after : Option (List ℕ)) → AnswersTo asked before after Accepted → AcceptedFrom before after
-accepted_by None before after h = absurd h
-accepted_by (Some c) before after h = h.1
+accepted_by : (asked : Option Command) (span : ClockSpan) (before after : Option (List ℕ)) → AnswersTo asked span before after Accepted → AcceptedFrom before after
+accepted_by None span before after h = absurd h
+accepted_by (Some c) span before after h = h.1
 
-no_run : {G : Type 0} (asked : Option Command) (before after : Option (List ℕ)) (m : ScriptRun) (shown : Bool) → asked ≡ Some Check → AnswersTo asked before after (Ran m shown) → G
-no_run None before after m shown q h = absurd h
-no_run (Some c) before after m shown q h = never_checks c (same_command c Check q) h.0
+no_run : {G : Type 0} (asked : Option Command) (span : ClockSpan) (before after : Option (List ℕ)) (m : ScriptRun) (shown : Bool) → asked ≡ Some Check → AnswersTo asked span before after (Ran m shown) → G
+no_run None span before after m shown q h = absurd h
+no_run (Some c) span before after m shown q h = never_checks c (same_command c Check q) h.0
 
-pub accepted_of : (asked : Option Command) (before after held taken : Option (List ℕ)) (a : Answer) → asked ≡ Some Check → status_of a ≡ 0 → AnswersTo asked before after a → Appends held taken (answer_text a) → AcceptedFrom before after × Appends held taken (codes "ok\n")
-accepted_of asked before after held taken Usage q s h p = absurd (omega (arith, s))
-accepted_of asked before after held taken (Refused r) q s h p = absurd (omega (arith, s))
-accepted_of asked before after held taken Accepted q s h p = (accepted_by asked before after h, p)
-accepted_of asked before after held taken (Ran m shown) q s h p = no_run asked before after m shown q h
+pub accepted_of : (asked : Option Command) (span : ClockSpan) (before after held taken : Option (List ℕ)) (a : Answer) → asked ≡ Some Check → status_of a ≡ 0 → AnswersTo asked span before after a → Appends held taken (answer_text a) → AcceptedFrom before after × Appends held taken (codes "ok\n")
+accepted_of asked span before after held taken Usage q s h p = absurd (omega (arith, s))
+accepted_of asked span before after held taken (Refused r) q s h p = absurd (omega (arith, s))
+accepted_of asked span before after held taken Accepted q s h p = (accepted_by asked span before after h, p)
+accepted_of asked span before after held taken (Ran m shown) q s h p = no_run asked span before after m shown q h
 
 -- the line of a refusal
 abbrev pub IsRefusal : Option Command → Option (List ℕ) → Option (List ℕ) → Option (List ℕ) → Option (List ℕ) → Type 0
 IsRefusal asked before after held taken = (command : Command) × (line : List ℕ) × (asked ≡ Some command) × RefusedFrom command before after line × Appends held taken line
 
-refusal_of : (asked : Option Command) (before after held taken : Option (List ℕ)) (r : Refusal) → AnswersTo asked before after (Refused r) → Appends held taken (refusal_line r) → IsRefusal asked before after held taken
-refusal_of None before after held taken r h p = absurd h
-refusal_of (Some c) before after held taken r h p = (c, refusal_line r, refl, h, p)
+refusal_of : (asked : Option Command) (span : ClockSpan) (before after held taken : Option (List ℕ)) (r : Refusal) → AnswersTo asked span before after (Refused r) → Appends held taken (refusal_line r) → IsRefusal asked before after held taken
+refusal_of None span before after held taken r h p = absurd h
+refusal_of (Some c) span before after held taken r h p = (c, refusal_line r, refl, h, p)
 
 end_not : (e : ScriptEnd) (n : ℕ) → 0 < n → n < 3 → status_of_end e ≢ n
 end_not Ended n a b s = omega (arith, a, s)
@@ -175,52 +175,52 @@ runs_nothing a w s lost done (inl e) = nothing a 1 (sym (done (written_when w s 
 runs_nothing a w s lost done (inr (inl e)) = nothing a 2 (sym (done (written_when w s 2 lost e (differ 2 7 (omega arith)))) ∙ e) (inr (inl refl))
 runs_nothing a w s lost done (inr (inr e)) = nothing a 6 (sym (done (written_when w s 6 lost e (differ 6 7 (omega arith)))) ∙ e) (inr (inr refl))
 
-pub refused_of : (asked : Option Command) (before after held taken : Option (List ℕ)) (a : Answer) → status_of a ≡ 2 → AnswersTo asked before after a → Appends held taken (answer_text a) → IsRefusal asked before after held taken
-refused_of asked before after held taken Usage s h p = absurd (omega (arith, s))
-refused_of asked before after held taken (Refused r) s h p = refusal_of asked before after held taken r h p
-refused_of asked before after held taken Accepted s h p = absurd (omega (arith, s))
-refused_of asked before after held taken (Ran m shown) s h p = absurd (end_not m.end 2 (omega arith) (omega arith) s)
+pub refused_of : (asked : Option Command) (span : ClockSpan) (before after held taken : Option (List ℕ)) (a : Answer) → status_of a ≡ 2 → AnswersTo asked span before after a → Appends held taken (answer_text a) → IsRefusal asked before after held taken
+refused_of asked span before after held taken Usage s h p = absurd (omega (arith, s))
+refused_of asked span before after held taken (Refused r) s h p = refusal_of asked span before after held taken r h p
+refused_of asked span before after held taken Accepted s h p = absurd (omega (arith, s))
+refused_of asked span before after held taken (Ran m shown) s h p = absurd (end_not m.end 2 (omega arith) (omega arith) s)
 
-unasked : (asked : Option Command) (before after : Option (List ℕ)) → AnswersTo asked before after Usage → asked ≡ None
-unasked None before after h = refl
-unasked (Some c) before after h = absurd h
+unasked : (asked : Option Command) (span : ClockSpan) (before after : Option (List ℕ)) → AnswersTo asked span before after Usage → asked ≡ None
+unasked None span before after h = refl
+unasked (Some c) span before after h = absurd h
 
-pub usage_of : (asked : Option Command) (before after held taken : Option (List ℕ)) (a : Answer) → status_of a ≡ 1 → AnswersTo asked before after a → Appends held taken (answer_text a) → (asked ≡ None) × Appends held taken usage
-usage_of asked before after held taken Usage s h p = (unasked asked before after h, p)
-usage_of asked before after held taken (Refused r) s h p = absurd (omega (arith, s))
-usage_of asked before after held taken Accepted s h p = absurd (omega (arith, s))
-usage_of asked before after held taken (Ran m shown) s h p = absurd (end_not m.end 1 (omega arith) (omega arith) s)
+pub usage_of : (asked : Option Command) (span : ClockSpan) (before after held taken : Option (List ℕ)) (a : Answer) → status_of a ≡ 1 → AnswersTo asked span before after a → Appends held taken (answer_text a) → (asked ≡ None) × Appends held taken usage
+usage_of asked span before after held taken Usage s h p = (unasked asked span before after h, p)
+usage_of asked span before after held taken (Refused r) s h p = absurd (omega (arith, s))
+usage_of asked span before after held taken Accepted s h p = absurd (omega (arith, s))
+usage_of asked span before after held taken (Ran m shown) s h p = absurd (end_not m.end 1 (omega arith) (omega arith) s)
 
-told_refusal : (asked : Option Command) (before after held taken : Option (List ℕ)) (r : Refusal) (n : ℕ) → AnswersTo asked before after (Refused r) → Appends held taken (take n (refusal_line r)) → Partly asked before after held taken None
-told_refusal None before after held taken r n h p = absurd h
-told_refusal (Some c) before after held taken r n h p = record { text = refusal_line r; count = n; prefix = p; source = inl h }
+told_refusal : (asked : Option Command) (span : ClockSpan) (before after held taken : Option (List ℕ)) (r : Refusal) (n : ℕ) → AnswersTo asked span before after (Refused r) → Appends held taken (take n (refusal_line r)) → Partly asked before after held taken (Some span) None
+told_refusal None span before after held taken r n h p = absurd h
+told_refusal (Some c) span before after held taken r n h p = record { text = refusal_line r; count = n; prefix = p; source = inl h }
 
-told_accepted : (asked : Option Command) (before after held taken : Option (List ℕ)) (n : ℕ) → AnswersTo asked before after Accepted → Appends held taken (take n (codes "ok\n")) → Partly asked before after held taken None
-told_accepted None before after held taken n h p = absurd h
-told_accepted (Some c) before after held taken n h p = record { text = codes "ok\n"; count = n; prefix = p; source = inr (h.0, h.1, refl) }
+told_accepted : (asked : Option Command) (span : ClockSpan) (before after held taken : Option (List ℕ)) (n : ℕ) → AnswersTo asked span before after Accepted → Appends held taken (take n (codes "ok\n")) → Partly asked before after held taken (Some span) None
+told_accepted None span before after held taken n h p = absurd h
+told_accepted (Some c) span before after held taken n h p = record { text = codes "ok\n"; count = n; prefix = p; source = inr (h.0, h.1, refl) }
 
-told_run : (asked : Option Command) (before after held taken : Option (List ℕ)) (m : ScriptRun) (shown : Bool) (n : ℕ) → AnswersTo asked before after (Ran m shown) → Appends held taken (take n (answer_text (Ran m shown))) → Partly asked before after held taken (Some m.journal)
-told_run None before after held taken m shown n h p = absurd h
-told_run (Some c) before after held taken m shown n h p = record {
+told_run : (asked : Option Command) (span : ClockSpan) (before after held taken : Option (List ℕ)) (m : ScriptRun) (shown : Bool) (n : ℕ) → AnswersTo asked span before after (Ran m shown) → Appends held taken (take n (answer_text (Ran m shown))) → Partly asked before after held taken (Some span) (Some m.journal)
+told_run None span before after held taken m shown n h p = absurd h
+told_run (Some c) span before after held taken m shown n h p = record {
   text = answer_text (Ran m shown);
   count = n;
   prefix = p;
-  source = (c, refl, (end_of m.end, h.2, subst (λ (b : Bool). RunText b (events m.journal) (end_of m.end) (answer_text (Ran m shown))) h.1 (line_of_end m.end, h.3, refl)));
+  source = (c, refl, (span, refl, (end_of m.end, h.2, subst (λ (b : Bool). RunText b (events m.journal) (end_of m.end) (answer_text (Ran m shown))) h.1 (line_of_end m.end, h.3, refl))));
 }
 
-pub partly_of : (asked : Option Command) (before after held taken : Option (List ℕ)) (a : Answer) (n : ℕ) → AnswersTo asked before after a → Appends held taken (take n (answer_text a)) → Partly asked before after held taken (journal_of a)
-partly_of asked before after held taken Usage n h p = rw (unasked asked before after h) (record { text = usage; count = n; prefix = p; source = refl })
-partly_of asked before after held taken (Refused r) n h p = told_refusal asked before after held taken r n h p
-partly_of asked before after held taken Accepted n h p = told_accepted asked before after held taken n h p
-partly_of asked before after held taken (Ran m shown) n h p = told_run asked before after held taken m shown n h p
+pub partly_of : (asked : Option Command) (span : ClockSpan) (before after held taken : Option (List ℕ)) (a : Answer) (n : ℕ) → AnswersTo asked span before after a → Appends held taken (take n (answer_text a)) → Partly asked before after held taken (Some span) (journal_of a)
+partly_of asked span before after held taken Usage n h p = rw (unasked asked span before after h) (record { text = usage; count = n; prefix = p; source = refl })
+partly_of asked span before after held taken (Refused r) n h p = told_refusal asked span before after held taken r n h p
+partly_of asked span before after held taken Accepted n h p = told_accepted asked span before after held taken n h p
+partly_of asked span before after held taken (Ran m shown) n h p = told_run asked span before after held taken m shown n h p
 
 -- a command that runs a script was asked for
 abbrev pub RunAsked : Option Command → Type 0
 RunAsked asked = (command : Command) × (asked ≡ Some command) × (runs command ≡ true)
 
-run_asked : (asked : Option Command) (before after : Option (List ℕ)) (m : ScriptRun) (shown : Bool) → AnswersTo asked before after (Ran m shown) → RunAsked asked
-run_asked None before after m shown h = absurd h
-run_asked (Some c) before after m shown h = (c, refl, h.0)
+run_asked : (asked : Option Command) (span : ClockSpan) (before after : Option (List ℕ)) (m : ScriptRun) (shown : Bool) → AnswersTo asked span before after (Ran m shown) → RunAsked asked
+run_asked None span before after m shown h = absurd h
+run_asked (Some c) span before after m shown h = (c, refl, h.0)
 
 -- a status at which a run has come to its end
 abbrev pub IsEndOfRun : ℕ → Type 0
@@ -235,28 +235,28 @@ end_of_run Stuck = inr (omega arith, omega arith)
 nothing_there : IsSome {T = Seq Event} None → ⊥
 nothing_there g = cc
 
-journal_when : (asked : Option Command) (before after : Option (List ℕ)) (a : Answer) → AnswersTo asked before after a → IsSome (journal_of a) → RunAsked asked × IsEndOfRun (status_of a)
-journal_when asked before after Usage h g = absurd (nothing_there g)
-journal_when asked before after (Refused r) h g = absurd (nothing_there g)
-journal_when asked before after Accepted h g = absurd (nothing_there g)
-journal_when asked before after (Ran m shown) h g = (run_asked asked before after m shown h, end_of_run m.end)
+journal_when : (asked : Option Command) (span : ClockSpan) (before after : Option (List ℕ)) (a : Answer) → AnswersTo asked span before after a → IsSome (journal_of a) → RunAsked asked × IsEndOfRun (status_of a)
+journal_when asked span before after Usage h g = absurd (nothing_there g)
+journal_when asked span before after (Refused r) h g = absurd (nothing_there g)
+journal_when asked span before after Accepted h g = absurd (nothing_there g)
+journal_when asked span before after (Ran m shown) h g = (run_asked asked span before after m shown h, end_of_run m.end)
 
-pub close_journal : (asked : Option Command) (before after : Option (List ℕ)) (a : Answer) (w : Bool) (s : ℕ) → (w ≡ false → s ≡ 7) → (w ≡ true → s ≡ status_of a) → AnswersTo asked before after a → IsSome (journal_of a) → RunAsked asked × ((s ≡ 0) ⊎ ((3 ≤ s × s ≤ 5) ⊎ (s ≡ 7)))
-close_journal asked before after a false s lost done h g = ((journal_when asked before after a h g).0, inr (inr (lost refl)))
-close_journal asked before after a true s lost done h g = ((journal_when asked before after a h g).0, widened s (subst IsEndOfRun (sym (done refl)) (journal_when asked before after a h g).1))
+pub close_journal : (asked : Option Command) (span : ClockSpan) (before after : Option (List ℕ)) (a : Answer) (w : Bool) (s : ℕ) → (w ≡ false → s ≡ 7) → (w ≡ true → s ≡ status_of a) → AnswersTo asked span before after a → IsSome (journal_of a) → RunAsked asked × ((s ≡ 0) ⊎ ((3 ≤ s × s ≤ 5) ⊎ (s ≡ 7)))
+close_journal asked span before after a false s lost done h g = ((journal_when asked span before after a h g).0, inr (inr (lost refl)))
+close_journal asked span before after a true s lost done h g = ((journal_when asked span before after a h g).0, widened s (subst IsEndOfRun (sym (done refl)) (journal_when asked span before after a h g).1))
   where
     widened : (n : ℕ) → IsEndOfRun n → (n ≡ 0) ⊎ ((3 ≤ n × n ≤ 5) ⊎ (n ≡ 7))
     widened n (inl e) = inl e
     widened n (inr e) = inr (inl e)
 
 -- at status 0 something was asked for
-asked_of : (asked : Option Command) (before after : Option (List ℕ)) (a : Answer) → status_of a ≡ 0 → AnswersTo asked before after a → (command : Command) × (asked ≡ Some command)
-asked_of None before after Usage s h = absurd (omega (arith, s))
-asked_of None before after (Refused r) s h = absurd h
-asked_of None before after Accepted s h = absurd h
-asked_of None before after (Ran m shown) s h = absurd h
-asked_of (Some c) before after a s h = (c, refl)
+asked_of : (asked : Option Command) (span : ClockSpan) (before after : Option (List ℕ)) (a : Answer) → status_of a ≡ 0 → AnswersTo asked span before after a → (command : Command) × (asked ≡ Some command)
+asked_of None span before after Usage s h = absurd (omega (arith, s))
+asked_of None span before after (Refused r) s h = absurd h
+asked_of None span before after Accepted s h = absurd h
+asked_of None span before after (Ran m shown) s h = absurd h
+asked_of (Some c) span before after a s h = (c, refl)
 
-pub close_asked : (asked : Option Command) (before after : Option (List ℕ)) (a : Answer) (w : Bool) (s : ℕ) → (w ≡ false → s ≡ 7) → (w ≡ true → s ≡ status_of a) → AnswersTo asked before after a → s ≡ 0 → (command : Command) × (asked ≡ Some command)
-close_asked asked before after a true s lost done h e = asked_of asked before after a (sym (done refl) ∙ e) h
-close_asked asked before after a false s lost done h e = absurd (let k = lost refl in omega (arith, k, e))
+pub close_asked : (asked : Option Command) (span : ClockSpan) (before after : Option (List ℕ)) (a : Answer) (w : Bool) (s : ℕ) → (w ≡ false → s ≡ 7) → (w ≡ true → s ≡ status_of a) → AnswersTo asked span before after a → s ≡ 0 → (command : Command) × (asked ≡ Some command)
+close_asked asked span before after a true s lost done h e = asked_of asked span before after a (sym (done refl) ∙ e) h
+close_asked asked span before after a false s lost done h e = absurd (let k = lost refl in omega (arith, k, e))

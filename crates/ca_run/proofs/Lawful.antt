@@ -15,20 +15,20 @@ use Rattle.ca_run.specs.declared.run.ScriptRun.{ScriptRun}
 use Rattle.ca_run.specs.declared.answer.Answer.{Answer}
 use Rattle.ca_run.specs.declared.answer.Answer.TheVariants.{Usage, Refused, Accepted, Ran}
 use Rattle.ca_run.specs.Answers.{AnswersTo, journal_of}
-use Rattle.ca_run.specs.Top.{IsLawful, Ran as RanFrom}
+use Rattle.ca_run.specs.Top.{ClockSpan, IsLawful, Ran as RanFrom}
 
 -- the law of each program that a script has
 abbrev KeepAll : Type 0
 KeepAll = (forms : FormTrees) (program : ProgramView) → expansion_of forms ≡ Ok program → (journal : List EventView) → Legal program journal → KeepsLaws program journal
 
-ran : KeepAll → (c : Command) (before after : Option (List ℕ)) (journal : List EventView) (end : RunEnd) → RanFrom c before after journal end → IsLawful (Some c) before after journal
-ran keep c before after journal end r =
+ran : KeepAll → (c : Command) (span : ClockSpan) (before after : Option (List ℕ)) (journal : List EventView) (end : RunEnd) → RanFrom c span before after journal end → IsLawful (Some c) before after journal
+ran keep c span before after journal end r =
     let run = r.2 in
     (c, r.0, run.program, refl, r.1, run.is_program, run.legal, keep run.is_program.0 run.program run.is_program.2 journal run.legal)
 
-ran_for : KeepAll → (asked : Option Command) (before after : Option (List ℕ)) (m : ScriptRun) (shown : Bool) → AnswersTo asked before after (Ran m shown) → IsLawful asked before after (events m.journal)
-ran_for keep None before after m shown h = absurd h
-ran_for keep (Some c) before after m shown h = ran keep c before after (events m.journal) _ h.2
+ran_for : KeepAll → (asked : Option Command) (span : ClockSpan) (before after : Option (List ℕ)) (m : ScriptRun) (shown : Bool) → AnswersTo asked span before after (Ran m shown) → IsLawful asked before after (events m.journal)
+ran_for keep None span before after m shown h = absurd h
+ran_for keep (Some c) span before after m shown h = ran keep c span before after (events m.journal) _ h.2
 
 no_journal : {G : Type 0} (j : Seq Event) → None ≡ Some j → G
 no_journal j e = cc
@@ -36,8 +36,8 @@ no_journal j e = cc
 same_journal : (i j : Seq Event) → Some i ≡ Some j → i ≡ j
 same_journal i j e = cc
 
-pub lawful_of : KeepAll → (asked : Option Command) (before after : Option (List ℕ)) (a : Answer) (j : Seq Event) → AnswersTo asked before after a → journal_of a ≡ Some j → IsLawful asked before after (events j)
-lawful_of keep asked before after Usage j h e = no_journal j e
-lawful_of keep asked before after (Refused r) j h e = no_journal j e
-lawful_of keep asked before after Accepted j h e = no_journal j e
-lawful_of keep asked before after (Ran m shown) j h e = subst (λ x. IsLawful asked before after (events x)) (same_journal m.journal j e) (ran_for keep asked before after m shown h)
+pub lawful_of : KeepAll → (asked : Option Command) (span : ClockSpan) (before after : Option (List ℕ)) (a : Answer) (j : Seq Event) → AnswersTo asked span before after a → journal_of a ≡ Some j → IsLawful asked before after (events j)
+lawful_of keep asked span before after Usage j h e = no_journal j e
+lawful_of keep asked span before after (Refused r) j h e = no_journal j e
+lawful_of keep asked span before after Accepted j h e = no_journal j e
+lawful_of keep asked span before after (Ran m shown) j h e = subst (λ x. IsLawful asked before after (events x)) (same_journal m.journal j e) (ran_for keep asked span before after m shown h)

@@ -1,7 +1,6 @@
 -- The text, the status and the journal of an answer, and when the answer is right.
-use Rattle.std.specs.Prelude.{◌≡◌, ◌<◌, ◌≤◌, ℕ, List, [], ◌++◌, codes, cond, Bool, true, Option, Some, None}
+use Rattle.std.specs.Prelude.{◌≡◌, ◌<◌, ◌≤◌, ℕ, List, [], ◌++◌, codes, cond, true, Option, Some, None}
 use Rattle.ca_value.specs.declared.seq.Seq.{Seq}
-use Rattle.ca_term.specs.declared.place.Place.{Place}
 use Rattle.ca_term.specs.declared.event.Event.{Event}
 use Rattle.ca_term.specs.Program.{ProgramView}
 use Rattle.ca_meaning.specs.Journal.{journal_text}
@@ -12,7 +11,8 @@ use Rattle.ca_reader.specs.Kind.{kind_name}
 use Rattle.ca_check.specs.Kind.{kind_name as check_kind_name}
 use Rattle.ca_words.specs.declared.command.Command.{Command}
 use Rattle.ca_words.specs.declared.command.Command.TheVariants.{Check, Load, Run}
-use Rattle.ca_pool.specs.PoolEnds.{IsScheduled}
+use Rattle.ca_table.specs.Moments.{KeepsTime}
+use Rattle.ca_pool.specs.PoolEnds.{IsSolo}
 use Rattle.ca_run.specs.declared.run.ScriptRun.{ScriptRun}
 use Rattle.ca_run.specs.declared.run.ScriptEnd.{ScriptEnd}
 use Rattle.ca_run.specs.declared.run.ScriptEnd.TheVariants.{Ended, Faulted, Limit, Stuck}
@@ -21,7 +21,7 @@ use Rattle.ca_run.specs.declared.answer.Answer.TheVariants.{Usage, Refused, Acce
 use Rattle.ca_run.specs.declared.answer.Refusal.{Refusal}
 use Rattle.ca_run.specs.declared.answer.Refusal.TheVariants.{TooLong, Unreadable, Unchecked}
 use Rattle.ca_journal.specs.Events.{events}
-use Rattle.ca_run.specs.Top.{budget_of, runs, shows_journal, usage, error_line, first_place, ProgramOf, RefusedFor, RunOf, EndLine, workers_of, Refused as RefusedFrom, Accepted as AcceptedFrom, Ran as RanFrom}
+use Rattle.ca_run.specs.Top.{ClockSpan, budget_of, runs, shows_journal, usage, error_line, first_place, ProgramOf, RefusedFor, RunOf, EndLine, workers_of, Refused as RefusedFrom, Accepted as AcceptedFrom, Ran as RanFrom}
 
 abbrev pub refusal_line : Refusal → List ℕ
 refusal_line TooLong = error_line (codes "TooLong") first_place
@@ -72,12 +72,14 @@ RunsNothing (Refused r) = Unit {0}
 RunsNothing Accepted = Unit {0}
 RunsNothing (Ran m shown) = ⊥
 
--- the run of the program has come to that end for the budget, which its line tells; with one worker it is the schedule's
-pub record IsRun (workers budget : ℕ) (program : ProgramView) (m : ScriptRun) : Type 0 where
+-- The run of the program has come to that end for the budget, which its line tells. Its moments are answers of the clock
+-- in that span; with one worker it is the schedule's over them.
+pub record IsRun (workers budget : ℕ) (span : ClockSpan) (program : ProgramView) (m : ScriptRun) : Type 0 where
   pub legal : Legal program (events m.journal)
   pub has_end : HasEnd program budget (events m.journal) (end_of m.end)
   pub told : EndLine (events m.journal) (end_of m.end) (line_of_end m.end)
-  pub solo : workers ≡ 1 → IsScheduled program (events m.journal)
+  pub moments : KeepsTime (events m.journal) span.least span.before span.after
+  pub solo : workers ≡ 1 → IsSolo program (events m.journal) span.least span.before span.after
 
 -- its workers and its budget are such as words can ask for
 abbrev pub IsFit : Command → Type 0
@@ -85,28 +87,28 @@ IsFit (Run workers budget journal) = ((0 < workers) × (workers ≤ 16)) × (0 <
 IsFit Check = Unit {0}
 IsFit (Load n workers) = (0 < workers) × (workers ≤ 16)
 
--- what a program comes to under a command
-abbrev pub JudgedProgram : Command → ProgramView → Answer → Type 0
-JudgedProgram command program Usage = ⊥
-JudgedProgram command program (Refused r) = ⊥
-JudgedProgram command program Accepted = command ≡ Check
-JudgedProgram command program (Ran m shown) = (runs command ≡ true) × (shown ≡ shows_journal command) × IsRun (workers_of command) (budget_of command) program m
+-- what a program comes to under a command, with the clock in that span where it runs
+abbrev pub JudgedProgram : Command → ClockSpan → ProgramView → Answer → Type 0
+JudgedProgram command span program Usage = ⊥
+JudgedProgram command span program (Refused r) = ⊥
+JudgedProgram command span program Accepted = command ≡ Check
+JudgedProgram command span program (Ran m shown) = (runs command ≡ true) × (shown ≡ shows_journal command) × IsRun (workers_of command) (budget_of command) span program m
 
 -- what a text comes to under a command
-abbrev pub Judged : Command → List ℕ → Answer → Type 0
-Judged command input Usage = ⊥
-Judged command input (Refused r) = RefusedFor input (refusal_line r)
-Judged command input Accepted = (command ≡ Check) × ((program : ProgramView) × ProgramOf input program)
-Judged command input (Ran m shown) = (runs command ≡ true) × (shown ≡ shows_journal command) × RunOf (workers_of command) (budget_of command) input (events m.journal) (end_of m.end) × EndLine (events m.journal) (end_of m.end) (line_of_end m.end)
+abbrev pub Judged : Command → ClockSpan → List ℕ → Answer → Type 0
+Judged command span input Usage = ⊥
+Judged command span input (Refused r) = RefusedFor input (refusal_line r)
+Judged command span input Accepted = (command ≡ Check) × ((program : ProgramView) × ProgramOf input program)
+Judged command span input (Ran m shown) = (runs command ≡ true) × (shown ≡ shows_journal command) × RunOf (workers_of command) (budget_of command) span input (events m.journal) (end_of m.end) × EndLine (events m.journal) (end_of m.end) (line_of_end m.end)
 
 -- what the words and the source come to
-abbrev pub AnswersTo : Option Command → Option (List ℕ) → Option (List ℕ) → Answer → Type 0
-AnswersTo None before after Usage = Unit {0}
-AnswersTo None before after (Refused r) = ⊥
-AnswersTo None before after Accepted = ⊥
-AnswersTo None before after (Ran m shown) = ⊥
-AnswersTo (Some c) before after Usage = ⊥
-AnswersTo (Some c) before after (Refused r) = RefusedFrom c before after (refusal_line r)
-AnswersTo (Some c) before after Accepted = (c ≡ Check) × AcceptedFrom before after
-AnswersTo (Some c) before after (Ran m shown) = (runs c ≡ true) × (shown ≡ shows_journal c) × RanFrom c before after (events m.journal) (end_of m.end)
+abbrev pub AnswersTo : Option Command → ClockSpan → Option (List ℕ) → Option (List ℕ) → Answer → Type 0
+AnswersTo None span before after Usage = Unit {0}
+AnswersTo None span before after (Refused r) = ⊥
+AnswersTo None span before after Accepted = ⊥
+AnswersTo None span before after (Ran m shown) = ⊥
+AnswersTo (Some c) span before after Usage = ⊥
+AnswersTo (Some c) span before after (Refused r) = RefusedFrom c before after (refusal_line r)
+AnswersTo (Some c) span before after Accepted = (c ≡ Check) × AcceptedFrom before after
+AnswersTo (Some c) span before after (Ran m shown) = (runs c ≡ true) × (shown ≡ shows_journal c) × RanFrom c span before after (events m.journal) (end_of m.end)
     × EndLine (events m.journal) (end_of m.end) (line_of_end m.end)

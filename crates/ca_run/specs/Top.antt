@@ -1,5 +1,5 @@
 -- What the top call answers.
-use Rattle.std.specs.Prelude.{◌≡◌, ℕ, ◌≤◌, ◌<◌, ◌⊎◌, List, [], ◌∷◌, ◌++◌, length, take, codes, decimal, cond, Bool, true, false, Option, Some, None, Ok, Err, MatchOption}
+use Rattle.std.specs.Prelude.{◌≡◌, ℕ, ◌≤◌, ◌<◌, ◌⊎◌, List, [], ◌∷◌, ◌++◌, length, take, codes, decimal, cond, Bool, true, false, Option, Some, None, Ok, Err, MatchOption, option_map}
 use Rattle.std.specs.Io.KnownBytes.{Consumes, Appends, IsAtEnd}
 use Rattle.ca_value.specs.declared.seq.Seq.{Seq}
 use Rattle.ca_value.specs.declared.value.PortId.{PortId}
@@ -24,7 +24,8 @@ use Rattle.ca_words.specs.declared.command.Command.{Command}
 use Rattle.ca_words.specs.declared.command.Command.TheVariants.{Check, Load, Run}
 use Rattle.ca_journal.specs.Events.{events}
 use Rattle.ca_sealed.specs.KeepsLaws.{KeepsLaws}
-use Rattle.ca_pool.specs.PoolEnds.{IsScheduled}
+use Rattle.ca_table.specs.Moments.{KeepsTime}
+use Rattle.ca_pool.specs.PoolEnds.{IsSolo}
 use Rattle.ca_run.specs.Generator.{load_text}
 
 -- the greatest length of a script, in bytes
@@ -65,14 +66,30 @@ shows_journal (Load n workers) = false
 abbrev pub ProgramOf : List ℕ → ProgramView → Type 0
 ProgramOf input program = (forms : FormTrees) × Reads input forms × (expansion_of forms ≡ Ok program)
 
--- The events are a run of the text's program, which came to that end for the budget. With one worker they are the run of
--- the stated schedule over some moments that never fall.
-pub record RunOf (workers budget : ℕ) (input : List ℕ) (journal : List EventView) (end : RunEnd) : Type 0 where
+-- A clock that a call was given and hands back: the moment that no answer of it lies below, and what it had told of its
+-- answers before and has told after.
+pub record ClockSpan : Type 0 where
+  pub least : ℕ
+  pub before : Option (List ℕ)
+  pub after : Option (List ℕ)
+
+-- of a clock as it was first and as it was last
+abbrev pub span_between : {C : Type 0} → (C → ℕ) → (C → Option (List ℕ)) → C → C → ClockSpan
+span_between least readings first last = record { least = least first; before = readings first; after = readings last }
+
+-- over a call that hands it back
+abbrev pub span_of : {C : Type 0} → (C → ℕ) → (C → Option (List ℕ)) → C → Option C → Option ClockSpan
+span_of least readings first last = option_map (span_between least readings first) last
+
+-- The events are a run of the text's program, which came to that end for the budget. Their moments are answers of the
+-- clock in that span, and never fall. With one worker they are the run of the stated schedule over these answers.
+pub record RunOf (workers budget : ℕ) (span : ClockSpan) (input : List ℕ) (journal : List EventView) (end : RunEnd) : Type 0 where
   pub program : ProgramView
   pub is_program : ProgramOf input program
   pub legal : Legal program journal
   pub has_end : HasEnd program budget journal end
-  pub solo : workers ≡ 1 → IsScheduled program journal
+  pub moments : KeepsTime journal span.least span.before span.after
+  pub solo : workers ≡ 1 → IsSolo program journal span.least span.before span.after
 
 -- the line that tells of an end
 abbrev pub EndLine : List EventView → RunEnd → List ℕ → Type 0
@@ -94,9 +111,9 @@ Given (Run workers budget journal) before after input = ReadWhole before after i
 Given Check before after input = ReadWhole before after input
 Given (Load n workers) before after input = (after ≡ before) × (input ≡ load_text n)
 
--- the events are a run of the command's script
-abbrev pub Ran : Command → Option (List ℕ) → Option (List ℕ) → List EventView → RunEnd → Type 0
-Ran command before after journal end = (input : List ℕ) × Given command before after input × RunOf (workers_of command) (budget_of command) input journal end
+-- the events are a run of the command's script, with the clock in that span
+abbrev pub Ran : Command → ClockSpan → Option (List ℕ) → Option (List ℕ) → List EventView → RunEnd → Type 0
+Ran command span before after journal end = (input : List ℕ) × Given command before after input × RunOf (workers_of command) (budget_of command) span input journal end
 
 -- the events are a run of the command's script, and keep the laws that each run of its program keeps
 abbrev pub IsLawful : Option Command → Option (List ℕ) → Option (List ℕ) → List EventView → Type 0
@@ -149,24 +166,24 @@ usage = codes "usage: run [--workers N] [--budget N] [--journal] / check / load 
 abbrev pub RunText : Bool → List EventView → RunEnd → List ℕ → Type 0
 RunText shown journal end text = (line : List ℕ) × EndLine journal end line × (text ≡ output journal ++ (cond shown (journal_text journal) [] ++ line))
 
--- A run of the command's script came to that end; its journal is handed back, and its whole text was taken.
-abbrev pub Completed : Command → Option (List ℕ) → Option (List ℕ) → Option (List ℕ) → Option (List ℕ) → Option (Seq Event) → RunEnd → Type 0
-Completed command before after held taken journal end = MatchOption journal ⊥ (λ j.
-    Ran command before after (events j) end × ((text : List ℕ) × RunText (shows_journal command) (events j) end text × Appends held taken text))
+-- A run of the command's script came to that end; its journal and the clock are handed back, and its whole text was taken.
+abbrev pub Completed : Command → Option (List ℕ) → Option (List ℕ) → Option (List ℕ) → Option (List ℕ) → Option ClockSpan → Option (Seq Event) → RunEnd → Type 0
+Completed command before after held taken clock journal end = MatchOption clock ⊥ (λ span. MatchOption journal ⊥ (λ j.
+    Ran command span before after (events j) end × ((text : List ℕ) × RunText (shows_journal command) (events j) end text × Appends held taken text)))
 
 -- the same of the command that was asked for, which runs a script
-abbrev pub CompletedFor : Option Command → Option (List ℕ) → Option (List ℕ) → Option (List ℕ) → Option (List ℕ) → Option (Seq Event) → RunEnd → Type 0
-CompletedFor asked before after held taken journal end = (command : Command) × (asked ≡ Some command) × (runs command ≡ true) × Completed command before after held taken journal end
+abbrev pub CompletedFor : Option Command → Option (List ℕ) → Option (List ℕ) → Option (List ℕ) → Option (List ℕ) → Option ClockSpan → Option (Seq Event) → RunEnd → Type 0
+CompletedFor asked before after held taken clock journal end = (command : Command) × (asked ≡ Some command) × (runs command ≡ true) × Completed command before after held taken clock journal end
 
 -- the text of an answer without a run: the usage line, a refusal's or that of a script that is accepted
 abbrev pub Told : Option Command → Option (List ℕ) → Option (List ℕ) → List ℕ → Type 0
 Told None before after text = text ≡ usage
 Told (Some command) before after text = Refused command before after text ⊎ ((command ≡ Check) × Accepted before after × (text ≡ codes "ok\n"))
 
--- a prefix of a text was taken: that of a run, whose journal is handed back, or another with none
-pub record Partly (command : Option Command) (before after held taken : Option (List ℕ)) (journal : Option (Seq Event)) : Type 0 where
+-- a prefix of a text was taken: that of a run, whose journal and clock are handed back, or another with no journal
+pub record Partly (command : Option Command) (before after held taken : Option (List ℕ)) (clock : Option ClockSpan) (journal : Option (Seq Event)) : Type 0 where
   pub text : List ℕ
   pub count : ℕ
   pub prefix : Appends held taken (take count text)
   pub source : MatchOption journal (Told command before after text)
-      (λ j. (c : Command) × (command ≡ Some c) × ((end : RunEnd) × Ran c before after (events j) end × RunText (shows_journal c) (events j) end text))
+      (λ j. (c : Command) × (command ≡ Some c) × ((span : ClockSpan) × (clock ≡ Some span) × ((end : RunEnd) × Ran c span before after (events j) end × RunText (shows_journal c) (events j) end text)))

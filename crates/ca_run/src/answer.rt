@@ -1,21 +1,25 @@
-ghost use Rattle.std.specs.Prelude.{◌≡◌, ◌++◌, [], cond, false, IfOk, OnOk};
+ghost use Rattle.std.specs.Prelude.{◌≡◌, ◌≢◌, ◌++◌, [], cond, false, IfOk, OnOk, Some, Err};
 ghost use Rattle.ca_value.specs.Seq.{list};
 ghost use Rattle.ca_term.specs.Program.{program_view};
 ghost use Rattle.ca_meaning.specs.Journal.{journal_text};
 ghost use Rattle.ca_meaning.specs.Texts.{output};
 ghost use Rattle.ca_journal.specs.Events.{events};
-ghost use Rattle.ca_run.specs.Top.{error_line, runs};
+ghost use Rattle.ca_timers.specs.Causes.{Rose};
+ghost use Rattle.ca_run.specs.Top.{error_line, runs, span_between};
 ghost use Rattle.ca_run.specs.Answers.{answer_text, line_of_end, refusal_line, IsFit, Judged, JudgedProgram, RunsNothing};
+ghost use Rattle.ca_run.specs.Stops.{clock_left};
+ghost use Rattle.ca_run.specs.declared.stop.Stop.TheVariants.{ClockFailed, SourceFailed};
 
 use crate::run::{ScriptEnd, ScriptRun, run_script};
+use crate::stop::Stop;
 use ca_check::check::check;
 use ca_check::error::{CheckError, CheckErrorKind};
 use ca_journal::output::{append_fault, output};
 use ca_journal::print::print;
 use ca_pool::gate::Gate;
+use ca_pool::run_end::RunStop;
 use ca_reader::error::{ReadError, ReadErrorKind};
 use ca_reader::read::read;
-use ca_table::answer::PoolStop;
 use ca_term::place::Place;
 use ca_term::program::Program;
 use ca_timers::clock::Clock;
@@ -51,54 +55,59 @@ pub enum Answer {
     Ran(ScriptRun, bool),
 }
 
-/// The run of a text or that it is accepted, or why it is refused.
+/// The run of a text or that it is accepted, or why it is refused. The clock comes back as the run left it; where nothing
+/// was run it is the one that was given.
 #[tactic(auto, using(crate::proofs::Judgements::judged_by_program))]
-pub fn judge_text<R: Threads + Wait + Sync, C: Clock + Send, G: Gate + Sync>(
+pub fn judge_text<R: Threads + Wait + Sync, C: Clock + Drop + Send, G: Gate + Sync>(
     rt: &R,
     alloc: Global,
     command: Command,
     input: &[u8],
-    clock: &mut C,
+    clock: C,
     gate: &G,
-) -> Result<Answer, PoolStop>
+) -> Result<(Answer, C), Stop<C>>
     requires { IsFit command }
-    ensures judged { IfOk result (λ a. Judged command input.now a) }
-    ensures unasked { IfOk result (λ a. RunsNothing a → clock.new ≡ clock.old) }
-    ensures idle { runs command ≡ false → clock.new ≡ clock.old }
+    ensures judged { IfOk result (λ j. Judged command (span_between C.least C.readings clock j.1) input.now j.0) }
+    ensures unasked { IfOk result (λ j. RunsNothing j.0 → j.1 ≡ clock) }
+    ensures idle { runs command ≡ false → clock_left result ≡ Some clock }
+    ensures failed { (c : C) → result ≡ Err (ClockFailed c) → Rose (C.faults clock) (C.faults c) }
+    ensures unbroken { (c : C) → result ≢ Err (SourceFailed c) }
 {
     let forms = match read(alloc, input) {
         Ok(forms) => forms,
         Err(ReadError::Fault(kind, place)) => {
-            return Ok(Answer::Refused(Refusal::Unreadable(kind, place)));
+            return Ok((Answer::Refused(Refusal::Unreadable(kind, place)), clock));
         }
-        Err(ReadError::OutOfMemory) => return Err(PoolStop::OutOfMemory),
+        Err(ReadError::OutOfMemory) => return Err(Stop::OutOfMemory(Some(clock))),
     };
     let program = match check(alloc, &forms) {
         Ok(program) => program,
         Err(CheckError::Fault(kind, place)) => {
-            return Ok(Answer::Refused(Refusal::Unchecked(kind, place)));
+            return Ok((Answer::Refused(Refusal::Unchecked(kind, place)), clock));
         }
-        Err(CheckError::OutOfMemory) => return Err(PoolStop::OutOfMemory),
+        Err(CheckError::OutOfMemory) => return Err(Stop::OutOfMemory(Some(clock))),
     };
     answer_of(rt, alloc, command, &program, clock, gate)
 }
 
 // What a program comes to.
-fn answer_of<R: Threads + Wait + Sync, C: Clock + Send, G: Gate + Sync>(
+fn answer_of<R: Threads + Wait + Sync, C: Clock + Drop + Send, G: Gate + Sync>(
     rt: &R,
     alloc: Global,
     command: Command,
     program: &Program,
-    clock: &mut C,
+    clock: C,
     gate: &G,
-) -> Result<Answer, PoolStop>
+) -> Result<(Answer, C), Stop<C>>
     requires { IsFit command }
-    ensures judged { IfOk result (λ a. JudgedProgram command (program_view program.now) a) }
-    ensures unasked { IfOk result (λ a. RunsNothing a → clock.new ≡ clock.old) }
-    ensures idle { runs command ≡ false → clock.new ≡ clock.old }
+    ensures judged { IfOk result (λ j. JudgedProgram command (span_between C.least C.readings clock j.1) (program_view program.now) j.0) }
+    ensures unasked { IfOk result (λ j. RunsNothing j.0 → j.1 ≡ clock) }
+    ensures idle { runs command ≡ false → clock_left result ≡ Some clock }
+    ensures failed { (c : C) → result ≡ Err (ClockFailed c) → Rose (C.faults clock) (C.faults c) }
+    ensures unbroken { (c : C) → result ≢ Err (SourceFailed c) }
 {
     let (workers, budget, shown) = match command {
-        Command::Check => return Ok(Answer::Accepted),
+        Command::Check => return Ok((Answer::Accepted, clock)),
         Command::Run {
             workers,
             budget,
@@ -106,8 +115,11 @@ fn answer_of<R: Threads + Wait + Sync, C: Clock + Send, G: Gate + Sync>(
         } => (workers, budget, journal),
         Command::Load { workers, .. } => (workers, LOAD_BUDGET, false),
     };
-    let run = run_script(rt, alloc, program, workers, budget, clock, gate)?;
-    Ok(Answer::Ran(run, shown))
+    match run_script(rt, alloc, program, workers, budget, clock, gate) {
+        Ok((run, clock)) => Ok((Answer::Ran(run, shown), clock)),
+        Err(RunStop::ClockFailed(clock)) => Err(Stop::ClockFailed(clock)),
+        Err(RunStop::OutOfMemory) => Err(Stop::OutOfMemory(None)),
+    }
 }
 
 /// The text that is written for the answer.

@@ -16,6 +16,7 @@ pub mod generator;
 pub mod memory;
 pub mod run;
 pub mod standard;
+pub mod stop;
 #[cfg(test)]
 mod tests;
 pub mod top;

@@ -1,4 +1,4 @@
-ghost use Rattle.std.specs.Prelude.{◌≡◌, ◌≤◌, ◌<◌, ℕ, IfOk, Option, Some};
+ghost use Rattle.std.specs.Prelude.{◌≡◌, ◌≤◌, ◌<◌, ℕ, IfOk, Option, Some, Err};
 ghost use Rattle.ca_term.specs.declared.event.Ending.TheVariants.{Faulted as FaultedEnding};
 ghost use Rattle.ca_term.specs.declared.fault.Fault.{Fault as FaultKind};
 ghost use Rattle.ca_term.specs.declared.place.Place.{Place as PlaceKind};
@@ -8,7 +8,10 @@ ghost use Rattle.ca_value.specs.declared.value.PortId.{PortId};
 ghost use Rattle.ca_meaning.specs.Ends.{EndsWith, HasEnd};
 ghost use Rattle.ca_meaning.specs.Legal.{Legal};
 ghost use Rattle.ca_journal.specs.Events.{events};
-ghost use Rattle.ca_pool.specs.PoolEnds.{IsScheduled, end_view};
+ghost use Rattle.ca_timers.specs.Causes.{Rose};
+ghost use Rattle.ca_table.specs.Moments.{KeepsTime};
+ghost use Rattle.ca_pool.specs.PoolEnds.{IsSolo, end_view};
+ghost use Rattle.ca_pool.specs.declared.run_end.RunStop.TheVariants.{ClockFailed};
 ghost use Rattle.ca_run.specs.Answers.{end_of, line_of_end};
 ghost use Rattle.ca_run.specs.Top.{EndLine};
 
@@ -16,8 +19,7 @@ use ca_journal::entry::Journal;
 use ca_moves::lower::lower_moving;
 use ca_pool::gate::Gate;
 use ca_pool::pool_run::run_pool;
-use ca_pool::run_end::{PoolEnd, PoolRun};
-use ca_table::answer::PoolStop;
+use ca_pool::run_end::{PoolEnd, PoolRun, RunStop};
 use ca_tasks::task::AnyTask;
 use ca_term::event::{Ending, Event};
 use ca_term::fault::Fault;
@@ -82,23 +84,27 @@ fn told(journal: Journal, end: PoolEnd) -> ScriptRun
     ScriptRun { journal, end }
 }
 
-/// Compiles the program, and runs it with 1 to 16 workers, until an end or until its events cost the budget. With one
-/// worker the run is that of the stated schedule, over some moments that never fall.
-pub fn run_script<R: Threads + Wait + Sync, C: Clock + Send, G: Gate + Sync>(
+/// Compiles the program, and runs it with 1 to 16 workers, until an end or until its events cost the budget. The moments
+/// of the journal are answers that the clock gave in this call, in order, and never fall. With one worker the run is that
+/// of the stated schedule over these answers. The clock is handed back as the run left it; where the run wants memory that
+/// there isn't, it is gone.
+pub fn run_script<R: Threads + Wait + Sync, C: Clock + Drop + Send, G: Gate + Sync>(
     rt: &R,
     alloc: Global,
     program: &Program,
     workers: u64,
     budget: u64,
-    clock: &mut C,
+    clock: C,
     gate: &G,
-) -> Result<ScriptRun, PoolStop>
+) -> Result<(ScriptRun, C), RunStop<C>>
     requires workers { (0 < workers) × (workers ≤ 16) }
     requires budget { 0 < budget }
-    ensures legal { IfOk result (λ m. Legal (program_view program.now) (events m.journal)) }
-    ensures end { IfOk result (λ m. HasEnd (program_view program.now) budget (events m.journal) (end_of m.end)) }
-    ensures line { IfOk result (λ m. EndLine (events m.journal) (end_of m.end) (line_of_end m.end)) }
-    ensures solo { IfOk result (λ m. workers ≡ 1 → IsScheduled (program_view program.now) (events m.journal)) }
+    ensures legal { IfOk result (λ m. Legal (program_view program.now) (events m.0.journal)) }
+    ensures end { IfOk result (λ m. HasEnd (program_view program.now) budget (events m.0.journal) (end_of m.0.end)) }
+    ensures line { IfOk result (λ m. EndLine (events m.0.journal) (end_of m.0.end) (line_of_end m.0.end)) }
+    ensures moments { IfOk result (λ m. KeepsTime (events m.0.journal) (C.least clock) (C.readings clock) (C.readings m.1)) }
+    ensures failed { (c : C) → result ≡ Err (ClockFailed c) → Rose (C.faults clock) (C.faults c) }
+    ensures solo { IfOk result (λ m. workers ≡ 1 → IsSolo (program_view program.now) (events m.0.journal) (C.least clock) (C.readings clock) (C.readings m.1)) }
 {
     let code = lower_moving(alloc, program)?;
     let main = AnyTask::main(alloc, &code)?;
@@ -108,7 +114,7 @@ pub fn run_script<R: Threads + Wait + Sync, C: Clock + Send, G: Gate + Sync>(
     let PoolRun {
         journal,
         end,
-        clock: _,
+        clock,
     } = run;
-    Ok(told(journal, end))
+    Ok((told(journal, end), clock))
 }

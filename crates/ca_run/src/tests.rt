@@ -23,19 +23,19 @@ fn expect_spaces<R: Threads + Wait + Sync + Abort + AllocGlobal>(
     let script = vec![in alloc; b' '; length]?;
     let mut source = MemorySource::new(script.as_slice(), 65_536);
     let mut sink = MemorySink::new(alloc, 65_536);
-    let mut clock = MemoryClock::new(alloc);
+    let clock = MemoryClock::new(alloc);
     let finish = main_call(
         rt,
         alloc,
         words.as_slice(),
         &mut source,
         &mut sink,
-        &mut clock,
+        clock,
         &OpenGate,
     );
     assert_eq!(rt; finish.status, status);
     assert_eq!(rt; sink.text().as_slice(), text.as_bytes());
-    assert_eq!(rt; clock.askings(), 0);
+    assert!(rt; finish.clock.is_some_and(|clock| clock.askings() == 0));
     Ok(())
 }
 

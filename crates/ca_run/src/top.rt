@@ -7,18 +7,20 @@ ghost use Rattle.ca_meaning.specs.Ends.{ended, faulted, limit, stuck};
 ghost use Rattle.ca_timers.specs.Causes.{Rose};
 ghost use Rattle.ca_words.specs.Words.{command_in};
 ghost use Rattle.ca_words.specs.declared.command.Command.TheVariants.{Check, Load};
-ghost use Rattle.ca_run.specs.Top.{Accepted, Completed, CompletedFor, IsLawful, Refused, Partly, reads, runs, usage};
+ghost use Rattle.ca_run.specs.Top.{Accepted, Completed, CompletedFor, IsLawful, Refused, Partly, reads, runs, span_between, span_of, usage};
 ghost use Rattle.ca_run.specs.Answers.{status_of, journal_of, AnswersTo, IsFit, RunsNothing};
+ghost use Rattle.ca_run.specs.Stops.{clock_left};
 ghost use Rattle.ca_run.specs.declared.answer.Answer.{Answer};
+ghost use Rattle.ca_run.specs.declared.stop.Stop.TheVariants.{ClockFailed, SourceFailed};
 
 use crate::answer::{Answer, Refusal, judge_text, text_of};
 use crate::device::{ReadError, Sink, Source, read_all, write_all};
 use crate::generator::load_script;
 use crate::run::ScriptEnd;
+use crate::stop::Stop;
 use ca_journal::entry::Journal;
 use ca_pool::gate::Gate;
 use ca_sealed::journals::journals_of_scripts_keep_the_laws;
-use ca_table::answer::PoolStop;
 use ca_timers::clock::Clock;
 use ca_value::memory;
 use ca_words::command::{Command, WordsError};
@@ -30,55 +32,13 @@ use std::thread::Threads;
 /// The greatest length of a script, in bytes.
 const GREATEST_LENGTH: u64 = 1_048_576;
 
-/// How a call of the program ended: its exit status, and the journal of the run that it made.
+/// How a call of the program ended: its exit status, the journal of the run that it made, and the clock as the call left
+/// it, None only at status 8.
 #[derive(Drop)]
-pub struct Finish {
+pub struct Finish<C> {
     pub status: u8,
     pub journal: Option<Journal>,
-}
-
-// Why a call has no answer.
-#[derive(Clone, Copy, PartialEq, Eq, Debug)]
-enum Stop {
-    SourceFailed,
-    OutOfMemory,
-    ClockFailed,
-}
-
-impl From<memory::OutOfMemory> for Stop {
-    ghost use Rattle.ca_run.specs.declared.top.Stop.TheVariants.{OutOfMemory};
-
-    ghost from_gives = { λ _ e. e ≡ OutOfMemory };
-
-    fn from(_: memory::OutOfMemory) -> Stop {
-        Stop::OutOfMemory
-    }
-}
-
-impl From<ReadError> for Stop {
-    ghost use Rattle.ca_run.specs.Stops.{stop_of_read};
-
-    ghost from_gives = { λ r e. e ≡ stop_of_read r };
-
-    fn from(error: ReadError) -> Stop {
-        match error {
-            ReadError::Broken => Stop::SourceFailed,
-            ReadError::OutOfMemory => Stop::OutOfMemory,
-        }
-    }
-}
-
-impl From<PoolStop> for Stop {
-    ghost use Rattle.ca_run.specs.Stops.{stop_of_pool};
-
-    ghost from_gives = { λ r e. e ≡ stop_of_pool r };
-
-    fn from(stop: PoolStop) -> Stop {
-        match stop {
-            PoolStop::ClockFailed => Stop::ClockFailed,
-            PoolStop::OutOfMemory => Stop::OutOfMemory,
-        }
-    }
+    pub clock: Option<C>,
 }
 
 // The command that the words ask for; None where they are not admitted.
@@ -95,69 +55,78 @@ fn asked(alloc: Global, words: &[String]) -> Result<Option<Command>, memory::Out
 
 // What the source's script comes to.
 #[tactic(auto, using(crate::proofs::Judgements::answers_by_text))]
-fn judge_source<R: Threads + Wait + Sync, S: Source, C: Clock + Send, G: Gate + Sync>(
+fn judge_source<R: Threads + Wait + Sync, S: Source, C: Clock + Drop + Send, G: Gate + Sync>(
     rt: &R,
     alloc: Global,
     command: Command,
     source: &mut S,
-    clock: &mut C,
+    clock: C,
     gate: &G,
-) -> Result<Answer, Stop>
+) -> Result<(Answer, C), Stop<C>>
     requires fit { IsFit command }
     requires read { reads command ≡ true }
-    ensures answers { (a : Answer) → result ≡ Ok a → AnswersTo (Some command) (S.left source.old) (S.left source.new) a }
+    ensures answers { (j : Answer × C) → result ≡ Ok j → AnswersTo (Some command) (span_between C.least C.readings clock j.1) (S.left source.old) (S.left source.new) j.0 }
     ensures later { S.faults source.old ≤ S.faults source.new }
-    ensures broken { result ≡ Err Stop.SourceFailed → Rose (S.faults source.old) (S.faults source.new) × (clock.new ≡ clock.old) }
-    ensures unasked { (a : Answer) → result ≡ Ok a → RunsNothing a → clock.new ≡ clock.old }
-    ensures idle { runs command ≡ false → clock.new ≡ clock.old }
+    ensures broken { (c : C) → result ≡ Err (SourceFailed c) → Rose (S.faults source.old) (S.faults source.new) × (c ≡ clock) }
+    ensures failed { (c : C) → result ≡ Err (ClockFailed c) → Rose (C.faults clock) (C.faults c) }
+    ensures unasked { (j : Answer × C) → result ≡ Ok j → RunsNothing j.0 → j.1 ≡ clock }
+    ensures idle { runs command ≡ false → clock_left result ≡ Some clock }
 {
-    let input = read_all(alloc, source, GREATEST_LENGTH)?;
+    let input = match read_all(alloc, source, GREATEST_LENGTH) {
+        Ok(input) => input,
+        Err(ReadError::Broken) => return Err(Stop::SourceFailed(clock)),
+        Err(ReadError::OutOfMemory) => return Err(Stop::OutOfMemory(Some(clock))),
+    };
     if input.len() > GREATEST_LENGTH {
-        return Ok(Answer::Refused(Refusal::TooLong));
+        return Ok((Answer::Refused(Refusal::TooLong), clock));
     }
-    Ok(judge_text(rt, alloc, command, input.as_slice(), clock, gate)?)
+    judge_text(rt, alloc, command, input.as_slice(), clock, gate)
 }
 
 // What the generator's script for the number comes to.
 #[tactic(auto, using(crate::proofs::Judgements::answers_by_load))]
-fn judge_load<R: Threads + Wait + Sync, C: Clock + Send, G: Gate + Sync>(
+fn judge_load<R: Threads + Wait + Sync, C: Clock + Drop + Send, G: Gate + Sync>(
     rt: &R,
     alloc: Global,
     n: u64,
     workers: u64,
-    clock: &mut C,
+    clock: C,
     gate: &G,
-) -> Result<Answer, Stop>
+) -> Result<(Answer, C), Stop<C>>
     requires fit { IsFit (Load n workers) }
-    ensures answers { (left : Option (List ℕ)) (a : Answer) → result ≡ Ok a → AnswersTo (Some (Load n workers)) left left a }
-    ensures unbroken { result ≢ Err Stop.SourceFailed }
-    ensures unasked { (a : Answer) → result ≡ Ok a → RunsNothing a → clock.new ≡ clock.old }
+    ensures answers { (left : Option (List ℕ)) (j : Answer × C) → result ≡ Ok j → AnswersTo (Some (Load n workers)) (span_between C.least C.readings clock j.1) left left j.0 }
+    ensures failed { (c : C) → result ≡ Err (ClockFailed c) → Rose (C.faults clock) (C.faults c) }
+    ensures unbroken { (c : C) → result ≢ Err (SourceFailed c) }
+    ensures unasked { (j : Answer × C) → result ≡ Ok j → RunsNothing j.0 → j.1 ≡ clock }
 {
-    let script = load_script(alloc, n)?;
+    let Ok(script) = load_script(alloc, n) else {
+        return Err(Stop::OutOfMemory(Some(clock)));
+    };
     let command = Command::Load { n, workers };
-    Ok(judge_text(rt, alloc, command, script.as_slice(), clock, gate)?)
+    judge_text(rt, alloc, command, script.as_slice(), clock, gate)
 }
 
-// What the words and the source come to.
-fn judge<R: Threads + Wait + Sync, S: Source, C: Clock + Send, G: Gate + Sync>(
+// What the words and the source come to, and the clock.
+fn judge<R: Threads + Wait + Sync, S: Source, C: Clock + Drop + Send, G: Gate + Sync>(
     rt: &R,
     alloc: Global,
     asked: Option<Command>,
     source: &mut S,
-    clock: &mut C,
+    clock: C,
     gate: &G,
-) -> Result<Answer, Stop>
+) -> Result<(Answer, C), Stop<C>>
     requires fit { (c : Command) → asked ≡ Some c → IsFit c }
     ensures unread { asked ≡ None → source.new ≡ source.old }
-    ensures admitted { asked ≡ None → result ≡ Ok Answer.Usage }
-    ensures answers { (a : Answer) → result ≡ Ok a → AnswersTo asked (S.left source.old) (S.left source.new) a }
+    ensures admitted { asked ≡ None → result ≡ Ok (Answer.Usage, clock) }
+    ensures answers { (j : Answer × C) → result ≡ Ok j → AnswersTo asked (span_between C.least C.readings clock j.1) (S.left source.old) (S.left source.new) j.0 }
     ensures later { S.faults source.old ≤ S.faults source.new }
-    ensures broken { result ≡ Err Stop.SourceFailed → Rose (S.faults source.old) (S.faults source.new) × (clock.new ≡ clock.old) }
-    ensures unasked { (a : Answer) → result ≡ Ok a → RunsNothing a → clock.new ≡ clock.old }
-    ensures idle { ((c : Command) → asked ≡ Some c → runs c ≡ false) → clock.new ≡ clock.old }
+    ensures broken { (c : C) → result ≡ Err (SourceFailed c) → Rose (S.faults source.old) (S.faults source.new) × (c ≡ clock) }
+    ensures failed { (c : C) → result ≡ Err (ClockFailed c) → Rose (C.faults clock) (C.faults c) }
+    ensures unasked { (j : Answer × C) → result ≡ Ok j → RunsNothing j.0 → j.1 ≡ clock }
+    ensures idle { ((c : Command) → asked ≡ Some c → runs c ≡ false) → clock_left result ≡ Some clock }
 {
     let Some(command) = asked else {
-        return Ok(Answer::Usage);
+        return Ok((Answer::Usage, clock));
     };
     match command {
         Command::Load { n, workers } => judge_load(rt, alloc, n, workers, clock, gate),
@@ -172,23 +141,31 @@ fn judge<R: Threads + Wait + Sync, S: Source, C: Clock + Send, G: Gate + Sync>(
 /// The words are those after the program's name. The text is made whole, and room for it in the sink, before the first
 /// write. Status 0 is a run to the main text's end, or an accepted script, 1 wrong words, 2 a refused script, 3 a fault of
 /// the main text, 4 a run in which nothing can go on, 5 one that reached its budget, 6 a failed source, 7 a failed sink, 8
-/// want of memory and 9 a failed clock.
-pub fn main_call<R: Threads + Wait + Sync, S: Source, K: Sink, C: Clock + Send, G: Gate + Sync>(
+/// want of memory and 9 a failed clock. The clock goes in by value and comes back as the call left it; only a run that was
+/// given up for want of memory keeps it.
+pub fn main_call<
+    R: Threads + Wait + Sync,
+    S: Source,
+    K: Sink,
+    C: Clock + Drop + Send,
+    G: Gate + Sync,
+>(
     rt: &R,
     alloc: Global,
     words: &[String],
     source: &mut S,
     sink: &mut K,
-    clock: &mut C,
+    clock: C,
     gate: &G,
-) -> Finish
+) -> Finish<C>
     // The headline: whatever the number of workers, and however their steps fall, a run of the script's text in which no
     // body is ever cut. It ends with the main text's end, a fault of the main text, where nothing can go on, or at its
-    // budget. With one worker it is the run of the stated schedule over answers of the clock.
-    ensures ended { (command : Command) → command_in (map string_bytes words.now) ≡ Some command → runs command ≡ true → result.status ≡ 0 → Completed command (S.left source.old) (S.left source.new) (K.held sink.old) (K.held sink.new) result.journal ended }
-    ensures faulted { result.status ≡ 3 → CompletedFor (command_in (map string_bytes words.now)) (S.left source.old) (S.left source.new) (K.held sink.old) (K.held sink.new) result.journal faulted }
-    ensures stuck { result.status ≡ 4 → CompletedFor (command_in (map string_bytes words.now)) (S.left source.old) (S.left source.new) (K.held sink.old) (K.held sink.new) result.journal stuck }
-    ensures limit { result.status ≡ 5 → CompletedFor (command_in (map string_bytes words.now)) (S.left source.old) (S.left source.new) (K.held sink.old) (K.held sink.new) result.journal limit }
+    // budget. The moments of its timeouts and ticks never fall, and each is an answer that the clock gave in this call, in
+    // order, where the clock tells its answers; with one worker it is the run of the stated schedule over these answers.
+    ensures ended { (command : Command) → command_in (map string_bytes words.now) ≡ Some command → runs command ≡ true → result.status ≡ 0 → Completed command (S.left source.old) (S.left source.new) (K.held sink.old) (K.held sink.new) (span_of C.least C.readings clock result.clock) result.journal ended }
+    ensures faulted { result.status ≡ 3 → CompletedFor (command_in (map string_bytes words.now)) (S.left source.old) (S.left source.new) (K.held sink.old) (K.held sink.new) (span_of C.least C.readings clock result.clock) result.journal faulted }
+    ensures stuck { result.status ≡ 4 → CompletedFor (command_in (map string_bytes words.now)) (S.left source.old) (S.left source.new) (K.held sink.old) (K.held sink.new) (span_of C.least C.readings clock result.clock) result.journal stuck }
+    ensures limit { result.status ≡ 5 → CompletedFor (command_in (map string_bytes words.now)) (S.left source.old) (S.left source.new) (K.held sink.old) (K.held sink.new) (span_of C.least C.readings clock result.clock) result.journal limit }
 
     // And each such run keeps the laws of channels, waits, mixes, mults and pipelines.
     ensures laws { (j : Seq Event) → result.journal ≡ Some j → IsLawful (command_in (map string_bytes words.now)) (S.left source.old) (S.left source.new) (events j) }
@@ -199,9 +176,11 @@ pub fn main_call<R: Threads + Wait + Sync, S: Source, K: Sink, C: Clock + Send, 
     ensures refused { result.status ≡ 2 → (command : Command) × (line : List ℕ) × (command_in (map string_bytes words.now) ≡ Some command) × Refused command (S.left source.old) (S.left source.new) line × Appends (K.held sink.old) (K.held sink.new) line }
     ensures read { result.status ≡ 6 → Rose (S.faults source.old) (S.faults source.new) }
     ensures write { result.status ≡ 7 → Rose (K.faults sink.old) (K.faults sink.new) }
-    ensures partial { result.status ≡ 7 → Partly (command_in (map string_bytes words.now)) (S.left source.old) (S.left source.new) (K.held sink.old) (K.held sink.new) result.journal }
+    ensures partial { result.status ≡ 7 → Partly (command_in (map string_bytes words.now)) (S.left source.old) (S.left source.new) (K.held sink.old) (K.held sink.new) (span_of C.least C.readings clock result.clock) result.journal }
     ensures admitted { command_in (map string_bytes words.now) ≡ None → (source.new ≡ source.old) × ((result.status ≡ 1) ⊎ ((result.status ≡ 7) ⊎ (result.status ≡ 8))) }
-    ensures unasked { ((result.status ≡ 1) ⊎ ((result.status ≡ 2) ⊎ (result.status ≡ 6))) ⊎ ((c : Command) → command_in (map string_bytes words.now) ≡ Some c → runs c ≡ false) → clock.new ≡ clock.old }
+    ensures unasked { ((result.status ≡ 1) ⊎ ((result.status ≡ 2) ⊎ (result.status ≡ 6))) ⊎ ((c : Command) → command_in (map string_bytes words.now) ≡ Some c → runs c ≡ false) → result.clock ≡ Some clock }
+    ensures kept { result.clock ≡ None → result.status ≡ 8 }
+    ensures waited { result.status ≡ 9 → (c : C) × (result.clock ≡ Some c) × Rose (C.faults clock) (C.faults c) }
     ensures silent { (result.status ≡ 6) ⊎ ((result.status ≡ 8) ⊎ (result.status ≡ 9)) → K.held sink.new ≡ K.held sink.old }
     ensures known { result.status ≤ 9 }
     ensures done { result.status ≡ 0 → (command : Command) × (command_in (map string_bytes words.now) ≡ Some command) }
@@ -209,47 +188,54 @@ pub fn main_call<R: Threads + Wait + Sync, S: Source, K: Sink, C: Clock + Send, 
 {
     journals_of_scripts_keep_the_laws();
     let Ok(asked) = asked(alloc, words) else {
-        return without_journal(8);
+        return without_journal(8, Some(clock));
     };
-    let answer = match judge(rt, alloc, asked, source, clock, gate) {
-        Ok(answer) => answer,
-        Err(Stop::SourceFailed) => return without_journal(6),
-        Err(Stop::OutOfMemory) => return without_journal(8),
-        Err(Stop::ClockFailed) => return without_journal(9),
+    let judged = match judge(rt, alloc, asked, source, clock, gate) {
+        Ok(judged) => judged,
+        Err(Stop::SourceFailed(clock)) => return without_journal(6, Some(clock)),
+        Err(Stop::OutOfMemory(clock)) => return without_journal(8, clock),
+        Err(Stop::ClockFailed(clock)) => return without_journal(9, Some(clock)),
     };
+    let (answer, clock) = judged;
     let Ok(text) = text_of(alloc, &answer) else {
-        return without_journal(8);
+        return without_journal(8, Some(clock));
     };
     if sink.reserve(text.len()).is_err() {
-        return without_journal(8);
+        return without_journal(8, Some(clock));
     }
     let written = write_all(sink, text.as_slice()).is_ok();
-    close(answer, written)
+    close(answer, written, clock)
 }
 
-fn without_journal(status: u8) -> Finish
+fn without_journal<C: Drop>(status: u8, clock: Option<C>) -> Finish<C>
     ensures status { result.status ≡ status }
     ensures none { result.journal ≡ None }
+    ensures clock { result.clock ≡ clock }
 {
     Finish {
         status,
         journal: None,
+        clock,
     }
 }
 
 // The status of the answer, or 7 where its text was not written.
-fn close(answer: Answer, written: bool) -> Finish
+fn close<C: Drop>(answer: Answer, written: bool, clock: C) -> Finish<C>
     ensures lost { written ≡ false → result.status ≡ 7 }
     ensures done { written ≡ true → result.status ≡ status_of answer }
     ensures journal { result.journal ≡ journal_of answer }
+    ensures clock { result.clock ≡ Some clock }
 {
     let status = if written { status_of(&answer) } else { 7 };
     match answer {
         Answer::Ran(run, _) => Finish {
             status,
             journal: Some(run.journal),
+            clock: Some(clock),
         },
-        Answer::Usage | Answer::Refused(_) | Answer::Accepted => without_journal(status),
+        Answer::Usage | Answer::Refused(_) | Answer::Accepted => {
+            without_journal(status, Some(clock))
+        }
     }
 }
 

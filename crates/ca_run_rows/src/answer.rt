@@ -23,14 +23,14 @@ pub fn answer_text<R: Threads + Wait + Sync + AllocGlobal>(
         row.reads.as_slice(),
     );
     let mut sink = Failing::new(MemorySink::new(alloc, row.piece), row.writes.as_slice());
-    let mut clock = Failing::new(MemoryClock::new(alloc), row.waits.as_slice());
+    let clock = Failing::new(MemoryClock::new(alloc), row.waits.as_slice());
     let finish = main_call(
         rt,
         alloc,
         row.words.as_slice(),
         &mut source,
         &mut sink,
-        &mut clock,
+        clock,
         &OpenGate,
     );
     match told(alloc, &finish, sink.device().text()) {
@@ -39,7 +39,7 @@ pub fn answer_text<R: Threads + Wait + Sync + AllocGlobal>(
     }
 }
 
-fn told(alloc: Global, finish: &Finish, written: &Text) -> Result<String, OutOfMemory> {
+fn told<C>(alloc: Global, finish: &Finish<C>, written: &Text) -> Result<String, OutOfMemory> {
     let mut text = String::new(alloc);
     text.push_str(itoa::Buffer::new().format(finish.status))?;
     text.push_str(" ")?;

@@ -1,9 +1,10 @@
 -- What calls of a worker drew, one after another: what it cost, and what it found.
-use Rattle.std.proofs.Common.{◌≡◌, ◌∙◌, ⊎_elim, ℕ, ◌+◌, List, [], ◌∷◌, ◌++◌, length, refl, sym, ap, ap₂, subst, arith, Bool, true, false, zero-add}
+use Rattle.std.proofs.Common.{◌≡◌, ◌∙◌, ℕ, ◌+◌, List, [], ◌∷◌, ◌++◌, refl, sym, ap, ap₂, subst, arith, Bool, true, false, zero-add, Ok}
 use Rattle.std.specs.Prelude.{◌||◌}
 use mathlib.Core.List.{append-nil, append_assoc}
 use Rattle.ca_term.specs.Event.{EventView}
 use Rattle.ca_meaning.specs.Cost.{cost}
+use Rattle.ca_meaning.specs.Ends.{but_last}
 use Rattle.ca_journal.specs.Merge.{Numbered, entries, events_of}
 use Rattle.ca_turns.specs.Hands.{Held}
 use Rattle.ca_turns.specs.Views.{turn}
@@ -15,29 +16,44 @@ use Rattle.ca_table.specs.Grips.{SameHand, SameTurns}
 use Rattle.ca_table.specs.LoneHands.{DrewTurn}
 use Rattle.ca_table.specs.Running.{shown_by}
 use Rattle.ca_table.specs.Seen.{PartSeen}
-use Rattle.ca_table.specs.Worked.{Drew, HasWorked, gives_up, has, has_drawn, leaves, spent}
+use Rattle.ca_table.specs.Worked.{AnswersFor, Drew, HasWorked, gives_up, has, has_drawn, leaves, spent}
 use Rattle.ca_table.specs.Workers.{SameWorker, noted}
+use Rattle.ca_table.specs.declared.answer.WorkEnd.{WorkEnd}
+use Rattle.ca_table.specs.declared.answer.WorkEnd.TheVariants.{Over, Spent}
 use Rattle.ca_table.specs.declared.drawn.Drawn.{Drawn}
 use Rattle.ca_table.specs.declared.drawn.Turned.{Turned}
 use Rattle.ca_table.specs.declared.part.Part.{Part}
 use Rattle.ca_table.specs.declared.worker.Worker.{Worker}
+use Rattle.ca_table.proofs.Finding.{finds_later, finds_leaves, free_none, one_finds}
 use Rattle.ca_table.proofs.Gathers.{shown_noted}
-use Rattle.ca_table.proofs.Having.{either_true, first_true, has_append, second_true}
+use Rattle.ca_table.proofs.Having.{has_append, second_true}
 use Rattle.ca_table.proofs.Seats.{with_hand}
 
 cost_both : (es fs : List EventView) → cost (es ++ fs) ≡ cost es + cost fs
 cost_both [] fs = sym (zero-add (cost fs))
 cost_both (e ∷ es) fs = let k = cost_both es fs in omega (arith, k)
 
-shown_both : {C : Type 0} (ts us : List (Turn C Drawn)) → shown_by (ts ++ us) ≡ shown_by ts ++ shown_by us
+pub shown_both : {C : Type 0} (ts us : List (Turn C Drawn)) → shown_by (ts ++ us) ≡ shown_by ts ++ shown_by us
 shown_both [] us = refl
 shown_both (t ∷ ts) us = ap (λ l. visible (turn_view t.event.what) ++ l) (shown_both ts us) ∙ sym (append_assoc (visible (turn_view t.event.what)) (shown_by ts) (shown_by us))
 
-cost_shown : {C : Type 0} (ts us : List (Turn C Drawn)) → cost (shown_by (ts ++ us)) ≡ cost (shown_by ts) + cost (shown_by us)
+pub cost_shown : {C : Type 0} (ts us : List (Turn C Drawn)) → cost (shown_by (ts ++ us)) ≡ cost (shown_by ts) + cost (shown_by us)
 cost_shown ts us = ap cost (shown_both ts us) ∙ cost_both (shown_by ts) (shown_by us)
 
+-- an event shows itself, or nothing
+few_visible : (what : said.Turn) → but_last (visible what) ≡ []
+few_visible (said.shown e) = refl
+few_visible (said.picks r) = refl
+few_visible said.yields = refl
+few_visible (said.prunes side p w) = refl
+few_visible said.asks_clock = refl
+few_visible said.fails = refl
+few_visible said.stops = refl
+few_visible said.halts = refl
+few_visible said.stalls = refl
+
 module _ {A C : Type 0} where
-  workers_both : (o m n : Worker A C) → SameWorker o m → SameWorker m n → SameWorker o n
+  pub workers_both : (o m n : Worker A C) → SameWorker o m → SameWorker m n → SameWorker o n
   workers_both o m n p q = record { number = q.number ∙ p.number; workers = q.workers ∙ p.workers; program = q.program ∙ p.program; code = q.code ∙ p.code }
 
   pub hands_both : (x y z : Held (Part A C) (PartSeen A) Drawn) → SameHand x y → SameHand y z → SameHand x z
@@ -51,6 +67,7 @@ module _ {A C : Type 0} where
     more = [];
     turns = turns.turns ∙ sym (append-nil o.hand.view.turns);
     costs = refl;
+    few = refl;
     going = refl;
     finds = λ e. absurd (let z : false ≡ true = e in cc);
   }
@@ -78,8 +95,9 @@ module _ {A C : Type 0} where
     more = turn k d before after ∷ [];
     turns = turns;
     costs = ap cost (append-nil (visible (turn_view d.what)));
+    few = ap but_last (append-nil (visible (turn_view d.what))) ∙ few_visible (turn_view d.what);
     going = ap (λ b. b || false) kept;
-    finds = λ e. first_true (leaves (turn_view d.what)) false e;
+    finds = one_finds (turn k d before after);
   }
 
   -- one turn, of which is known what it is
@@ -93,17 +111,20 @@ module _ {A C : Type 0} where
       → Drew 0 (leaves (turn_view what)) o n
   drew_hidden {o} {n} k d before after what same hand turns is hidden kept = subst (λ (es : List EventView). Drew (cost es) (leaves (turn_view what)) o n) hidden (drew_what {o = o} {n = n} k d before after what same hand turns is kept)
 
-  -- what two calls drew
-  pub drew_both : {a b : ℕ} {x y : Bool} {o m n : Worker A C} → Drew a x o m → Drew b y m n → Drew (a + b) (x || y) o n
-  drew_both {a} {b} {x} {y} {o} {m} {n} p q = record {
+  -- what two calls drew, of which the first drew no event of the journal and found no end
+  pub drew_both : {a : ℕ} {x : Bool} {o m n : Worker A C} → Drew 0 false o m → Drew a x m n → Drew a x o n
+  drew_both {a} {x} {o} {m} {n} p q = record {
     same = workers_both o m n p.same q.same;
     hand = hands_both o.hand m.hand n.hand p.hand q.hand;
     more = p.more ++ q.more;
     turns = q.turns ∙ ap (λ ts. ts ++ q.more) p.turns ∙ append_assoc o.hand.view.turns p.more q.more;
-    costs = cost_shown p.more q.more ∙ ap₂ (λ (i j : ℕ). i + j) p.costs q.costs;
+    costs = ap cost shows ∙ q.costs;
+    few = ap but_last shows ∙ q.few;
     going = has_append gives_up p.more q.more ∙ ap₂ (λ i j. i || j) p.going q.going;
-    finds = λ e. has_append leaves p.more q.more ∙ ⊎_elim (λ h. first_true (has leaves p.more) (has leaves q.more) (p.finds h)) (λ h. second_true (has leaves p.more) (has leaves q.more) (q.finds h)) (either_true x y e);
-  }
+    finds = λ e. finds_later p.more q.more (q.finds e);
+  } where
+    shows : shown_by (p.more ++ q.more) ≡ shown_by q.more
+    shows = shown_both p.more q.more ∙ ap (λ es. es ++ shown_by q.more) (free_none (shown_by p.more) p.costs)
 
   -- the first of two drew nothing
   pub drew_later : {a : ℕ} {x : Bool} {o m n : Worker A C} → SameWorker o m → SameTurns o.hand m.hand → Drew a x m n → Drew a x o n
@@ -113,6 +134,7 @@ module _ {A C : Type 0} where
     more = q.more;
     turns = q.turns ∙ ap (λ ts. ts ++ q.more) turns.turns;
     costs = q.costs;
+    few = q.few;
     going = q.going;
     finds = q.finds;
   }
@@ -125,32 +147,32 @@ module _ {A C : Type 0} where
     more = p.more;
     turns = turns.turns ∙ p.turns;
     costs = p.costs;
+    few = p.few;
     going = p.going;
     finds = p.finds;
   }
 
   -- less is said of what was found
   pub drew_weaker : {a : ℕ} {x : Bool} {o n : Worker A C} → Drew a x o n → Drew a false o n
-  drew_weaker p = record { same = p.same; hand = p.hand; more = p.more; turns = p.turns; costs = p.costs; going = p.going; finds = λ e. absurd (let z : false ≡ true = e in cc) }
+  drew_weaker p = record { same = p.same; hand = p.hand; more = p.more; turns = p.turns; costs = p.costs; few = p.few; going = p.going; finds = λ e. absurd (let z : false ≡ true = e in cc) }
 
   -- the same, said of what it cost and found in other words
   pub drew_as : {a b : ℕ} {x y : Bool} {o n : Worker A C} → a ≡ b → x ≡ y → Drew a x o n → Drew b y o n
   drew_as {a} {b} {x} {y} {o} {n} e f p = subst (λ (i : ℕ). Drew i y o n) e (subst (λ (c : Bool). Drew a c o n) f p)
 
-  -- the same worker, which has gone on
-  pub has_worked : {s : ℕ} {f : Bool} {o n : Worker A C} → Drew s f o n → HasWorked o n
-  has_worked p = record { number = p.same.number; table = p.hand.table; opening = p.hand.opening; stays_for = ap length p.hand.stands_for; more = p.more; drew = p.turns }
-
-  -- it doesn't give the run up where it had not
-  pub goes_on : {s : ℕ} {f : Bool} {o n : Worker A C} → Drew s f o n → has_drawn gives_up o ≡ false → has_drawn gives_up n ≡ false
-  goes_on {s} {f} {o} {n} p none = ap (has gives_up) p.turns ∙ has_append gives_up o.hand.view.turns p.more ∙ ap₂ (λ i j. i || j) none p.going
-
   -- it noted so much more
-  pub spent_more : {s : ℕ} {f : Bool} {o n : Worker A C} → Drew s f o n → entries o.entries ≡ noted o.hand.view.turns → entries n.entries ≡ noted n.hand.view.turns → spent n ≡ spent o + s
-  spent_more {s} {f} {o} {n} p old new = worth n new ∙ ap (λ ts. cost (shown_by ts)) p.turns ∙ cost_shown o.hand.view.turns p.more ∙ ap₂ (λ (i j : ℕ). i + j) (sym (worth o old)) p.costs where
+  pub spent_more : (o n : Worker A C) (more : List (Turn (PartSeen A) Drawn)) → n.hand.view.turns ≡ o.hand.view.turns ++ more → entries o.entries ≡ noted o.hand.view.turns → entries n.entries ≡ noted n.hand.view.turns → spent n ≡ spent o + cost (shown_by more)
+  spent_more o n more drew old new = worth n new ∙ ap (λ ts. cost (shown_by ts)) drew ∙ cost_shown o.hand.view.turns more ∙ ap (λ (i : ℕ). i + cost (shown_by more)) (sym (worth o old)) where
     worth : (w : Worker A C) → entries w.entries ≡ noted w.hand.view.turns → spent w ≡ cost (shown_by w.hand.view.turns)
     worth w is = ap (λ (es : List Numbered). cost (events_of es)) is ∙ ap cost (shown_noted w.hand.view.turns)
 
+  -- a call that comes to an end doesn't give the run up
+  pub goes_on : {allowance : ℕ} {o n : Worker A C} (e : WorkEnd) → HasWorked allowance (Ok e) o n → has_drawn gives_up o ≡ false → has_drawn gives_up n ≡ false
+  goes_on {allowance} {o} {n} e h none = ap (has gives_up) h.drew ∙ has_append gives_up o.hand.view.turns h.more ∙ ap₂ (λ i j. i || j) none (kept e h.answers) where
+    kept : (e : WorkEnd) → AnswersFor allowance (Ok e) h.more → has gives_up h.more ≡ false
+    kept Spent a = a.0
+    kept Over a = a.0
+
   -- it found the run's end
-  pub found_end : {s : ℕ} {f : Bool} {o n : Worker A C} → Drew s f o n → f ≡ true → has_drawn leaves n ≡ true
-  found_end {s} {f} {o} {n} p e = ap (has leaves) p.turns ∙ has_append leaves o.hand.view.turns p.more ∙ second_true (has leaves o.hand.view.turns) (has leaves p.more) (p.finds e)
+  pub found_end : {allowance : ℕ} {o n : Worker A C} → HasWorked allowance (Ok Over) o n → has_drawn leaves n ≡ true
+  found_end {allowance} {o} {n} h = ap (has leaves) h.drew ∙ has_append leaves o.hand.view.turns h.more ∙ second_true (has leaves o.hand.view.turns) (has leaves h.more) (finds_leaves h.more h.answers.2)

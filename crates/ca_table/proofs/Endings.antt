@@ -95,7 +95,7 @@ module _ {A : Type 0} (over : CodeView → A → Type 0) (place : A → At) (sta
   IsUnmarked now = Unmarked (parts_of n (contents_at now)).timers
 
   -- what a turn does to the held parts
-  turn_held : (now : List (PartSeen A)) (s : State) (t : Turn (PartSeen A) Drawn) → HaveCode code now → Stand now s → Goes drawn_touches moves now t
+  pub turn_held : (now : List (PartSeen A)) (s : State) (t : Turn (PartSeen A) Drawn) → HaveCode code now → Stand now s → Goes drawn_touches moves now t
       → AllAlike n (map content_of t.before) (map content_of t.after) × MovesTurn place adv giv sta t.event.worker n (turn_view t.event.what) (parts_of n (pick (drawn_touches t.event) (map content_of t.before))) (parts_of n (pick (drawn_touches t.event) (map content_of t.after)))
   turn_held now s t have run g = let d = drawn_view t.event in let before = map content_of t.before in let after = map content_of t.after in let m = turn_moves now t have g in
       let e = workers_are n d.workers (contents_at now) (said.touches d) before after (touches_some place adv giv sta d before after m) (reads_at now (drawn_touches t.event) t.before g.0) m.1 run.kinds in
@@ -152,7 +152,7 @@ module _ {A : Type 0} (over : CodeView → A → Type 0) (place : A → At) (sta
     obeys_end log now sees = ends_before log v.opening now (opening_state k.body) (opening_codes over place stands advances gives starts advance_law answer_law start_law program code n v k) (opening_is over place stands advances gives starts advance_law answer_law start_law program code n v k) sees.run opening_unmarked
 
     -- all turns of a hand that drew them alone are in the history
-    mine : (log : List (Turn (PartSeen A) Drawn)) (now : List (PartSeen A)) → Sees drawn_touches moves v log now → (t : Turn (PartSeen A) Drawn) → In t v.turns → In t log
+    pub mine : (log : List (Turn (PartSeen A) Drawn)) (now : List (PartSeen A)) → Sees drawn_touches moves v log now → (t : Turn (PartSeen A) Drawn) → In t v.turns → In t log
     mine log now sees t i = let at = in_at v.turns t i in at_in log t.number t (sees.mine at.0 t at.1)
 
     pub ends_whole : (log : List (Turn (PartSeen A) Drawn)) (now : List (PartSeen A)) → Sees drawn_touches moves v log now

@@ -14,6 +14,9 @@ pub mod Having
 pub mod Spending
 pub mod Marks
 pub mod Endings
+pub mod Moments
+pub mod ClockTurns
+pub mod ClockRuns
 pub mod LoneRun
 pub mod Gripping
 pub mod Whole
@@ -22,6 +25,7 @@ pub mod Seeing
 pub mod Seats
 pub mod Carrying
 pub mod Noted
+pub mod Finding
 pub mod Drawing
 pub mod Carried
 pub mod Covered

@@ -9,7 +9,7 @@ use Rattle.ca_states.specs.Code.{CodeView}
 use Rattle.ca_meaning.specs.Registry.{Registry}
 use Rattle.ca_commit.specs.Agents.{TaskAgent}
 use Rattle.ca_commit.specs.Contents.{Content, Held, Kept, Parked, TimersPart, a_bank, a_ready, a_shard}
-use Rattle.ca_commit.specs.Gathered.{Kind, bank_kind, kind_at, lane_kind, ready_kind, shard_kind, timers_kind}
+use Rattle.ca_commit.specs.Gathered.{Kind, bank_kind, kind_at, lane_kind, parts_of, ready_kind, shard_kind, sorted, timers_kind, timers_of}
 use Rattle.ca_commit.specs.Opening.{main_agent, opened, opening_parts}
 use Rattle.ca_table.specs.Opening.{empty_bank, empty_shard, idle_lane, main_ready, none_ready, opening_list, part_of}
 use Rattle.ca_table.specs.Running.{at, contents_at}
@@ -94,6 +94,10 @@ module _ {A : Type 0} (n : ℕ) (code : CodeView) (texts : ProgramParts) (main :
 
   in_timers : (i : ℕ) → i ≡ n + 32 → view_of (at list i) ≡ said true i timers_kind
   in_timers i e = ap view_of (later i 0 (let k : i ≡ n + (16 + (16 + 0)) = omega (arith, e) in k))
+
+  -- the timers are as they were given
+  pub opening_timers : (parts_of n (contents_at list)).timers ≡ Some clock
+  opening_timers = ap (sorted timers_of) (same_view (n + 32) ∙ in_timers (n + 32) refl)
 
   in_first : (i : ℕ) → i ≡ n + 33 → view_of (at list i) ≡ said true i ready_kind
   in_first i e = ap view_of (later i 1 (let k : i ≡ n + (16 + (16 + 1)) = omega (arith, e) in k)) ∙ ap (λ b. Some (record { workers = n; held = a_ready (cond b ((0, main_agent main) ∷ []) []) })) (sym (ap (λ (j : ℕ). eqb j (n + 33)) e ∙ eq-eqb (n + 33) (n + 33) refl))

@@ -10,6 +10,7 @@ pub mod LoneHands
 pub mod Opening
 pub mod Running
 pub mod Members
+pub mod Moments
 pub mod Workers
 pub mod Worked
 pub mod Carriers

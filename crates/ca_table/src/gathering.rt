@@ -1,5 +1,5 @@
 // The end of a run: all hands are joined into one, and the table closes.
-ghost use Rattle.std.specs.Prelude.{◌≡◌, ℕ, ◌+◌, ◌<◌, ◌||◌, [], All, Bool, true, false, length, map, IfOk};
+ghost use Rattle.std.specs.Prelude.{◌≡◌, ℕ, ◌+◌, ◌<◌, ◌||◌, List, [], All, Bool, true, false, length, map, IfOk, Option, Some};
 ghost use Rattle.std.specs.Vec.{vec_len, vec_capacity};
 ghost use Rattle.ca_term.specs.Program.{program_view};
 ghost use Rattle.ca_meaning.specs.Cost.{cost};
@@ -11,13 +11,18 @@ ghost use Rattle.ca_journal.specs.Events.{events};
 ghost use Rattle.ca_journal.specs.Merge.{entries, events_of, joined};
 ghost use Rattle.ca_turns.specs.Places.{total};
 ghost use Rattle.ca_turns.specs.Views.{stands};
+ghost use Rattle.ca_commit.specs.Contents.{TimersPart};
+ghost use Rattle.ca_commit.specs.Gathered.{parts_of};
+ghost use Rattle.ca_commit.specs.Opening.{unasked};
 ghost use Rattle.ca_commit.specs.Touched.{Turn};
 ghost use Rattle.ca_table.specs.Draws.{drawn_moves};
+ghost use Rattle.ca_table.specs.Moments.{ClockWent};
 ghost use Rattle.ca_table.specs.OneCode.{stands_over};
+ghost use Rattle.ca_table.specs.Opening.{opening_list};
 ghost use Rattle.ca_table.specs.Parts.{part_seen};
-ghost use Rattle.ca_table.specs.Running.{TableStands};
-ghost use Rattle.ca_table.specs.Workers.{IsJoined, IsReady, stands_for};
-ghost use Rattle.ca_table.specs.Worked.{HasMainEnd, RanAlone, any_drew, ends_main, gives_up, has, has_drawn, obeys_mark, spent, stays_stuck};
+ghost use Rattle.ca_table.specs.Running.{TableStands, contents_at};
+ghost use Rattle.ca_table.specs.Workers.{IsJoined, IsOpenedWith, IsReady, stands_for};
+ghost use Rattle.ca_table.specs.Worked.{HasMainEnd, RanAlone, any_drew, ends_main, fails_clock, gives_up, has, has_drawn, obeys_mark, spent, stays_stuck};
 
 use crate::part::Part;
 use crate::pool::Pool;
@@ -52,6 +57,7 @@ fn join_all<A: Agent, C: Clock + Drop>(
     requires none { lists.old.items ≡ [] }
     requires ready { (n : ℕ) × IsReady A.over A.stands (program_view program.now) (valid_code code.now) table.now.id n first × All (IsReady A.over A.stands (program_view program.now) (valid_code code.now) table.now.id n) others.items }
     ensures joined { (n : ℕ) → IsReady A.over A.stands (program_view program.now) (valid_code code.now) table.now.id n first → All (IsReady A.over A.stands (program_view program.now) (valid_code code.now) table.now.id n) others.items → IsJoined A.over A.stands (program_view program.now) (valid_code code.now) table.now.id n (stands_for first + total stands_for others.items) result lists.new.items }
+    ensures opening { result.view.opening ≡ first.hand.view.opening }
     ensures alone { others.items ≡ [] → result ≡ first.hand }
     ensures turns { (such : Turn → Bool) → has such result.view.turns ≡ (has_drawn such first || any_drew such others.items) }
     ensures spent { cost (events_of (joined (map entries lists.new.items))) ≡ spent first + total spent others.items }
@@ -85,8 +91,10 @@ fn join_all<A: Agent, C: Clock + Drop>(
 /// Closes the table of these workers, who are all that it was opened with and hold nothing. The journal is what they
 /// drew, in order of number: it is a run of the program, and the parts stand for the state that it leads to,
 /// with each agent over the code. That state is quiet where some worker found that nothing can go on. Where one obeyed
-/// a mark and none gave up, the main text has ended. Of an only worker the journal shows its own turns, one after
-/// another, and the parts are what these left.
+/// a mark and none gave up, the main text has ended. Where the table was opened with one clock, the moments that the
+/// journal tells are answers that it gave since, one after another, which never fall; the parts have it as it is then,
+/// and where some worker drew that it failed, its count of faults rose. Of an only worker the journal shows its own
+/// turns, one after another, and the parts are what these left.
 pub fn gather<A: Agent, C: Clock + Drop>(
     alloc: Global,
     table: Table<Pool<A, C>>,
@@ -101,6 +109,7 @@ pub fn gather<A: Agent, C: Clock + Drop>(
     ensures main { IfOk result (λ g. any_drew ends_main workers.items ≡ true → HasMainEnd (events g.journal)) }
     ensures marked { IfOk result (λ g. any_drew gives_up workers.items ≡ false → any_drew obeys_mark workers.items ≡ true → HasMainEnd (events g.journal)) }
     ensures spent { IfOk result (λ g. cost (events g.journal) ≡ total spent workers.items) }
+    ensures clock { IfOk result (λ g. (main : A) (least faults : ℕ) (readings : Option (List ℕ)) → All (IsOpenedWith (opening_list (length workers.items) (valid_code code.now) program.now main (unasked least faults readings))) workers.items → (t : TimersPart) × ((parts_of (length workers.items) (contents_at (map (part_seen C.least C.faults C.readings) g.parts.items))).timers ≡ Some t) × ClockWent least faults readings (events g.journal) (any_drew fails_clock workers.items) t) }
     ensures alone { IfOk result (λ g. length workers.items ≡ 1 → All (RanAlone (drawn_moves A.over A.place A.advances A.gives A.starts) (events g.journal) (map (part_seen C.least C.faults C.readings) g.parts.items)) workers.items) }
 {
     let mut lists = Vec::with_capacity(alloc, workers.len())?;

@@ -6,6 +6,7 @@ use Rattle.ca_pool.specs.Costs.{cost_asked, is_marked}
 use Rattle.ca_pool.specs.Lone.{HasAsked, MayGo}
 use Rattle.ca_pool.proofs.Takens.{as_number, bare_in, bare_out, if_ok}
 use Rattle.ca_pool.proofs.Lone.{same_may}
+use Rattle.ca_pool.proofs.Resolutions.{err_map}
 use Rattle.ca_pool.proofs.clocking.ask.Goals as goal
 
 pub try_clock-requires : goal.try_clock-requires
@@ -51,3 +52,6 @@ returns-in-Some-clause-solo g c = let a = g.A.Agent in let m = g.met.A.Agent in 
     k.result
     (λ x f most none may. f most none (same_may a.over a.place a.stands a.advances a.gives a.starts m.advanced m.answered m.started code {P = AtPicked} {most = most} {old = w} {new = t.new.worker} t.ensures.same t.ensures.turns may))
     k.ensures.solo
+
+pub returns-in-Some-clause-refused : goal.returns-in-Some-clause-refused
+returns-in-Some-clause-refused g c = let t = c.try_clock in err_map c.look.result (λ d. drew_later t.ensures.same t.ensures.turns d) c.look.ensures.refused

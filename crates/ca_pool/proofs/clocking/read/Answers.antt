@@ -1,7 +1,7 @@
 use Rattle.std.proofs.Common.{Some, ◌≡◌, ℕ, [], subst, sym}
 use Rattle.ca_commit.specs.Contents.{TimersPart}
 use Rattle.ca_table.specs.Worked.{Drew}
-use Rattle.ca_table.proofs.Drawing.{drew_later}
+use Rattle.ca_table.proofs.Drawing.{drew_later, drew_none}
 use Rattle.ca_alone.specs.Schedule.{AtPicked}
 use Rattle.ca_pool.specs.Costs.{cost_asked, is_marked}
 use Rattle.ca_pool.specs.Asking.{IsFirst}
@@ -9,6 +9,7 @@ use Rattle.ca_pool.specs.Lone.{HasAsked, MayGo}
 use Rattle.ca_pool.proofs.Stays.{same_turns}
 use Rattle.ca_pool.proofs.Takens.{as_clocked, for_ok, if_ok, made_room, same_show}
 use Rattle.ca_pool.proofs.Lone.{same_may}
+use Rattle.ca_pool.proofs.Resolutions.{err_map}
 use Rattle.ca_pool.proofs.clocking.read.Goals as goal
 
 pub read_now-requires-clause-carries : goal.read_now-requires-clause-carries
@@ -58,3 +59,9 @@ returns-in-Ok-clause-solo g c = let a = g.A.Agent in let m = g.met.A.Agent in le
     (λ x f most none is may. f most none (subst (λ (z : TimersPart). IsFirst first z.deadlines) (sym t.ensures.seen) is)
     (same_may a.over a.place a.stands a.advances a.gives a.starts m.advanced m.answered m.started code {P = AtPicked} {most = most} {old = w} {new = t.new.worker} t.ensures.same (same_turns w.hand t.new.worker.hand t.ensures.hand) may))
     k.ensures.solo
+
+pub returns-in-Ok-clause-refused : goal.returns-in-Ok-clause-refused
+returns-in-Ok-clause-refused g c = let t = c.ready_to_ask-clockwork in err_map c.read_now.result (λ d. drew_later t.ensures.same (same_turns c.args.worker.now.hand t.new.worker.hand t.ensures.hand) d) c.read_now.ensures.refused
+
+pub returns-in-Err-clause-refused : goal.returns-in-Err-clause-refused
+returns-in-Err-clause-refused g c = let t = c.ready_to_ask-clockwork in let v = c.put_off in drew_later t.ensures.same (same_turns c.args.worker.now.hand t.new.worker.hand t.ensures.hand) (drew_none v.ensures.same v.ensures.turns)

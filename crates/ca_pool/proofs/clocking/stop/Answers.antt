@@ -1,4 +1,6 @@
-use Rattle.std.proofs.Common.{None, Some}
+use Rattle.std.proofs.Common.{Some}
+use Rattle.ca_commit.specs.Touched as said
+use Rattle.ca_table.proofs.Drawing.{hands_both, turn_later}
 use Rattle.ca_pool.proofs.Takens.{as_number, bare_in, same_show}
 use Rattle.ca_pool.proofs.clocking.stop.Goals as goal
 
@@ -25,3 +27,9 @@ returns-clause-carries g c = λ P n l s. let a = g.A.Agent in let K = g.C.Clock 
     (as_number a.over a.stands K.least K.faults K.readings P code id n t.new.worker l w.number t.new.worker.number (Some t.result) held t.ensures.same.number
     (t.ensures.carries P n l (bare_in a.over a.stands K.least K.faults K.readings P code id n w l w.number held c.requires.bare s)))
     (same_show held) c.with_mark-stopped.ensures
+
+pub returns-clause-hand : goal.returns-clause-hand
+returns-clause-hand g c = hands_both c.args.worker.now.hand c.take_clock-clockwork.new.worker.hand c.draw_clock.new.worker.hand c.take_clock-clockwork.ensures.turns.same c.draw_clock.ensures.hand
+
+pub returns-clause-turn : goal.returns-clause-turn
+returns-clause-turn g c = turn_later c.args.worker.now.hand c.take_clock-clockwork.new.worker.hand c.draw_clock.new.worker.hand said.stops c.take_clock-clockwork.ensures.turns c.draw_clock.ensures.turn

@@ -1,6 +1,5 @@
-use Rattle.std.proofs.Common.{◌≡◌, ◌∙◌, ℕ, ◌<◌, None, Some, refl, sym, ap, subst, is_some, []}
+use Rattle.std.proofs.Common.{◌≡◌, ◌∙◌, ℕ, sym, ap, subst, is_some, []}
 use Rattle.std.specs.Prelude.{IfSome}
-use Rattle.ca_value.specs.Seq.{spare}
 use Rattle.ca_term.specs.Operation.{SeedView}
 use Rattle.ca_term.specs.Program.{ProgramView}
 use Rattle.ca_meaning.specs.Body.{At}

@@ -1,9 +1,8 @@
-use Rattle.std.proofs.Common.{◌≡◌, ◌∙◌, ℕ, ◌<◌, None, Some, refl, sym, ap, subst, arith}
+use Rattle.std.proofs.Common.{◌∙◌, refl, sym, ap, subst}
 use Rattle.ca_term.specs.Event.{event_view}
 use Rattle.ca_term.specs.Program.{program_view}
 use Rattle.ca_states.specs.ValidCode.{valid_code}
 use Rattle.ca_commit.specs.Plans.{plan_view}
-use Rattle.ca_commit.specs.declared.task.Task.{Task}
 use Rattle.ca_table.specs.Carriers.{IsCarrying, LaneBox, just_lane}
 use Rattle.ca_table.proofs.Carriers.{carries_seated}
 use Rattle.ca_table.proofs.Drawing.{drew_as, drew_weaker}
@@ -42,4 +41,4 @@ returns-clause-stepped g c = λ program n l clock0 s gone asked started. let a =
 pub returns-clause-solo : goal.returns-clause-solo
 returns-clause-solo g c = λ few most may. let a = g.A.Agent in let K = g.C.Clock in let m = g.met.A.Agent in let r = c.requires.carries in let p = c.commit_plan-event in let d = c.draw_turn-lane in
     plan_leads a.over a.place a.stands a.advances a.gives a.starts m.advanced m.answered m.started K.least K.faults K.readings c.args.code.now c.args.table.now.id r.0 r.1 r.2 c.args.lane.value r.3 c.args.held.now c.args.worker.now d.new.worker c.args.task r.4 r.5 d.ensures.same d.ensures.hand few most may
-    (number_of c.args.spawned) (plan_view c.args.plan) (event_view p.result.event) _ c.args.clock c.requires.ready.plan_for p.ensures.event c.stirred_by-stirred.ensures r.6 _ refl d.ensures.turns
+    (number_of c.args.spawned) (plan_view c.args.plan) (event_view p.result.event) _ c.requires.ready.plan_for p.ensures.event c.stirred_by-stirred.ensures _ refl d.ensures.turns

@@ -1,4 +1,4 @@
-use Rattle.std.proofs.Common.{◌≡◌, ◌∙◌, ℕ, ◌<◌, refl, sym, ap, subst, None, []}
+use Rattle.std.proofs.Common.{◌<◌, refl, sym, subst, []}
 use Rattle.ca_value.specs.Seq.{spare}
 use Rattle.ca_meaning.specs.Body.{ended}
 use Rattle.ca_table.specs.Carriers.{just_lane}

@@ -1,4 +1,4 @@
-use Rattle.std.proofs.Common.{◌≡◌, ◌∙◌, ℕ, ◌<◌, Some, None, refl, sym, ap, subst, true, []}
+use Rattle.std.proofs.Common.{◌≡◌, ◌∙◌, ℕ, ◌<◌, Some, None, sym, subst, []}
 use Rattle.std.specs.Prelude.{option_map}
 use Rattle.ca_value.specs.Seq.{spare}
 use Rattle.ca_term.specs.Event.{port_number}

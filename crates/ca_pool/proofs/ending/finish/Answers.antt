@@ -1,8 +1,7 @@
-use Rattle.std.proofs.Common.{◌≡◌, ◌∙◌, ℕ, refl, sym, ap, subst, None}
+use Rattle.std.proofs.Common.{◌∙◌, refl, sym, ap, subst}
 use Rattle.ca_term.specs.Event.{over as over_event}
 use Rattle.ca_term.specs.Program.{program_view}
 use Rattle.ca_table.specs.Carriers.{IsCarrying, LaneBox, just_lane}
-use Rattle.ca_table.specs.declared.part.Lane.{Lane}
 use Rattle.ca_table.proofs.Carriers.{carries_seated}
 use Rattle.ca_table.proofs.Drawing.{drew_as}
 use Rattle.ca_pool.proofs.EndsMoved.{cost_one, ending_moved, ending_same}

@@ -1,4 +1,4 @@
-use Rattle.std.proofs.Common.{◌≡◌, ◌∙◌, ℕ, ◌<◌, refl, sym, ap, subst, is_some, []}
+use Rattle.std.proofs.Common.{◌∙◌, ◌<◌, refl, sym, ap, subst, is_some, []}
 use Rattle.ca_value.specs.Seq.{spare}
 use Rattle.ca_term.specs.Event.{port_number}
 use Rattle.std.specs.Prelude.{option_map}

@@ -1,15 +1,10 @@
-use Rattle.std.proofs.Common.{◌≡◌, ◌∙◌, ℕ, ◌<◌, Some, None, refl, sym, ap, subst, true, []}
-use Rattle.std.specs.Prelude.{option_map}
+use Rattle.std.proofs.Common.{◌≡◌, ◌∙◌, None, refl, sym, ap, subst, []}
 use Rattle.ca_term.specs.declared.place.Place.{Place}
 use Rattle.ca_term.specs.Operation.{WantView}
-use Rattle.ca_meaning.specs.Body.{At, at_op}
-use Rattle.ca_meaning.specs.Wait.{is_among}
-use Rattle.ca_commit.specs.Naming.{named_ports}
-use Rattle.ca_table.specs.DrawnEvents.{ClosesIts}
+use Rattle.ca_meaning.specs.Body.{at_op}
 use Rattle.ca_table.specs.Parts.{part_seen}
 use Rattle.ca_table.proofs.Drawing.{drew_later, drew_none}
 use Rattle.ca_table.proofs.HaltMoved.{refusals_draw}
-use Rattle.ca_commit.specs.declared.held.Held.{Held}
 use Rattle.ca_pool.specs.Desk.{taken}
 use Rattle.ca_pool.specs.Endings.{MayFault}
 use Rattle.ca_pool.proofs.AtEvents.{kept_carrying, own_number, same_turns}

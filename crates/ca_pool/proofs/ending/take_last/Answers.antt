@@ -1,4 +1,4 @@
-use Rattle.std.proofs.Common.{None, Some}
+use Rattle.std.proofs.Common.{Some}
 use Rattle.ca_pool.proofs.AtEvents.{own_number}
 use Rattle.ca_pool.proofs.ending.take_last.Goals as goal
 

@@ -7,6 +7,7 @@ use Rattle.ca_pool.specs.Lone.{MayGo, Went}
 use Rattle.ca_pool.proofs.Takens.{as_number, bare_in, bare_out, if_ok}
 use Rattle.ca_pool.proofs.Lone.{same_may}
 use Rattle.ca_pool.proofs.LoneClocks.{rests_empty}
+use Rattle.ca_pool.proofs.AtWork.{gave_after, if_err}
 use Rattle.ca_pool.proofs.idling.await_deadline.Goals as goal
 
 pub try_clock-requires : goal.try_clock-requires
@@ -46,3 +47,6 @@ returns-in-Some-clause-solo g c = let a = g.A.Agent in let m = g.met.A.Agent in 
     (λ x. (most : ℕ) → MayGo a.over a.place a.stands a.advances a.gives a.starts code AtEmpty most t.new.worker → Went a.over a.place a.stands a.advances a.gives a.starts code (MaySettle to_rest us) most k.new.worker)
     (λ x. (most : ℕ) → MayGo a.over a.place a.stands a.advances a.gives a.starts code AtEmpty most w → Went a.over a.place a.stands a.advances a.gives a.starts code (MaySettle to_rest us) most k.new.worker)
     k.result (λ x f most may. f most (same_may a.over a.place a.stands a.advances a.gives a.starts m.advanced m.answered m.started code {P = AtEmpty} {most = most} {old = w} {new = t.new.worker} t.ensures.same t.ensures.turns may)) k.ensures.solo
+
+pub returns-in-Some-clause-stopped : goal.returns-in-Some-clause-stopped
+returns-in-Some-clause-stopped g c = let t = c.try_clock in if_err c.wait_with.result (λ s gave. gave_after t.ensures.same t.ensures.turns gave) c.wait_with.ensures.stopped

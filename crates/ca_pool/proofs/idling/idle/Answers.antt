@@ -1,8 +1,7 @@
-use Rattle.std.proofs.Common.{◌≡◌, ◌∙◌, ℕ, Some, None, ap, false, refl, sym, zero-add}
+use Rattle.std.proofs.Common.{◌≡◌, ◌∙◌, ℕ, Some, None, ap, false, refl, sym, subst}
 use Rattle.ca_table.specs.Worked.{Drew}
 use Rattle.ca_table.proofs.Carriers.{carries_seated, seated_carries}
 use Rattle.ca_table.proofs.Drawing.{drew_as, drew_both, drew_weaker}
-use Rattle.ca_table.proofs.Having.{second_true}
 use Rattle.ca_alone.specs.Schedule.{AtEmpty, MaySettle, to_rest}
 use Rattle.ca_pool.specs.Costs.{cost_idle, is_over}
 use Rattle.ca_pool.specs.Surveys.{is_stuck}
@@ -10,6 +9,9 @@ use Rattle.ca_pool.specs.Lone.{MayGo, Went}
 use Rattle.ca_pool.proofs.Takens.{if_ok}
 use Rattle.ca_pool.proofs.Lone.{stayed_both, stayed_may}
 use Rattle.ca_pool.proofs.LoneClocks.{rests_empty}
+use Rattle.ca_table.specs.declared.answer.PoolStop.{PoolStop}
+use Rattle.ca_pool.specs.AtWork.{GaveUp}
+use Rattle.ca_pool.proofs.AtWork.{gave_later, gave_none, if_err}
 use Rattle.ca_pool.proofs.idling.idle.Goals as goal
 
 pub obey-requires-clause-carries : goal.obey-requires-clause-carries
@@ -39,14 +41,14 @@ returns-in-Busy-clause-seated g c = λ P n s. let a = g.A.Agent in let l = c.arg
     c.look_round-lane.ensures.seated P n (carries_seated a.over a.stands P code id n c.obey.new.worker l s.lane_is (c.obey.ensures.carries P n l (seated_carries a.over a.stands P code id n c.args.worker.now l s)))
 
 pub returns-in-Busy-clause-drew : goal.returns-in-Busy-clause-drew
-returns-in-Busy-clause-drew g c = drew_weaker (drew_both c.obey.ensures.drew c.look_round-lane.ensures.drew)
+returns-in-Busy-clause-drew g c = drew_both (drew_weaker c.obey.ensures.drew) (drew_weaker c.look_round-lane.ensures.drew)
 
 pub returns-in-Stuck-clause-seated : goal.returns-in-Stuck-clause-seated
 returns-in-Stuck-clause-seated g c = λ P n s. let a = g.A.Agent in let l = c.args.lane.value in let code = c.args.code.now in let id = c.args.table.now.id in
     c.look_round-lane.ensures.seated P n (carries_seated a.over a.stands P code id n c.obey.new.worker l s.lane_is (c.obey.ensures.carries P n l (seated_carries a.over a.stands P code id n c.args.worker.now l s)))
 
 pub returns-in-Stuck-clause-drew : goal.returns-in-Stuck-clause-drew
-returns-in-Stuck-clause-drew g c = let t = c.look_round-lane in drew_as refl (second_true c.obey.result (is_stuck t.result.1) (ap is_stuck c.in-Stuck.is)) (drew_both c.obey.ensures.drew t.ensures.drew)
+returns-in-Stuck-clause-drew g c = let t = c.look_round-lane in drew_both (drew_weaker c.obey.ensures.drew) (drew_as refl (ap is_stuck c.in-Stuck.is) t.ensures.drew)
 
 pub returns-in-Stirs-clause-seated : goal.returns-in-Stirs-clause-seated
 returns-in-Stirs-clause-seated g c = λ P n s. let a = g.A.Agent in let l = c.args.lane.value in let code = c.args.code.now in let id = c.args.table.now.id in
@@ -54,7 +56,7 @@ returns-in-Stirs-clause-seated g c = λ P n s. let a = g.A.Agent in let l = c.ar
 
 pub returns-in-Stirs-clause-drew : goal.returns-in-Stirs-clause-drew
 returns-in-Stirs-clause-drew g c = let t = c.look_round-lane in let k = c.name_port in
-    if_ok (λ i. (cost_idle i ≡ 0) × (is_over i ≡ false)) (λ i. Drew (cost_idle i) (is_over i) c.args.worker.now t.new.worker) k.result (λ i e. drew_as (sym e.0) (sym e.1) (drew_weaker (drew_both c.obey.ensures.drew t.ensures.drew))) k.ensures
+    if_ok (λ i. (cost_idle i ≡ 0) × (is_over i ≡ false)) (λ i. Drew (cost_idle i) (is_over i) c.args.worker.now t.new.worker) k.result (λ i e. drew_as (sym e.0) (sym e.1) (drew_both (drew_weaker c.obey.ensures.drew) (drew_weaker t.ensures.drew))) k.ensures.cost
 
 pub returns-in-Waits-clause-seated : goal.returns-in-Waits-clause-seated
 returns-in-Waits-clause-seated g c = λ P n s. let a = g.A.Agent in let l = c.args.lane.value in let code = c.args.code.now in let id = c.args.table.now.id in let t = c.look_round-lane in let m = t.result.0.value in let k = c.await_deadline-came in
@@ -63,7 +65,7 @@ returns-in-Waits-clause-seated g c = λ P n s. let a = g.A.Agent in let l = c.ar
 
 pub returns-in-Waits-clause-drew : goal.returns-in-Waits-clause-drew
 returns-in-Waits-clause-drew g c = let t = c.look_round-lane in let k = c.await_deadline-came in
-    if_ok (λ i. Drew (cost_idle i) (is_over i) t.new.worker k.new.worker) (λ i. Drew (cost_idle i) (is_over i) c.args.worker.now k.new.worker) k.result (λ i d. drew_as (zero-add (cost_idle i)) refl (drew_both (drew_weaker (drew_both c.obey.ensures.drew t.ensures.drew)) d)) k.ensures.drew
+    if_ok (λ i. Drew (cost_idle i) (is_over i) t.new.worker k.new.worker) (λ i. Drew (cost_idle i) (is_over i) c.args.worker.now k.new.worker) k.result (λ i d. drew_both (drew_both (drew_weaker c.obey.ensures.drew) (drew_weaker t.ensures.drew)) d) k.ensures.drew
 
 pub returns-then-obey-clause-solo : goal.returns-then-obey-clause-solo
 returns-then-obey-clause-solo g c = λ most may. let a = g.A.Agent in let m = g.met.A.Agent in let K = g.C.Clock in let w = c.args.worker.now in let code = c.args.code.now in
@@ -80,7 +82,7 @@ returns-in-Stuck-clause-solo g c = λ most may. let a = g.A.Agent in let m = g.m
 pub returns-in-Stirs-clause-solo : goal.returns-in-Stirs-clause-solo
 returns-in-Stirs-clause-solo g c = let a = g.A.Agent in let m = g.met.A.Agent in let K = g.C.Clock in let w = c.args.worker.now in let code = c.args.code.now in let t = c.look_round-lane in let k = c.name_port in let us = k.new.ports.items in
     if_ok (λ i. (cost_idle i ≡ 0) × (is_over i ≡ false)) (λ i. (most : ℕ) → MayGo a.over a.place a.stands a.advances a.gives a.starts code AtEmpty most w → Went a.over a.place a.stands a.advances a.gives a.starts code (MaySettle to_rest us) most t.new.worker) k.result
-    (λ i e most may. rests_empty a.over a.place a.stands a.advances a.gives a.starts m.advanced m.answered m.started code us {most = most} {w = t.new.worker} (stayed_may a.over a.place a.stands a.advances a.gives a.starts m.advanced m.answered m.started code {P = AtEmpty} {most = most} {old = w} {new = t.new.worker} (stayed_both c.obey.ensures.stayed t.ensures.stayed) may)) k.ensures
+    (λ i e most may. rests_empty a.over a.place a.stands a.advances a.gives a.starts m.advanced m.answered m.started code us {most = most} {w = t.new.worker} (stayed_may a.over a.place a.stands a.advances a.gives a.starts m.advanced m.answered m.started code {P = AtEmpty} {most = most} {old = w} {new = t.new.worker} (stayed_both c.obey.ensures.stayed t.ensures.stayed) may)) k.ensures.cost
 
 pub returns-in-Waits-clause-solo : goal.returns-in-Waits-clause-solo
 returns-in-Waits-clause-solo g c = let a = g.A.Agent in let m = g.met.A.Agent in let K = g.C.Clock in let w = c.args.worker.now in let code = c.args.code.now in let t = c.look_round-lane in let k = c.await_deadline-came in let us = k.new.ports.items in
@@ -88,3 +90,11 @@ returns-in-Waits-clause-solo g c = let a = g.A.Agent in let m = g.met.A.Agent in
     (λ i. (most : ℕ) → MayGo a.over a.place a.stands a.advances a.gives a.starts code AtEmpty most t.new.worker → Went a.over a.place a.stands a.advances a.gives a.starts code (MaySettle to_rest us) most k.new.worker)
     (λ i. (most : ℕ) → MayGo a.over a.place a.stands a.advances a.gives a.starts code AtEmpty most w → Went a.over a.place a.stands a.advances a.gives a.starts code (MaySettle to_rest us) most k.new.worker)
     k.result (λ i f most may. f most (stayed_may a.over a.place a.stands a.advances a.gives a.starts m.advanced m.answered m.started code {P = AtEmpty} {most = most} {old = w} {new = t.new.worker} (stayed_both c.obey.ensures.stayed t.ensures.stayed) may)) k.ensures.solo
+
+pub returns-in-Stirs-clause-stopped : goal.returns-in-Stirs-clause-stopped
+returns-in-Stirs-clause-stopped g c = let t = c.look_round-lane in
+    if_err c.name_port.result (λ s is. subst (λ (s : PoolStop). GaveUp s c.args.worker.now t.new.worker) (sym is) (gave_none (drew_both (drew_weaker c.obey.ensures.drew) (drew_weaker t.ensures.drew)))) c.name_port.ensures.stopped
+
+pub returns-in-Waits-clause-stopped : goal.returns-in-Waits-clause-stopped
+returns-in-Waits-clause-stopped g c = let t = c.look_round-lane in
+    if_err c.await_deadline-came.result (λ s gave. gave_later (drew_both (drew_weaker c.obey.ensures.drew) (drew_weaker t.ensures.drew)) gave) c.await_deadline-came.ensures.stopped

@@ -1,13 +1,6 @@
-use Rattle.std.proofs.Common.{◌≡◌, Bool, true, false, refl}
-use Rattle.std.specs.Prelude.{◌||◌}
-use Rattle.ca_table.proofs.Drawing.{drew_as, drew_both}
-use Rattle.ca_pool.specs.Surveys.{is_stuck}
+use Rattle.ca_table.proofs.Drawing.{drew_before, drew_both}
 use Rattle.ca_pool.proofs.Lone.{stayed_both, stayed_same}
 use Rattle.ca_pool.proofs.idling.look_round.Goals as goal
-
-or_false : (b : Bool) → b || false ≡ b
-or_false true = refl
-or_false false = refl
 
 pub survey-found-requires : goal.survey-found-requires
 survey-found-requires g c = let r = c.requires.seated in record { ready = (r.0, r.1, c.rise.ensures.ready r.0 r.1 r.2) }
@@ -16,10 +9,10 @@ pub sit-requires : goal.sit-requires
 sit-requires g c = let r = c.requires.seated in record { ready = (r.0, r.1, c.survey-found.ensures.ready r.0 r.1 (c.rise.ensures.ready r.0 r.1 r.2)) }
 
 pub returns-clause-same : goal.returns-clause-same
-returns-clause-same g c = (drew_both (drew_both c.rise.ensures.drew c.survey-found.ensures.drew) c.sit.ensures.drew).same
+returns-clause-same g c = (drew_before (drew_both c.rise.ensures.drew c.survey-found.ensures.drew) c.sit.ensures.same c.sit.ensures.turns).same
 
 pub returns-clause-drew : goal.returns-clause-drew
-returns-clause-drew g c = drew_as refl (or_false (is_stuck c.survey-found.result)) (drew_both (drew_both c.rise.ensures.drew c.survey-found.ensures.drew) c.sit.ensures.drew)
+returns-clause-drew g c = drew_before (drew_both c.rise.ensures.drew c.survey-found.ensures.drew) c.sit.ensures.same c.sit.ensures.turns
 
 pub returns-clause-seated : goal.returns-clause-seated
 returns-clause-seated g c = λ P n s. c.sit.ensures.seated P n (c.survey-found.ensures.ready P n (c.rise.ensures.ready P n s))

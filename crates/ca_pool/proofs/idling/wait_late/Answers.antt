@@ -1,4 +1,4 @@
-use Rattle.std.proofs.Common.{◌≤◌, List, subst, sym}
+use Rattle.std.proofs.Common.{◌≡◌, ◌≤◌, List, subst, sym}
 use Rattle.ca_value.specs.Deadlines.{Deadline}
 use Rattle.ca_table.specs.Parts.{clockwork_seen}
 use Rattle.ca_alone.specs.OwnTurn.{IsDue}
@@ -7,6 +7,10 @@ use Rattle.ca_pool.specs.Asking.{IsAsked}
 use Rattle.ca_pool.proofs.Asides.{failed_fails}
 use Rattle.ca_pool.proofs.Takens.{for_answer, for_err, same_show}
 use Rattle.ca_pool.proofs.LoneClocks.{is_due}
+use Rattle.ca_table.specs.declared.answer.PoolStop.{PoolStop}
+use Rattle.ca_table.specs.declared.answer.PoolStop.TheVariants.{OutOfMemory}
+use Rattle.ca_pool.specs.AtWork.{GaveUp}
+use Rattle.ca_pool.proofs.AtWork.{gave_failed, gave_none, if_err_and}
 use Rattle.ca_pool.proofs.idling.wait_late.Goals as goal
 
 pub draw_clock-requires-clause-carries : goal.draw_clock-requires-clause-carries
@@ -34,3 +38,9 @@ returns-in_ok-asked-in-Ok-clause-solo g c = λ first most may. let K = g.C.Clock
     let asked = for_answer (λ now. IsAsked now (clockwork_seen K.least K.faults K.readings c.args.clockwork.value) (clockwork_seen K.least K.faults K.readings t.result.0.value)) t.result.1 now c.in-Ok.is t.ensures.asked in
     let reached = for_answer (λ now. c.args.first ≤ now) t.result.1 now c.in-Ok.is t.ensures.reached in
     (c.in_ok-asked-in-Ok.ensures.solo to_rest most (subst (λ (ds : List Deadline). IsDue ds now) (sym asked.deadlines) (is_due c.args.first now c.args.clockwork.value.timers.deadlines first reached)) may).2
+
+pub returns-in-Err-clause-stopped : goal.returns-in-Err-clause-stopped
+returns-in-Err-clause-stopped g c = gave_failed c.draw_clock.ensures.same c.draw_clock.ensures.hand c.draw_clock.ensures.turn
+
+pub returns-in_err-asked-in-Ok-clause-stopped : goal.returns-in_err-asked-in-Ok-clause-stopped
+returns-in_err-asked-in-Ok-clause-stopped g c = if_err_and c.from_residual.result (λ s is. let e : s ≡ OutOfMemory = is in subst (λ (s : PoolStop). GaveUp s c.args.worker.now c.pass.new.worker) (sym e) (gave_none c.in_err-asked-in-Ok.ensures.refused)) c.from_residual.ensures.1

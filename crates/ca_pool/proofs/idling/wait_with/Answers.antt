@@ -2,7 +2,7 @@ use Rattle.std.proofs.Common.{ℕ, Some, subst, sym}
 use Rattle.ca_commit.specs.Contents.{TimersPart}
 use Rattle.ca_table.specs.Worked.{Drew}
 use Rattle.ca_table.specs.declared.part.Clockwork.{Clockwork}
-use Rattle.ca_table.proofs.Drawing.{drew_later}
+use Rattle.ca_table.proofs.Drawing.{drew_later, drew_none}
 use Rattle.ca_alone.specs.Schedule.{AtEmpty, MaySettle, to_rest}
 use Rattle.ca_pool.specs.Costs.{cost_idle, is_over}
 use Rattle.ca_pool.specs.Lone.{MayGo, Went}
@@ -11,6 +11,7 @@ use Rattle.ca_pool.proofs.Stays.{same_turns}
 use Rattle.ca_pool.proofs.Takens.{as_clocked, for_ok, if_ok, made_room, same_show}
 use Rattle.ca_pool.proofs.Lone.{same_may}
 use Rattle.ca_pool.proofs.LoneClocks.{rests_empty}
+use Rattle.ca_pool.proofs.AtWork.{gave_after, gave_none, if_err}
 use Rattle.ca_pool.proofs.idling.wait_with.Goals as goal
 
 pub wait_late-requires-clause-carries : goal.wait_late-requires-clause-carries
@@ -64,3 +65,9 @@ returns-in-Ok-clause-solo g c = let a = g.A.Agent in let m = g.met.A.Agent in le
     (λ x f most may. f (subst (λ (z : TimersPart). IsFirst first z.deadlines) (sym t.ensures.seen) is) most
     (same_may a.over a.place a.stands a.advances a.gives a.starts m.advanced m.answered m.started code {P = AtEmpty} {most = most} {old = w} {new = t.new.worker} t.ensures.same (same_turns w.hand t.new.worker.hand t.ensures.hand) may))
     k.ensures.solo
+
+pub returns-in-Ok-clause-stopped : goal.returns-in-Ok-clause-stopped
+returns-in-Ok-clause-stopped g c = let t = c.ready_to_ask-clockwork in if_err c.wait_late.result (λ s gave. gave_after t.ensures.same (same_turns c.args.worker.now.hand t.new.worker.hand t.ensures.hand) gave) c.wait_late.ensures.stopped
+
+pub returns-in-Err-clause-stopped : goal.returns-in-Err-clause-stopped
+returns-in-Err-clause-stopped g c = let t = c.ready_to_ask-clockwork in let v = c.put_off-in-Err in gave_none (drew_later t.ensures.same (same_turns c.args.worker.now.hand t.new.worker.hand t.ensures.hand) (drew_none v.ensures.same v.ensures.turns))

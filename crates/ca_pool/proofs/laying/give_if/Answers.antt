@@ -1,4 +1,4 @@
-use Rattle.std.proofs.Common.{◌∙◌, Option, ap, subst, Bool, true, false}
+use Rattle.std.proofs.Common.{◌∙◌, Option, ap, subst, Bool}
 use Rattle.ca_table.specs.Carriers.{IsCarrying}
 use Rattle.ca_table.specs.Carrying.{Carries, with_at}
 use Rattle.ca_table.specs.Lifting.{SettledIf}

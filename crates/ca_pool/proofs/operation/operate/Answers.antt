@@ -1,13 +1,12 @@
-use Rattle.std.proofs.Common.{◌≡◌, ◌∙◌, ℕ, ◌+◌, None, refl, sym, ap, subst, zero-add, []}
+use Rattle.std.proofs.Common.{◌≡◌, ◌∙◌, sym, ap, subst, []}
 use Rattle.ca_term.specs.Operation.{WantView, want_view}
 use Rattle.ca_term.specs.Program.{ProgramView, program_view}
 use Rattle.ca_lower.specs.Gos.{SameGos}
 use Rattle.ca_lower.specs.Lowered.{Lowered}
 use Rattle.ca_meaning.specs.Body.{at_op}
-use Rattle.ca_meaning.specs.State.{State}
 use Rattle.ca_states.specs.ValidCode.{valid_code}
 use Rattle.ca_commit.specs.Registering.{AreApart}
-use Rattle.ca_table.proofs.Drawing.{drew_as, drew_both}
+use Rattle.ca_table.proofs.Drawing.{drew_both}
 use Rattle.ca_table.specs.Parts.{counts_view}
 use Rattle.ca_commit.specs.declared.planned.Plan.{Plan}
 use Rattle.ca_table.specs.declared.part.Lane.{Lane}
@@ -69,7 +68,7 @@ pub returns-in-Refused-clause-stepped : goal.returns-in-Refused-clause-stepped
 returns-in-Refused-clause-stepped g c = if_ok_map c.refuse.result (λ s st. λ program n l lane left its. st program n l (c.in_ok-plan.ensures.carries program n l lane) (record { left = left; program_is = its })) c.refuse.ensures.stepped
 
 pub returns-in-Refused-clause-drew : goal.returns-in-Refused-clause-drew
-returns-in-Refused-clause-drew g c = if_ok_map c.refuse.result (λ s d. drew_as (zero-add s.cost) refl (drew_both c.resolve.ensures.drew d)) c.refuse.ensures.drew
+returns-in-Refused-clause-drew g c = if_ok_map c.refuse.result (λ s d. drew_both c.resolve.ensures.drew d) c.refuse.ensures.drew
 
 pub returns-in-Refused-clause-kept : goal.returns-in-Refused-clause-kept
 returns-in-Refused-clause-kept g c = err_map c.refuse.result (λ k. λ program n l lane. k program n l (c.in_ok-plan.ensures.carries program n l lane)) c.refuse.ensures.kept
@@ -84,7 +83,7 @@ pub returns-in_default-clause-stepped : goal.returns-in_default-clause-stepped
 returns-in_default-clause-stepped g c = if_ok_map c.commit.result (λ s st. λ program n l lane left its. st program n l (c.in_ok-plan.ensures.carries program n l lane) (record { left = left; program_is = its })) c.commit.ensures.stepped
 
 pub returns-in_default-clause-drew : goal.returns-in_default-clause-drew
-returns-in_default-clause-drew g c = if_ok_map c.commit.result (λ s d. drew_as (zero-add s.cost) refl (drew_both c.resolve.ensures.drew d)) c.commit.ensures.drew
+returns-in_default-clause-drew g c = if_ok_map c.commit.result (λ s d. drew_both c.resolve.ensures.drew d) c.commit.ensures.drew
 
 pub returns-in_default-clause-kept : goal.returns-in_default-clause-kept
 returns-in_default-clause-kept g c = err_map c.commit.result (λ k. λ program n l lane. k program n l (c.in_ok-plan.ensures.carries program n l lane)) c.commit.ensures.kept

@@ -1,11 +1,16 @@
-use Rattle.std.proofs.Common.{All, ℕ, ◌∙◌, map, sym, subst}
+use Rattle.std.proofs.Common.{◌≡◌, All, ℕ, List, Option, Some, ◌∙◌, map, sym, subst}
 use Rattle.ca_term.specs.Program.{program_view}
 use Rattle.ca_states.specs.ValidCode.{valid_code}
+use Rattle.ca_timers.specs.Causes.{Rose}
 use Rattle.ca_journal.specs.Events.{events}
+use Rattle.ca_commit.specs.Gathered.{parts_of}
+use Rattle.ca_commit.specs.Opening.{unasked}
+use Rattle.ca_table.specs.Moments.{KeepsTime}
 use Rattle.ca_table.specs.OneCode.{stands_over}
+use Rattle.ca_table.specs.Opening.{opening_list}
 use Rattle.ca_table.specs.Parts.{part_seen}
-use Rattle.ca_table.specs.Running.{TableStands}
-use Rattle.ca_table.specs.Workers.{IsReady}
+use Rattle.ca_table.specs.Running.{TableStands, contents_at}
+use Rattle.ca_table.specs.Workers.{IsOpenedWith, IsReady}
 use Rattle.ca_pool.proofs.SoloRuns.{is_solo, timers_in, timers_kind_in}
 use Rattle.ca_pool.proofs.pool_run.collect.Goals as goal
 
@@ -31,3 +36,11 @@ pub returns-clause-solo : goal.returns-clause-solo
 returns-clause-solo g c = λ main first allowance one stops. let a = g.A.Agent in let m = g.met.A.Agent in let K = g.C.Clock in let gathered = c.in_ok-gathered.gathered in
     is_solo a.over a.place a.stands a.advances a.gives a.starts m.advanced m.answered m.started c.args.code.now c.args.table.id (program_view c.args.program.now) K.least K.faults K.readings c.args.program.now main c.args.workers first c.clock_of.result allowance (events gathered.journal) (map (part_seen K.least K.faults K.readings) gathered.parts.items)
     c.args.hands.items c.requires.many one c.requires.ready stops (c.in_ok-gathered.ensures.alone (c.requires.many ∙ one)) c.clock_of.ensures
+
+pub returns-clause-clock : goal.returns-clause-clock
+returns-clause-clock g c = λ main least faults readings opened. let K = g.C.Clock in let gathered = c.in_ok-gathered.gathered in let now = contents_at (map (part_seen K.least K.faults K.readings) gathered.parts.items) in
+    let w = c.in_ok-gathered.ensures.clock main least faults readings (subst (λ (n : ℕ). All (IsOpenedWith (opening_list n (valid_code c.args.code.now) c.args.program.now main (unasked least faults readings))) c.args.hands.items) (sym c.requires.many) opened) in
+    let told = c.clock_of.ensures w.0 (subst (λ (n : ℕ). (parts_of n now).timers ≡ Some w.0) c.requires.many w.1) in (
+      subst (λ (o : Option (List ℕ)). KeepsTime (events gathered.journal) least readings o) (sym told.1) w.2.time,
+      λ failed. subst (λ (n : ℕ). Rose faults n) (sym told.2) (w.2.rose failed),
+    )

@@ -25,6 +25,10 @@ pub returns-then-all_fit-clause-waits : goal.returns-then-all_fit-clause-waits
 returns-then-all_fit-clause-waits g c = let r = c.in_ok-worked.ensures.run in let P = program_view c.args.program.now in
     wait_law P (events c.end_run-journal.result.0) (c.end_run-journal.ensures.ends P r.0 r.1 r.2).0
 
+pub returns-then-all_fit-clause-moments : goal.returns-then-all_fit-clause-moments
+returns-then-all_fit-clause-moments g c = let K = g.C.Clock in
+    c.end_run-journal.ensures.moments (K.least c.args.clock) (K.readings c.args.clock) (K.readings c.in_ok-worked.worked.1) c.in_ok-worked.ensures.moments
+
 pub returns-then-all_fit-clause-solo : goal.returns-then-all_fit-clause-solo
 returns-then-all_fit-clause-solo g c = λ one. let K = g.C.Clock in let r = c.in_ok-worked.ensures in let whole = r.whole one in
     subst (λ (es : List EventView). IsSolo (program_view c.args.program.now) es (K.least c.args.clock) (K.readings c.args.clock) (K.readings c.in_ok-worked.worked.1)) (sym (c.end_run-journal.ensures.whole whole.0 whole.1)) (r.solo one)

@@ -1,4 +1,4 @@
-use Rattle.std.proofs.Common.{◌≡◌, ◌∙◌, ◌≤◌, ℕ, List, Option, sym, ap, subst, refl}
+use Rattle.std.proofs.Common.{◌∙◌, ◌≤◌, ℕ, List, Option, ap, subst, refl}
 use Rattle.ca_timers.specs.Readings.{Tells}
 use Rattle.ca_table.specs.Parts.{clockwork_seen}
 use Rattle.ca_pool.specs.Desk.{ClockBox}

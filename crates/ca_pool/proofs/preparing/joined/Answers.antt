@@ -1,4 +1,4 @@
-use Rattle.std.proofs.Common.{◌∙◌, Some, sym, ap}
+use Rattle.std.proofs.Common.{◌∙◌, sym, ap}
 use Rattle.ca_pool.specs.Preparing.{in_place}
 use Rattle.ca_table.specs.Parts.{clockwork_seen}
 use Rattle.ca_pool.proofs.Preparations.{seen_parted}

@@ -1,5 +1,5 @@
-use Rattle.std.proofs.Common.{◌≡◌, ◌∙◌, ℕ, Option, ap, sym, refl, subst, is_some}
-use Rattle.std.specs.Prelude.{IfSome, OnOk}
+use Rattle.std.proofs.Common.{◌≡◌, ◌∙◌, ℕ, Option, ap, sym, subst, is_some}
+use Rattle.std.specs.Prelude.{IfSome}
 use Rattle.ca_term.specs.Program.{ProgramView}
 use Rattle.ca_states.specs.ValidCode.{valid_code}
 use Rattle.ca_lower.specs.Gos.{SameGos}

@@ -1,4 +1,4 @@
-use Rattle.std.proofs.Common.{◌∙◌, ap, sym, refl, subst}
+use Rattle.std.proofs.Common.{◌∙◌, refl}
 use Rattle.ca_pool.specs.Preparing.{AskedFor, clock_with}
 use Rattle.ca_pool.proofs.Preparations.{made_still, next_of, shown_times}
 use Rattle.ca_pool.proofs.Resolutions.{err_is, if_ok_is}

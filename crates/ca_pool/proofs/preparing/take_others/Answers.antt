@@ -1,4 +1,3 @@
-use Rattle.std.proofs.Common.{◌∙◌}
 use Rattle.ca_pool.proofs.AtEvents.{turns_both}
 use Rattle.ca_pool.proofs.Resolutions.{same_both}
 use Rattle.ca_pool.proofs.preparing.take_others.Goals as goal

@@ -1,4 +1,4 @@
-use Rattle.std.proofs.Common.{Some, sym, ◌∙◌}
+use Rattle.std.proofs.Common.{Some}
 use Rattle.ca_pool.proofs.AtEvents.{own_number}
 use Rattle.ca_pool.proofs.preparing.take_timers.Goals as goal
 

@@ -1,4 +1,4 @@
-use Rattle.std.proofs.Common.{◌≡◌, ◌∙◌, ℕ, None, refl, ap}
+use Rattle.std.proofs.Common.{◌∙◌, None, refl, ap}
 use Rattle.ca_pool.proofs.StaleHandlers.{pruned_held, pruned_moved}
 use Rattle.ca_table.specs.Draws.{turn_view}
 use Rattle.ca_pool.proofs.Lone.{drew_turn, stayed_one}

@@ -1,10 +1,9 @@
-use Rattle.std.proofs.Common.{◌≡◌, ◌∙◌, ℕ, Some, refl, sym, ap, subst}
+use Rattle.std.proofs.Common.{◌≡◌, ℕ, Some, refl}
 use Rattle.std.specs.Prelude.{option_map}
 use Rattle.ca_term.specs.Event.{port_number}
-use Rattle.ca_commit.specs.Planning.{to_refuse}
 use Rattle.ca_table.proofs.Drawing.{drew_none}
 use Rattle.ca_pool.proofs.BanksHeld.{has_banks}
-use Rattle.ca_pool.proofs.Resolutions.{named_held, wants_more}
+use Rattle.ca_pool.proofs.Resolutions.{named_held}
 use Rattle.ca_pool.proofs.LoneSteps.{stayed_nothing}
 use Rattle.ca_pool.proofs.resolving.refuse_over.Goals as goal
 

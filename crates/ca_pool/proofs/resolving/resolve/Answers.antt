@@ -1,4 +1,4 @@
-use Rattle.std.proofs.Common.{◌≡◌, ◌∙◌, ℕ, None}
+use Rattle.std.proofs.Common.{None}
 use Rattle.ca_table.specs.Parts.{part_seen}
 use Rattle.ca_table.proofs.Drawing.{drew_both}
 use Rattle.ca_pool.specs.AtEvent.{HasLane, HasTaken}

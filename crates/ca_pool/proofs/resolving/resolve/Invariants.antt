@@ -1,4 +1,4 @@
-use Rattle.std.proofs.Common.{ℕ, false}
+use Rattle.std.proofs.Common.{false}
 use Rattle.ca_table.specs.Parts.{part_seen}
 use Rattle.ca_table.specs.Worked.{Drew}
 use Rattle.ca_pool.specs.AtEvent.{HasLane}

@@ -1,4 +1,4 @@
-use Rattle.std.proofs.Common.{◌≡◌, ◌∙◌, ℕ, ◌<◌, ◌%◌, sym, ap, subst, None, arith}
+use Rattle.std.proofs.Common.{◌≡◌, ◌∙◌, sym, subst, None}
 use Rattle.std.proofs.Math.Nat.{mod-eq_of_lt}
 use Rattle.ca_commit.specs.Contents.{home}
 use Rattle.ca_commit.specs.Running.{Placed}

@@ -1,7 +1,5 @@
-use Rattle.std.proofs.Common.{ℕ, None}
-use Rattle.ca_term.specs.Program.{ProgramView}
+use Rattle.std.proofs.Common.{None}
 use Rattle.ca_table.specs.Parts.{part_seen}
-use Rattle.ca_table.specs.declared.part.Lane.{Lane}
 use Rattle.ca_table.proofs.Drawing.{drew_later}
 use Rattle.ca_pool.specs.AtEvent.{HasLane, HasTaken}
 use Rattle.ca_pool.proofs.Resolutions.{err_map, left_from, numbers_both, ok_map, took_from}

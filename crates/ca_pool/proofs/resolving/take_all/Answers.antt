@@ -1,4 +1,4 @@
-use Rattle.std.proofs.Common.{◌≡◌, ◌∙◌, ℕ, sym, ap, subst, None, is_some}
+use Rattle.std.proofs.Common.{◌∙◌, sym, ap, subst, None, is_some}
 use Rattle.ca_commit.specs.Listing.{listed}
 use Rattle.ca_commit.specs.Listings.{parts}
 use Rattle.ca_commit.specs.Numbers.{number_of_bank}

@@ -1,4 +1,4 @@
-use Rattle.std.proofs.Common.{◌≡◌, ◌∙◌, ℕ, None, refl, sym, ap, subst}
+use Rattle.std.proofs.Common.{◌∙◌, None, sym, ap, subst}
 use Rattle.ca_commit.specs.Applying.{IsPlanFor}
 use Rattle.ca_commit.specs.Deciding.{PlanTells}
 use Rattle.ca_commit.specs.Planning.{Planned}

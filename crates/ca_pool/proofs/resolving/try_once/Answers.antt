@@ -1,4 +1,3 @@
-use Rattle.std.proofs.Common.{◌≡◌, ◌∙◌, ℕ, refl}
 use Rattle.ca_term.specs.Operation.{want_view}
 use Rattle.ca_commit.specs.Showing.{state_held}
 use Rattle.ca_table.proofs.Drawing.{drew_none}

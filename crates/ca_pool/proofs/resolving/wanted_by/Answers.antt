@@ -1,4 +1,4 @@
-use Rattle.std.proofs.Common.{◌≡◌, ◌∙◌, ℕ, sym, ap, subst, true}
+use Rattle.std.proofs.Common.{◌≡◌, ◌∙◌, sym, subst, true}
 use Rattle.ca_term.specs.Operation.{WantView, op_view, want_view}
 use Rattle.ca_meaning.specs.Body.{at_op}
 use Rattle.ca_meaning.specs.Wait.{is_among}

@@ -5,7 +5,7 @@ use Rattle.ca_lower.specs.Gos.{SameGos}
 use Rattle.ca_lower.specs.Lowered.{Lowered}
 use Rattle.ca_table.specs.Workers.{IsReady}
 use Rattle.ca_pool.specs.Answers.{WorkedAt}
-use Rattle.ca_pool.proofs.Rounding.{round_alone, round_going, round_over, round_ready, round_spent, round_stays}
+use Rattle.ca_pool.proofs.Rounding.{round_alone, round_of_all}
 use Rattle.ca_pool.proofs.rounds.round.Goals as goal
 
 pub work_all-requires-clause-ready : goal.work_all-requires-clause-ready
@@ -18,19 +18,15 @@ pub work_all-requires-clause-gos : goal.work_all-requires-clause-gos
 work_all-requires-clause-gos g c κs within = subst (λ (p : ProgramParts). SameGos (program_view p) (valid_code c.args.code.now)) (sym c.of-text.ensures) c.requires.gos
 
 pub returns-clause-ready : goal.returns-clause-ready
-returns-clause-ready g c = let xs = c.args.workers.now in let w = c.work_all.ensures in let worked = subst (λ (p : ProgramParts). WorkedAt g.A.Agent.over g.A.Agent.stands (program_view p) (valid_code c.args.code.now) c.args.table.now.id (length xs) c.args.allowance xs c.work_all.new.workers) c.of-text.ensures (λ k d lt. (w.called k d lt).worked) in round_ready g.A.Agent.over g.A.Agent.stands (program_view c.args.program.now) (valid_code c.args.code.now) c.args.table.now.id (length xs) c.args.allowance xs c.work_all.new.workers c.answer_of.result c.answer_of.ensures w.many worked
+returns-clause-ready g c = let xs = c.args.workers.now in let w = c.work_all.ensures in let worked = subst (λ (p : ProgramParts). WorkedAt g.A.Agent.over g.A.Agent.stands (program_view p) (valid_code c.args.code.now) c.args.table.now.id (length xs) c.args.allowance xs c.work_all.new.workers) c.of-text.ensures (λ k d lt. (w.called k d lt).worked) in
+    (round_of_all g.A.Agent.over g.A.Agent.stands (program_view c.args.program.now) (valid_code c.args.code.now) c.args.table.now.id (length xs) c.args.allowance c.answer_of.result xs c.work_all.new.workers c.requires.ready c.answer_of.ensures w.many worked).ready
 
-pub returns-clause-stay : goal.returns-clause-stay
-returns-clause-stay g c = let xs = c.args.workers.now in let w = c.work_all.ensures in let worked = subst (λ (p : ProgramParts). WorkedAt g.A.Agent.over g.A.Agent.stands (program_view p) (valid_code c.args.code.now) c.args.table.now.id (length xs) c.args.allowance xs c.work_all.new.workers) c.of-text.ensures (λ k d lt. (w.called k d lt).worked) in round_stays g.A.Agent.over g.A.Agent.stands (program_view c.args.program.now) (valid_code c.args.code.now) c.args.table.now.id (length xs) c.args.allowance xs c.work_all.new.workers c.answer_of.result c.answer_of.ensures w.many worked
+pub returns-clause-failed : goal.returns-clause-failed
+returns-clause-failed g c = let xs = c.args.workers.now in let w = c.work_all.ensures in let worked = subst (λ (p : ProgramParts). WorkedAt g.A.Agent.over g.A.Agent.stands (program_view p) (valid_code c.args.code.now) c.args.table.now.id (length xs) c.args.allowance xs c.work_all.new.workers) c.of-text.ensures (λ k d lt. (w.called k d lt).worked) in
+    (round_of_all g.A.Agent.over g.A.Agent.stands (program_view c.args.program.now) (valid_code c.args.code.now) c.args.table.now.id (length xs) c.args.allowance c.answer_of.result xs c.work_all.new.workers c.requires.ready c.answer_of.ensures w.many worked).failed
 
-pub returns-clause-going : goal.returns-clause-going
-returns-clause-going g c = let xs = c.args.workers.now in let w = c.work_all.ensures in let worked = subst (λ (p : ProgramParts). WorkedAt g.A.Agent.over g.A.Agent.stands (program_view p) (valid_code c.args.code.now) c.args.table.now.id (length xs) c.args.allowance xs c.work_all.new.workers) c.of-text.ensures (λ k d lt. (w.called k d lt).worked) in round_going g.A.Agent.over g.A.Agent.stands (program_view c.args.program.now) (valid_code c.args.code.now) c.args.table.now.id (length xs) c.args.allowance xs c.work_all.new.workers c.answer_of.result c.answer_of.ensures w.many worked
-
-pub returns-clause-spent : goal.returns-clause-spent
-returns-clause-spent g c = let xs = c.args.workers.now in let w = c.work_all.ensures in let worked = subst (λ (p : ProgramParts). WorkedAt g.A.Agent.over g.A.Agent.stands (program_view p) (valid_code c.args.code.now) c.args.table.now.id (length xs) c.args.allowance xs c.work_all.new.workers) c.of-text.ensures (λ k d lt. (w.called k d lt).worked) in round_spent g.A.Agent.over g.A.Agent.stands (program_view c.args.program.now) (valid_code c.args.code.now) c.args.table.now.id (length xs) c.args.allowance xs c.work_all.new.workers c.answer_of.result c.answer_of.ensures w.many worked
-
-pub returns-clause-over : goal.returns-clause-over
-returns-clause-over g c = let xs = c.args.workers.now in let w = c.work_all.ensures in let worked = subst (λ (p : ProgramParts). WorkedAt g.A.Agent.over g.A.Agent.stands (program_view p) (valid_code c.args.code.now) c.args.table.now.id (length xs) c.args.allowance xs c.work_all.new.workers) c.of-text.ensures (λ k d lt. (w.called k d lt).worked) in round_over g.A.Agent.over g.A.Agent.stands (program_view c.args.program.now) (valid_code c.args.code.now) c.args.table.now.id (length xs) c.args.allowance xs c.work_all.new.workers c.answer_of.result c.answer_of.ensures w.many worked
+pub returns-clause-worked : goal.returns-clause-worked
+returns-clause-worked g c = λ k d lt. (c.work_all.ensures.called k d lt).worked.worked
 
 pub returns-clause-solo : goal.returns-clause-solo
 returns-clause-solo g c = let a = g.A.Agent in let w = c.work_all.ensures in round_alone a.over a.place a.stands a.advances a.gives a.starts c.args.code.now c.args.allowance c.args.workers.now c.work_all.new.workers c.answer_of.result c.answer_of.ensures w.many (λ k d lt. (w.called k d lt).alone)

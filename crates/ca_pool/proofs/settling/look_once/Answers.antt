@@ -1,14 +1,15 @@
-use Rattle.std.proofs.Common.{ℕ, List, ◌∷◌, None, refl, sym, false, zero-add}
+use Rattle.std.proofs.Common.{ℕ, List, ◌∷◌, None, sym, false}
 use Rattle.ca_commit.proofs.Stales.{settle_stale}
 use Rattle.ca_table.specs.Bearing.{parts_held}
 use Rattle.ca_table.specs.Worked.{Drew}
-use Rattle.ca_table.proofs.Drawing.{drew_as, drew_both}
+use Rattle.ca_table.proofs.Drawing.{drew_both}
 use Rattle.ca_alone.specs.Schedule.{Follow, MaySettle}
 use Rattle.ca_pool.specs.Costs.{cost_settling}
 use Rattle.ca_pool.specs.Lone.{HasLooked, MayGo}
 use Rattle.ca_pool.proofs.Lone.{same_lone, same_may, stayed_lone}
 use Rattle.ca_pool.proofs.LoneSettling.{rests_pass}
 use Rattle.ca_pool.proofs.Takens.{as_number, if_ok}
+use Rattle.ca_pool.proofs.Resolutions.{err_any, err_map}
 use Rattle.ca_pool.proofs.settling.look_once.Goals as goal
 
 pub put_off-requires-clause-carries : goal.put_off-requires-clause-carries
@@ -51,7 +52,7 @@ returns-in-Stale-clause-drew g c = drew_both c.take_channel.ensures.drew c.prune
 
 pub returns-in-Serves-clause-drew : goal.returns-in-Serves-clause-drew
 returns-in-Serves-clause-drew g c = let t = c.take_channel in let k = c.serve_taken in
-    if_ok (λ x. Drew (cost_settling x) false t.new.worker k.new.worker) (λ x. Drew (cost_settling x) false c.args.worker.now k.new.worker) k.result (λ x d. drew_as (zero-add (cost_settling x)) refl (drew_both t.ensures.drew d)) k.ensures.drew
+    if_ok (λ x. Drew (cost_settling x) false t.new.worker k.new.worker) (λ x. Drew (cost_settling x) false c.args.worker.now k.new.worker) k.result (λ x d. drew_both t.ensures.drew d) k.ensures.drew
 
 pub returns-in-Rests-clause-solo : goal.returns-in-Rests-clause-solo
 returns-in-Rests-clause-solo g c = λ k us most m. let a = g.A.Agent in let K = g.C.Clock in let r = c.requires.carries in let w = c.args.worker.now in let t = c.take_channel in let p = c.args.port.n in
@@ -74,3 +75,9 @@ returns-in-Serves-clause-solo g c = let a = g.A.Agent in let w = c.args.worker.n
     if_ok (λ s. (k : Follow) (us : List ℕ) (most : ℕ) → MayGo a.over a.place a.stands a.advances a.gives a.starts c.args.code.now (MaySettle k (p ∷ us)) most t.new.worker → HasLooked a.over a.place a.stands a.advances a.gives a.starts c.args.code.now k p us most s v.new.worker)
     (λ s. (k : Follow) (us : List ℕ) (most : ℕ) → MayGo a.over a.place a.stands a.advances a.gives a.starts c.args.code.now (MaySettle k (p ∷ us)) most w → HasLooked a.over a.place a.stands a.advances a.gives a.starts c.args.code.now k p us most s v.new.worker)
     v.result (λ s f k us most m. f k us most (same_may a.over a.place a.stands a.advances a.gives a.starts g.met.A.Agent.advanced g.met.A.Agent.answered g.met.A.Agent.started c.args.code.now {P = MaySettle k (p ∷ us)} {old = w} {new = t.new.worker} t.ensures.same t.ensures.turns m)) v.ensures.solo
+
+pub returns-in_err-take_channel-clause-refused : goal.returns-in_err-take_channel-clause-refused
+returns-in_err-take_channel-clause-refused g c = err_any c.from_residual.result c.take_channel.ensures.drew
+
+pub returns-in-Serves-clause-refused : goal.returns-in-Serves-clause-refused
+returns-in-Serves-clause-refused g c = err_map c.serve_taken.result (λ d. drew_both c.take_channel.ensures.drew d) c.serve_taken.ensures.refused

@@ -6,6 +6,7 @@ use Rattle.ca_alone.specs.Schedule.{MaySettle}
 use Rattle.ca_pool.proofs.Lone.{same_may}
 use Rattle.ca_pool.proofs.Stays.{same_turns}
 use Rattle.ca_pool.proofs.Takens.{made_room, ready_same, served_ready, served_same}
+use Rattle.ca_table.proofs.Drawing.{drew_later, drew_none}
 use Rattle.ca_pool.proofs.settling.serve_taken.Goals as goal
 
 pub take_ready-requires-clause-carries : goal.take_ready-requires-clause-carries
@@ -58,3 +59,6 @@ pub returns-in-Ok-clause-solo : goal.returns-in-Ok-clause-solo
 returns-in-Ok-clause-solo g c = λ k us most m. let a = g.A.Agent in let w = c.args.worker.now in let t = c.take_ready in let p = c.prepare in let at = MaySettle k (c.args.port.n ∷ us) in
     let taken_may = same_may a.over a.place a.stands a.advances a.gives a.starts g.met.A.Agent.advanced g.met.A.Agent.answered g.met.A.Agent.started c.args.code.now {P = at} {old = w} {new = t.new.worker} t.ensures.same t.ensures.turns m in
     c.draw_served-cost.ensures.solo k us most (same_may a.over a.place a.stands a.advances a.gives a.starts g.met.A.Agent.advanced g.met.A.Agent.answered g.met.A.Agent.started c.args.code.now {P = at} {old = t.new.worker} {new = p.new.worker} p.ensures.same (same_turns t.new.worker.hand p.new.worker.hand p.ensures.hand) taken_may)
+
+pub returns-in-Err-clause-refused : goal.returns-in-Err-clause-refused
+returns-in-Err-clause-refused g c = let t = c.take_ready in let p = c.prepare in let v = c.put_off in drew_later t.ensures.same t.ensures.turns (drew_later p.ensures.same (same_turns t.new.worker.hand p.new.worker.hand p.ensures.hand) (drew_none v.ensures.same v.ensures.turns))

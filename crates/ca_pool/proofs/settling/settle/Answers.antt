@@ -1,10 +1,11 @@
-use Rattle.std.proofs.Common.{◌∷◌, ap, refl, subst, zero-add}
+use Rattle.std.proofs.Common.{◌∷◌, ap, refl, subst}
 use Rattle.ca_table.proofs.Drawing.{drew_as, drew_both, drew_none}
 use Rattle.ca_alone.specs.Schedule.{MaySettle}
 use Rattle.ca_pool.specs.Costs.{cost_settling}
 use Rattle.ca_pool.specs.Lone.{HasLooked}
 use Rattle.ca_pool.proofs.LoneSettling.{again_may}
 use Rattle.ca_pool.proofs.Ranges.{did_none, workers_then}
+use Rattle.ca_pool.proofs.Resolutions.{err_any}
 use Rattle.ca_pool.proofs.settling.settle.Goals as goal
 
 pub loop-init : goal.loop-init
@@ -37,10 +38,13 @@ pub returns-in-Settled-clause-carries : goal.returns-in-Settled-clause-carries
 returns-in-Settled-clause-carries g c = λ P n l s. c.look_once.ensures.carries P n l (c.loop.invariant.3 P n l s)
 
 pub returns-in-Settled-clause-drew : goal.returns-in-Settled-clause-drew
-returns-in-Settled-clause-drew g c = drew_as (zero-add c.in-Settled.cost) refl (drew_both c.loop.invariant.2 (drew_as (ap cost_settling c.in-Settled.is) refl c.in_ok-look_once.ensures.drew))
+returns-in-Settled-clause-drew g c = drew_both c.loop.invariant.2 (drew_as (ap cost_settling c.in-Settled.is) refl c.in_ok-look_once.ensures.drew)
 
 pub returns-in-Rests-clause-solo : goal.returns-in-Rests-clause-solo
 returns-in-Rests-clause-solo g c = λ k us most m. let a = g.A.Agent in subst (λ s. HasLooked a.over a.place a.stands a.advances a.gives a.starts c.args.code.now k c.args.port.n us most s c.look_once.new.worker) c.in-Rests.is (c.in_ok-look_once.ensures.solo k us most (c.loop.invariant.4 k us most m))
 
 pub returns-in-Settled-clause-solo : goal.returns-in-Settled-clause-solo
 returns-in-Settled-clause-solo g c = λ k us most m. let a = g.A.Agent in subst (λ s. HasLooked a.over a.place a.stands a.advances a.gives a.starts c.args.code.now k c.args.port.n us most s c.look_once.new.worker) c.in-Settled.is (c.in_ok-look_once.ensures.solo k us most (c.loop.invariant.4 k us most m))
+
+pub returns-in_err-look_once-clause-refused : goal.returns-in_err-look_once-clause-refused
+returns-in_err-look_once-clause-refused g c = err_any c.from_residual.result (drew_both c.loop.invariant.2 c.in_err-look_once.ensures.refused)

@@ -3,6 +3,7 @@ use Rattle.ca_table.proofs.Carriers.{seated_carries}
 use Rattle.ca_pool.proofs.AtWork.{any_err, at_later, has_left, if_both, lost_later, lost_now, on_err}
 use Rattle.std.proofs.Common.{ℕ, ◌<◌, sym, subst}
 use Rattle.ca_meaning.specs.Solo.{patience}
+use Rattle.ca_pool.proofs.AtEvents.{drew_nothing}
 use Rattle.ca_pool.proofs.Resolutions.{if_ok_map}
 use Rattle.ca_pool.proofs.stepping.step.Goals as goal
 
@@ -31,3 +32,6 @@ returns-clause-lost g c = let p = program_view c.args.worker.now.program.value i
 
 pub returns-clause-solo : goal.returns-clause-solo
 returns-clause-solo g c = if_ok_map c.act.result (λ s st. λ few most may. st (subst (λ (k : ℕ). k < patience) (sym c.leave_lane-left.ensures.since) few) most may) c.act.ensures.solo
+
+pub returns-in_err-task-clause-refused : goal.returns-in_err-task-clause-refused
+returns-in_err-task-clause-refused g c = any_err c.from_residual.result (drew_nothing c.args.worker.now)

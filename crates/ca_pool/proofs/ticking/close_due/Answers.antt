@@ -1,4 +1,4 @@
-use Rattle.std.proofs.Common.{ℕ, List, Some, arith}
+use Rattle.std.proofs.Common.{ℕ, List, Some, arith, refl}
 use Rattle.ca_value.specs.Deadlines.{due}
 use Rattle.ca_solo.specs.Stirs.{Ordered}
 use Rattle.ca_table.specs.Parts.{clockwork_seen}
@@ -12,6 +12,7 @@ use Rattle.ca_pool.proofs.Asides.{asked_reads}
 use Rattle.ca_pool.proofs.Takens.{as_number, if_ok, same_show}
 use Rattle.ca_pool.proofs.Lone.{same_may}
 use Rattle.ca_pool.proofs.LoneClocks.{HasTicked}
+use Rattle.ca_pool.proofs.Resolutions.{err_map}
 use Rattle.ca_pool.proofs.ticking.close_due.Goals as goal
 
 pub tick_with-requires-clause-carries : goal.tick_with-requires-clause-carries
@@ -71,3 +72,9 @@ returns-in-Ok-true-clause-solo g c = let a = g.A.Agent in let m = g.met.A.Agent 
 pub returns-in-Ok-false-clause-solo : goal.returns-in-Ok-false-clause-solo
 returns-in-Ok-false-clause-solo g c = λ k us most is up may.
     let lt = c.in-Ok-false.ensures.free c.in-Ok-false.field-0-test in let e = may.at.lone.1 in absurd (omega (arith, lt, e))
+
+pub returns-in-Ok-true-clause-refused : goal.returns-in-Ok-true-clause-refused
+returns-in-Ok-true-clause-refused g c = let t = c.try_banks in err_map c.tick_with.result (λ d. drew_later t.ensures.same t.ensures.turns d) c.tick_with.ensures.refused
+
+pub returns-in-Err-clause-refused : goal.returns-in-Err-clause-refused
+returns-in-Err-clause-refused g c = let t = c.try_banks in drew_later t.ensures.same t.ensures.turns (c.draw_clock-in-Err.ensures.drew refl)

@@ -2,12 +2,15 @@ use Rattle.std.specs.Prelude.{[], option_map}
 use Rattle.ca_term.specs.Event.{port_number}
 use Rattle.ca_solo.specs.Stirs.{port_if}
 use Rattle.ca_alone.specs.Schedule.{MaySettle, to_turn}
-use Rattle.ca_pool.proofs.AtWork.{spent_event}
+use Rattle.ca_pool.proofs.AtWork.{spent_event, worked_out}
 use Rattle.ca_pool.proofs.Lone.{goes_on_to, running_may_go}
 use Rattle.ca_pool.proofs.visiting.make_one.Goals as goal
 
 pub returns-in-Ok-clause-spent : goal.returns-in-Ok-clause-spent
-returns-in-Ok-clause-spent g c = λ start w h. spent_event c.saturating_sub-left.result c.saturating_sub-left.ensures c.requires.on h c.in-Ok.ensures.drew
+returns-in-Ok-clause-spent g c = λ start w h. spent_event c.saturating_sub-left.result c.saturating_sub-left.ensures c.requires.some h c.in-Ok.ensures.drew
+
+pub returns-in-Err-clause-stopped : goal.returns-in-Err-clause-stopped
+returns-in-Err-clause-stopped g c = λ start w h. worked_out h c.in-Err.ensures.refused
 
 pub returns-in-Ok-clause-solo : goal.returns-in-Ok-clause-solo
 returns-in-Ok-clause-solo g c = λ most few r. let a = g.A.Agent in let m = g.met.A.Agent in

@@ -1,15 +1,8 @@
-use Rattle.ca_table.proofs.Drawing.{goes_on}
-use Rattle.ca_pool.proofs.AtWork.{has_left_run, spent_enough, spent_less}
+use Rattle.ca_pool.proofs.AtWork.{worked_none}
 use Rattle.ca_pool.proofs.working.work.Goals as goal
 
-pub returns-in-Ok-take_turns-clause-going : goal.returns-in-Ok-take_turns-clause-going
-returns-in-Ok-take_turns-clause-going g c = goes_on c.in-Ok-take_turns.ensures.done.drew
+pub returns-in_default-clause-worked : goal.returns-in_default-clause-worked
+returns-in_default-clause-worked g c = worked_none c.args.worker.now
 
-pub returns-in-Ok-take_turns-clause-spent : goal.returns-in-Ok-take_turns-clause-spent
-returns-in-Ok-take_turns-clause-spent g c = spent_enough c.in-Ok-take_turns.ensures.done c.requires.ready.one.notes c.in-Ok-take_turns.ensures.ready.one.notes
-
-pub returns-in-Ok-take_turns-clause-less : goal.returns-in-Ok-take_turns-clause-less
-returns-in-Ok-take_turns-clause-less g c = spent_less c.in-Ok-take_turns.ensures.done c.requires.ready.one.notes c.in-Ok-take_turns.ensures.ready.one.notes
-
-pub returns-in-Ok-take_turns-clause-over : goal.returns-in-Ok-take_turns-clause-over
-returns-in-Ok-take_turns-clause-over g c = has_left_run c.in-Ok-take_turns.ensures.done
+pub returns-clause-worked : goal.returns-clause-worked
+returns-clause-worked g c = c.tell_stop.ensures.worked c.args.allowance c.args.worker.now c.in-Err.ensures.stopped

@@ -1,10 +1,10 @@
-use Rattle.std.proofs.Common.{◌≡◌, ◌∙◌, ⊎_elim, rules, map, refl, sym, subst, arith, IsSome}
+use Rattle.std.proofs.Common.{◌≡◌, ◌∙◌, ⊎_elim, rules, map, refl, sym, ap, subst, arith, IsSome, Some}
 use Rattle.std.specs.Prelude.{string_bytes}
 use Rattle.ca_value.specs.declared.seq.Seq.{Seq}
 use Rattle.ca_term.specs.declared.event.Event.{Event}
 use Rattle.ca_words.specs.Words.{command_in}
 use Rattle.ca_run.specs.Answers.{answer_text, AnswersTo}
-use Rattle.ca_run.specs.Top.{Completed, CompletedFor, Partly}
+use Rattle.ca_run.specs.Top.{Completed, CompletedFor, Partly, span_between, span_of}
 use Rattle.ca_meaning.specs.Ends.{ended, faulted, limit, stuck}
 use Rattle.ca_run.proofs.Lawful.{lawful_of}
 use Rattle.ca_run.proofs.Finishes.{whole_text, part_text, ended_of, ends_of, accepted_of, refused_of, usage_of, partly_of, close_journal, close_asked, runs_nothing}
@@ -12,140 +12,156 @@ use Rattle.ca_run.proofs.top.main_call.Goals as goal
 
 pub returns-clause-ended : goal.returns-clause-ended
 returns-clause-ended g c = λ command is runs e.
-    let a = c.in-Ok-judge.answer in
+    let a = c.in-Ok-judge.judged.0 in
+    let span = span_between g.C.Clock.least g.C.Clock.readings c.args.clock c.in-Ok-judge.judged.1 in
     let left = g.S.Source.left c.args.source.now in
     let after = g.S.Source.left c.judge.new.source in
     let held = g.K.Sink.held c.args.sink.now in
     let taken = g.K.Sink.held c.write_all.new.sink in
     let asked = command_in (map string_bytes c.args.words.now) in
-    let answers : AnswersTo asked left after a = subst (λ q. AnswersTo q left after a) c.in-Ok.ensures.command (c.in-Ok-judge.ensures.answers a refl) in
+    let answers : AnswersTo asked span left after a = subst (λ q. AnswersTo q span left after a) c.in-Ok.ensures.command (c.in-Ok-judge.ensures.answers c.in-Ok-judge.judged refl) in
     let words : c.as_slice.result.now ≡ answer_text a = search rules in
     let text = whole_text c.write_all.result c.is_ok-written.result c.close.result.status 0 a held (g.K.Sink.held c.reserve.new.self) taken c.as_slice.result.now c.is_ok-written.ensures.value c.close.ensures.lost c.close.ensures.done c.write_all.ensures.ok words c.reserve.ensures.held e (omega arith) in
-    subst (λ j. Completed command left after held taken j ended) (sym c.close.ensures.journal) (ended_of asked left after held taken a command is runs text.0 answers text.1)
+    subst (λ o. Completed command left after held taken (span_of g.C.Clock.least g.C.Clock.readings c.args.clock o) c.close.result.journal ended) (sym c.close.ensures.clock)
+    (subst (λ j. Completed command left after held taken (Some span) j ended) (sym c.close.ensures.journal) (ended_of asked span left after held taken a command is runs text.0 answers text.1))
 
 pub returns-clause-faulted : goal.returns-clause-faulted
 returns-clause-faulted g c = λ e.
-    let a = c.in-Ok-judge.answer in
+    let a = c.in-Ok-judge.judged.0 in
+    let span = span_between g.C.Clock.least g.C.Clock.readings c.args.clock c.in-Ok-judge.judged.1 in
     let left = g.S.Source.left c.args.source.now in
     let after = g.S.Source.left c.judge.new.source in
     let held = g.K.Sink.held c.args.sink.now in
     let taken = g.K.Sink.held c.write_all.new.sink in
     let asked = command_in (map string_bytes c.args.words.now) in
-    let answers : AnswersTo asked left after a = subst (λ q. AnswersTo q left after a) c.in-Ok.ensures.command (c.in-Ok-judge.ensures.answers a refl) in
+    let answers : AnswersTo asked span left after a = subst (λ q. AnswersTo q span left after a) c.in-Ok.ensures.command (c.in-Ok-judge.ensures.answers c.in-Ok-judge.judged refl) in
     let words : c.as_slice.result.now ≡ answer_text a = search rules in
     let text = whole_text c.write_all.result c.is_ok-written.result c.close.result.status 3 a held (g.K.Sink.held c.reserve.new.self) taken c.as_slice.result.now c.is_ok-written.ensures.value c.close.ensures.lost c.close.ensures.done c.write_all.ensures.ok words c.reserve.ensures.held e (omega arith) in
-    subst (λ j. CompletedFor asked left after held taken j faulted) (sym c.close.ensures.journal) (ends_of asked left after held taken a faulted (omega arith) text.0 answers text.1)
+    subst (λ o. CompletedFor asked left after held taken (span_of g.C.Clock.least g.C.Clock.readings c.args.clock o) c.close.result.journal faulted) (sym c.close.ensures.clock)
+    (subst (λ j. CompletedFor asked left after held taken (Some span) j faulted) (sym c.close.ensures.journal) (ends_of asked span left after held taken a faulted (omega arith) text.0 answers text.1))
 
 pub returns-clause-stuck : goal.returns-clause-stuck
 returns-clause-stuck g c = λ e.
-    let a = c.in-Ok-judge.answer in
+    let a = c.in-Ok-judge.judged.0 in
+    let span = span_between g.C.Clock.least g.C.Clock.readings c.args.clock c.in-Ok-judge.judged.1 in
     let left = g.S.Source.left c.args.source.now in
     let after = g.S.Source.left c.judge.new.source in
     let held = g.K.Sink.held c.args.sink.now in
     let taken = g.K.Sink.held c.write_all.new.sink in
     let asked = command_in (map string_bytes c.args.words.now) in
-    let answers : AnswersTo asked left after a = subst (λ q. AnswersTo q left after a) c.in-Ok.ensures.command (c.in-Ok-judge.ensures.answers a refl) in
+    let answers : AnswersTo asked span left after a = subst (λ q. AnswersTo q span left after a) c.in-Ok.ensures.command (c.in-Ok-judge.ensures.answers c.in-Ok-judge.judged refl) in
     let words : c.as_slice.result.now ≡ answer_text a = search rules in
     let text = whole_text c.write_all.result c.is_ok-written.result c.close.result.status 4 a held (g.K.Sink.held c.reserve.new.self) taken c.as_slice.result.now c.is_ok-written.ensures.value c.close.ensures.lost c.close.ensures.done c.write_all.ensures.ok words c.reserve.ensures.held e (omega arith) in
-    subst (λ j. CompletedFor asked left after held taken j stuck) (sym c.close.ensures.journal) (ends_of asked left after held taken a stuck (omega arith) text.0 answers text.1)
+    subst (λ o. CompletedFor asked left after held taken (span_of g.C.Clock.least g.C.Clock.readings c.args.clock o) c.close.result.journal stuck) (sym c.close.ensures.clock)
+    (subst (λ j. CompletedFor asked left after held taken (Some span) j stuck) (sym c.close.ensures.journal) (ends_of asked span left after held taken a stuck (omega arith) text.0 answers text.1))
 
 pub returns-clause-limit : goal.returns-clause-limit
 returns-clause-limit g c = λ e.
-    let a = c.in-Ok-judge.answer in
+    let a = c.in-Ok-judge.judged.0 in
+    let span = span_between g.C.Clock.least g.C.Clock.readings c.args.clock c.in-Ok-judge.judged.1 in
     let left = g.S.Source.left c.args.source.now in
     let after = g.S.Source.left c.judge.new.source in
     let held = g.K.Sink.held c.args.sink.now in
     let taken = g.K.Sink.held c.write_all.new.sink in
     let asked = command_in (map string_bytes c.args.words.now) in
-    let answers : AnswersTo asked left after a = subst (λ q. AnswersTo q left after a) c.in-Ok.ensures.command (c.in-Ok-judge.ensures.answers a refl) in
+    let answers : AnswersTo asked span left after a = subst (λ q. AnswersTo q span left after a) c.in-Ok.ensures.command (c.in-Ok-judge.ensures.answers c.in-Ok-judge.judged refl) in
     let words : c.as_slice.result.now ≡ answer_text a = search rules in
     let text = whole_text c.write_all.result c.is_ok-written.result c.close.result.status 5 a held (g.K.Sink.held c.reserve.new.self) taken c.as_slice.result.now c.is_ok-written.ensures.value c.close.ensures.lost c.close.ensures.done c.write_all.ensures.ok words c.reserve.ensures.held e (omega arith) in
-    subst (λ j. CompletedFor asked left after held taken j limit) (sym c.close.ensures.journal) (ends_of asked left after held taken a limit (omega arith) text.0 answers text.1)
+    subst (λ o. CompletedFor asked left after held taken (span_of g.C.Clock.least g.C.Clock.readings c.args.clock o) c.close.result.journal limit) (sym c.close.ensures.clock)
+    (subst (λ j. CompletedFor asked left after held taken (Some span) j limit) (sym c.close.ensures.journal) (ends_of asked span left after held taken a limit (omega arith) text.0 answers text.1))
 
 pub returns-clause-accepted : goal.returns-clause-accepted
 returns-clause-accepted g c = λ is e.
-    let a = c.in-Ok-judge.answer in
+    let a = c.in-Ok-judge.judged.0 in
+    let span = span_between g.C.Clock.least g.C.Clock.readings c.args.clock c.in-Ok-judge.judged.1 in
     let left = g.S.Source.left c.args.source.now in
     let after = g.S.Source.left c.judge.new.source in
     let held = g.K.Sink.held c.args.sink.now in
     let taken = g.K.Sink.held c.write_all.new.sink in
     let asked = command_in (map string_bytes c.args.words.now) in
-    let answers : AnswersTo asked left after a = subst (λ q. AnswersTo q left after a) c.in-Ok.ensures.command (c.in-Ok-judge.ensures.answers a refl) in
+    let answers : AnswersTo asked span left after a = subst (λ q. AnswersTo q span left after a) c.in-Ok.ensures.command (c.in-Ok-judge.ensures.answers c.in-Ok-judge.judged refl) in
     let words : c.as_slice.result.now ≡ answer_text a = search rules in
     let text = whole_text c.write_all.result c.is_ok-written.result c.close.result.status 0 a held (g.K.Sink.held c.reserve.new.self) taken c.as_slice.result.now c.is_ok-written.ensures.value c.close.ensures.lost c.close.ensures.done c.write_all.ensures.ok words c.reserve.ensures.held e (omega arith) in
-    accepted_of asked left after held taken a is text.0 answers text.1
+    accepted_of asked span left after held taken a is text.0 answers text.1
 
 pub returns-clause-usage : goal.returns-clause-usage
 returns-clause-usage g c = λ e.
-    let a = c.in-Ok-judge.answer in
+    let a = c.in-Ok-judge.judged.0 in
+    let span = span_between g.C.Clock.least g.C.Clock.readings c.args.clock c.in-Ok-judge.judged.1 in
     let left = g.S.Source.left c.args.source.now in
     let after = g.S.Source.left c.judge.new.source in
     let held = g.K.Sink.held c.args.sink.now in
     let taken = g.K.Sink.held c.write_all.new.sink in
     let asked = command_in (map string_bytes c.args.words.now) in
-    let answers : AnswersTo asked left after a = subst (λ q. AnswersTo q left after a) c.in-Ok.ensures.command (c.in-Ok-judge.ensures.answers a refl) in
+    let answers : AnswersTo asked span left after a = subst (λ q. AnswersTo q span left after a) c.in-Ok.ensures.command (c.in-Ok-judge.ensures.answers c.in-Ok-judge.judged refl) in
     let words : c.as_slice.result.now ≡ answer_text a = search rules in
     let text = whole_text c.write_all.result c.is_ok-written.result c.close.result.status 1 a held (g.K.Sink.held c.reserve.new.self) taken c.as_slice.result.now c.is_ok-written.ensures.value c.close.ensures.lost c.close.ensures.done c.write_all.ensures.ok words c.reserve.ensures.held e (omega arith) in
-    usage_of asked left after held taken a text.0 answers text.1
+    usage_of asked span left after held taken a text.0 answers text.1
 
 pub returns-clause-refused : goal.returns-clause-refused
 returns-clause-refused g c = λ e.
-    let a = c.in-Ok-judge.answer in
+    let a = c.in-Ok-judge.judged.0 in
+    let span = span_between g.C.Clock.least g.C.Clock.readings c.args.clock c.in-Ok-judge.judged.1 in
     let left = g.S.Source.left c.args.source.now in
     let after = g.S.Source.left c.judge.new.source in
     let held = g.K.Sink.held c.args.sink.now in
     let taken = g.K.Sink.held c.write_all.new.sink in
     let asked = command_in (map string_bytes c.args.words.now) in
-    let answers : AnswersTo asked left after a = subst (λ q. AnswersTo q left after a) c.in-Ok.ensures.command (c.in-Ok-judge.ensures.answers a refl) in
+    let answers : AnswersTo asked span left after a = subst (λ q. AnswersTo q span left after a) c.in-Ok.ensures.command (c.in-Ok-judge.ensures.answers c.in-Ok-judge.judged refl) in
     let words : c.as_slice.result.now ≡ answer_text a = search rules in
     let text = whole_text c.write_all.result c.is_ok-written.result c.close.result.status 2 a held (g.K.Sink.held c.reserve.new.self) taken c.as_slice.result.now c.is_ok-written.ensures.value c.close.ensures.lost c.close.ensures.done c.write_all.ensures.ok words c.reserve.ensures.held e (omega arith) in
-    refused_of asked left after held taken a text.0 answers text.1
+    refused_of asked span left after held taken a text.0 answers text.1
 
 pub returns-clause-partial : goal.returns-clause-partial
 returns-clause-partial g c = λ e.
-    let a = c.in-Ok-judge.answer in
+    let a = c.in-Ok-judge.judged.0 in
+    let span = span_between g.C.Clock.least g.C.Clock.readings c.args.clock c.in-Ok-judge.judged.1 in
     let left = g.S.Source.left c.args.source.now in
     let after = g.S.Source.left c.judge.new.source in
     let held = g.K.Sink.held c.args.sink.now in
     let taken = g.K.Sink.held c.write_all.new.sink in
     let asked = command_in (map string_bytes c.args.words.now) in
-    let answers : AnswersTo asked left after a = subst (λ q. AnswersTo q left after a) c.in-Ok.ensures.command (c.in-Ok-judge.ensures.answers a refl) in
+    let answers : AnswersTo asked span left after a = subst (λ q. AnswersTo q span left after a) c.in-Ok.ensures.command (c.in-Ok-judge.ensures.answers c.in-Ok-judge.judged refl) in
     let words : c.as_slice.result.now ≡ answer_text a = search rules in
     let part = part_text c.write_all.result c.is_ok-written.result c.close.result.status a held (g.K.Sink.held c.reserve.new.self) taken c.as_slice.result.now c.is_ok-written.ensures.value c.close.ensures.done c.write_all.ensures.err words c.reserve.ensures.held e in
-    subst (Partly asked left after held taken) (sym c.close.ensures.journal) (partly_of asked left after held taken a part.0 answers part.1)
+    subst (λ o. Partly asked left after held taken (span_of g.C.Clock.least g.C.Clock.readings c.args.clock o) c.close.result.journal) (sym c.close.ensures.clock)
+    (subst (Partly asked left after held taken (Some span)) (sym c.close.ensures.journal) (partly_of asked span left after held taken a part.0 answers part.1))
 
 pub returns-clause-done : goal.returns-clause-done
 returns-clause-done g c =
-    let a = c.in-Ok-judge.answer in
+    let a = c.in-Ok-judge.judged.0 in
+    let span = span_between g.C.Clock.least g.C.Clock.readings c.args.clock c.in-Ok-judge.judged.1 in
     let left = g.S.Source.left c.args.source.now in
     let after = g.S.Source.left c.judge.new.source in
     let held = g.K.Sink.held c.args.sink.now in
     let taken = g.K.Sink.held c.write_all.new.sink in
     let asked = command_in (map string_bytes c.args.words.now) in
-    let answers : AnswersTo asked left after a = subst (λ q. AnswersTo q left after a) c.in-Ok.ensures.command (c.in-Ok-judge.ensures.answers a refl) in
-    close_asked asked left after a c.is_ok-written.result c.close.result.status c.close.ensures.lost c.close.ensures.done answers
+    let answers : AnswersTo asked span left after a = subst (λ q. AnswersTo q span left after a) c.in-Ok.ensures.command (c.in-Ok-judge.ensures.answers c.in-Ok-judge.judged refl) in
+    close_asked asked span left after a c.is_ok-written.result c.close.result.status c.close.ensures.lost c.close.ensures.done answers
 
 pub returns-clause-journal : goal.returns-clause-journal
 returns-clause-journal g c = λ j.
-    let a = c.in-Ok-judge.answer in
+    let a = c.in-Ok-judge.judged.0 in
+    let span = span_between g.C.Clock.least g.C.Clock.readings c.args.clock c.in-Ok-judge.judged.1 in
     let left = g.S.Source.left c.args.source.now in
     let after = g.S.Source.left c.judge.new.source in
     let held = g.K.Sink.held c.args.sink.now in
     let taken = g.K.Sink.held c.write_all.new.sink in
     let asked = command_in (map string_bytes c.args.words.now) in
-    let answers : AnswersTo asked left after a = subst (λ q. AnswersTo q left after a) c.in-Ok.ensures.command (c.in-Ok-judge.ensures.answers a refl) in
-    close_journal asked left after a c.is_ok-written.result c.close.result.status c.close.ensures.lost c.close.ensures.done answers (subst (IsSome {T = Seq Event}) c.close.ensures.journal j)
+    let answers : AnswersTo asked span left after a = subst (λ q. AnswersTo q span left after a) c.in-Ok.ensures.command (c.in-Ok-judge.ensures.answers c.in-Ok-judge.judged refl) in
+    close_journal asked span left after a c.is_ok-written.result c.close.result.status c.close.ensures.lost c.close.ensures.done answers (subst (IsSome {T = Seq Event}) c.close.ensures.journal j)
 
 pub returns-clause-unasked : goal.returns-clause-unasked
 returns-clause-unasked g c =
-    ⊎_elim (λ e. c.in-Ok-judge.ensures.unasked c.in-Ok-judge.answer refl (runs_nothing c.in-Ok-judge.answer c.is_ok-written.result c.close.result.status c.close.ensures.lost c.close.ensures.done e))
-    (λ k. c.in-Ok-judge.ensures.idle (λ x is. k x (sym c.in-Ok.ensures.command ∙ is)))
+    ⊎_elim (λ e. c.close.ensures.clock ∙ ap Some (c.in-Ok-judge.ensures.unasked c.in-Ok-judge.judged refl (runs_nothing c.in-Ok-judge.judged.0 c.is_ok-written.result c.close.result.status c.close.ensures.lost c.close.ensures.done e)))
+    (λ k. c.close.ensures.clock ∙ c.in-Ok-judge.ensures.idle (λ x is. k x (sym c.in-Ok.ensures.command ∙ is)))
 
 pub returns-clause-laws : goal.returns-clause-laws
 returns-clause-laws g c = λ j e.
-    let a = c.in-Ok-judge.answer in
+    let a = c.in-Ok-judge.judged.0 in
+    let span = span_between g.C.Clock.least g.C.Clock.readings c.args.clock c.in-Ok-judge.judged.1 in
     let left = g.S.Source.left c.args.source.now in
     let after = g.S.Source.left c.judge.new.source in
     let asked = command_in (map string_bytes c.args.words.now) in
-    let answers : AnswersTo asked left after a = subst (λ q. AnswersTo q left after a) c.in-Ok.ensures.command (c.in-Ok-judge.ensures.answers a refl) in
-    lawful_of c.journals_of_scripts_keep_the_laws.ensures asked left after a j answers (sym c.close.ensures.journal ∙ e)
+    let answers : AnswersTo asked span left after a = subst (λ q. AnswersTo q span left after a) c.in-Ok.ensures.command (c.in-Ok-judge.ensures.answers c.in-Ok-judge.judged refl) in
+    lawful_of c.journals_of_scripts_keep_the_laws.ensures asked span left after a j answers (sym c.close.ensures.journal ∙ e)

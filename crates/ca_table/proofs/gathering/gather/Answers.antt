@@ -9,10 +9,15 @@ use Rattle.ca_meaning.specs.Legal.{Reaches}
 use Rattle.ca_turns.specs.Places.{total}
 use Rattle.ca_turns.specs.Views.{stands}
 use Rattle.ca_turns.proofs.Lists.{total-snoc}
+use Rattle.ca_commit.specs.Opening.{unasked}
 use Rattle.ca_table.specs.Draws.{drawn_moves}
+use Rattle.ca_table.specs.Moments.{ClockWent}
+use Rattle.ca_table.specs.Opening.{opening_list}
 use Rattle.ca_table.specs.Parts.{part_seen}
-use Rattle.ca_table.specs.Workers.{IsReady, stands_for}
-use Rattle.ca_table.specs.Worked.{HasMainEnd, RanAlone, ends_main, gives_up, obeys_mark, stays_stuck}
+use Rattle.ca_table.specs.Running.{shown_by}
+use Rattle.ca_table.specs.Workers.{IsOpenedWith, IsReady, stands_for}
+use Rattle.ca_table.specs.Worked.{HasMainEnd, RanAlone, any_drew, ends_main, fails_clock, gives_up, obeys_mark, stays_stuck}
+use Rattle.ca_table.proofs.ClockRuns.{clock_whole}
 use Rattle.ca_table.proofs.Gathers.{gathered}
 use Rattle.ca_table.proofs.Endings.{ends_whole, main_whole, marked_whole}
 use Rattle.ca_table.proofs.Having.{of_all}
@@ -78,6 +83,17 @@ returns-clause-marked g c = let xs = c.args.workers.items in let ys = c.pop.new.
     let halted = of_all obeys_mark hand.view.turns ys first xs popped (c.join_all-hand.ensures.turns obeys_mark) in
     let stopped = of_all gives_up hand.view.turns ys first xs popped (c.join_all-hand.ensures.turns gives_up) in
     λ none e. subst HasMainEnd (sym same) (marked_whole a.over a.place a.stands a.advances a.gives a.starts m.advanced m.answered m.started P K n hand.view j.knows h.0 _ h.1 h.2 (sym stopped ∙ none) (sym halted ∙ e))
+
+pub returns-clause-clock : goal.returns-clause-clock
+returns-clause-clock g c = λ main least faults readings opened. let xs = c.args.workers.items in let ys = c.pop.new.self.items in let first = c.in-Some.first in let P = program_view c.args.program.now in let K = valid_code c.args.code.now in let n = length xs in
+    let popped = c.pop.ensures.items ∙ ap (λ o. ys ++ option_to_list o) c.in-Some.is in
+    let both = All-pop (IsReady g.A.Agent.over g.A.Agent.stands P K c.args.table.id n) xs ys (Some first) popped c.requires.ready in
+    let j = c.join_all-hand.ensures.joined n both.1 both.0 in let a = g.A.Agent in let m = g.met.A.Agent in let h = c.close-closed.ensures.history in let hand = c.join_all-hand.result in
+    let same = c.in_ok-journal.ensures ∙ ap (λ es. events_of (in_order es)) j.notes ∙ gathered hand.view h.0 h.1.numbered h.2 in
+    let with_clock = All-pop (IsOpenedWith (opening_list n K c.args.program.now main (unasked least faults readings))) xs ys (Some first) popped opened in
+    let r = clock_whole a.over a.place a.stands a.advances a.gives a.starts m.advanced m.answered m.started P K n hand.view j.knows h.0 _ h.1 c.args.program.now main least faults readings (c.join_all-hand.ensures.opening ∙ with_clock.1) in
+    let failed = of_all fails_clock hand.view.turns ys first xs popped (c.join_all-hand.ensures.turns fails_clock) in
+    (r.0, r.1, subst (λ es. ClockWent least faults readings es (any_drew fails_clock xs) r.0) (sym same) (subst (λ b. ClockWent least faults readings (shown_by h.0) b r.0) (sym failed) r.2))
 
 pub returns-clause-spent : goal.returns-clause-spent
 returns-clause-spent g c = let xs = c.args.workers.items in let ys = c.pop.new.self.items in let first = c.in-Some.first in

@@ -20,6 +20,7 @@ loop-other-init g c = let p = c.push_reserved.ensures in let room = c.requires.r
   λ n r all. (stands_for first, subst (λ (ls : List (Seq Entry)). IsJoined {A = g.row.A.Denot} {C = g.row.C.Denot} g.A.Agent.over g.A.Agent.stands P K id n (stands_for first) first.hand ls) (sym (p.items ∙ ap (λ l. l ++ first.entries ∷ []) c.requires.none)) (alone g.A.Agent.over g.A.Agent.stands P K id n first r), all, refl),
   λ such. refl,
   λ none. (none, refl),
+  refl,
   cost_alone first.entries (total spent c.args.others.items) (p.items ∙ ap (λ l. l ++ first.entries ∷ []) c.requires.none),
 )
 
@@ -48,7 +49,8 @@ loop-other-preserved g c = let i = c.loop-other.invariant in let other = c.in-So
       ),
       λ such. turns_join such c.loop-other.hand.view.turns other xs ys (has_drawn such c.args.first || any_drew such c.args.others.items) (ap (λ v. v.turns) h.view) popped (i.2 such),
       λ none. absurd (let long : length xs ≡ 0 = ap length (i.3 none).0 in omega (arith, shorter, long)),
-      spent_join c.loop-other.lists.items other xs ys (spent c.args.first + total spent c.args.others.items) p.items popped i.4,
+      ap (λ v. v.opening) h.view ∙ i.4,
+      spent_join c.loop-other.lists.items other xs ys (spent c.args.first + total spent c.args.others.items) p.items popped i.5,
     )
 
 pub returns-clause-joined : goal.returns-clause-joined
@@ -60,7 +62,10 @@ pub returns-clause-turns : goal.returns-clause-turns
 returns-clause-turns g c = λ such. turns_joined such c.loop-other.hand.view.turns c.loop-other.others.items (has_drawn such c.args.first || any_drew such c.args.others.items) (let none = c.in_default.ensures.cases.0 in let long = c.loop-other.others.ok.0 in omega (arith, none, long)) (c.loop-other.invariant.2 such)
 
 pub returns-clause-spent : goal.returns-clause-spent
-returns-clause-spent g c = spent_joined c.loop-other.lists.items c.loop-other.others.items (spent c.args.first + total spent c.args.others.items) (let none = c.in_default.ensures.cases.0 in let long = c.loop-other.others.ok.0 in omega (arith, none, long)) c.loop-other.invariant.4
+returns-clause-spent g c = spent_joined c.loop-other.lists.items c.loop-other.others.items (spent c.args.first + total spent c.args.others.items) (let none = c.in_default.ensures.cases.0 in let long = c.loop-other.others.ok.0 in omega (arith, none, long)) c.loop-other.invariant.5
+
+pub returns-clause-opening : goal.returns-clause-opening
+returns-clause-opening g c = c.loop-other.invariant.4
 
 pub returns-clause-alone : goal.returns-clause-alone
 returns-clause-alone g c = λ none. (c.loop-other.invariant.3 none).1

@@ -18,6 +18,7 @@ invariant-loop-other g l = (vec_len l.lists + length l.others.items ≤ vec_capa
     × All (IsReady g.A.Agent.over g.A.Agent.stands (program_view l.program) (valid_code l.code) l.table.id n) l.others.items × (count + total stands_for l.others.items ≡ stands_for l.fn.first + total stands_for l.fn.others.items))
     × ((such : Turn → Bool) → (has such l.hand.view.turns || any_drew such l.others.items) ≡ (has_drawn such l.fn.first || any_drew such l.fn.others.items))
     × (l.fn.others.items ≡ [] → (l.others.items ≡ []) × (l.hand ≡ l.fn.first.hand))
+    × (l.hand.view.opening ≡ l.fn.first.hand.view.opening)
     × (cost_in (joined (map entries l.lists.items)) + total spent l.others.items ≡ spent l.fn.first + total spent l.fn.others.items)
 
 abbrev pub decreases-loop-other : goal.decreases-loop-other
