@@ -1,5 +1,5 @@
 // A task's next event: the task leaves its lane and goes on to its next pause, and what it is paused at is done.
-ghost use Rattle.std.specs.Prelude.{◌≡◌, ℕ, IfOk, IsSome, OnErr, Some, [], ◌<◌, option_map};
+ghost use Rattle.std.specs.Prelude.{◌≡◌, ℕ, IfOk, IsSome, OnErr, Some, [], ◌<◌, option_map, false};
 ghost use Rattle.ca_term.specs.Program.{ProgramView, program_view};
 ghost use Rattle.ca_term.specs.Event.{port_number};
 ghost use Rattle.ca_meaning.specs.Solo.{patience};
