@@ -5,3 +5,4 @@ pub mod StandingLaws
 pub mod TextLaws
 pub mod Sending
 pub mod Calling
+pub mod CallLaws

@@ -20,10 +20,11 @@ use Rattle.ca_states.proofs.code.EntryPoint.TheSendSync as entry_point
 use Rattle.ca_states.proofs.code.Exit.TheSendSync as exit
 use Rattle.ca_states.proofs.code.Mark.TheSendSync as code_mark
 use Rattle.ca_states.proofs.code.SlotSet.TheSendSync as slots
+use Rattle.ca_states.specs.contracts.calls.Calls as Calls
+use Rattle.ca_states.specs.contracts.calls.Frame as Frame
 use Rattle.ca_states.specs.contracts.code.Block as Block
 use Rattle.ca_states.specs.contracts.code.Code as Code
 use Rattle.ca_states.specs.contracts.code.Instr as Instr
-use Rattle.ca_states.specs.contracts.runner.Frame as Frame
 use Rattle.ca_states.specs.contracts.runner.Halt as Halt
 use Rattle.ca_states.specs.contracts.runner.Runner as Runner
 use Rattle.ca_states.specs.contracts.valid_code.ValidCode as ValidCode
@@ -58,8 +59,11 @@ halt_send = variants_send Halt.enum (search (sendable, want_send, value_send, fa
 frame_send : IsSend Frame.the_row
 frame_send = declared_send Frame.the_type (search sends depth 20)
 
+calls_send : IsSend Calls.the_row
+calls_send = declared_send Calls.the_type (search (sends, frame_send) depth 20)
+
 pub runner_send : IsSend Runner.the_row
-runner_send = declared_send Runner.the_type (search (sends, frame_send) depth 20)
+runner_send = declared_send Runner.the_type (search (sends, calls_send) depth 20)
 
 -- the code
 instr_send : IsSend Instr.the_row

@@ -19,7 +19,7 @@ use Rattle.ca_states.specs.declared.code.EntryPoint.{EntryPoint}
 use Rattle.ca_states.specs.declared.code.Instr.{Instr}
 use Rattle.ca_states.specs.declared.code.Exit.{Exit}
 use Rattle.ca_states.specs.declared.code.Exit.TheVariants.{Jump, Branch, Test, Call, Return, Cut}
-use Rattle.ca_states.specs.declared.runner.Frame.{Frame as FrameCode}
+use Rattle.ca_states.specs.declared.calls.Frame.{Frame as FrameCode}
 use Rattle.ca_states.specs.declared.runner.Halt.{Halt}
 use Rattle.ca_states.specs.declared.stop.Stop.{Stop}
 use Rattle.ca_states.specs.declared.runner.Runner.{Runner}

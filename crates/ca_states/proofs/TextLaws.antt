@@ -3,7 +3,7 @@ use Rattle.std.proofs.Common.{◌≡◌, ℕ, ℤ, suc, ◌≤◌, ◌++◌, Lis
 use Rattle.std.proofs.lemmas.Bool.{le-leb}
 use Rattle.std.specs.Prelude.{if◌then◌else◌, nat_le}
 use Rattle.ca_value.specs.Tree.{Tree, int, text}
-use Rattle.ca_value.specs.Printed.{readable_text}
+use Rattle.std.specs.Fmt.{signed_decimal}
 use Rattle.ca_value.specs.Outcome.{judged}
 use Rattle.ca_value.specs.Builtins.{builtin_result}
 use Rattle.ca_value.specs.declared.builtin.Builtin.TheVariants.{Str}
@@ -23,8 +23,7 @@ short s le =
     let e : nat_le (suc (length s)) 65536 ≡ true = le-leb (suc (length s)) 65536 (omega (arith, le)) in
     ap (λ b. if b then (Ok (text s)) else Err TooHeavy) e
 
-pub str_integer : (v : Value) (n : ℤ) (s : List ℕ) (w : Tree) → v ≡ Int n → s ≡ [] ++ readable_text (view v) → length s ≤ 20 → w ≡ text s → applied Str (view v ∷ []) ≡ Ok w
+pub str_integer : (v : Value) (n : ℤ) (s : List ℕ) (w : Tree) → v ≡ Int n → s ≡ signed_decimal n → length s ≤ 20 → w ≡ text s → applied Str (view v ∷ []) ≡ Ok w
 unfolding builtin_result
 str_integer v n s w e es le ew =
-    let shown : s ≡ readable_text (int n) = es ∙ ap (λ u. readable_text (view u)) e in
-    ap (λ u. applied Str (view u ∷ [])) e ∙ ap (λ r. judged (Ok (text r))) (and_none (readable_text (int n)) ∙ sym shown) ∙ short s le ∙ ap Ok (sym ew)
+    ap (λ u. applied Str (view u ∷ [])) e ∙ ap (λ r. judged (Ok (text r))) (and_none (signed_decimal n) ∙ sym es) ∙ short s le ∙ ap Ok (sym ew)

@@ -1,5 +1,5 @@
 -- A runner of valid code, and where a runner may stand in code.
-use Rattle.std.specs.Prelude.{◌≡◌, ℕ, ◌<◌, ◌≤◌, List, [], ◌∷◌, length, map, reverse, Bool, true, false, ◌==◌, IsTrue}
+use Rattle.std.specs.Prelude.{◌≡◌, ℕ, ◌<◌, ◌≤◌, List, [], ◌∷◌, length, map, reverse, take, Bool, true, false, ◌==◌, IsTrue}
 use Rattle.ca_value.specs.Seq.{list}
 use Rattle.ca_value.specs.Tree.{Tree}
 use Rattle.ca_value.specs.View.{view, views}
@@ -8,7 +8,8 @@ use Rattle.ca_term.specs.Operation.{want_view}
 use Rattle.ca_states.specs.declared.code.EntryPoint.{EntryPoint}
 use Rattle.ca_states.specs.declared.code.Exit.{Exit}
 use Rattle.ca_states.specs.declared.code.Exit.TheVariants.{Jump, Branch, Test, Call, Return, Cut}
-use Rattle.ca_states.specs.declared.runner.Frame.{Frame as FrameCode}
+use Rattle.ca_states.specs.declared.calls.Calls.{Calls}
+use Rattle.ca_states.specs.declared.calls.Frame.{Frame as FrameCode}
 use Rattle.ca_states.specs.declared.runner.Runner.{Runner}
 use Rattle.ca_states.specs.declared.runner.Start.{Start}
 use Rattle.ca_states.specs.declared.runner.Start.TheVariants as begin
@@ -26,8 +27,12 @@ frame_view f = record { next = f.next; answer = f.answer; slots = views f.slots.
 abbrev pub frames_view : List FrameCode → List Frame
 frames_view fs = reverse (map frame_view fs)
 
+-- those that wait
+abbrev pub calls_view : Calls → List Frame
+calls_view c = frames_view (take c.depth c.frames.items)
+
 abbrev pub state_view : Runner → State
-state_view r = record { block = r.block; slots = views r.slots.items; frames = frames_view (list r.frames); turns = r.turns }
+state_view r = record { block = r.block; slots = views r.slots.items; frames = calls_view r.calls; turns = r.turns }
 
 -- the slot that the answer to the operation comes into
 abbrev pub waiting_slot : Runner → ℕ

@@ -7,7 +7,7 @@ ghost use Rattle.ca_term.specs.Asking.{asked};
 ghost use Rattle.ca_states.specs.Code.{block_at, block_view, code_view, instruction};
 ghost use Rattle.ca_states.specs.Machine.{leaves, move, reads, slots_from, taken_all, waiting};
 ghost use Rattle.ca_states.specs.Valid.{are_below, each, is_instruction_in_range};
-ghost use Rattle.ca_states.specs.Standing.{state_view, frames_view, halts_at, FitsAnyway, FitsExit, HaltedAs};
+ghost use Rattle.ca_states.specs.Standing.{calls_view, state_view, halts_at, FitsAnyway, FitsExit, HaltedAs};
 
 use crate::code::{Block, Code, Exit};
 use crate::runner::{Halt, Runner};
@@ -47,7 +47,7 @@ impl Runner {
     // At the exit.
     fn halt_at(&mut self, alloc: Global, code: &Code, exit: Exit) -> Result<Halt, OutOfMemory>
         requires fits { FitsExit (code_view code.now) exit (state_view self.old) }
-        requires halts { halts_at exit (frames_view (list self.old.frames)) ≡ true }
+        requires halts { halts_at exit (calls_view self.old.calls) ≡ true }
         ensures { IfOk result (λ h. HaltedAs (leaves (code_view code.now) exit (state_view self.old)) h self.new) }
     {
         match exit {
@@ -75,7 +75,7 @@ impl Runner {
         requires same { block_view block.now ≡ block_at (code_view code.now) self.old.block }
         requires instrs { IsTrue (each (is_instruction_in_range (length self.old.slots.items)) (map instruction (list block.now.instrs))) }
         requires fits { FitsAnyway (code_view code.now) block.now.exit (state_view self.old) }
-        requires halts { halts_at block.now.exit (frames_view (list self.old.frames)) ≡ true }
+        requires halts { halts_at block.now.exit (calls_view self.old.calls) ≡ true }
         ensures { IfOk result (λ h. HaltedAs (move (code_view code.now) (state_view self.old)) h self.new) }
     {
         let mut stop = Stop::OutOfMemory;

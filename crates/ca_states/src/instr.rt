@@ -18,10 +18,8 @@ use ca_value::fault::ApplyError;
 use ca_value::memory::OutOfMemory;
 use ca_value::seq::Text;
 use ca_value::value::Value;
+use itoa::Buffer;
 use std::alloc::Global;
-
-// The bytes of the longest integer: its sign and 19 digits.
-const LONGEST_INTEGER: u64 = 20;
 
 // A builtin's value comes into the slot, or its fault stops the runner.
 fn settle(
@@ -51,15 +49,11 @@ fn settle(
 fn text_of_integer(alloc: Global, value: &Value) -> Result<Option<Value>, OutOfMemory>
     ensures { IfOk result (λ o. IfSome o (λ v. applied Str (view value.now ∷ []) ≡ Ok (view v))) }
 {
-    let Value::Int(_n) = value else {
+    let Value::Int(n) = value else {
         return Ok(None);
     };
-    let mut text = Text::new(alloc);
-    text.reserve(LONGEST_INTEGER)?;
-    value.append_readable(&mut text)?;
-    if LONGEST_INTEGER < text.len() {
-        return Ok(None);
-    }
+    let mut digits = Buffer::new();
+    let text = Text::from_bytes(alloc, digits.format(*n).as_bytes())?;
     Ok(Some(Value::text(alloc, text)?))
 }
 

@@ -9,7 +9,7 @@ ghost use Rattle.ca_term.specs.declared.fault.Fault.TheVariants.{Spun};
 ghost use Rattle.ca_term.specs.declared.place.Place.{Place as PurePlace};
 ghost use Rattle.ca_states.specs.Code.{code_view, CodeView};
 ghost use Rattle.ca_states.specs.Machine.{applied, at_block, faults, goes, leaves, read, tested, turned, slots_from};
-ghost use Rattle.ca_states.specs.Standing.{state_view, frames_view, halts_at, FitsExit, FitsHere, Passed};
+ghost use Rattle.ca_states.specs.Standing.{calls_view, state_view, halts_at, FitsExit, FitsHere, Passed};
 
 use crate::code::{Code, Exit};
 use crate::plain::truth_in_place;
@@ -43,11 +43,11 @@ impl Runner {
     /// Whether the exit halts the runner: an operation, or the return of a whole text.
     #[inline(always)]
     pub(crate) fn halts_at(&self, exit: &Exit) -> bool
-        ensures { result ≡ halts_at exit.now (frames_view (list self.now.frames)) }
+        ensures { result ≡ halts_at exit.now (calls_view self.now.calls) }
     {
         match exit {
             Exit::Cut { .. } => true,
-            Exit::Return { .. } => self.frames.is_empty(),
+            Exit::Return { .. } => self.calls.is_empty(),
             _ => false,
         }
     }
@@ -165,7 +165,7 @@ impl Runner {
     #[inline(always)]
     pub(crate) fn leave_in_place(&mut self, exit: &Exit) -> bool
         requires fits { FitsHere exit.now (state_view self.old) }
-        requires goes { halts_at exit.now (frames_view (list self.old.frames)) ≡ false }
+        requires goes { halts_at exit.now (calls_view self.old.calls) ≡ false }
         ensures gone { OnTrue result ((C : CodeView) → leaves C exit.now (state_view self.old) ≡ goes (state_view self.new)) }
         ensures left { OnFalse result (self.new ≡ self.old) }
     {
@@ -196,7 +196,7 @@ impl Runner {
     pub(crate) fn leave(&mut self, alloc: Global, code: &Code, exit: &Exit, stop: &mut Stop) -> bool
         requires turns { self.old.turns ≤ 999_999 }
         requires fits { FitsExit (code_view code.now) exit.now (state_view self.old) }
-        requires goes { halts_at exit.now (frames_view (list self.old.frames)) ≡ false }
+        requires goes { halts_at exit.now (calls_view self.old.calls) ≡ false }
         ensures { Passed (leaves (code_view code.now) exit.now (state_view self.old)) result stop.new self.new }
     {
         match exit {

@@ -11,6 +11,7 @@
 #![tactic(auto)]
 
 mod call;
+mod calls;
 mod check;
 pub mod code;
 mod entry;

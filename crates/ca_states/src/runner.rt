@@ -9,6 +9,7 @@ ghost use Rattle.ca_states.specs.ValidCode.{valid_code};
 ghost use Rattle.ca_states.specs.declared.runner.Start.TheVariants.{Function};
 ghost use Rattle.ca_states.specs.Standing.{state_view, waiting_slot, entry_at, is_start, IsStart, Stands, HaltsAs, HaltsNext, StopsAfter, WaitsAt};
 
+use crate::calls::{Calls, Frame};
 use crate::code::Code;
 use crate::entry::{begun, block_at, entry_point};
 use crate::range::takes;
@@ -19,7 +20,6 @@ use ca_term::fault::Fault;
 use ca_term::operation::Want;
 use ca_term::place::Place;
 use ca_value::memory::OutOfMemory;
-use ca_value::seq::Seq;
 use ca_value::value::{Items, Value};
 use std::alloc::Global;
 
@@ -39,25 +39,15 @@ pub enum Halt {
     Faulted(Fault, Place),
 }
 
-/// A call that waits for its value: the block that goes on, the slot that the value comes into, and the slots.
-#[derive(Drop)]
-pub struct Frame {
-    pub(crate) next: u64,
-    pub(crate) answer: u64,
-    pub(crate) slots: Vec<Value>,
-}
-
-/// A runner: its block, the values in its slots, the calls that wait, the innermost last, and the turns since
-/// the last event. At an operation `answer` is the slot that its answer comes into. `pool` has the slots of calls
-/// that returned, without their values, for the next calls.
+/// A runner: its block, the values in its slots, the calls that wait, and the turns since the last event. At an
+/// operation `answer` is the slot that its answer comes into.
 #[derive(Drop)]
 pub struct Runner {
     pub(crate) block: u64,
     pub(crate) slots: Vec<Value>,
-    pub(crate) frames: Seq<Frame>,
+    pub(crate) calls: Calls,
     pub(crate) turns: u64,
     pub(crate) answer: u64,
-    pub(crate) pool: Seq<Items>,
 }
 
 impl ValidCode {
@@ -91,10 +81,9 @@ impl Runner {
         Ok(Runner {
             block: entry.block,
             slots: slots.into_vec(),
-            frames: Seq::new(alloc),
+            calls: Calls::new(alloc),
             turns: 0,
             answer: 0,
-            pool: Seq::new(alloc),
         })
     }
 
@@ -114,12 +103,13 @@ impl Runner {
         let code = code.code();
         let next = code.identity;
         let slots = begun(Items::new(alloc), block_at(code, next).width)?;
-        runner.frames.reserve(1)?;
-        runner.frames.push(Frame {
+        let outermost = Frame {
             next,
             answer: 0,
             slots: slots.into_vec(),
-        });
+        };
+        let calls = Calls::one(alloc, outermost)?;
+        runner.calls = calls;
         runner.turns = 1;
         Ok(runner)
     }

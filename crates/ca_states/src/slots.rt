@@ -2,9 +2,9 @@
 //!
 //! The small functions are inlined into the runner's loop, where integers and truths are all that is touched. What
 //! makes or lets go of another value is a function of its own, which is not.
-ghost use Rattle.std.specs.Prelude.{◌≡◌, ◌<◌, length, IfOk, OnOk, IfSome, IsTrue, ◌≤◌, ◌+◌, ◌++◌, ◌∷◌, []};
+ghost use Rattle.std.specs.Prelude.{◌≡◌, ◌<◌, length, take, replicate, IfOk, OnOk, IfSome, IsTrue, ◌≤◌, ◌+◌, ◌-◌, ◌++◌, ◌∷◌, []};
 ghost use Rattle.ca_value.specs.Seq.{list, spare};
-ghost use Rattle.ca_value.specs.Tree.{int, bool};
+ghost use Rattle.ca_value.specs.Tree.{int, bool, nil};
 ghost use Rattle.ca_value.specs.View.{view, views};
 ghost use Rattle.ca_states.specs.Machine.{read, write, reads, taken, taken_all, slots_from};
 ghost use Rattle.ca_states.specs.Valid.{are_below};
@@ -43,25 +43,6 @@ fn is_bare(value: &Value) -> bool {
         Value::Nil | Value::Bool(_) | Value::Int(_) | Value::Port(_) => true,
         _ => false,
     }
-}
-
-/// The last value is let go.
-#[inline(always)]
-pub(crate) fn drop_last(slots: &mut Items) {
-    let is_last_bare = match slots.as_slice().last() {
-        Some(value) => is_bare(value),
-        None => false,
-    };
-    if is_last_bare {
-        mem::forget(slots.pop());
-    } else {
-        drop_last_value(slots);
-    }
-}
-
-#[inline(never)]
-fn drop_last_value(slots: &mut Items) {
-    slots.pop();
 }
 
 /// The slot has that integer.
@@ -110,6 +91,50 @@ fn put_bool(slots: &mut [Value], slot: u64, truth: bool)
     ensures same { length slots.new ≡ length slots.old }
 {
     put_at(slots, slot, Value::Bool(truth));
+}
+
+// The slot holds nil.
+#[inline(always)]
+#[tactic(auto, using(crate::proofs::SlotLaws::write_view))]
+fn set_nil(slots: &mut [Value], slot: u64)
+    requires { slot < length slots.old }
+    ensures written { views slots.new ≡ write (views slots.old) slot nil }
+    ensures same { length slots.new ≡ length slots.old }
+{
+    if is_bare(value_at(slots, slot)) {
+        mem::forget(mem::replace(&mut slots[slot as usize], Value::Nil));
+    } else {
+        put_nil(slots, slot);
+    }
+}
+
+#[inline(never)]
+fn put_nil(slots: &mut [Value], slot: u64)
+    requires { slot < length slots.old }
+    ensures written { views slots.new ≡ write (views slots.old) slot nil }
+    ensures same { length slots.new ≡ length slots.old }
+{
+    put_at(slots, slot, Value::Nil);
+}
+
+/// From one slot on all hold nil.
+pub(crate) fn clear_from(slots: &mut [Value], from: u64)
+    requires { from ≤ length slots.old }
+    ensures cleared { views slots.new ≡ take from (views slots.old) ++ replicate (length slots.old - from) nil }
+    ensures same { length slots.new ≡ length slots.old }
+{
+    for slot in from..width_of(slots) {
+        set_nil(slots, slot);
+    }
+}
+
+/// What takes memory is let go.
+pub(crate) fn let_go(slots: &mut [Value]) {
+    for slot in 0..width_of(slots) {
+        if !is_bare(value_at(slots, slot)) {
+            put_nil(slots, slot);
+        }
+    }
 }
 
 /// A copy of the slot's value.
@@ -260,9 +285,45 @@ fn hand_value_over(slots: &mut [Value], from: u64, others: &mut [Value], to: u64
     requires from { from < length slots.old }
     requires to { to < length others.old }
     ensures written { views others.new ≡ write (views others.old) to (read (views slots.old) from) }
+    ensures taken { views slots.new ≡ taken (views slots.old) from }
     ensures same { length others.new ≡ length others.old }
+    ensures as_many { length slots.new ≡ length slots.old }
 {
     put_at(others, to, take_at(slots, from));
+}
+
+// The slot's value is taken out of it, and a slot of others has it.
+#[inline(always)]
+#[tactic(auto, using(crate::proofs::SlotLaws::taken_integer))]
+fn take_across(slots: &mut [Value], from: u64, others: &mut [Value], to: u64)
+    requires from { from < length slots.old }
+    requires to { to < length others.old }
+    ensures written { views others.new ≡ write (views others.old) to (read (views slots.old) from) }
+    ensures taken { views slots.new ≡ taken (views slots.old) from }
+    ensures same { length slots.new ≡ length slots.old }
+    ensures as_many { length others.new ≡ length others.old }
+{
+    if let Some(n) = int_at(slots, from) {
+        set_int(others, to, n);
+        return;
+    }
+    hand_value_over(slots, from, others, to);
+}
+
+/// The values of so many slots, from one on, are taken out of them, and the first of other slots have them, in order.
+pub(crate) fn take_over(others: &mut [Value], slots: &mut [Value], from: u64, count: u64)
+    requires row { IsTrue (are_below (length slots.old) (slots_from from count)) }
+    requires room { count ≤ length others.old }
+    ensures first { take count (views others.new) ≡ reads (views slots.old) (slots_from from count) }
+    ensures taken { views slots.new ≡ taken_all (views slots.old) (slots_from from count) }
+    ensures same { length slots.new ≡ length slots.old }
+    ensures as_many { length others.new ≡ length others.old }
+{
+    // Each of the slots is below it, so its number fits.
+    let _width = width_of(slots);
+    for i in 0..count {
+        take_across(slots, from + i, others, i);
+    }
 }
 
 /// The values of so many slots, from one on, taken out of them in order, at the end of the others. There is room.

@@ -7,7 +7,7 @@ ghost use Rattle.ca_states.specs.Code.{block_at, block_view, code_view, instruct
 ghost use Rattle.ca_states.specs.Machine.{done, effect, move, read, write};
 ghost use Rattle.ca_states.specs.Valid.{each, is_instruction_in_range};
 ghost use Rattle.ca_states.specs.Runs.{StopsAt, applies, effects};
-ghost use Rattle.ca_states.specs.Standing.{state_view, frames_view, halts_at, FitsAnyway, Passed};
+ghost use Rattle.ca_states.specs.Standing.{calls_view, state_view, halts_at, FitsAnyway, Passed};
 
 use crate::code::{Block, Code, Exit, Instr};
 use crate::instr::{run_many, run_one, run_push, run_put, run_two, run_two_int};
@@ -178,7 +178,7 @@ impl Runner {
         requires instrs { IsTrue (each (is_instruction_in_range (length self.old.slots.items)) (map instruction (list block.now.instrs))) }
         requires fits { FitsAnyway (code_view code.now) block.now.exit (state_view self.old) }
         requires turns { self.old.turns ≤ 999_999 }
-        requires goes { halts_at block.now.exit (frames_view (list self.old.frames)) ≡ false }
+        requires goes { halts_at block.now.exit (calls_view self.old.calls) ≡ false }
         ensures { Passed (move (code_view code.now) (state_view self.old)) result stop.new self.new }
     {
         if !self.run_block(alloc, block, stop) {

@@ -18,7 +18,7 @@ returns-clause-stands c =
     let n = c.args.function in
     let xs = list c.args.values in
     let old = c.in_ok-runner.runner in
-    let r : Runner = record { block = old.block; slots = old.slots; frames = c.push.new.self; turns = 1; answer = old.answer; pool = old.pool } in
+    let r : Runner = record { block = old.block; slots = old.slots; calls = c.in_ok-calls.calls; turns = 1; answer = old.answer } in
     let same : state_view r ≡ calling C n (views xs) = grind (arith, common_steps) in
     let v = valid_parts C c.code-code.ensures.valid in
     let room = takes_room C v C.functions v.functions n (length xs) c.requires in
