@@ -5,4 +5,3 @@ pub mod StandingLaws
 pub mod TextLaws
 pub mod Sending
 pub mod Calling
-pub mod CallLaws

@@ -1,7 +1,7 @@
 -- A runner's slots as trees: one is read, written and taken out.
-use Rattle.std.proofs.Common.{◌≡◌, ℕ, ℤ, zero, suc, ◌+◌, ◌-◌, ◌++◌, append_assoc, ◌<◌, List, [], ◌∷◌, length, get_or, set, Some, None, refl, sym, ap, ◌∙◌, subst, arith}
-use Rattle.std.specs.Prelude.{replicate, slice_get, ok_or, Result, Ok, Err, IfOk, IfErr}
-use Rattle.std.proofs.lemmas.List.{length-map}
+use Rattle.std.proofs.Common.{◌≡◌, ℕ, ℤ, zero, suc, ◌+◌, ◌-◌, ◌++◌, append_assoc, ◌<◌, List, [], ◌∷◌, length, get_or, set, take, Some, None, refl, sym, ap, ◌∙◌, subst, arith}
+use Rattle.std.specs.Prelude.{slice_get, ok_or, Result, Ok, Err, IfOk, IfErr}
+use Rattle.std.proofs.lemmas.List.{length-map, take_more_set}
 use Rattle.ca_value.specs.Tree.{Tree, nil, int, vector, trees_of}
 use Rattle.ca_value.proofs.Lists.{items_of_trees_of}
 use Rattle.ca_value.specs.Builtins.{builtin_result}
@@ -13,7 +13,7 @@ use Rattle.ca_value.specs.Outcome.{Outcome, judged, Gives, IsFault}
 use Rattle.ca_value.specs.declared.value.Value.{Value}
 use Rattle.ca_value.specs.declared.value.Value.TheVariants.{Nil, Bool, Int, Text, Key, Vector, Map, Port}
 use Rattle.ca_value.specs.declared.fault.ApplyError.{ApplyError}
-use Rattle.ca_states.specs.Machine.{begun, read, write, reads, taken, taken_all, left_by, slots_from, applied}
+use Rattle.ca_states.specs.Machine.{read, write, reads, taken, taken_all, left_by, slots_from, applied}
 use Rattle.ca_states.proofs.RowLaws.{row_first}
 
 pub read_view : (xs : List Value) (a : ℕ) (v : Value) → a < length xs → v ≡ get_or xs a v → view v ≡ read (views xs) a
@@ -35,6 +35,10 @@ pub write_view : (xs : List Value) (a : ℕ) (v : Value) → a < length xs → v
 write_view [] a v lt = absurd (omega (arith, lt))
 write_view (x ∷ xs) zero v lt = refl
 write_view (x ∷ xs) (suc a) v lt = ap (λ r. view x ∷ r) (write_view xs a v (omega (arith, lt)))
+
+-- one slot more is written
+pub write_more : (s : List Tree) (i : ℕ) (v : Tree) → i < length s → take (i + 1) (write s i v) ≡ take i s ++ v ∷ []
+write_more s i v lt = ap (take (i + 1)) (write_within s i v lt) ∙ take_more_set s i v lt
 
 pub write_twice : (s : List Tree) (a : ℕ) (v w : Tree) → write (write s a v) a w ≡ write s a w
 write_twice [] zero v w = refl
@@ -119,10 +123,6 @@ read_other (t ∷ s) zero zero v lt = absurd (omega (arith, lt))
 read_other (t ∷ s) zero (suc k) v lt = refl
 read_other (t ∷ s) (suc a) zero v lt = absurd (omega (arith, lt))
 read_other (t ∷ s) (suc a) (suc k) v lt = read_other s a k v (omega (arith, lt))
-
--- new slots, from what is read and filled up
-pub begun_reads : (s : List Tree) (a n width : ℕ) → [] ++ reads s (slots_from a n) ++ replicate (width - n) nil ≡ begun width (reads s (slots_from a n))
-begun_reads s a n width = ap (λ m. reads s (slots_from a n) ++ replicate (width - m) nil) (sym (length_reads s a n))
 
 -- `nth` of a vector, where that is an integer
 pub nth_integer : (xs : List Tree) (i n : ℤ) → item_at xs i ≡ Some (int n) → applied Nth (vector (trees_of xs) ∷ int i ∷ []) ≡ Ok (int n)

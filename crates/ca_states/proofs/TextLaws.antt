@@ -2,7 +2,7 @@
 use Rattle.std.proofs.Common.{◌≡◌, ℕ, ℤ, suc, ◌≤◌, ◌++◌, List, [], ◌∷◌, length, true, Ok, Err, refl, sym, ap, ◌∙◌, arith}
 use Rattle.std.proofs.lemmas.Bool.{le-leb}
 use Rattle.std.specs.Prelude.{if◌then◌else◌, nat_le}
-use Rattle.ca_value.specs.Tree.{Tree, int, text}
+use Rattle.ca_value.specs.Tree.{Tree, text}
 use Rattle.std.specs.Fmt.{signed_decimal}
 use Rattle.ca_value.specs.Outcome.{judged}
 use Rattle.ca_value.specs.Builtins.{builtin_result}

@@ -1,6 +1,5 @@
 -- A runner of valid code, and where a runner may stand in code.
 use Rattle.std.specs.Prelude.{◌≡◌, ℕ, ◌<◌, ◌≤◌, List, [], ◌∷◌, length, map, reverse, take, Bool, true, false, ◌==◌, IsTrue}
-use Rattle.ca_value.specs.Seq.{list}
 use Rattle.ca_value.specs.Tree.{Tree}
 use Rattle.ca_value.specs.View.{view, views}
 use Rattle.ca_value.specs.Builtins.{admits}

@@ -1,10 +1,10 @@
-use Rattle.std.proofs.Common.{◌≡◌, ◌+◌, ◌-◌, ◌++◌, ◌<◌, ◌∷◌, [], length, take, ◌∙◌, ap, arith}
+use Rattle.std.proofs.Common.{◌+◌, ◌-◌, ◌++◌, ◌<◌, length, take, ◌∙◌, ap, arith}
 use Rattle.std.specs.Prelude.{replicate}
 use Rattle.std.proofs.lemmas.List.{length-map}
 use Rattle.ca_value.specs.Tree.{nil}
 use Rattle.ca_value.specs.View.{view, views}
+use Rattle.ca_states.proofs.SlotLaws.{write_more}
 use Rattle.ca_states.proofs.StandingLaws.{filled_next}
-use Rattle.ca_states.proofs.CallLaws.{write_more}
 use Rattle.ca_states.proofs.slots.clear_from.Goals as goal
 
 pub loop-slot-preserved : goal.loop-slot-preserved

@@ -3,8 +3,7 @@ use Rattle.std.proofs.lemmas.List.{length-map}
 use Rattle.ca_value.specs.View.{view, views}
 use Rattle.ca_states.specs.Machine.{read, reads, slots_from, left_by}
 use Rattle.ca_states.proofs.RowLaws.{row_within}
-use Rattle.ca_states.proofs.SlotLaws.{read_next, read_other, take_next}
-use Rattle.ca_states.proofs.CallLaws.{write_more}
+use Rattle.ca_states.proofs.SlotLaws.{read_next, read_other, take_next, write_more}
 use Rattle.ca_states.proofs.slots.take_over.Goals as goal
 
 pub overflow_add-from : goal.overflow_add-from
