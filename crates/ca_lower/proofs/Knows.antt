@@ -210,6 +210,18 @@ valid_moves C w m g d a (suc n) K x ld lg le up row go =
     go)
 
 -- EXITS
+-- an exit that reads one slot and does nothing else to slots
+one_in_range : (w a : ℕ) → a < w → (are_below w (a ∷ []) && true && true && true) ≡ true
+one_in_range w a lt =
+    both_true (are_below w (a ∷ []) && true && true) true (both_true (are_below w (a ∷ []) && true) true (both_true (are_below w (a ∷ [])) true (one_below w a lt) refl) refl) refl
+
+-- an exit that takes values out of a row of slots, and whose answer comes into another
+row_in_range : (w h k : ℕ) (counted : Bool) → h < w → h + k ≤ w → counted ≡ true → (are_below w (slots_from h k) && are_below w (slots_from h k) && are_below w (h ∷ []) && counted) ≡ true
+row_in_range w h k counted lt le op =
+    let row = row_below w h k le in
+    let rows = both_true (are_below w (slots_from h k)) (are_below w (slots_from h k)) row row in
+    both_true (are_below w (slots_from h k) && are_below w (slots_from h k) && are_below w (h ∷ [])) counted (both_true (are_below w (slots_from h k) && are_below w (slots_from h k)) (are_below w (h ∷ [])) rows (one_below w h lt)) op
+
 pub valid_jump : (C : CodeView) (w n to b : ℕ) (p : Place) (K : Tells) → Begins C w to b → Up b K → Valid C w n K [] (Jump to p)
 valid_jump C w n to b p K t up = record {
   instrs = refl;
@@ -223,7 +235,7 @@ valid_jump C w n to b p K t up = record {
 pub valid_branch : (C : CodeView) (w n h yes_to no_to b : ℕ) (K : Tells) → h < w → K h ≡ true → n < yes_to → n < no_to → Begins C w yes_to b → Begins C w no_to b → Up b K → Valid C w n K [] (Branch h yes_to no_to)
 valid_branch C w n h yes_to no_to b K lt kh ly ln ty tn up = record {
   instrs = refl;
-  leads = both_true (are_below w (h ∷ []) && true && true) (is_target C w yes_to && (is_target C w no_to && true)) (both_true (are_below w (h ∷ []) && true) true (both_true (are_below w (h ∷ [])) true (one_below w h lt) refl) refl)
+  leads = both_true (are_below w (h ∷ []) && true && true && true) (is_target C w yes_to && (is_target C w no_to && true)) (one_in_range w h lt)
       (both_true (is_target C w yes_to) (is_target C w no_to && true) (target_begins C w yes_to b ty) (both_true (is_target C w no_to) true (target_begins C w no_to b tn) refl));
   forward = both_true (nat_lt n yes_to) (nat_lt n no_to) (lt-ltb n yes_to ly) (lt-ltb n no_to ln);
   reads = refl;
@@ -235,7 +247,7 @@ valid_branch C w n h yes_to no_to b K lt kh ly ln ty tn up = record {
 pub valid_return : (C : CodeView) (w n a : ℕ) (K : Tells) → a < w → K a ≡ true → Valid C w n K [] (Return a)
 valid_return C w n a K lt ka = record {
   instrs = refl;
-  leads = both_true (are_below w (a ∷ []) && true && true) true (both_true (are_below w (a ∷ []) && true) true (both_true (are_below w (a ∷ [])) true (one_below w a lt) refl) refl) refl;
+  leads = both_true (are_below w (a ∷ []) && true && true && true) true (one_in_range w a lt) refl;
   forward = refl;
   reads = refl;
   leaves = one_known K a ka;
@@ -251,8 +263,8 @@ valid_cut C w n h k to f p K lt le op t up =
     let L = noted true h (noted_all false (slots_from h k) K) in
     record {
       instrs = refl;
-      leads = both_true (are_below w (slots_from h k) && are_below w (h ∷ []) && is_operation C k f) (is_target C w to && true)
-          (both_true (are_below w (slots_from h k) && are_below w (h ∷ [])) (is_operation C k f) (both_true (are_below w (slots_from h k)) (are_below w (h ∷ [])) (row_below w h k le) (one_below w h lt)) op)
+      leads = both_true (are_below w (slots_from h k) && are_below w (slots_from h k) && are_below w (h ∷ []) && is_operation C k f) (is_target C w to && true)
+          (row_in_range w h k (is_operation C k f) lt le op)
           (both_true (is_target C w to) true (target_begins C w to (suc h) t) refl);
       forward = refl;
       reads = refl;
@@ -265,8 +277,8 @@ valid_call C w n h k to f p K lt le op t up =
     let L = noted true h (noted_all false (slots_from h k) K) in
     record {
       instrs = refl;
-      leads = both_true (are_below w (slots_from h k) && are_below w (h ∷ []) && takes C.functions f k) (is_target C w to && true)
-          (both_true (are_below w (slots_from h k) && are_below w (h ∷ [])) (takes C.functions f k) (both_true (are_below w (slots_from h k)) (are_below w (h ∷ [])) (row_below w h k le) (one_below w h lt)) op)
+      leads = both_true (are_below w (slots_from h k) && are_below w (slots_from h k) && are_below w (h ∷ []) && takes C.functions f k) (is_target C w to && true)
+          (row_in_range w h k (takes C.functions f k) lt le op)
           (both_true (is_target C w to) true (target_begins C w to (suc h) t) refl);
       forward = refl;
       reads = refl;

@@ -1,5 +1,5 @@
 -- Slots that hold the same where they are known, before and after an instruction.
-use Rattle.std.proofs.Common.{◌≡◌, ℕ, zero, suc, List, [], ◌∷◌, map, Bool, true, false, refl, sym, ap, ap₂, ◌∙◌, subst, cond, ◌&&◌}
+use Rattle.std.proofs.Common.{◌≡◌, ℕ, zero, suc, List, [], ◌∷◌, Bool, true, false, refl, sym, ap, ap₂, ◌∙◌, subst, cond}
 use Rattle.std.proofs.lemmas.Bool.{eqb-true, eqb-false}
 use Rattle.std.specs.Prelude.{◌==◌, Ok, Err}
 use Rattle.ca_value.specs.Tree.{Tree, int}
@@ -52,6 +52,9 @@ left_out K a k P known f = by (k == a) refl known
 
 pub agree_one_taken : (K : Known) (s t : List Tree) (a : ℕ) → Agree K s t → Agree (noted false a K) s (taken t a)
 agree_one_taken K s t a h k known = left_out K a k (read s k ≡ read (taken t a) k) known (λ ne is. h k is ∙ sym (read_other t a (left_by (read t a)) k ne))
+
+pub agree_one_written : (K : Known) (s t : List Tree) (a : ℕ) (v : Tree) → Agree K s t → Agree (noted false a K) (write s a v) t
+agree_one_written K s t a v h k known = left_out K a k (read (write s a v) k ≡ read t k) known (λ ne is. read_other s a v k ne ∙ h k is)
 
 pub agree_taken : (K : Known) (s t : List Tree) (a : ℕ) → Agree K s t → Agree (noted false a K) (taken s a) (taken t a)
 agree_taken K s t a h k known =

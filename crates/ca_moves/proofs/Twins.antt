@@ -2,7 +2,7 @@
 use Rattle.std.proofs.Common.{◌≡◌, ℕ, zero, suc, ◌+◌, ◌<◌, ◌≤◌, List, [], ◌∷◌, length, map, Bool, true, false, refl, sym, ap, ◌∙◌, subst, arith, cond, ◌&&◌}
 use Rattle.std.proofs.lemmas.Bool.{eqb-true, eqb-false, ltb-true}
 use Rattle.std.specs.Prelude.{◌==◌, nat_lt, slice_index_or, Result, Ok, Err}
-use Rattle.ca_value.specs.Tree.{Tree, trees_of}
+use Rattle.ca_value.specs.Tree.{Tree, int, trees_of}
 use Rattle.ca_value.specs.Outcome.{Outcome}
 use Rattle.ca_term.specs.declared.place.Place.{Place}
 use Rattle.ca_term.specs.declared.fault.Fault.{Fault}
@@ -13,15 +13,15 @@ use Rattle.ca_term.specs.Operation.{OpView, WantView}
 use Rattle.ca_term.specs.Turns.{is_spun, is_too_deep}
 use Rattle.ca_states.specs.declared.code.EntryPoint.{EntryPoint}
 use Rattle.ca_states.specs.declared.code.Exit.{Exit}
-use Rattle.ca_states.specs.declared.code.Exit.TheVariants.{Jump, Branch, Test, Call, Return, Cut}
-use Rattle.ca_states.specs.Code.{Slots, has_slot, Instruction, constant, copying, moving, clearing, one, two, two_int, pushing, putting, many, BlockView, CodeView, size, block_at, no_block, no_entry, function_at}
-use Rattle.ca_states.specs.Machine.{read, write, reads, taken, taken_all, slots_from, Effect, effect, applied, Frame, State, Move, goes, ends, faults, waits, begun, begun_at, turned, at_block, tested, called, returned, waiting, entered, leaves, went, runs, move, started, resumed}
+use Rattle.ca_states.specs.declared.code.Exit.TheVariants.{Jump, Branch, Test, TestInt, Call, Return, Cut}
+use Rattle.ca_states.specs.Code.{Slots, has_slot, Instruction, constant, copying, moving, clearing, one, two, two_int, pushing, putting, many, BlockView, CodeView, size, block_at, no_block, function_at}
+use Rattle.ca_states.specs.Machine.{read, write, reads, taken, taken_all, slots_from, Effect, effect, answered, applied, Frame, State, Move, goes, ends, faults, waits, begun, begun_at, turned, tested, called, returned, waiting, leaves, went, runs, move, resumed}
 use Rattle.ca_states.specs.Touched.{read_by, read_at, targets}
-use Rattle.ca_states.specs.Valid.{Known, each, takes, is_counted_exit, is_target, is_in_range, leads_forward, noted, noted_all, after, known_after, reads_known, past, implies, are_entry_slots_known, targets_known, begins_well, knows_slots, is_valid_block, is_valid, main_entry}
+use Rattle.ca_states.specs.Valid.{Known, each, is_counted_exit, is_target, is_in_range, leads_forward, noted, noted_all, after, known_after, reads_known, past, implies, are_entry_slots_known, targets_known, knows_slots, is_valid_block}
 use Rattle.ca_states.proofs.RowLaws.{both}
-use Rattle.ca_states.proofs.StandingLaws.{ValidParts, valid_parts, block_parts, takes_room}
-use Rattle.ca_moves.specs.Plain.{plain, doing, plain_block, plain_code}
-use Rattle.ca_moves.proofs.Agreeing.{Agree, agree_write, agree_one_taken, agree_taken_all, reads_agree, EffectsAlike, both_done, both_failed, effects_agree}
+use Rattle.ca_states.proofs.StandingLaws.{ValidParts, block_parts, takes_room}
+use Rattle.ca_moves.specs.Plain.{plain, tests, untested, plain_instrs, plain_block, plain_code}
+use Rattle.ca_moves.proofs.Agreeing.{Agree, agree_write, agree_one_taken, agree_one_written, agree_taken_all, read_same, reads_agree, EffectsAlike, both_done, both_failed, effects_agree}
 
 each_from : (f : ℕ → Bool) (a n k : ℕ) → each f (slots_from a n) ≡ true → a ≤ k → k < a + n → f k ≡ true
 each_from f a zero k h le lt = absurd (omega (arith, le, lt))
@@ -118,9 +118,21 @@ module _ (D : CodeView) (valid : ValidParts D) where
   returned_alike v turns no_frames = both_end v turns
   returned_alike v turns (one_frame next answer s t F G lt a r) = both_go _ _ (alike next (write s answer v) (write t answer v) F G turns lt (a v) r)
 
+  -- a test, and the instruction and the branch that it stands for
+  tests_alike : (K : Known) (w n to yes_to no_to : ℕ) (p : Place) (s t : List Tree) (F G : List Frame) (turns : ℕ) → each (is_target D w) (yes_to ∷ no_to ∷ []) ≡ true → each (λ m. are_entry_slots_known (noted false to K) (block_at D m).entry) (yes_to ∷ no_to ∷ []) ≡ true → Agree K s t → FramesAlike D F G
+      → (o u : Outcome) → o ≡ u → Twin D (went (answered s to p o) (standing n s F turns) (leaves C (Branch to yes_to no_to))) (tested p (standing n t G turns) yes_to no_to u)
+  tests_alike K w n to yes_to no_to p s t F G turns there known a f o u e =
+      subst (λ x. Twin D (went (answered s to p o) (standing n s F turns) (leaves C (Branch to yes_to no_to))) (tested p (standing n t G turns) yes_to no_to x)) e (by o)
+    where
+      by : (o : Outcome) → Twin D (went (answered s to p o) (standing n s F turns) (leaves C (Branch to yes_to no_to))) (tested p (standing n t G turns) yes_to no_to o)
+      by (Ok v) =
+          subst (λ x. Twin D (goes (standing (cond (truth x) yes_to no_to) (write s to v) F turns)) (goes (standing (cond (truth v) yes_to no_to) t G turns))) (sym (read_same s to v))
+          (either_alike (noted false to K) w yes_to no_to (write s to v) t F G turns there known (agree_one_written K s t to v a) f (truth v))
+      by (Err g) = both_fault (task_fault g) p turns
+
   -- the block is left
   twin_leaves : (x : Exit) (K : Known) (w n : ℕ) (s t : List Tree) (F G : List Frame) (turns : ℕ) → each K (read_at x) ≡ true → targets_known D K x ≡ true → each (is_target D w) (targets x) ≡ true → is_counted_exit D x ≡ true → Agree K s t → FramesAlike D F G
-      → Twin D (leaves C x (standing n s F turns)) (leaves D x (standing n t G turns))
+      → Twin D (runs C (tests x) (untested x) (standing n s F turns)) (leaves D x (standing n t G turns))
   twin_leaves (Jump next p) K w n s t F G turns reads_ok known there counted a f =
       let th = (both (is_target D w next) true there).0 in
       let kn = (both (are_entry_slots_known K (block_at D next).entry) true known).0 in
@@ -128,13 +140,10 @@ module _ (D : CodeView) (valid : ValidParts D) where
   twin_leaves (Branch b yes_to no_to) K w n s t F G turns reads_ok known there counted a f =
       subst (λ v. Twin D (goes (standing (cond (truth (read s b)) yes_to no_to) s F turns)) (goes (standing (cond (truth v) yes_to no_to) t G turns))) (a b (both (K b) true reads_ok).0)
       (either_alike K w yes_to no_to s t F G turns there known a f (truth (read s b)))
-  twin_leaves (Test b left right yes_to no_to p) K w n s t F G turns reads_ok known there counted a f =
-      subst (λ o. Twin D (tested p (standing n s F turns) yes_to no_to (applied b (reads s (left ∷ right ∷ [])))) (tested p (standing n t G turns) yes_to no_to o)) (ap (applied b) (reads_agree (left ∷ right ∷ []) K s t reads_ok a))
-      (by (applied b (reads s (left ∷ right ∷ []))))
-    where
-      by : (o : Outcome) → Twin D (tested p (standing n s F turns) yes_to no_to o) (tested p (standing n t G turns) yes_to no_to o)
-      by (Ok v) = either_alike K w yes_to no_to s t F G turns there known a f (truth v)
-      by (Err e) = both_fault (task_fault e) p turns
+  twin_leaves (Test b to left right yes_to no_to p) K w n s t F G turns reads_ok known there counted a f =
+      tests_alike K w n to yes_to no_to p s t F G turns there known a f (applied b (reads s (left ∷ right ∷ []))) (applied b (reads t (left ∷ right ∷ []))) (ap (applied b) (reads_agree (left ∷ right ∷ []) K s t reads_ok a))
+  twin_leaves (TestInt b to left z yes_to no_to p) K w n s t F G turns reads_ok known there counted a f =
+      tests_alike K w n to yes_to no_to p s t F G turns there known a f (applied b (read s left ∷ int z ∷ [])) (applied b (read t left ∷ int z ∷ [])) (ap (λ v. applied b (v ∷ int z ∷ [])) (a left (both (K left) true reads_ok).0))
   twin_leaves (Call m b k answer next p) K w n s t F G turns reads_ok known there counted a f =
       let vs = reads s (slots_from b k) in
       let e = function_at D m in
@@ -169,36 +178,36 @@ module _ (D : CodeView) (valid : ValidParts D) where
   twin_went K n F G turns s t E J m k (both_failed g p) h = both_fault g p turns
 
   -- an instruction that both do
-  both_do : (i : Instruction) (is js : List Instruction) (x : Exit) (K : Known) (n : ℕ) (s t : List Tree) (F G : List Frame) (turns : ℕ) → each K (read_by i) ≡ true → Agree K s t
-      → ((s2 t2 : List Tree) → Agree (after i K) s2 t2 → Twin D (runs C js x (standing n s2 F turns)) (runs D is x (standing n t2 G turns)))
-      → Twin D (runs C (plain i ∷ js) x (standing n s F turns)) (runs D (i ∷ is) x (standing n t G turns))
-  both_do i is js x K n s t F G turns known a h = twin_went (after i K) n F G turns s t (effect (plain i) s) (effect i t) (runs C js x) (runs D is x) (effects_agree i K s t known a) h
+  both_do : (i : Instruction) (is js : List Instruction) (x y : Exit) (K : Known) (n : ℕ) (s t : List Tree) (F G : List Frame) (turns : ℕ) → each K (read_by i) ≡ true → Agree K s t
+      → ((s2 t2 : List Tree) → Agree (after i K) s2 t2 → Twin D (runs C js y (standing n s2 F turns)) (runs D is x (standing n t2 G turns)))
+      → Twin D (runs C (plain i ∷ js) y (standing n s F turns)) (runs D (i ∷ is) x (standing n t G turns))
+  both_do i is js x y K n s t F G turns known a h = twin_went (after i K) n F G turns s t (effect (plain i) s) (effect i t) (runs C js y) (runs D is x) (effects_agree i K s t known a) h
 
   -- the first instruction; to let a value go is nothing in the plain code
   twin_first : (i : Instruction) (is : List Instruction) (x : Exit) (K : Known) (n : ℕ) (s t : List Tree) (F G : List Frame) (turns : ℕ) → each K (read_by i) ≡ true → Agree K s t
-      → ((s2 t2 : List Tree) → Agree (after i K) s2 t2 → Twin D (runs C (doing (map plain is)) x (standing n s2 F turns)) (runs D is x (standing n t2 G turns)))
-      → Twin D (runs C (doing (map plain (i ∷ is))) x (standing n s F turns)) (runs D (i ∷ is) x (standing n t G turns))
-  twin_first (constant to v) is x K n s t F G turns known a h = both_do (constant to v) is (doing (map plain is)) x K n s t F G turns known a h
-  twin_first (copying to b) is x K n s t F G turns known a h = both_do (copying to b) is (doing (map plain is)) x K n s t F G turns known a h
-  twin_first (moving to b) is x K n s t F G turns known a h = both_do (moving to b) is (doing (map plain is)) x K n s t F G turns known a h
+      → ((s2 t2 : List Tree) → Agree (after i K) s2 t2 → Twin D (runs C (plain_instrs is x) (untested x) (standing n s2 F turns)) (runs D is x (standing n t2 G turns)))
+      → Twin D (runs C (plain_instrs (i ∷ is) x) (untested x) (standing n s F turns)) (runs D (i ∷ is) x (standing n t G turns))
+  twin_first (constant to v) is x K n s t F G turns known a h = both_do (constant to v) is (plain_instrs is x) x (untested x) K n s t F G turns known a h
+  twin_first (copying to b) is x K n s t F G turns known a h = both_do (copying to b) is (plain_instrs is x) x (untested x) K n s t F G turns known a h
+  twin_first (moving to b) is x K n s t F G turns known a h = both_do (moving to b) is (plain_instrs is x) x (untested x) K n s t F G turns known a h
   twin_first (clearing b) is x K n s t F G turns known a h = h s (taken t b) (agree_one_taken K s t b a)
-  twin_first (one f to b p) is x K n s t F G turns known a h = both_do (one f to b p) is (doing (map plain is)) x K n s t F G turns known a h
-  twin_first (two f to b c p) is x K n s t F G turns known a h = both_do (two f to b c p) is (doing (map plain is)) x K n s t F G turns known a h
-  twin_first (two_int f to b z p) is x K n s t F G turns known a h = both_do (two_int f to b z p) is (doing (map plain is)) x K n s t F G turns known a h
-  twin_first (pushing to b c p) is x K n s t F G turns known a h = both_do (pushing to b c p) is (doing (map plain is)) x K n s t F G turns known a h
-  twin_first (putting to b k v p) is x K n s t F G turns known a h = both_do (putting to b k v p) is (doing (map plain is)) x K n s t F G turns known a h
-  twin_first (many f to b k p) is x K n s t F G turns known a h = both_do (many f to b k p) is (doing (map plain is)) x K n s t F G turns known a h
+  twin_first (one f to b p) is x K n s t F G turns known a h = both_do (one f to b p) is (plain_instrs is x) x (untested x) K n s t F G turns known a h
+  twin_first (two f to b c p) is x K n s t F G turns known a h = both_do (two f to b c p) is (plain_instrs is x) x (untested x) K n s t F G turns known a h
+  twin_first (two_int f to b z p) is x K n s t F G turns known a h = both_do (two_int f to b z p) is (plain_instrs is x) x (untested x) K n s t F G turns known a h
+  twin_first (pushing to b c p) is x K n s t F G turns known a h = both_do (pushing to b c p) is (plain_instrs is x) x (untested x) K n s t F G turns known a h
+  twin_first (putting to b k v p) is x K n s t F G turns known a h = both_do (putting to b k v p) is (plain_instrs is x) x (untested x) K n s t F G turns known a h
+  twin_first (many f to b k p) is x K n s t F G turns known a h = both_do (many f to b k p) is (plain_instrs is x) x (untested x) K n s t F G turns known a h
 
   -- the rest of a block
   twin_runs : (is : List Instruction) (x : Exit) (K : Known) (w n : ℕ) (s t : List Tree) (F G : List Frame) (turns : ℕ) → reads_known K is ≡ true → each (known_after K is) (read_at x) ≡ true → targets_known D (known_after K is) x ≡ true → each (is_target D w) (targets x) ≡ true → is_counted_exit D x ≡ true → Agree K s t → FramesAlike D F G
-      → Twin D (runs C (doing (map plain is)) x (standing n s F turns)) (runs D is x (standing n t G turns))
+      → Twin D (runs C (plain_instrs is x) (untested x) (standing n s F turns)) (runs D is x (standing n t G turns))
   twin_runs [] x K w n s t F G turns reads_ok leaves_ok known there counted a f = twin_leaves x K w n s t F G turns leaves_ok known there counted a f
   twin_runs (i ∷ is) x K w n s t F G turns reads_ok leaves_ok known there counted a f =
       let r = both (each K (read_by i)) (reads_known (after i K) is) reads_ok in
       twin_first i is x K n s t F G turns r.0 a (λ s2 t2 a2. twin_runs is x (after i K) w n s2 t2 F G turns r.1 leaves_ok known there counted a2 f)
 
   twin_block : (n : ℕ) (b : BlockView) → is_valid_block D n b ≡ true → (s t : List Tree) (F G : List Frame) (turns : ℕ) → Agree (has_slot b.entry) s t → FramesAlike D F G
-      → Twin D (runs C (doing (map plain b.instrs)) b.exit (standing n s F turns)) (runs D b.instrs b.exit (standing n t G turns))
+      → Twin D (runs C (plain_instrs b.instrs b.exit) (untested b.exit) (standing n s F turns)) (runs D b.instrs b.exit (standing n t G turns))
   twin_block n b h s t F G turns a f =
       let K = has_slot b.entry in
       let parts = block_parts D n b h in

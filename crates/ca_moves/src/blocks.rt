@@ -1,8 +1,10 @@
-//! Blocks with each copy a move where the slot isn't needed any more.
-ghost use Rattle.std.specs.Prelude.{◌≡◌, map, IfOk};
+//! Blocks with each copy a move where the slot isn't needed any more, and each branch by a builtin's value a test where
+//! nothing else needs the value.
+ghost use Rattle.std.specs.Prelude.{◌≡◌, ◌-◌, ◌∷◌, [], length, map, take, IfOk, IfSome};
 ghost use Rattle.ca_value.specs.Seq.{list};
 ghost use Rattle.ca_states.specs.Code.{instruction, block_view};
-ghost use Rattle.ca_moves.specs.Plain.{plain, doing, plain_block};
+ghost use Rattle.ca_states.specs.declared.code.Exit.TheVariants.{Branch};
+ghost use Rattle.ca_moves.specs.Plain.{plain, doing, tests, untested, plain_instrs, plain_block};
 
 use crate::guess::Needs;
 use crate::live::Live;
@@ -123,6 +125,95 @@ fn before_exit(
     }
 }
 
+// The test that the instruction and a branch by that slot are, if it is a builtin whose value comes into the slot. But
+// `conj` makes a collection, and changes its own where it lies.
+fn test_by(instr: &Instr, slot: u64, yes: u64, no: u64) -> Option<Exit>
+    ensures { IfSome result (λ x. (untested x ≡ Branch slot yes no) × (tests x ≡ doing (plain (instruction instr.now) ∷ []))) }
+{
+    match instr {
+        Instr::Two {
+            builtin,
+            to,
+            left,
+            right,
+            place,
+        } => {
+            if *to != slot || *builtin == Builtin::Conj {
+                return None;
+            }
+            Some(Exit::Test {
+                builtin: *builtin,
+                to: slot,
+                left: *left,
+                right: *right,
+                yes,
+                no,
+                place: *place,
+            })
+        }
+        Instr::TwoInt {
+            builtin,
+            to,
+            left,
+            right,
+            place,
+        } => {
+            if *to != slot {
+                return None;
+            }
+            Some(Exit::TestInt {
+                builtin: *builtin,
+                to: slot,
+                left: *left,
+                right: *right,
+                yes,
+                no,
+                place: *place,
+            })
+        }
+        _ => None,
+    }
+}
+
+// The test that the last instruction and the branch are, where these slots are needed behind it.
+fn test_at_end(instrs: &[Instr], exit: Exit, behind: &Live) -> Option<Exit>
+    ensures same { IfSome result (λ x. untested x ≡ untested exit) }
+    ensures instrs { IfSome result (λ x. plain_instrs (map instruction (take (length instrs.now - 1) instrs.now)) x ≡ plain_instrs (map instruction instrs.now) exit) }
+{
+    let Exit::Branch { slot, yes, no } = exit else {
+        return None;
+    };
+    if behind.has(slot) {
+        return None;
+    }
+    let last = instrs.get(instrs.len().saturating_sub(1))?;
+    test_by(last, slot, yes, no)
+}
+
+// The block, which ends in a test where its last instruction and its branch are one.
+fn tested_block(alloc: Global, needs: &Needs, block: Block) -> Result<Block, OutOfMemory>
+    ensures { IfOk result (λ b. plain_block (block_view b) ≡ plain_block (block_view block)) }
+{
+    let behind = needs.behind(alloc, &block)?;
+    let Some(test) = test_at_end(block.instrs.as_slice(), block.exit, &behind) else {
+        return Ok(block);
+    };
+    let Block {
+        width,
+        entry,
+        instrs,
+        exit: _,
+    } = block;
+    let mut instrs = instrs;
+    instrs.truncate(instrs.len().saturating_sub(1));
+    Ok(Block {
+        width,
+        entry,
+        instrs,
+        exit: test,
+    })
+}
+
 // The block of that number, where that is what the blocks need.
 fn moved_block(
     alloc: Global,
@@ -132,6 +223,7 @@ fn moved_block(
 ) -> Result<Block, OutOfMemory>
     ensures { IfOk result (λ b. plain_block (block_view b) ≡ plain_block (block_view block)) }
 {
+    let block = tested_block(alloc, needs, block)?;
     let needed = needs.at_exit(alloc, &block)?;
     let live = needs.at_entry(alloc, number, block.width)?;
     let free = free_slots(alloc, &needed, block.instrs.as_slice())?;

@@ -69,8 +69,8 @@ impl Needs {
         }
     }
 
-    /// What is needed at the end of the block, its exit with it.
-    pub(crate) fn at_exit(&self, alloc: Global, block: &Block) -> Result<Live, OutOfMemory> {
+    /// What the blocks need that the block leads to.
+    pub(crate) fn behind(&self, alloc: Global, block: &Block) -> Result<Live, OutOfMemory> {
         let mut live = Live::new(alloc, block.width)?;
         match &block.exit {
             Exit::Jump { next, .. } => self.add_to(&mut live, *next),
@@ -82,10 +82,20 @@ impl Needs {
                 self.add_to(&mut live, *yes);
                 self.add_to(&mut live, *no);
             }
+            Exit::TestInt { yes, no, .. } => {
+                self.add_to(&mut live, *yes);
+                self.add_to(&mut live, *no);
+            }
             Exit::Call { next, .. } => self.add_to(&mut live, *next),
             Exit::Return { .. } => {}
             Exit::Cut { next, .. } => self.add_to(&mut live, *next),
         }
+        Ok(live)
+    }
+
+    /// What is needed at the end of the block, its exit with it.
+    pub(crate) fn at_exit(&self, alloc: Global, block: &Block) -> Result<Live, OutOfMemory> {
+        let mut live = self.behind(alloc, block)?;
         live.leave(&block.exit);
         Ok(live)
     }

@@ -1,8 +1,9 @@
-//! Values moved at their last use, in place of being copied.
+//! Values moved at their last use, in place of being copied, and tests that leave a block at once.
 //!
-//! The one model: code with each move a copy (`specs/Plain.antt`). Valid code goes as its plain code does, so code that
-//! differs only in what it moves stands for the same programs. Which slots are needed where is guessed (`live`,
-//! `guess`), and no promise hangs on it: the blocks that come of it (`blocks`) are taken only where they are valid.
+//! The one model: code with each move a copy and each test a branch (`specs/Plain.antt`). Valid code goes as its plain
+//! code does, so code that differs only in what it moves and tests stands for the same programs. Which slots are needed
+//! where is guessed (`live`, `guess`), and no promise hangs on it: the blocks that come of it (`blocks`) are taken only
+//! where they are valid.
 //!
 //! Stands on `ca_states` and `ca_lower`. Start with `specs/Plain.antt`, then `moves`, `lower` and
 //! `laws`.

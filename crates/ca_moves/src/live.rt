@@ -229,9 +229,19 @@ impl Live {
         match exit {
             Exit::Jump { .. } => {}
             Exit::Branch { slot, .. } => self.put(*slot, true),
-            Exit::Test { left, right, .. } => {
+            Exit::Test {
+                to,
+                left,
+                right,
+                ..
+            } => {
+                self.put(*to, false);
                 self.put(*left, true);
                 self.put(*right, true);
+            }
+            Exit::TestInt { to, left, .. } => {
+                self.put(*to, false);
+                self.put(*left, true);
             }
             Exit::Call {
                 from,

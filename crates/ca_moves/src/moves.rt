@@ -1,4 +1,5 @@
-//! The pass: copies become moves where a variable is read for the last time.
+//! The pass: copies become moves where a variable is read for the last time, and a builtin and the branch by its value
+//! one test.
 ghost use Rattle.std.specs.Prelude.{◌≡◌, true, IfOk, IfSome};
 ghost use Rattle.ca_term.specs.Program.{ProgramView};
 ghost use Rattle.ca_states.specs.Code.{code_view};
@@ -26,7 +27,7 @@ fn is_small(blocks: &[Block]) -> bool {
     slots <= MOST_SLOTS
 }
 
-// The same code with each copy a move where the guess says so.
+// The same code with each copy a move, and each branch a test, where the guess says so.
 fn moved(alloc: Global, code: Code) -> Result<Code, OutOfMemory>
     ensures { IfOk result (λ c. plain_code (code_view c) ≡ plain_code (code_view code)) }
 {
@@ -59,8 +60,9 @@ fn moved_if_small(alloc: Global, code: Code) -> Result<Code, OutOfMemory>
     }
 }
 
-/// The same code, but that a value is moved out of its slot where it is read for the last time; each block names as
-/// entry slots what it needs. Code of more than 16,777,216 slots in all its blocks is only validated. None where what
+/// The same code, but that a value is moved out of its slot where it is read for the last time, and that a block ends in
+/// a test where nothing but its branch needs the value of its last instruction; each block names as entry slots what it
+/// needs. Code of more than 16,777,216 slots in all its blocks is only validated. None where what
 /// comes of it isn't valid; a guess of what is needed is right as far as is known, so this is said of no valid code.
 pub fn moves(alloc: Global, code: Code) -> Result<Option<ValidCode>, OutOfMemory>
     ensures plain { IfOk result (λ o. IfSome o (λ v. plain_code (valid_code v) ≡ plain_code (code_view code))) }

@@ -5,7 +5,6 @@ use Rattle.std.proofs.Math.Dec.{eqb-suc-zero, eqb-zero-suc, eqb-suc-suc}
 use Rattle.std.specs.Prelude.{cond, ◌&&◌, nat_eq, nat_lt, nat_le, slice_get, IsTrue, IfSome}
 use Rattle.ca_states.specs.declared.code.Mark.{Mark}
 use Rattle.ca_states.specs.declared.code.Exit.{Exit}
-use Rattle.ca_states.specs.declared.code.Exit.TheVariants.{Jump, Branch, Test, Call, Return, Cut}
 use Rattle.ca_states.specs.declared.code.Block.{Block}
 use Rattle.ca_states.specs.Code.{Slots, has_slot, Instruction, BlockView, CodeView, block_at, no_block, block_view}
 use Rattle.ca_states.specs.Machine.{slots_from}
@@ -200,15 +199,6 @@ some_at f [] n x d e = absurd (let g : None ≡ Some x = e in cc)
 some_at f (y ∷ ys) zero x d e = let g : y ≡ x = cc in ap f g
 some_at f (y ∷ ys) (suc n) x d e = some_at f ys n x d e
 
--- what an exit takes values out of it reads
-pub emptied_below : (width : ℕ) (x : Exit) → IsTrue (are_below width (read_at x)) → IsTrue (are_below width (emptied_at x))
-emptied_below width (Jump next p) h = refl
-emptied_below width (Branch a yes_to no_to) h = refl
-emptied_below width (Test b left right yes_to no_to p) h = refl
-emptied_below width (Call f a n answer next p) h = h
-emptied_below width (Return a) h = refl
-emptied_below width (Cut hd a n answer next p) h = h
-
 -- what it says of a block that it is in range
 pub record RangeParts (C : CodeView) (b : BlockView) : Type 0 where
   pub wide : b.width ≤ C.width
@@ -222,14 +212,16 @@ range_parts C b h =
     let four = both (nat_le b.width C.width && nat_le b.entry.below b.width && each (is_instruction_in_range b.width) b.instrs) (is_exit_in_range C b.width b.exit) h in
     let three = both (nat_le b.width C.width && nat_le b.entry.below b.width) (each (is_instruction_in_range b.width) b.instrs) four.0 in
     let two = both (nat_le b.width C.width) (nat_le b.entry.below b.width) three.0 in
-    let targets = both (are_below b.width (read_at b.exit) && are_below b.width (answered_at b.exit) && is_counted_exit C b.exit) (each (is_target C b.width) (targets b.exit)) four.1 in
-    let counted = both (are_below b.width (read_at b.exit) && are_below b.width (answered_at b.exit)) (is_counted_exit C b.exit) targets.0 in
-    let slots = both (are_below b.width (read_at b.exit)) (are_below b.width (answered_at b.exit)) counted.0 in
+    let taken = are_below b.width (read_at b.exit) && are_below b.width (emptied_at b.exit) in
+    let targets = both (taken && are_below b.width (answered_at b.exit) && is_counted_exit C b.exit) (each (is_target C b.width) (targets b.exit)) four.1 in
+    let counted = both (taken && are_below b.width (answered_at b.exit)) (is_counted_exit C b.exit) targets.0 in
+    let slots = both taken (are_below b.width (answered_at b.exit)) counted.0 in
+    let first = both (are_below b.width (read_at b.exit)) (are_below b.width (emptied_at b.exit)) slots.0 in
     record {
       wide = leb-true b.width C.width two.0;
       instrs = three.1;
-      reads = slots.0;
-      empties = emptied_below b.width b.exit slots.0;
+      reads = first.0;
+      empties = first.1;
       answers = slots.1;
     }
 

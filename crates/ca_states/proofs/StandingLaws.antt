@@ -18,7 +18,7 @@ use Rattle.ca_states.specs.declared.code.Block.{Block}
 use Rattle.ca_states.specs.declared.code.EntryPoint.{EntryPoint}
 use Rattle.ca_states.specs.declared.code.Instr.{Instr}
 use Rattle.ca_states.specs.declared.code.Exit.{Exit}
-use Rattle.ca_states.specs.declared.code.Exit.TheVariants.{Jump, Branch, Test, Call, Return, Cut}
+use Rattle.ca_states.specs.declared.code.Exit.TheVariants.{Jump, Branch, Test, TestInt, Call, Return, Cut}
 use Rattle.ca_states.specs.declared.calls.Frame.{Frame as FrameCode}
 use Rattle.ca_states.specs.declared.runner.Halt.{Halt}
 use Rattle.ca_states.specs.declared.stop.Stop.{Stop}
@@ -28,7 +28,7 @@ use Rattle.ca_states.specs.declared.runner.Start.TheVariants as begin
 use Rattle.ca_value.specs.declared.builtin.Builtin.TheVariants.{Conj, Assoc}
 use Rattle.ca_states.specs.Code.{has_slot, Instruction, constant, copying, moving, clearing, one, two, two_int, pushing, putting, many, BlockView, CodeView, size, block_at, no_block, block_view, instruction, no_entry, function_at}
 use Rattle.ca_states.specs.Machine.{read, write, reads, taken, taken_all, left_by, slots_from, Effect, done, failed, effect, answered, applied, Frame, State, Move, goes, ends, faults, waits, begun, turned, at_block, tested, returned, waiting, entered, leaves, went, runs, move, started, resumed, IsHalt, ComesTo, halts}
-use Rattle.ca_states.specs.Touched.{read_by, emptied_by, written_by, read_at, answered_at, targets}
+use Rattle.ca_states.specs.Touched.{read_by, emptied_by, written_by, read_at, emptied_at, answered_at, targets}
 use Rattle.ca_states.specs.Valid.{each, are_below, takes, is_counted_exit, is_target, is_instruction_in_range, is_exit_in_range, is_in_range, leads_forward, knows_slots, is_valid_block, are_valid_blocks, are_just, begins_well, main_entry, identity_entry, is_valid}
 use Rattle.ca_states.specs.Runs.{StopsAt, follows, effects}
 use Rattle.ca_states.specs.Standing.{frame_view, frames_view, state_view, HasSlots, AreFrames, Stands, TakesValue, HasRoom, FitsAnyway, FitsExit, FitsHere, HaltedAs, HaltsAs, HaltsNext, Passed, StopsAfter, WaitsAt, IsStart, entry_at}
@@ -102,8 +102,9 @@ block_parts C n b h =
     let four = both (nat_le b.width C.width && nat_le b.entry.below b.width && each (is_instruction_in_range b.width) b.instrs) (is_exit_in_range C b.width x) forward.0 in
     let three = both (nat_le b.width C.width && nat_le b.entry.below b.width) (each (is_instruction_in_range b.width) b.instrs) four.0 in
     let two = both (nat_le b.width C.width) (nat_le b.entry.below b.width) three.0 in
-    let led = both (are_below b.width (read_at x) && are_below b.width (answered_at x) && is_counted_exit C x) (each (is_target C b.width) (targets x)) four.1 in
-    let count = both (are_below b.width (read_at x) && are_below b.width (answered_at x)) (is_counted_exit C x) led.0 in
+    let slots = are_below b.width (read_at x) && are_below b.width (emptied_at x) && are_below b.width (answered_at x) in
+    let led = both (slots && is_counted_exit C x) (each (is_target C b.width) (targets x)) four.1 in
+    let count = both slots (is_counted_exit C x) led.0 in
     record {
       range = range_parts C b forward.0;
       forward = forward.1;
@@ -255,10 +256,11 @@ takes_value C (f ∷ fs) h = h.1
 pub fits_exit : (C : CodeView) (n width : ℕ) (x : Exit) (c : State) → ValidParts C → ExitParts C n width x → length c.slots ≡ width → AreFrames C c.frames → FitsExit C x c
 fits_exit C n width (Jump next p) c v e l fs = tt
 fits_exit C n width (Branch a yes_to no_to) c v e l fs = let lt = first_below width a [] e.reads in omega (arith, lt, l)
-fits_exit C n width (Test b left_at right_at yes_to no_to p) c v e l fs =
+fits_exit C n width (Test b to left_at right_at yes_to no_to p) c v e l fs =
     let lt = first_below width left_at (right_at ∷ []) e.reads in
     let rt = first_below width right_at [] (others_below width left_at (right_at ∷ []) e.reads) in
     (e.counted, omega (arith, lt, l), omega (arith, rt, l))
+fits_exit C n width (TestInt b to left_at z yes_to no_to p) c v e l fs = let lt = first_below width left_at [] e.reads in (e.counted, omega (arith, lt, l))
 fits_exit C n width (Call f a k answer next p) c v e l fs =
     (subst (λ w. IsTrue (are_below w (slots_from a k))) (sym l) e.reads, takes_room C v C.functions v.functions f k e.counted)
 fits_exit C n width (Return a) c v e l fs = let lt = first_below width a [] e.reads in (omega (arith, lt, l), takes_value C c.frames fs)
@@ -280,6 +282,11 @@ module _ (C : CodeView) where
       let lt = ltb-true c.block no_to (both (nat_lt c.block yes_to) (nat_lt c.block no_to) f).1 in
       (record { slots = t; frames = s.frames; turns = s.turns; depth = s.depth }, let here = s.slots.0 in omega (arith, lt, here))
 
+  tests_to : (c : State) (width yes_to no_to : ℕ) (p : Place) → Stands C c → length c.slots ≡ width → IsTrue (each (is_target C width) (yes_to ∷ no_to ∷ [])) → IsTrue (nat_lt c.block yes_to && nat_lt c.block no_to)
+      → (o : Outcome) → LeavesStanding C (left (size C) c) (tested p c yes_to no_to o)
+  tests_to c width yes_to no_to p s l leads f (Ok w) = branches_to c width yes_to no_to s l leads f (truth w)
+  tests_to c width yes_to no_to p s l leads f (Err g) = tt
+
   leaves_standing : (x : Exit) (c : State) (width : ℕ) → ValidParts C → ExitParts C c.block width x → length c.slots ≡ width → Stands C c → LeavesStanding C (left (size C) c) (leaves C x c)
   leaves_standing (Jump next p) c width v e l s =
       let t = target_has C width next c.slots (first_target C width next [] e.leads) l in
@@ -294,11 +301,8 @@ module _ (C : CodeView) where
         turn_less (size C) c.turns (length c.frames) c.block (length c.frames) next (omega (arith, lt)) s.depth,
       )))
   leaves_standing (Branch a yes_to no_to) c width v e l s = branches_to c width yes_to no_to s l e.leads e.forward (truth (read c.slots a))
-  leaves_standing (Test b left_at right_at yes_to no_to p) c width v e l s = by (applied b (read c.slots left_at ∷ read c.slots right_at ∷ []))
-    where
-      by : (o : Outcome) → LeavesStanding C (left (size C) c) (tested p c yes_to no_to o)
-      by (Ok w) = branches_to c width yes_to no_to s l e.leads e.forward (truth w)
-      by (Err f) = tt
+  leaves_standing (Test b to left_at right_at yes_to no_to p) c width v e l s = tests_to c width yes_to no_to p s l e.leads e.forward (applied b (read c.slots left_at ∷ read c.slots right_at ∷ []))
+  leaves_standing (TestInt b to left_at z yes_to no_to p) c width v e l s = tests_to c width yes_to no_to p s l e.leads e.forward (applied b (read c.slots left_at ∷ Tree.int z ∷ []))
   leaves_standing (Call f a k answer next p) c width v e l s =
       let P = LeavesStanding C (left (size C) c) in
       let vs = reads c.slots (slots_from a k) in
@@ -493,7 +497,8 @@ halted_waits C valid c0 c (Err x) r n e = tt
 pub fits_here : (C : CodeView) (x : Exit) (c : State) → FitsExit C x c → FitsHere x c
 fits_here C (Jump next p) c h = tt
 fits_here C (Branch a yes_to no_to) c h = h
-fits_here C (Test b left_at right_at yes_to no_to p) c h = (h.1, h.2)
+fits_here C (Test b to left_at right_at yes_to no_to p) c h = (h.1, h.2)
+fits_here C (TestInt b to left_at z yes_to no_to p) c h = h.1
 fits_here C (Call f a n answer next p) c h = tt
 fits_here C (Return a) c h = h
 fits_here C (Cut hd a n answer next p) c h = tt

@@ -15,7 +15,7 @@ use Rattle.ca_term.specs.Asking.{task_fault, asked}
 use Rattle.ca_term.specs.Turns.{is_spun, is_too_deep}
 use Rattle.ca_states.specs.declared.code.EntryPoint.{EntryPoint}
 use Rattle.ca_states.specs.declared.code.Exit.{Exit}
-use Rattle.ca_states.specs.declared.code.Exit.TheVariants.{Jump, Branch, Test, Call, Return, Cut}
+use Rattle.ca_states.specs.declared.code.Exit.TheVariants.{Jump, Branch, Test, TestInt, Call, Return, Cut}
 use Rattle.ca_states.specs.Code.{Instruction, constant, copying, moving, clearing, one, two, two_int, pushing, putting, many, CodeView, block_at, function_at}
 
 -- a slot's value; one that was never written holds nil
@@ -138,7 +138,8 @@ abbrev pub leaves : CodeView → Exit → State → Move
 leaves C (Jump next p) c =
     cond (nat_lt c.block next) (goes (at_block next c)) (turned c.turns p (goes (record c { block = next; turns = suc c.turns })))
 leaves C (Branch a yes_to no_to) c = goes (at_block (cond (truth (read c.slots a)) yes_to no_to) c)
-leaves C (Test b left right yes_to no_to p) c = tested p c yes_to no_to (applied b (read c.slots left ∷ read c.slots right ∷ []))
+leaves C (Test b to left right yes_to no_to p) c = tested p c yes_to no_to (applied b (read c.slots left ∷ read c.slots right ∷ []))
+leaves C (TestInt b to left z yes_to no_to p) c = tested p c yes_to no_to (applied b (read c.slots left ∷ int z ∷ []))
 leaves C (Call n a k answer next p) c =
     called c.turns c.frames p
     (goes (entered C (function_at C n) (reads c.slots (slots_from a k)) (record { next = next; answer = answer; slots = taken_all c.slots (slots_from a k) }) c))

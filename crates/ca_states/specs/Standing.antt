@@ -6,7 +6,7 @@ use Rattle.ca_value.specs.Builtins.{admits}
 use Rattle.ca_term.specs.Operation.{want_view}
 use Rattle.ca_states.specs.declared.code.EntryPoint.{EntryPoint}
 use Rattle.ca_states.specs.declared.code.Exit.{Exit}
-use Rattle.ca_states.specs.declared.code.Exit.TheVariants.{Jump, Branch, Test, Call, Return, Cut}
+use Rattle.ca_states.specs.declared.code.Exit.TheVariants.{Jump, Branch, Test, TestInt, Call, Return, Cut}
 use Rattle.ca_states.specs.declared.calls.Calls.{Calls}
 use Rattle.ca_states.specs.declared.calls.Frame.{Frame as FrameCode}
 use Rattle.ca_states.specs.declared.runner.Runner.{Runner}
@@ -87,7 +87,8 @@ Passed m false Stop.OutOfMemory r = Unit {0}
 abbrev pub halts_at : Exit → List Frame → Bool
 halts_at (Jump next p) fs = false
 halts_at (Branch a yes_to no_to) fs = false
-halts_at (Test b left right yes_to no_to p) fs = false
+halts_at (Test b to left right yes_to no_to p) fs = false
+halts_at (TestInt b to left z yes_to no_to p) fs = false
 halts_at (Call f a n answer next p) fs = false
 halts_at (Return a) [] = true
 halts_at (Return a) (f ∷ fs) = false
@@ -127,7 +128,8 @@ HasRoom C e count = (e.block < size C) × (count ≤ (block_at C e.block).width)
 abbrev pub FitsExit : CodeView → Exit → State → Type 0
 FitsExit C (Jump next p) c = Unit {0}
 FitsExit C (Branch a yes_to no_to) c = a < length c.slots
-FitsExit C (Test b left right yes_to no_to p) c = IsTrue (admits b 2) × (left < length c.slots) × (right < length c.slots)
+FitsExit C (Test b to left right yes_to no_to p) c = IsTrue (admits b 2) × (left < length c.slots) × (right < length c.slots)
+FitsExit C (TestInt b to left z yes_to no_to p) c = IsTrue (admits b 2) × (left < length c.slots)
 FitsExit C (Call f a n answer next p) c = IsTrue (are_below (length c.slots) (slots_from a n)) × HasRoom C (function_at C f) n
 FitsExit C (Return a) c = (a < length c.slots) × TakesValue c.frames
 FitsExit C (Cut h a n answer next p) c = IsTrue (are_below (length c.slots) (slots_from a n))
@@ -140,7 +142,8 @@ FitsAnyway C x c = (s : List Tree) → length s ≡ length c.slots → FitsExit 
 abbrev pub FitsHere : Exit → State → Type 0
 FitsHere (Jump next p) c = Unit {0}
 FitsHere (Branch a yes_to no_to) c = a < length c.slots
-FitsHere (Test b left right yes_to no_to p) c = (left < length c.slots) × (right < length c.slots)
+FitsHere (Test b to left right yes_to no_to p) c = (left < length c.slots) × (right < length c.slots)
+FitsHere (TestInt b to left z yes_to no_to p) c = left < length c.slots
 FitsHere (Call f a n answer next p) c = Unit {0}
 FitsHere (Return a) c = (a < length c.slots) × TakesValue c.frames
 FitsHere (Cut h a n answer next p) c = Unit {0}

@@ -1,7 +1,8 @@
--- Which slots an instruction or an exit reads, takes values out of, and writes; and where an exit leads.
+-- Which slots an instruction or an exit reads, takes values out of, and writes; and where an exit leads. The slot of a
+-- test, into which its value doesn't come, counts as one that a value was taken out of: it is unknown afterwards.
 use Rattle.std.specs.Prelude.{ℕ, List, [], ◌∷◌}
 use Rattle.ca_states.specs.declared.code.Exit.{Exit}
-use Rattle.ca_states.specs.declared.code.Exit.TheVariants.{Jump, Branch, Test, Call, Return, Cut}
+use Rattle.ca_states.specs.declared.code.Exit.TheVariants.{Jump, Branch, Test, TestInt, Call, Return, Cut}
 use Rattle.ca_states.specs.Code.{Instruction, constant, copying, moving, clearing, one, two, two_int, pushing, putting, many}
 use Rattle.ca_states.specs.Machine.{slots_from}
 
@@ -44,7 +45,8 @@ written_by (many b to a n p) = to ∷ []
 abbrev pub read_at : Exit → List ℕ
 read_at (Jump next p) = []
 read_at (Branch a yes_to no_to) = a ∷ []
-read_at (Test b left right yes_to no_to p) = left ∷ right ∷ []
+read_at (Test b to left right yes_to no_to p) = left ∷ right ∷ []
+read_at (TestInt b to left z yes_to no_to p) = left ∷ []
 read_at (Call f a n answer next p) = slots_from a n
 read_at (Return a) = a ∷ []
 read_at (Cut h a n answer next p) = slots_from a n
@@ -52,7 +54,8 @@ read_at (Cut h a n answer next p) = slots_from a n
 abbrev pub emptied_at : Exit → List ℕ
 emptied_at (Jump next p) = []
 emptied_at (Branch a yes_to no_to) = []
-emptied_at (Test b left right yes_to no_to p) = []
+emptied_at (Test b to left right yes_to no_to p) = to ∷ []
+emptied_at (TestInt b to left z yes_to no_to p) = to ∷ []
 emptied_at (Call f a n answer next p) = slots_from a n
 emptied_at (Return a) = []
 emptied_at (Cut h a n answer next p) = slots_from a n
@@ -61,7 +64,8 @@ emptied_at (Cut h a n answer next p) = slots_from a n
 abbrev pub answered_at : Exit → List ℕ
 answered_at (Jump next p) = []
 answered_at (Branch a yes_to no_to) = []
-answered_at (Test b left right yes_to no_to p) = []
+answered_at (Test b to left right yes_to no_to p) = []
+answered_at (TestInt b to left z yes_to no_to p) = []
 answered_at (Call f a n answer next p) = answer ∷ []
 answered_at (Return a) = []
 answered_at (Cut h a n answer next p) = answer ∷ []
@@ -70,7 +74,8 @@ answered_at (Cut h a n answer next p) = answer ∷ []
 abbrev pub targets : Exit → List ℕ
 targets (Jump next p) = next ∷ []
 targets (Branch a yes_to no_to) = yes_to ∷ no_to ∷ []
-targets (Test b left right yes_to no_to p) = yes_to ∷ no_to ∷ []
+targets (Test b to left right yes_to no_to p) = yes_to ∷ no_to ∷ []
+targets (TestInt b to left z yes_to no_to p) = yes_to ∷ no_to ∷ []
 targets (Call f a n answer next p) = next ∷ []
 targets (Return a) = []
 targets (Cut h a n answer next p) = next ∷ []

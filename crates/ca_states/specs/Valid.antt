@@ -9,7 +9,7 @@ use Rattle.ca_term.specs.declared.head.SystemTask.TheVariants as task
 use Rattle.ca_term.specs.declared.head.PlainFunction.{PlainFunction}
 use Rattle.ca_states.specs.declared.code.EntryPoint.{EntryPoint}
 use Rattle.ca_states.specs.declared.code.Exit.{Exit}
-use Rattle.ca_states.specs.declared.code.Exit.TheVariants.{Jump, Branch, Test, Call, Return, Cut}
+use Rattle.ca_states.specs.declared.code.Exit.TheVariants.{Jump, Branch, Test, TestInt, Call, Return, Cut}
 use Rattle.ca_states.specs.Code.{Slots, has_slot, Instruction, constant, copying, moving, clearing, one, two, two_int, pushing, putting, many, BlockView, CodeView, size, block_at, no_entry}
 use Rattle.ca_states.specs.Machine.{slots_from}
 use Rattle.ca_states.specs.Touched.{read_by, emptied_by, written_by, read_at, emptied_at, answered_at, targets}
@@ -61,7 +61,8 @@ is_operation C count other = true
 abbrev pub is_counted_exit : CodeView → Exit → Bool
 is_counted_exit C (Jump next p) = true
 is_counted_exit C (Branch a yes_to no_to) = true
-is_counted_exit C (Test b left right yes_to no_to p) = admits b 2
+is_counted_exit C (Test b to left right yes_to no_to p) = admits b 2
+is_counted_exit C (TestInt b to left z yes_to no_to p) = admits b 2
 is_counted_exit C (Call f a n answer next p) = takes C.functions f n
 is_counted_exit C (Return a) = true
 is_counted_exit C (Cut h a n answer next p) = is_operation C n h
@@ -74,7 +75,7 @@ abbrev pub is_instruction_in_range : ℕ → Instruction → Bool
 is_instruction_in_range width i = are_below width (read_by i) && are_below width (emptied_by i) && are_below width (written_by i) && is_counted i
 
 abbrev pub is_exit_in_range : CodeView → ℕ → Exit → Bool
-is_exit_in_range C width x = are_below width (read_at x) && are_below width (answered_at x) && is_counted_exit C x && each (is_target C width) (targets x)
+is_exit_in_range C width x = are_below width (read_at x) && are_below width (emptied_at x) && are_below width (answered_at x) && is_counted_exit C x && each (is_target C width) (targets x)
 
 abbrev pub is_in_range : CodeView → BlockView → Bool
 is_in_range C b = nat_le b.width C.width && nat_le b.entry.below b.width && each (is_instruction_in_range b.width) b.instrs && is_exit_in_range C b.width b.exit
@@ -83,7 +84,8 @@ is_in_range C b = nat_le b.width C.width && nat_le b.entry.below b.width && each
 abbrev pub leads_forward : ℕ → Exit → Bool
 leads_forward n (Jump next p) = true
 leads_forward n (Branch a yes_to no_to) = nat_lt n yes_to && nat_lt n no_to
-leads_forward n (Test b left right yes_to no_to p) = nat_lt n yes_to && nat_lt n no_to
+leads_forward n (Test b to left right yes_to no_to p) = nat_lt n yes_to && nat_lt n no_to
+leads_forward n (TestInt b to left z yes_to no_to p) = nat_lt n yes_to && nat_lt n no_to
 leads_forward n (Call f a k answer next p) = true
 leads_forward n (Return a) = true
 leads_forward n (Cut h a k answer next p) = true
@@ -114,7 +116,7 @@ reads_known K [] = true
 reads_known K (i ∷ is) = each K (read_by i) && reads_known (after i K) is
 
 -- Rule 4: the entry slots of each target are known at the exit, where the values that a call or an operation
--- takes out of its slots have left them, and the answer's slot counts as known.
+-- takes out of its slots have left them, the answer's slot counts as known, and a test's slot as unknown.
 abbrev pub past : Exit → Known → Known
 past x K = noted_all true (answered_at x) (noted_all false (emptied_at x) K)
 

@@ -116,6 +116,9 @@ impl Texts {
             Exit::Test { yes, no, .. } => {
                 self.is_target_known(notes, entry, *yes) && self.is_target_known(notes, entry, *no)
             }
+            Exit::TestInt { yes, no, .. } => {
+                self.is_target_known(notes, entry, *yes) && self.is_target_known(notes, entry, *no)
+            }
             Exit::Call { next, .. } => self.is_target_known(notes, entry, *next),
             Exit::Return { .. } => true,
             Exit::Cut { next, .. } => self.is_target_known(notes, entry, *next),

@@ -128,11 +128,23 @@ pub enum Exit {
         yes: u64,
         no: u64,
     },
-    /// A builtin of two operands, and a branch by its value.
+    /// A builtin of two operands, and a branch by its value, which comes into no slot. What the slot `to`
+    /// holds is unknown afterwards, as if the value had come into it and were let go.
     Test {
         builtin: Builtin,
+        to: u64,
         left: u64,
         right: u64,
+        yes: u64,
+        no: u64,
+        place: Place,
+    },
+    /// The same of a builtin of an operand and an integer of the text.
+    TestInt {
+        builtin: Builtin,
+        to: u64,
+        left: u64,
+        right: i64,
         yes: u64,
         no: u64,
         place: Place,

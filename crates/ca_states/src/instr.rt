@@ -153,8 +153,8 @@ pub(crate) fn run_two(
     settle(slots, to, place, outcome)
 }
 
-// The integer as a value.
-fn integer(n: i64) -> Value
+/// The integer as a value.
+pub(crate) fn integer(n: i64) -> Value
     ensures { view result ≡ int n }
 {
     Value::Int(n)

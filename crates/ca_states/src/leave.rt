@@ -4,15 +4,19 @@ ghost use Rattle.std.specs.Bool.{OnTrue, OnFalse};
 ghost use Rattle.ca_value.specs.Seq.{list};
 ghost use Rattle.ca_value.specs.View.{view, views};
 ghost use Rattle.ca_value.specs.Builtins.{admits};
+ghost use Rattle.ca_value.specs.Outcome.{Outcome};
+ghost use Rattle.ca_value.specs.Tree.{int};
 ghost use Rattle.ca_term.specs.Operands.{truth};
 ghost use Rattle.ca_term.specs.declared.fault.Fault.TheVariants.{Spun};
 ghost use Rattle.ca_term.specs.declared.place.Place.{Place as PurePlace};
 ghost use Rattle.ca_states.specs.Code.{code_view, CodeView};
 ghost use Rattle.ca_states.specs.Machine.{applied, at_block, faults, goes, leaves, read, tested, turned, slots_from};
+ghost use Rattle.ca_states.specs.Runs.{Decides};
 ghost use Rattle.ca_states.specs.Standing.{calls_view, state_view, halts_at, FitsExit, FitsHere, Passed};
 
 use crate::code::{Code, Exit};
-use crate::plain::truth_in_place;
+use crate::instr::integer;
+use crate::plain::{truth_in_place, truth_int_in_place};
 use crate::runner::Runner;
 use crate::slots::value_at;
 use crate::stop::{Stop, task_fault};
@@ -20,6 +24,7 @@ use ca_term::fault::Fault;
 use ca_term::place::Place;
 use ca_value::builtin::Builtin;
 use ca_value::builtin::direct::apply_two;
+use ca_value::builtin::scalars::truth_of_values;
 use ca_value::fault::ApplyError;
 use ca_value::value::Value;
 use std::alloc::Global;
@@ -37,6 +42,23 @@ fn is_true(value: &Value) -> bool
         Value::Bool(b) => *b,
         _ => true,
     }
+}
+
+// Whether a builtin of two values comes to true. Where it only compares them, no value is made.
+fn truth_of(
+    alloc: Global,
+    builtin: Builtin,
+    left: &Value,
+    right: &Value,
+) -> Result<bool, ApplyError>
+    requires { IsTrue (admits builtin 2) }
+    ensures { Decides result (applied builtin (view left.now ∷ view right.now ∷ [])) }
+{
+    if let Some(truth) = truth_of_values(builtin, left, right) {
+        return Ok(truth);
+    }
+    let value = apply_two(alloc, builtin, left, right)?;
+    Ok(is_true(&value))
 }
 
 impl Runner {
@@ -105,6 +127,33 @@ impl Runner {
         };
     }
 
+    // To one of two blocks, as a test decided; a fault stops the runner.
+    fn go_by(
+        &mut self,
+        decided: Result<bool, ApplyError>,
+        yes: u64,
+        no: u64,
+        place: Place,
+        stop: &mut Stop,
+    ) -> bool
+        ensures { (o : Outcome) → Decides decided o → Passed (tested place (state_view self.old) yes no o) result stop.new self.new }
+    {
+        match decided {
+            Ok(truth) => {
+                self.block = if truth { yes } else { no };
+                true
+            }
+            Err(ApplyError::Fault(fault)) => {
+                *stop = Stop::Fault(task_fault(fault), place);
+                false
+            }
+            Err(ApplyError::OutOfMemory) => {
+                *stop = Stop::OutOfMemory;
+                false
+            }
+        }
+    }
+
     // By the truth of a builtin of two slots.
     #[inline(never)]
     fn test(
@@ -124,26 +173,40 @@ impl Runner {
         ensures { Passed (tested place (state_view self.old) yes no (applied builtin (read (views self.old.slots.items) left ∷ read (views self.old.slots.items) right ∷ []))) result stop.new self.new }
     {
         let slots = self.slots.as_slice();
-        let outcome = apply_two(
+        let decided = truth_of(
             alloc,
             builtin,
             value_at(slots, left),
             value_at(slots, right),
         );
-        match outcome {
-            Ok(value) => {
-                self.block = if is_true(&value) { yes } else { no };
-                true
-            }
-            Err(ApplyError::Fault(fault)) => {
-                *stop = Stop::Fault(task_fault(fault), place);
-                false
-            }
-            Err(ApplyError::OutOfMemory) => {
-                *stop = Stop::OutOfMemory;
-                false
-            }
-        }
+        self.go_by(decided, yes, no, place, stop)
+    }
+
+    // By the truth of a builtin of a slot and an integer of the text.
+    #[inline(never)]
+    fn test_int(
+        &mut self,
+        alloc: Global,
+        builtin: Builtin,
+        left: u64,
+        right: i64,
+        yes: u64,
+        no: u64,
+        place: Place,
+        stop: &mut Stop,
+    ) -> bool
+        requires counted { IsTrue (admits builtin 2) }
+        requires left { left < length self.old.slots.items }
+        ensures { Passed (tested place (state_view self.old) yes no (applied builtin (read (views self.old.slots.items) left ∷ int right ∷ []))) result stop.new self.new }
+    {
+        let right = integer(right);
+        let decided = truth_of(
+            alloc,
+            builtin,
+            value_at(self.slots.as_slice(), left),
+            &right,
+        );
+        self.go_by(decided, yes, no, place, stop)
     }
 
     // By the truth of a builtin of two slots, where both hold integers and it compares them.
@@ -155,6 +218,27 @@ impl Runner {
         ensures left { OnFalse result (self.new ≡ self.old) }
     {
         let Some(truth) = truth_in_place(self.slots.as_slice(), builtin, left, right) else {
+            return false;
+        };
+        self.block = if truth { yes } else { no };
+        true
+    }
+
+    // The same of a slot and an integer of the text.
+    #[inline(always)]
+    fn test_int_in_place(
+        &mut self,
+        builtin: Builtin,
+        left: u64,
+        right: i64,
+        yes: u64,
+        no: u64,
+    ) -> bool
+        requires { left < length self.old.slots.items }
+        ensures gone { OnTrue result ((p : PurePlace) → tested p (state_view self.old) yes no (applied builtin (read (views self.old.slots.items) left ∷ int right ∷ [])) ≡ goes (state_view self.new)) }
+        ensures left { OnFalse result (self.new ≡ self.old) }
+    {
+        let Some(truth) = truth_int_in_place(self.slots.as_slice(), builtin, left, right) else {
             return false;
         };
         self.block = if truth { yes } else { no };
@@ -183,6 +267,14 @@ impl Runner {
                 no,
                 ..
             } => self.test_in_place(*builtin, *left, *right, *yes, *no),
+            Exit::TestInt {
+                builtin,
+                left,
+                right,
+                yes,
+                no,
+                ..
+            } => self.test_int_in_place(*builtin, *left, *right, *yes, *no),
             Exit::Return { slot } => {
                 self.give_back(*slot);
                 true
@@ -212,7 +304,17 @@ impl Runner {
                 yes,
                 no,
                 place,
+                ..
             } => self.test(alloc, *builtin, *left, *right, *yes, *no, *place, stop),
+            Exit::TestInt {
+                builtin,
+                left,
+                right,
+                yes,
+                no,
+                place,
+                ..
+            } => self.test_int(alloc, *builtin, *left, *right, *yes, *no, *place, stop),
             Exit::Call {
                 function,
                 from,

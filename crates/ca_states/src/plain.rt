@@ -294,6 +294,20 @@ pub(crate) fn truth_in_place(
     truth_of_two(builtin, int_at(slots, left)?, int_at(slots, right)?)
 }
 
+/// The truth of a builtin of a slot and an integer of the text, where the slot holds one too and it compares them.
+#[inline(always)]
+pub(crate) fn truth_int_in_place(
+    slots: &[Value],
+    builtin: Builtin,
+    left: u64,
+    right: i64,
+) -> Option<bool>
+    requires { left < length slots.now }
+    ensures { IfSome result (λ t. applied builtin (read (views slots.now) left ∷ int right ∷ []) ≡ Ok (bool t)) }
+{
+    truth_of_two(builtin, int_at(slots, left)?, right)
+}
+
 // A builtin that is done in place; else nothing is done.
 #[inline(always)]
 fn apply_in_place(slots: &mut [Value], instr: &Instr) -> bool

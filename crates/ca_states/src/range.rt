@@ -82,6 +82,7 @@ impl Exit {
         match self {
             Exit::Branch { yes, no, .. } => block < *yes && block < *no,
             Exit::Test { yes, no, .. } => block < *yes && block < *no,
+            Exit::TestInt { yes, no, .. } => block < *yes && block < *no,
             _ => true,
         }
     }
@@ -140,6 +141,7 @@ impl Texts {
     {
         match exit {
             Exit::Test { builtin, .. } => builtin.admits(2),
+            Exit::TestInt { builtin, .. } => builtin.admits(2),
             Exit::Call {
                 function,
                 count,
@@ -169,6 +171,8 @@ impl Texts {
             Exit::Branch { yes, no, .. } => self.is_target(width, *yes)
                 && self.is_target(width, *no),
             Exit::Test { yes, no, .. } => self.is_target(width, *yes) && self.is_target(width, *no),
+            Exit::TestInt { yes, no, .. } => self.is_target(width, *yes)
+                && self.is_target(width, *no),
             Exit::Call { next, .. } => self.is_target(width, *next),
             Exit::Return { .. } => true,
             Exit::Cut { next, .. } => self.is_target(width, *next),
@@ -180,6 +184,7 @@ impl Texts {
         ensures { result ≡ is_exit_in_range (texts_view self.now) width exit.now }
     {
         exit.reads().are_below(width)
+            && exit.empties().are_below(width)
             && exit.answers().are_below(width)
             && self.is_counted_exit(exit)
             && self.are_targets(width, exit)

@@ -92,6 +92,7 @@ impl Exit {
             Exit::Jump { .. } => Numbers::None,
             Exit::Branch { slot, .. } => Numbers::One(*slot),
             Exit::Test { left, right, .. } => Numbers::Two(*left, *right),
+            Exit::TestInt { left, .. } => Numbers::One(*left),
             Exit::Call { from, count, .. } => Numbers::Range {
                 from: *from,
                 count: *count,
@@ -104,11 +105,13 @@ impl Exit {
         }
     }
 
-    /// The slots that it takes values out of.
+    /// The slots that it takes values out of, or that are unknown behind it for another reason: a test's.
     pub fn empties(&self) -> Numbers
         ensures { numbers result ≡ emptied_at self.now }
     {
         match self {
+            Exit::Test { to, .. } => Numbers::One(*to),
+            Exit::TestInt { to, .. } => Numbers::One(*to),
             Exit::Call { from, count, .. } => Numbers::Range {
                 from: *from,
                 count: *count,

@@ -129,12 +129,32 @@ fn append_exit(alloc: Global, text: &mut String, exit: &Exit) -> Result<(), RowE
         Exit::Branch { slot, yes, no } => append_word(alloc, text, "branch", &[*slot, *yes, *no]),
         Exit::Test {
             builtin,
+            to,
             left,
             right,
             yes,
             no,
             ..
-        } => append_applied(alloc, text, "test:", *builtin, &[*left, *right, *yes, *no]),
+        } => append_applied(
+            alloc,
+            text,
+            "test:",
+            *builtin,
+            &[*to, *left, *right, *yes, *no],
+        ),
+        Exit::TestInt {
+            builtin,
+            to,
+            left,
+            right,
+            yes,
+            no,
+            ..
+        } => {
+            append_applied(alloc, text, "testint:", *builtin, &[*to, *left])?;
+            text.push_str(format!(in alloc; ":{right}:{yes}:{no}")?.as_str())?;
+            Ok(())
+        }
         Exit::Call {
             function,
             from,

@@ -216,8 +216,18 @@ fn exit(word: &str, place: Place) -> Result<Exit, RowError> {
         }),
         b"test" => Ok(Exit::Test {
             builtin: parts.builtin()?,
+            to: parts.number()?,
             left: parts.number()?,
             right: parts.number()?,
+            yes: parts.number()?,
+            no: parts.number()?,
+            place,
+        }),
+        b"testint" => Ok(Exit::TestInt {
+            builtin: parts.builtin()?,
+            to: parts.number()?,
+            left: parts.number()?,
+            right: parts.integer()?,
             yes: parts.number()?,
             no: parts.number()?,
             place,
