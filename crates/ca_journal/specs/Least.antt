@@ -1,13 +1,12 @@
 -- Which of several queues of entries comes next: the first of those whose front has the least number.
-use Rattle.std.specs.Prelude.{ℕ, suc, List, [], ◌∷◌, Option, Some, None, option_map, cond, nat_lt, map, slice_get}
-use Rattle.std.specs.declared.collections.VecDeque.{VecDeque}
-use Rattle.ca_journal.specs.declared.entry.Entry.{Entry}
+use Rattle.std.specs.Prelude.{ℕ, suc, List, [], ◌∷◌, ◌++◌, Option, Some, None, option_map, cond, nat_lt, map, slice_get}
 use Rattle.ca_journal.specs.declared.merge.Least.{Least}
-use Rattle.ca_journal.specs.Merge.{Numbered, entry_view}
+use Rattle.ca_journal.specs.declared.queue.Queue.{Queue}
+use Rattle.ca_journal.specs.Merge.{Numbered, entry_view, joined, piece}
 
 -- the entries of a queue, the next one first
-abbrev pub waiting : {Z : Type 0} → VecDeque Entry Z → List Numbered
-waiting q = map entry_view q.items
+abbrev pub waiting : Queue → List Numbered
+waiting q = map entry_view q.front.items ++ joined (map piece q.behind.items)
 
 abbrev pub first_number : List Numbered → Option ℕ
 first_number q = option_map (λ e. e.number) (slice_get q 0)

@@ -1,8 +1,8 @@
 -- The entries of several lists, in order of number.
-use Rattle.std.specs.Prelude.{ℕ, ◌≤◌, List, [], ◌∷◌, ◌++◌, cond, nat_le, map}
-use Rattle.ca_value.specs.Seq.{list}
-use Rattle.ca_value.specs.declared.seq.Seq.{Seq}
+use Rattle.std.specs.Prelude.{ℕ, ◌-◌, ◌≤◌, List, [], ◌∷◌, ◌++◌, cond, nat_le, map, vec_len, vec_capacity}
+use Rattle.std.specs.declared.vec.Vec.{Vec}
 use Rattle.ca_term.specs.Event.{EventView, event_view}
+use Rattle.ca_journal.specs.declared.entries.Entries.{Entries}
 use Rattle.ca_journal.specs.declared.entry.Entry.{Entry}
 
 -- an event and its number
@@ -13,9 +13,6 @@ pub record Numbered : Type 0 where
 abbrev pub entry_view : Entry → Numbered
 entry_view e = record { number = e.number; event = event_view e.event }
 
-abbrev pub entries : Seq Entry → List Numbered
-entries s = map entry_view (list s)
-
 abbrev pub events_of : List Numbered → List EventView
 events_of es = map (λ e. e.event) es
 
@@ -23,6 +20,17 @@ events_of es = map (λ e. e.event) es
 abbrev pub joined : List (List Numbered) → List Numbered
 joined [] = []
 joined (es ∷ lists) = es ++ joined lists
+
+abbrev pub piece : {Z : Type 0} → Vec Entry Z → List Numbered
+piece p = map entry_view p.items
+
+-- the entries of all pieces
+abbrev pub entries : Entries → List Numbered
+entries es = joined (map piece es.full.items) ++ piece es.last
+
+-- how many entries more fit with no growth
+abbrev pub room : Entries → ℕ
+room es = vec_capacity es.last - vec_len es.last
 
 -- the list with one more entry, before the first that has no lower number
 abbrev pub placed : Numbered → List Numbered → List Numbered

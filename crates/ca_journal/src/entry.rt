@@ -8,8 +8,5 @@ pub struct Entry {
     pub event: Event,
 }
 
-/// What one worker drew, in its order.
-pub type Entries = Seq<Entry>;
-
 /// The events of a run, in order.
 pub type Journal = Seq<Event>;

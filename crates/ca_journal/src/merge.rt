@@ -1,13 +1,14 @@
 ghost use Rattle.std.specs.Prelude.{◌≡◌, ◌<◌, [], ◌++◌, true, length, map, drop, IfOk, IfNone, IfSome, option_map, option_to_list, slice_get, slice_set, slice_index_or, vec_len};
 ghost use Rattle.ca_journal.specs.Events.{events};
-ghost use Rattle.ca_journal.specs.Merge.{entries, entry_view, events_of, in_order, joined, EachAscends};
-ghost use Rattle.ca_journal.specs.Least.{waiting, first_number, nearer, least_from};
-ghost use Rattle.ca_journal.specs.Rising.{rises_from, all_rise};
+ghost use Rattle.ca_journal.specs.Merge.{entries, entry_view, events_of, in_order, joined, piece, EachAscends};
+ghost use Rattle.ca_journal.specs.Least.{waiting, nearer, least_from};
+ghost use Rattle.ca_journal.specs.Rising.{risen, risen_from, rises_from, all_rise};
 
-use crate::entry::{Entries, Entry, Journal};
+use crate::entries::Entries;
+use crate::entry::{Entry, Journal};
+use crate::queue::Queue;
 use ca_value::memory::OutOfMemory;
 use std::alloc::Global;
-use std::collections::VecDeque;
 
 // A queue, and the number of the entry in its front.
 #[derive(Clone, Copy, PartialEq, Eq, Debug)]
@@ -17,14 +18,15 @@ struct Least {
 }
 
 /// The events of all entries, in order of number, the numbers of each list never falling. Of two entries
-/// of one number that of the earlier list stands first. Each entry costs a look at each list's front.
+/// of one number that of the earlier list stands first. Each entry costs a look at each list's front. The
+/// memory of the lists goes back piece by piece.
 pub fn merge(alloc: Global, lists: Vec<Entries>) -> Result<Journal, OutOfMemory>
     requires { EachAscends (map entries lists.items) }
     ensures { IfOk result (λ j. events j ≡ events_of (in_order (joined (map entries lists.items)))) }
 {
     let mut journal = Journal::new(alloc);
+    journal.reserve(entry_count(lists.as_slice()))?;
     let mut queues = queues_of(alloc, lists)?;
-    journal.reserve(entry_count(queues.as_slice()))?;
     while let Some(entry) = take_least(&mut queues) {
         journal.reserve(1)?;
         journal.push(entry.event);
@@ -45,48 +47,59 @@ fn all_rise(lists: &[Entries]) -> bool
     ensures { result ≡ all_rise (map entries lists.now) }
 {
     for list in lists {
-        if !rises(list.as_slice()) {
+        if !rises(list) {
             return false;
         }
     }
     true
 }
 
-fn rises(list: &[Entry]) -> bool
-    ensures { result ≡ rises_from 0 (map entry_view list.now) }
+fn rises(list: &Entries) -> bool
+    ensures { result ≡ rises_from 0 (entries list.now) }
 {
-    let mut least = 0;
-    for entry in list {
+    let mut least = Some(0);
+    for piece in &list.full {
+        least = rises_to(least, piece.as_slice());
+    }
+    rises_to(least, list.last.as_slice()).is_some()
+}
+
+// The last number, where none is lower than the one before it, nor the first than `least`.
+fn rises_to(least: Option<u64>, piece: &[Entry]) -> Option<u64>
+    ensures { result ≡ risen_from least (map entry_view piece.now) }
+{
+    let mut least = least?;
+    for entry in piece {
         if entry.number < least {
-            return false;
+            return None;
         }
         least = entry.number;
     }
-    true
-}
-
-// The lists as queues, in the same memory.
-fn queues_of(alloc: Global, lists: Vec<Entries>) -> Result<Vec<VecDeque<Entry>>, OutOfMemory>
-    ensures { IfOk result (λ q. map waiting q.items ≡ map entries lists.items) }
-{
-    let mut queues = Vec::new(alloc);
-    for list in lists {
-        queues.push(VecDeque::from(list.into_vec()))?;
-    }
-    Ok(queues)
+    Some(least)
 }
 
 // How many entries there are, so far as 64 bits tell.
-fn entry_count(queues: &[VecDeque<Entry>]) -> u64 {
+fn entry_count(lists: &[Entries]) -> u64 {
     let mut count: u64 = 0;
-    for queue in queues {
-        count = count.saturating_add(queue.len() as u64);
+    for list in lists {
+        count = count.saturating_add(list.count() as u64);
     }
     count
 }
 
+// The lists as queues, in the same memory.
+fn queues_of(alloc: Global, lists: Vec<Entries>) -> Result<Vec<Queue>, OutOfMemory>
+    ensures { IfOk result (λ q. map waiting q.items ≡ map entries lists.items) }
+{
+    let mut queues = Vec::new(alloc);
+    for list in lists {
+        queues.push(Queue::of(alloc, list)?)?;
+    }
+    Ok(queues)
+}
+
 // Takes out the entry with the least number, or None where none is left.
-fn take_least(queues: &mut Vec<VecDeque<Entry>>) -> Option<Entry>
+fn take_least(queues: &mut Vec<Queue>) -> Option<Entry>
     requires { EachAscends (map waiting queues.old.items) }
     ensures order { in_order (joined (map waiting queues.old.items)) ≡ option_to_list (option_map entry_view result) ++ in_order (joined (map waiting queues.new.items)) }
     ensures none { IfNone result (joined (map waiting queues.old.items) ≡ []) }
@@ -99,17 +112,17 @@ fn take_least(queues: &mut Vec<VecDeque<Entry>>) -> Option<Entry>
 }
 
 // Takes the front of the queue at the place.
-fn pop_at(queues: &mut Vec<VecDeque<Entry>>, place: usize) -> Option<Entry>
+fn pop_at(queues: &mut Vec<Queue>, place: usize) -> Option<Entry>
     requires { place < vec_len queues.old }
     ensures front { option_map entry_view result ≡ slice_get (slice_index_or (map waiting queues.old.items) place []) 0 }
     ensures rest { map waiting queues.new.items ≡ slice_set (map waiting queues.old.items) place (drop 1 (slice_index_or (map waiting queues.old.items) place [])) }
 {
     let queue = &mut queues[place];
-    queue.pop_front()
+    queue.pop()
 }
 
 // The first of the queues whose front has the least number.
-fn least_of(queues: &[VecDeque<Entry>]) -> Option<Least>
+fn least_of(queues: &[Queue]) -> Option<Least>
     ensures least { result ≡ least_from 0 (map waiting queues.now) }
     ensures within { IfSome result (λ l. l.place < length queues.now) }
 {
@@ -117,18 +130,9 @@ fn least_of(queues: &[VecDeque<Entry>]) -> Option<Least>
     let mut place = queues.len();
     while place > 0 {
         place -= 1;
-        least = nearer(place, front_number(&queues[place]), least);
+        least = nearer(place, queues[place].first_number(), least);
     }
     least
-}
-
-fn front_number(queue: &VecDeque<Entry>) -> Option<u64>
-    ensures { result ≡ first_number (waiting queue.now) }
-{
-    match queue.front() {
-        Some(entry) => Some(entry.number),
-        None => None,
-    }
 }
 
 // The queue at the place, with the number in its front, unless that found behind it has a lower number.

@@ -1,4 +1,5 @@
-use ca_journal::entry::{Entries, Entry, Journal};
+use ca_journal::entries::Entries;
+use ca_journal::entry::{Entry, Journal};
 use ca_journal::merge::{all_ascend, merge};
 use ca_journal::output::output;
 use ca_journal::print::print;
@@ -32,9 +33,8 @@ fn merged(alloc: Global, kind: &str, entries: u64) -> Result<u64, OutOfMemory> {
 
 fn list_of(alloc: Global, list: u64, count: u64) -> Result<Entries, OutOfMemory> {
     let mut entries = Entries::new(alloc);
-    entries.reserve(count)?;
     for n in 0..count {
-        entries.reserve(1)?;
+        entries.reserve()?;
         entries.push(Entry {
             number: n.wrapping_mul(LISTS).wrapping_add(list),
             event: event(n),

@@ -1,6 +1,7 @@
 use crate::row::text_of;
 use crate::words::{RowError, Words, number_of};
-use ca_journal::entry::{Entries, Entry};
+use ca_journal::entries::Entries;
+use ca_journal::entry::Entry;
 use ca_journal::merge::{all_ascend, merge};
 use ca_journal::print::print;
 use ca_term::event::Event;
@@ -19,7 +20,7 @@ pub fn merge_row(alloc: Global, words: Words<'_>) -> Result<String, RowError> {
             list = Entries::new(alloc);
             place = place.wrapping_add(1);
         } else {
-            list.reserve(1)?;
+            list.reserve()?;
             list.push(entry(number_of(word)?, place));
         }
     }

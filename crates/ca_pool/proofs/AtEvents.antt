@@ -1,11 +1,9 @@
 -- What a worker has between two events and at one, whoever says it.
-use Rattle.std.proofs.Common.{◌≡◌, ◌∙◌, ℕ, List, map as each, ◌<◌, refl, sym, ap, subst, Option, Some, None, false}
+use Rattle.std.proofs.Common.{◌≡◌, ◌∙◌, ℕ, List, ◌<◌, refl, sym, ap, subst, Option, Some, None, false}
 use Rattle.std.specs.Prelude.{option_map}
-use Rattle.ca_value.specs.Seq.{list}
 use Rattle.ca_term.specs.Program.{ProgramView, program_view}
 use Rattle.ca_meaning.specs.Task.{TaskBody}
-use Rattle.ca_journal.specs.Merge.{Numbered, entry_view}
-use Rattle.ca_journal.specs.declared.entry.Entry.{Entry}
+use Rattle.ca_journal.specs.Merge.{entries}
 use Rattle.ca_states.specs.Code.{CodeView}
 use Rattle.ca_states.specs.ValidCode.{valid_code}
 use Rattle.ca_states.specs.declared.valid_code.ValidCode.{ValidCode}
@@ -50,12 +48,9 @@ turns_both x y z a b = record {
 pub drew_nothing : {A C : Type 0} (w : Worker A C) → Drew 0 false w w
 drew_nothing w = drew_none (record { number = refl; workers = refl; program = refl; code = refl }) (same_turns w.hand w.hand refl)
 
-abbrev map_entries : List Entry → List Numbered
-map_entries es = each entry_view es
-
 module _ {A C : Type 0} (over : CodeView → A → Type 0) (stands_as : ProgramView → A → TaskBody → Type 0) (code : ValidCode) (id : TableId) (program : ProgramView) (n : ℕ) (w v : Worker A C) where
   -- the same worker with the same hand, and the same entries
-  kept_one : SameWorker w v → v.hand ≡ w.hand → list v.entries ≡ list w.entries → IsOne over stands_as program (valid_code code) id n w → IsOne over stands_as program (valid_code code) id n v
+  kept_one : SameWorker w v → v.hand ≡ w.hand → entries v.entries ≡ entries w.entries → IsOne over stands_as program (valid_code code) id n w → IsOne over stands_as program (valid_code code) id n v
   kept_one same hand entries_are one = record {
     table = ap (λ h. h.table) hand ∙ one.table;
     slots = one.slots;
@@ -67,11 +62,11 @@ module _ {A C : Type 0} (over : CodeView → A → Type 0) (stands_as : ProgramV
     knows = knows_same over stands_as program (valid_code code) n w.hand.view v.hand.view (ap (λ h. h.view.opening) hand) one.knows;
     opened_for = ap (λ h. h.view.hands) hand ∙ one.opened_for;
     above = subst (λ ts. AllAbove 0 ts) (sym (ap (λ h. h.view.turns) hand)) one.above;
-    notes = ap map_entries entries_are ∙ one.notes ∙ sym (ap (λ h. noted h.view.turns) hand);
+    notes = entries_are ∙ one.notes ∙ sym (ap (λ h. noted h.view.turns) hand);
     left = subst (λ (h : HandHeld (Part A C) (PartSeen A) Drawn). stands h.view ≡ h.view.hands → HoldsLeft drawn_touches h.view) (sym hand) one.left;
   }
 
-  pub kept_carrying : (h : Carries (Part A C × PartSeen A)) → SameWorker w v → v.hand ≡ w.hand → list v.entries ≡ list w.entries → IsCarrying over stands_as program code id n w h → IsCarrying over stands_as program code id n v h
+  pub kept_carrying : (h : Carries (Part A C × PartSeen A)) → SameWorker w v → v.hand ≡ w.hand → entries v.entries ≡ entries w.entries → IsCarrying over stands_as program code id n w h → IsCarrying over stands_as program code id n v h
   kept_carrying h same hand entries_are s = record {
     one = kept_one same hand entries_are s.one;
     grips = subst (λ (k : ℕ). Grips v.hand (at_places n k h)) (sym same.number) (subst (λ (g : HandHeld (Part A C) (PartSeen A) Drawn). Grips g (at_places n w.number h)) (sym hand) s.grips);

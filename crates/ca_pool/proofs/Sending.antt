@@ -2,7 +2,7 @@
 use denote.RattleType.{RattleType}
 use denote.Param.Send.{IsSend, IsSync, sendable}
 use denote.Param.SendFields.{declared_send, variants_send}
-use Rattle.std.proofs.Crossing.{crosses}
+use Rattle.std.proofs.Crossing.{Vec-send, crosses}
 use Rattle.std.specs.contracts.snapshot.Snapshot as Snapshot
 use Rattle.ca_term.specs.contracts.program.Program as Program
 use Rattle.ca_value.proofs.Crosses.{value_send}
@@ -16,6 +16,7 @@ use Rattle.ca_term.proofs.head.SeedKind.TheSendSync as kind
 use Rattle.ca_term.specs.contracts.event.Branch as Branch
 use Rattle.ca_term.specs.contracts.event.Event as Event
 use Rattle.ca_term.specs.contracts.operation.What as What
+use Rattle.ca_journal.specs.contracts.entries.Entries as Entries
 use Rattle.ca_journal.specs.contracts.entry.Entry as Entry
 use Rattle.ca_buffers.specs.contracts.any.AnyBuffer as AnyBuffer
 use Rattle.ca_buffers.specs.contracts.dropping.Dropping as Dropping
@@ -71,6 +72,9 @@ event_send = variants_send Event.enum (search (shown, crosses) depth 20, (search
 
 entry_send : IsSend Entry.the_row
 entry_send = declared_send Entry.the_type (search (sendable, event_send) depth 20)
+
+entries_send : IsSend Entries.the_row
+entries_send = declared_send Entries.the_type (Vec-send _ (Vec-send Entry.the_row entry_send), (Vec-send Entry.the_row entry_send, tt))
 
 -- a channel's values
 ring_send : IsSend Ring.the_row
@@ -147,4 +151,4 @@ module _ (A C : RattleType) (s : IsSend A) (t : IsSend C) where
   pool_sync O g = table_sync O (Part.the_row A C) (Seen.the_row A) Drawn.the_row g part_send
 
   pub worker_send : IsSend (Worker.the_row A C)
-  worker_send = declared_send (Worker.the_type A C) (search sendable, (search sendable, (search (sendable, crosses) depth 20, (search (sendable, crosses) depth 20, (hand_send (Part.the_row A C) (Seen.the_row A) Drawn.the_row part_send, (seq.the_send Entry.the_row entry_send, (search (sendable, work_end.the_send, pool_stop.the_send) depth 20, tt)))))))
+  worker_send = declared_send (Worker.the_type A C) (search sendable, (search sendable, (search (sendable, crosses) depth 20, (search (sendable, crosses) depth 20, (hand_send (Part.the_row A C) (Seen.the_row A) Drawn.the_row part_send, (entries_send, (search (sendable, work_end.the_send, pool_stop.the_send) depth 20, tt)))))))

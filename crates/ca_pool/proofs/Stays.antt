@@ -1,9 +1,8 @@
 -- A worker that made room for entries, or whose hand did more, but drew nothing.
-use Rattle.std.proofs.Common.{◌≡◌, ◌∙◌, ◌<◌, ℕ, List, length, map, sym, ap, subst}
-use Rattle.ca_value.specs.Seq.{list}
+use Rattle.std.proofs.Common.{◌≡◌, ◌∙◌, ◌<◌, ℕ, List, length, sym, ap, subst}
 use Rattle.ca_term.specs.Program.{ProgramView, program_view}
 use Rattle.ca_meaning.specs.Task.{TaskBody}
-use Rattle.ca_journal.specs.Merge.{entry_view}
+use Rattle.ca_journal.specs.Merge.{entries}
 use Rattle.ca_states.specs.Code.{CodeView}
 use Rattle.ca_states.specs.ValidCode.{valid_code}
 use Rattle.ca_states.specs.declared.valid_code.ValidCode.{ValidCode}
@@ -26,7 +25,7 @@ same_turns {P} {C} {E} x y e = record {
   turns = ap (λ (h : Held P C E). h.view.turns) e;
 }
 
-module _ {A C : Type 0} (over : CodeView → A → Type 0) (stands_as : ProgramView → A → TaskBody → Type 0) (program : ProgramView) (id : TableId) (n : ℕ) (o w : Worker A C) (same : SameWorker o w) (entries : list w.entries ≡ list o.entries) where
+module _ {A C : Type 0} (over : CodeView → A → Type 0) (stands_as : ProgramView → A → TaskBody → Type 0) (program : ProgramView) (id : TableId) (n : ℕ) (o w : Worker A C) (same : SameWorker o w) (noted_same : entries w.entries ≡ entries o.entries) where
   pub still_one : (code : CodeView) → SameTurns o.hand w.hand → KeepsLeft o.hand.view w.hand.view → IsOne over stands_as program code id n o → IsOne over stands_as program code id n w
   still_one code turns kept one = record {
     table = turns.same.table ∙ one.table;
@@ -39,7 +38,7 @@ module _ {A C : Type 0} (over : CodeView → A → Type 0) (stands_as : ProgramV
     knows = knows_same over stands_as program code n o.hand.view w.hand.view turns.same.opening one.knows;
     opened_for = turns.same.hands ∙ one.opened_for;
     above = subst (λ ts. AllAbove 0 ts) (sym turns.turns) one.above;
-    notes = ap (map entry_view) entries ∙ one.notes ∙ sym (ap noted turns.turns);
+    notes = noted_same ∙ one.notes ∙ sym (ap noted turns.turns);
     left = λ alone. let was = sym (ap (λ (l : List ℕ). length l) turns.same.stands_for) ∙ alone ∙ turns.same.hands in kept was one.above (one.left was);
   }
 

@@ -1,8 +1,8 @@
 -- What a worker carries at its calls, told of what shows the same, or of a worker with the same number.
 use Rattle.std.proofs.Common.{◌≡◌, ◌∙◌, ℕ, List, refl, sym, ap, ap₂, subst, Option, Some, None, Result, Ok, Err, IfOk, OnErr, OnOk, true, is_some}
-use Rattle.ca_value.specs.Seq.{list}
 use Rattle.ca_term.specs.Program.{ProgramView}
 use Rattle.ca_meaning.specs.Task.{TaskBody}
+use Rattle.ca_journal.specs.Merge.{entries}
 use Rattle.ca_commit.specs.Contents.{whole}
 use Rattle.ca_commit.specs.Finding.{glance, settle_at}
 use Rattle.ca_commit.specs.Settling.{served_in}
@@ -66,7 +66,7 @@ module _ {A C : Type 0} (over : CodeView → A → Type 0) (stands_as : ProgramV
 
 module _ {A C : Type 0} (over : CodeView → A → Type 0) (stands_as : ProgramView → A → TaskBody → Type 0) (least faults : C → ℕ) (readings : C → Option (List ℕ)) (program : ProgramView) (code : ValidCode) (id : TableId) (n : ℕ) (t p : Worker A C) (l : Lane A) where
   -- room was made for what is to come, and what is held shows the same
-  pub made_room : (k : ℕ) (clock : Option (ClockBox C)) (old new : Held A) → SameWorker t p → p.hand ≡ t.hand → list p.entries ≡ list t.entries → p.number ≡ k → ShowSame old new
+  pub made_room : (k : ℕ) (clock : Option (ClockBox C)) (old new : Held A) → SameWorker t p → p.hand ≡ t.hand → entries p.entries ≡ entries t.entries → p.number ≡ k → ShowSame old new
       → IsCarrying over stands_as program code id n t (taken (part_seen least faults readings) n code k l clock old) → IsCarrying over stands_as program code id n p (taken (part_seen least faults readings) n code p.number l clock new)
   made_room k clock old new same hand entries number show s = as_number over stands_as least faults readings program code id n p l k p.number clock new number
       (still_carries over stands_as program id n t p same entries code (taken (part_seen least faults readings) n code k l clock new) hand (as_shown over stands_as least faults readings program code id n t l k clock old new show s))

@@ -3,8 +3,8 @@ ghost use Rattle.std.specs.Prelude.{◌≡◌, ◌≢◌, ℕ, ◌+◌, ◌<◌,
 ghost use mathlib.Core.Option.{some};
 ghost use lib.ListN.{get_elem?};
 ghost use Rattle.ca_value.specs.Deadlines.{due};
-ghost use Rattle.ca_value.specs.Seq.{list, spare};
 ghost use Rattle.ca_term.specs.Program.{ProgramView};
+ghost use Rattle.ca_journal.specs.Merge.{entries, room};
 ghost use Rattle.ca_turns.specs.Views.{stands};
 ghost use Rattle.ca_commit.specs.Contents.{unmarked};
 ghost use Rattle.ca_commit.specs.Moving.{visible};
@@ -77,11 +77,11 @@ pub(crate) fn ready_to_ask<A: Agent, C: Clock + Drop>(
 ) -> (Box<Clockwork<C>>, Result<(), OutOfMemory>)
     ensures same { SameWorker worker.old worker.new }
     ensures hand { worker.new.hand ≡ worker.old.hand }
-    ensures entries { list worker.new.entries ≡ list worker.old.entries }
+    ensures entries { entries worker.new.entries ≡ entries worker.old.entries }
     ensures seen { clockwork_seen C.least C.faults C.readings result.0.value ≡ clockwork_seen C.least C.faults C.readings clockwork.value }
     ensures asking { OnOk result.1 (0 < C.spare result.0.value.clock) }
     ensures timely { clockwork.value.timers.moment ≤ C.least clockwork.value.clock → result.0.value.timers.moment ≤ C.least result.0.value.clock }
-    ensures room { OnOk result.1 (0 < spare worker.new.entries) }
+    ensures room { OnOk result.1 (0 < room worker.new.entries) }
 {
     match make_room(worker) {
         Ok(()) => reserve_asking(clockwork),
@@ -185,7 +185,7 @@ fn read_now<R: Wait, A: Agent, C: Clock + Drop>(
     requires carries { (program : ProgramView) × (n : ℕ) × (l : Lane A) × IsCarrying A.over A.stands program code.now table.now.id n worker.old (taken (part_seen C.least C.faults C.readings) n code.now worker.old.number l (Some clockwork) held.old) }
     requires timely { clockwork.value.timers.moment ≤ C.least clockwork.value.clock }
     requires asking { 0 < C.spare clockwork.value.clock }
-    requires room { 0 < spare worker.old.entries }
+    requires room { 0 < room worker.old.entries }
     ensures same { SameWorker worker.old worker.new }
     ensures bare { IsBare held.new }
     ensures drew { IfOk result (λ a. Drew (cost_asked a) (is_marked a) worker.old worker.new) }

@@ -1,11 +1,11 @@
 // The event of a plan: all that it needs is taken and made, then it is applied and drawn.
 ghost use Rattle.std.specs.Prelude.{◌≡◌, ℕ, ◌+◌, ◌<◌, ◌^◌, List, Option, None, OnErr, IfOk, false, true, [], ◌∷◌, cond, option_map};
-ghost use Rattle.ca_value.specs.Seq.{spare};
 ghost use Rattle.ca_term.specs.Event.{event_view, port_number, branch_view};
 ghost use Rattle.ca_term.specs.Program.{ProgramView, program_view};
 ghost use Rattle.ca_meaning.specs.BodyViews.{is_at_op};
 ghost use Rattle.ca_meaning.specs.Solo.{patience};
 ghost use Rattle.ca_meaning.specs.Wait.{port_of};
+ghost use Rattle.ca_journal.specs.Merge.{room};
 ghost use Rattle.ca_solo.specs.Stirs.{port_if, done_stirred};
 ghost use Rattle.ca_states.specs.ValidCode.{valid_code};
 ghost use Rattle.ca_states.specs.declared.valid_code.ValidCode.{ValidCode};
@@ -211,7 +211,7 @@ fn draw_plan<R: Wait, A: Agent, C: Clock + Drop>(
     requires counts { CanCount (counts_view lane.value.counts) }
     requires since { lane.value.since + 1 < 2 ^ 64 }
     requires over { A.over (valid_code code.now) task.agent }
-    requires room { 0 < spare worker.old.entries }
+    requires room { 0 < room worker.old.entries }
     ensures same { SameWorker worker.old worker.new }
     ensures bare { IsBare held.new }
     ensures drew { Drew result.cost result.over worker.old worker.new }

@@ -2,9 +2,9 @@
 ghost use Rattle.std.specs.Prelude.{◌≡◌, ℕ, ◌+◌, ◌^◌, ◌<◌, ◌≤◌, ◌++◌, ◌∷◌, [], Option, None, false, length, IfSome};
 ghost use mathlib.Core.Option.{some};
 ghost use lib.ListN.{get_elem?};
-ghost use Rattle.ca_value.specs.Seq.{spare};
 ghost use Rattle.ca_term.specs.Program.{ProgramView};
 ghost use Rattle.ca_meaning.specs.Cost.{cost};
+ghost use Rattle.ca_journal.specs.Merge.{room};
 ghost use Rattle.ca_turns.specs.declared.rule.Turn.{Turn};
 ghost use Rattle.ca_turns.specs.Views.{stands};
 ghost use Rattle.ca_commit.specs.Moving.{visible};
@@ -69,10 +69,10 @@ fn draw_laid<A: Agent, C: Clock + Drop>(
     what: Turned,
 )
     requires carries { (program : ProgramView) × (n : ℕ) × (h : Carries (Part A C × PartSeen A)) × IsCarrying A.over A.stands program code.now table.now.id n worker.old h × IsMovedWith A.over A.place A.advances A.gives A.starts (part_seen C.least C.faults C.readings) code.now n worker.old.number (has_home laid.now.banks) (has_home laid.now.shards) (turn_view what) h }
-    requires room { length (visible (turn_view what)) ≤ spare worker.old.entries }
+    requires room { length (visible (turn_view what)) ≤ room worker.old.entries }
     requires turns { length worker.old.hand.view.turns < 2 ^ 59 }
     ensures same { SameWorker worker.old worker.new }
-    ensures spare { spare worker.old.entries ≤ spare worker.new.entries + length (visible (turn_view what)) }
+    ensures room { room worker.old.entries ≤ room worker.new.entries + length (visible (turn_view what)) }
     ensures hand { SameHand worker.old.hand worker.new.hand }
     ensures drew { (t : Turn (PartSeen A) Drawn) × (worker.new.hand.view.turns ≡ worker.old.hand.view.turns ++ t ∷ []) × (t.event.what ≡ what) }
     ensures carries { (program : ProgramView) (n : ℕ) (h : Carries (Part A C × PartSeen A)) → IsCarrying A.over A.stands program code.now table.now.id n worker.old h → IsMovedWith A.over A.place A.advances A.gives A.starts (part_seen C.least C.faults C.readings) code.now n worker.old.number (has_home laid.now.banks) (has_home laid.now.shards) (turn_view what) h → IsCarrying A.over A.stands program code.now table.now.id n worker.new (each_by (settled_one (part_seen C.least C.faults C.readings)) h) }
@@ -91,10 +91,10 @@ fn draw_laid_aside<A: Agent, C: Clock + Drop>(
 )
     requires carries { (program : ProgramView) × (n : ℕ) × (h : Carries (Part A C × PartSeen A)) × IsCarrying A.over A.stands program code.now table.now.id n worker.old h × IsMovedWith A.over A.place A.advances A.gives A.starts (part_seen C.least C.faults C.readings) code.now n worker.old.number (has_home laid.now.banks) (has_home laid.now.shards) (turn_view what) (beside_lane h) }
     requires allows { (i : ℕ) → MayHold worker.old.number worker.old.workers (turn_view what) i }
-    requires room { length (visible (turn_view what)) ≤ spare worker.old.entries }
+    requires room { length (visible (turn_view what)) ≤ room worker.old.entries }
     requires turns { length worker.old.hand.view.turns < 2 ^ 59 }
     ensures same { SameWorker worker.old worker.new }
-    ensures spare { spare worker.old.entries ≤ spare worker.new.entries + length (visible (turn_view what)) }
+    ensures room { room worker.old.entries ≤ room worker.new.entries + length (visible (turn_view what)) }
     ensures hand { SameHand worker.old.hand worker.new.hand }
     ensures drew { (t : Turn (PartSeen A) Drawn) × (worker.new.hand.view.turns ≡ worker.old.hand.view.turns ++ t ∷ []) × (t.event.what ≡ what) }
     ensures carries { (program : ProgramView) (n : ℕ) (h : Carries (Part A C × PartSeen A)) → IsCarrying A.over A.stands program code.now table.now.id n worker.old h → IsMovedWith A.over A.place A.advances A.gives A.starts (part_seen C.least C.faults C.readings) code.now n worker.old.number (has_home laid.now.banks) (has_home laid.now.shards) (turn_view what) (beside_lane h) → IsCarrying A.over A.stands program code.now table.now.id n worker.new (settled_beside (part_seen C.least C.faults C.readings) h) }
@@ -114,11 +114,11 @@ pub(crate) fn draw_aside<A: Agent, C: Clock + Drop>(
 )
     requires moved { (program : ProgramView) × (n : ℕ) × (l : Lane A) × (clock0 : Option (ClockBox C)) × (held0 : Held A) × IsCarrying A.over A.stands program code.now table.now.id n worker.old (taken (part_seen C.least C.faults C.readings) n code.now worker.old.number l clock0 held0) × SameHeld clock0 clock held0 held.old × IsMovedWith A.over A.place A.advances A.gives A.starts (part_seen C.least C.faults C.readings) code.now n worker.old.number (holds_banks held.old) (holds_shards held.old) (turn_view what) (laid_aside (part_seen C.least C.faults C.readings) n code.now worker.old.number l clock0 held0 clock held.old) }
     requires allows { (i : ℕ) → MayHold worker.old.number worker.old.workers (turn_view what) i }
-    requires room { length (visible (turn_view what)) ≤ spare worker.old.entries }
+    requires room { length (visible (turn_view what)) ≤ room worker.old.entries }
     requires turns { length worker.old.hand.view.turns < 2 ^ 59 }
     requires timers { held.old.timers ≡ None }
     ensures same { SameWorker worker.old worker.new }
-    ensures spare { spare worker.old.entries ≤ spare worker.new.entries + length (visible (turn_view what)) }
+    ensures room { room worker.old.entries ≤ room worker.new.entries + length (visible (turn_view what)) }
     ensures hand { SameHand worker.old.hand worker.new.hand }
     ensures turns { (t : Turn (PartSeen A) Drawn) × (worker.new.hand.view.turns ≡ worker.old.hand.view.turns ++ t ∷ []) × (t.event.what ≡ what) }
     ensures drew { gives_up (turn_view what) ≡ false → Drew (cost (visible (turn_view what))) (leaves (turn_view what)) worker.old worker.new }
@@ -143,11 +143,11 @@ pub(crate) fn draw_turn<A: Agent, C: Clock + Drop>(
     what: Turned,
 ) -> Box<Lane<A>>
     requires moved { (program : ProgramView) × (n : ℕ) × (l : Lane A) × (clock0 : Option (ClockBox C)) × (held0 : Held A) × IsCarrying A.over A.stands program code.now table.now.id n worker.old (taken (part_seen C.least C.faults C.readings) n code.now worker.old.number l clock0 held0) × SameHeld clock0 clock held0 held.old × IsMovedWith A.over A.place A.advances A.gives A.starts (part_seen C.least C.faults C.readings) code.now n worker.old.number (holds_banks held.old) (holds_shards held.old) (turn_view what) (all_laid (part_seen C.least C.faults C.readings) n code.now worker.old.number l lane clock0 held0 clock held.old) }
-    requires room { length (visible (turn_view what)) ≤ spare worker.old.entries }
+    requires room { length (visible (turn_view what)) ≤ room worker.old.entries }
     requires turns { length worker.old.hand.view.turns < 2 ^ 59 }
     requires timers { held.old.timers ≡ None }
     ensures same { SameWorker worker.old worker.new }
-    ensures spare { spare worker.old.entries ≤ spare worker.new.entries + length (visible (turn_view what)) }
+    ensures room { room worker.old.entries ≤ room worker.new.entries + length (visible (turn_view what)) }
     ensures hand { SameHand worker.old.hand worker.new.hand }
     ensures turns { (t : Turn (PartSeen A) Drawn) × (worker.new.hand.view.turns ≡ worker.old.hand.view.turns ++ t ∷ []) × (t.event.what ≡ what) }
     ensures drew { gives_up (turn_view what) ≡ false → Drew (cost (visible (turn_view what))) (leaves (turn_view what)) worker.old worker.new }

@@ -1,11 +1,11 @@
 // How the lane's task ends: by its value, by a fault of its own, or at an operation that is refused.
 ghost use Rattle.std.specs.Prelude.{◌≡◌, ℕ, ◌+◌, ◌<◌, ◌^◌, Option, Some, None, IfOk, OnErr, eqb, false, is_some, option_map, true, []};
-ghost use Rattle.ca_value.specs.Seq.{spare};
 ghost use Rattle.ca_value.specs.Tree.{Tree};
 ghost use Rattle.ca_term.specs.Event.{port_number};
 ghost use Rattle.ca_term.specs.Program.{ProgramView, program_view};
 ghost use Rattle.ca_meaning.specs.Body.{ended, faulted};
 ghost use Rattle.ca_meaning.specs.Solo.{patience};
+ghost use Rattle.ca_journal.specs.Merge.{room};
 ghost use Rattle.ca_solo.specs.Stirs.{port_if};
 ghost use Rattle.ca_commit.specs.Contents.{home, main_over};
 ghost use Rattle.ca_commit.specs.TaskMoves.{with_mark};
@@ -129,7 +129,7 @@ fn finish<R: Wait, A: Agent, C: Clock + Drop>(
     requires clock { is_some clock ≡ eqb task.now.number 0 }
     requires ready { held.old.ready ≡ None }
     requires timers { held.old.timers ≡ None }
-    requires room { 0 < spare worker.old.entries }
+    requires room { 0 < room worker.old.entries }
     requires stirs { port_if (option_map port_number stirred) ≡ stirred_at_end ending }
     ensures same { SameWorker worker.old worker.new }
     ensures bare { IsBare held.new }
@@ -181,7 +181,7 @@ fn finish_by_fault<R: Wait, A: Agent, C: Clock + Drop>(
     requires result { HasBanks held.old (λ q. option_map port_number task.now.result ≡ Some q) }
     requires ready { held.old.ready ≡ None }
     requires timers { held.old.timers ≡ None }
-    requires room { 0 < spare worker.old.entries }
+    requires room { 0 < room worker.old.entries }
     ensures same { SameWorker worker.old worker.new }
     ensures bare { IsBare held.new }
     ensures over { TaskOver A.over code.now result.lane.value }

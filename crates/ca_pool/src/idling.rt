@@ -1,7 +1,7 @@
 // A worker that finds no task: it waits for the clock, or leaves a run in which nothing can go on.
 ghost use Rattle.std.specs.Prelude.{◌≡◌, ◌≢◌, ℕ, ◌<◌, ◌≤◌, ◌^◌, Some, None, IfErr, IfOk, false, true};
-ghost use Rattle.ca_value.specs.Seq.{spare};
 ghost use Rattle.ca_term.specs.Program.{ProgramView};
+ghost use Rattle.ca_journal.specs.Merge.{room};
 ghost use Rattle.ca_table.specs.Carriers.{IsCarrying, just_lane};
 ghost use Rattle.ca_table.specs.Parts.{part_seen};
 ghost use Rattle.ca_table.specs.Worked.{Drew};
@@ -115,7 +115,7 @@ fn wait_late<R: Wait, A: Agent, C: Clock + Drop>(
     requires timely { clockwork.value.timers.moment ≤ C.least clockwork.value.clock }
     requires asking { 0 < C.spare clockwork.value.clock }
     requires bound { first < 2 ^ 62 }
-    requires room { 0 < spare worker.old.entries }
+    requires room { 0 < room worker.old.entries }
     ensures same { SameWorker worker.old worker.new }
     ensures bare { IsBare held.new }
     ensures drew { IfOk result (λ i. Drew (cost_idle i) (is_over i) worker.old worker.new) }

@@ -1,7 +1,7 @@
 // What the event of a plan needs beside the plan's banks and shards: the clock for a timeout, the worker's own ready part
 // for a task that is woken or started, and all memory.
 ghost use Rattle.std.specs.Prelude.{◌≡◌, ℕ, ◌≤◌, ◌<◌, Option, Some, None, IfOk, IfSome, OnErr, OnOk, is_some, option_map, true};
-ghost use Rattle.ca_value.specs.Seq.{list, spare};
+ghost use Rattle.ca_journal.specs.Merge.{entries, room};
 ghost use Rattle.ca_timers.specs.Timers.{TimersView};
 ghost use Rattle.ca_term.specs.Event.{port_number};
 ghost use Rattle.ca_term.specs.Operation.{seed_view, what_view};
@@ -353,8 +353,8 @@ fn make_parts<R: Wait, A: Starting, C: Clock + Drop>(
     requires apart { KeepsApart (plan_view plan.now) }
     ensures same { SameWorker worker.old worker.new }
     ensures hand { worker.new.hand ≡ worker.old.hand }
-    ensures entries { list worker.new.entries ≡ list worker.old.entries }
-    ensures room { OnOk result (0 < spare worker.new.entries) }
+    ensures entries { entries worker.new.entries ≡ entries worker.old.entries }
+    ensures room { OnOk result (0 < room worker.new.entries) }
     ensures shown { ShowSame held.old held.new }
     ensures next { SameNext held.old held.new }
     ensures timers { clock_with C.least C.faults C.readings clock.now held.new.timers ≡ clock_with C.least C.faults C.readings clock.now held.old.timers }
@@ -426,8 +426,8 @@ pub(crate) fn prepare<R: Wait, A: Starting, C: Clock + Drop>(
     requires apart { KeepsApart (plan_view plan.now) }
     ensures same { SameWorker worker.old worker.new }
     ensures hand { worker.new.hand ≡ worker.old.hand }
-    ensures entries { list worker.new.entries ≡ list worker.old.entries }
-    ensures room { OnOk result.1 (0 < spare worker.new.entries) }
+    ensures entries { entries worker.new.entries ≡ entries worker.old.entries }
+    ensures room { OnOk result.1 (0 < room worker.new.entries) }
     ensures shown { ShowSame held.old held.new }
     ensures next { SameNext held.old held.new }
     ensures some { is_some result.0 ≡ is_some clock }

@@ -1,7 +1,7 @@
 // A channel that settles by itself.
 ghost use Rattle.std.specs.Prelude.{◌≡◌, ℕ, ◌<◌, List, ◌∷◌, None, IfOk, IsSome, OnErr, OnOk, false, unwrap_or};
 ghost use Rattle.ca_term.specs.Program.{ProgramView};
-ghost use Rattle.ca_value.specs.Seq.{list, spare};
+ghost use Rattle.ca_journal.specs.Merge.{entries, room};
 ghost use Rattle.ca_commit.specs.Contents.{home, whole};
 ghost use Rattle.ca_commit.specs.Finding.{serves};
 ghost use Rattle.ca_commit.specs.Settling.{IsMadeToSettle, IsSettled, served_in};
@@ -99,12 +99,12 @@ fn prepare<A: Agent, C: Clock + Drop>(
     requires ready { IsSome held.old.ready }
     ensures same { SameWorker worker.old worker.new }
     ensures hand { worker.new.hand ≡ worker.old.hand }
-    ensures entries { list worker.new.entries ≡ list worker.old.entries }
+    ensures entries { entries worker.new.entries ≡ entries worker.old.entries }
     ensures shows { ShowSame held.old held.new }
     ensures shards { held.new.shards ≡ held.old.shards }
     ensures numbers { KeepsNumbers held.old held.new }
     ensures made { OnOk result (IsMadeToSettle A.place held.new port.n (served_in held.new port.n)) }
-    ensures room { OnOk result (0 < spare worker.new.entries) }
+    ensures room { OnOk result (0 < room worker.new.entries) }
 {
     make_room(worker)?;
     reserve_settle(alloc, held, port)
@@ -147,7 +147,7 @@ fn draw_served<R: Wait, A: Agent, C: Clock + Drop>(
     requires made { IsMadeToSettle A.place held.old port.n (served_in held.old port.n) }
     requires ready { IsSome held.old.ready }
     requires timers { held.old.timers ≡ None }
-    requires room { 0 < spare worker.old.entries }
+    requires room { 0 < room worker.old.entries }
     ensures same { SameWorker worker.old worker.new }
     ensures bare { IsBare held.new }
     ensures drew { Drew result false worker.old worker.new }

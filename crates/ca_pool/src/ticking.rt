@@ -1,9 +1,9 @@
 // A tick: the timeouts that are due are closed, where their banks are free.
 ghost use Rattle.std.specs.Prelude.{◌≡◌, ◌≢◌, ℕ, ◌+◌, ◌<◌, ◌≤◌, ◌^◌, [], Some, None, IfNone, IfOk, IfSome, OnErr, OnOk, false, true, List};
 ghost use Rattle.ca_value.specs.Deadlines.{due};
-ghost use Rattle.ca_value.specs.Seq.{list, spare};
 ghost use Rattle.ca_term.specs.Event.{event_view, ticked};
 ghost use Rattle.ca_term.specs.Program.{ProgramView};
+ghost use Rattle.ca_journal.specs.Merge.{room};
 ghost use Rattle.ca_commit.specs.NewPort.{KeepsCounts};
 ghost use Rattle.ca_commit.specs.Running.{Placed};
 ghost use Rattle.ca_commit.specs.Showing.{channels_held, registries_held};
@@ -172,7 +172,7 @@ fn draw_tick<R: Wait, A: Agent, C: Clock + Drop>(
     requires made { IsMadeFor held.old (clockwork_seen C.least C.faults C.readings clockwork.value) now }
     requires there { HasBanksOf held.old (due now clockwork.value.timers.deadlines) }
     requires placed { Placed (channels_held held.old.banks) }
-    requires room { 0 < spare worker.old.entries }
+    requires room { 0 < room worker.old.entries }
     requires ready { held.old.ready ≡ None }
     requires timers { held.old.timers ≡ None }
     ensures same { SameWorker worker.old worker.new }
@@ -222,7 +222,7 @@ pub(crate) fn pass<R: Wait, A: Agent, C: Clock + Drop>(
 ) -> Result<Asked, OutOfMemory>
     requires bare { IsBare held.old }
     requires carries { (program : ProgramView) × (n : ℕ) × (l : Lane A) × (clock0 : ClockBox C) × IsCarrying A.over A.stands program code.now table.now.id n worker.old (taken (part_seen C.least C.faults C.readings) n code.now worker.old.number l (Some clock0) held.old) × IsAsked now (clockwork_seen C.least C.faults C.readings clock0.value) (clockwork_seen C.least C.faults C.readings clockwork.value) }
-    requires room { 0 < spare worker.old.entries }
+    requires room { 0 < room worker.old.entries }
     ensures same { SameWorker worker.old worker.new }
     ensures bare { IsBare held.new }
     ensures drew { IfOk result (λ a. Drew (cost_asked a) (is_marked a) worker.old worker.new) }
@@ -253,7 +253,7 @@ fn tick_with<R: Wait, A: Agent, C: Clock + Drop>(
     requires carries { (program : ProgramView) × (n : ℕ) × (l : Lane A) × (clock0 : ClockBox C) × IsCarrying A.over A.stands program code.now table.now.id n worker.old (taken (part_seen C.least C.faults C.readings) n code.now worker.old.number l (Some clock0) held.old) × IsAsked now (clockwork_seen C.least C.faults C.readings clock0.value) (clockwork_seen C.least C.faults C.readings clockwork.value) }
     requires there { HasBanksOf held.old (due now clockwork.value.timers.deadlines) }
     requires placed { Placed (channels_held held.old.banks) }
-    requires room { 0 < spare worker.old.entries }
+    requires room { 0 < room worker.old.entries }
     requires ready { held.old.ready ≡ None }
     requires timers { held.old.timers ≡ None }
     ensures same { SameWorker worker.old worker.new }
@@ -288,7 +288,7 @@ fn close_due<R: Wait, A: Agent, C: Clock + Drop>(
     requires bare { IsBare held.old }
     requires carries { (program : ProgramView) × (n : ℕ) × (l : Lane A) × (clock0 : ClockBox C) × IsCarrying A.over A.stands program code.now table.now.id n worker.old (taken (part_seen C.least C.faults C.readings) n code.now worker.old.number l (Some clock0) held.old) × IsAsked now (clockwork_seen C.least C.faults C.readings clock0.value) (clockwork_seen C.least C.faults C.readings clockwork.value) }
     requires homes { HasHomes banks.now (due now clockwork.value.timers.deadlines) }
-    requires room { 0 < spare worker.old.entries }
+    requires room { 0 < room worker.old.entries }
     ensures same { SameWorker worker.old worker.new }
     ensures bare { IsBare held.new }
     ensures drew { IfOk result (λ a. Drew (cost_asked a) (is_marked a) worker.old worker.new) }

@@ -2,12 +2,11 @@
 use Rattle.std.proofs.Common.{◌≡◌, ◌∙◌, ℕ, ◌+◌, List, [], ◌∷◌, ◌++◌, length, map, refl, sym, ap, ap₂, subst, arith, length-append}
 use mathlib.Core.List.{append_assoc, append-nil}
 use lib.ListN.{get_elem?}
-use Rattle.ca_value.specs.declared.seq.Seq.{Seq}
 use Rattle.ca_term.specs.Program.{ProgramView}
 use Rattle.ca_meaning.specs.Task.{TaskBody}
 use Rattle.ca_states.specs.Code.{CodeView}
 use Rattle.ca_journal.specs.Merge.{Ascends, EachAscends, Numbered, entries, joined}
-use Rattle.ca_journal.specs.declared.entry.Entry.{Entry}
+use Rattle.ca_journal.specs.declared.entries.Entries.{Entries}
 use Rattle.ca_turns.specs.Hands.{Held, TableId}
 use Rattle.ca_turns.specs.Places.{total}
 use Rattle.ca_turns.specs.Views.{both_views, stands}
@@ -19,11 +18,11 @@ use Rattle.ca_table.specs.declared.worker.Worker.{Worker}
 use Rattle.ca_table.proofs.Gathers.{noted_append, noted_ascends}
 use Rattle.ca_table.proofs.Knowing.{knows_same}
 
-joined_more : (lists : List (Seq Entry)) (e : Seq Entry) → joined (map entries (lists ++ e ∷ [])) ≡ joined (map entries lists) ++ entries e
+joined_more : (lists : List Entries) (e : Entries) → joined (map entries (lists ++ e ∷ [])) ≡ joined (map entries lists) ++ entries e
 joined_more [] e = append-nil (entries e)
 joined_more (l ∷ lists) e = ap (λ es. entries l ++ es) (joined_more lists e) ∙ sym (append_assoc (entries l) (joined (map entries lists)) (entries e))
 
-each_more : (lists : List (Seq Entry)) (e : Seq Entry) → EachAscends (map entries lists) → Ascends (entries e) → EachAscends (map entries (lists ++ e ∷ []))
+each_more : (lists : List Entries) (e : Entries) → EachAscends (map entries lists) → Ascends (entries e) → EachAscends (map entries (lists ++ e ∷ []))
 each_more [] e up one = (one, tt)
 each_more (l ∷ lists) e up one = (up.0, each_more lists e up.1 one)
 
@@ -42,7 +41,7 @@ module _ {A C : Type 0} (over : CodeView → A → Type 0) (stands_as : ProgramV
     counted = refl;
   }
 
-  pub joins : (count : ℕ) (hand new : Held (Part A C) (PartSeen A) Drawn) (lists : List (Seq Entry)) (w : Worker A C) → IsJoined {A = A} {C = C} over stands_as program code id n count hand lists → IsReady over stands_as program code id n w
+  pub joins : (count : ℕ) (hand new : Held (Part A C) (PartSeen A) Drawn) (lists : List Entries) (w : Worker A C) → IsJoined {A = A} {C = C} over stands_as program code id n count hand lists → IsReady over stands_as program code id n w
       → new.table ≡ hand.table → new.parts ≡ hand.parts → new.view ≡ both_views hand.view w.hand.view → IsJoined {A = A} {C = C} over stands_as program code id n (count + stands_for w) new (lists ++ w.entries ∷ [])
   joins count hand new lists w j r table parts view = record {
     table = table ∙ j.table;

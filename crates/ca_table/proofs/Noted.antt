@@ -2,11 +2,10 @@
 use Rattle.std.proofs.Common.{◌≡◌, ◌∙◌, ℕ, suc, ◌+◌, ◌<◌, ◌≤◌, List, [], ◌∷◌, ◌++◌, refl, sym, ap, subst, arith}
 use mathlib.Core.Option.{some}
 use lib.ListN.{get_elem?}
-use Rattle.ca_value.specs.declared.seq.Seq.{Seq}
 use Rattle.ca_term.specs.Program.{ProgramView}
 use Rattle.ca_meaning.specs.Task.{TaskBody}
 use Rattle.ca_journal.specs.Merge.{entries}
-use Rattle.ca_journal.specs.declared.entry.Entry.{Entry}
+use Rattle.ca_journal.specs.declared.entries.Entries.{Entries}
 use Rattle.ca_states.specs.Code.{CodeView}
 use Rattle.ca_turns.specs.Hands.{Held, TableId}
 use Rattle.ca_turns.specs.Views.{turn}
@@ -31,7 +30,7 @@ append_nothing : {X : Type 0} (xs : List X) → xs ++ [] ≡ xs
 append_nothing [] = refl
 append_nothing (x ∷ xs) = ap (λ l. x ∷ l) (append_nothing xs)
 
-pub drew_one : {A C : Type 0} (over : CodeView → A → Type 0) (stands_as : ProgramView → A → TaskBody → Type 0) (program : ProgramView) (code : CodeView) (id : TableId) (n : ℕ) (w : Worker A C) (h : Held (Part A C) (PartSeen A) Drawn) (es : Seq Entry) (k : ℕ) (d : Drawn) (before after : List (PartSeen A))
+pub drew_one : {A C : Type 0} (over : CodeView → A → Type 0) (stands_as : ProgramView → A → TaskBody → Type 0) (program : ProgramView) (code : CodeView) (id : TableId) (n : ℕ) (w : Worker A C) (h : Held (Part A C) (PartSeen A) Drawn) (es : Entries) (k : ℕ) (d : Drawn) (before after : List (PartSeen A))
     → SameHand w.hand h → h.view.turns ≡ w.hand.view.turns ++ turn k d before after ∷ [] → ((i : ℕ) (t : Turn (PartSeen A) Drawn) → get_elem? w.hand.view.turns i ≡ some t → t.number < k) → entries es ≡ entries w.entries ++ entries_of k d.what → (HoldsLeft drawn_touches w.hand.view → HoldsLeft drawn_touches h.view)
     → IsOne over stands_as program code id n w → IsOne over stands_as program code id n (record { number = w.number; workers = w.workers; program = w.program; code = w.code; hand = h; entries = es; answer = w.answer })
 drew_one over stands_as program code id n w h es k d before after same drew later notes left one = record {

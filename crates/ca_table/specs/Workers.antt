@@ -3,12 +3,11 @@ use Rattle.std.specs.Prelude.{◌≡◌, ℕ, ◌+◌, ◌<◌, ◌≤◌, List,
 use Rattle.std.specs.Map.{update}
 use Rattle.ca_term.specs.Program.{ProgramView, program_view}
 use Rattle.ca_meaning.specs.Task.{TaskBody}
-use Rattle.ca_value.specs.declared.seq.Seq.{Seq}
 use Rattle.ca_states.specs.Code.{CodeView}
 use Rattle.ca_states.specs.ValidCode.{valid_code}
 use Rattle.ca_states.specs.declared.valid_code.ValidCode.{ValidCode}
 use Rattle.ca_journal.specs.Merge.{EachAscends, Numbered, entries, joined}
-use Rattle.ca_journal.specs.declared.entry.Entry.{Entry}
+use Rattle.ca_journal.specs.declared.entries.Entries.{Entries}
 use Rattle.ca_turns.specs.Hands.{Held, HoldsNothing, IsFresh, TableId}
 use Rattle.ca_turns.specs.Views.{stands}
 use Rattle.ca_turns.specs.declared.rule.Turn.{Turn}
@@ -108,7 +107,7 @@ abbrev pub stands_for : {A C : Type 0} → Worker A C → ℕ
 stands_for w = stands w.hand.view
 
 -- a hand with those of the workers before joined into it, and the lists of what they noted
-pub record IsJoined {A C : Type 0} (over : CodeView → A → Type 0) (stands_as : ProgramView → A → TaskBody → Type 0) (program : ProgramView) (code : CodeView) (id : TableId) (n count : ℕ) (hand : Held (Part A C) (PartSeen A) Drawn) (lists : List (Seq Entry)) : Type 0 where
+pub record IsJoined {A C : Type 0} (over : CodeView → A → Type 0) (stands_as : ProgramView → A → TaskBody → Type 0) (program : ProgramView) (code : CodeView) (id : TableId) (n count : ℕ) (hand : Held (Part A C) (PartSeen A) Drawn) (lists : List Entries) : Type 0 where
   pub table : hand.table ≡ id
   pub knows : Knows over stands_as program code n hand.view
   pub opened_for : hand.view.hands ≡ n

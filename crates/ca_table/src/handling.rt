@@ -5,7 +5,7 @@ ghost use lib.ListN.{get_elem?};
 ghost use Rattle.std.specs.Prelude.{◌≡◌, ℕ, ◌+◌, ◌^◌, ◌<◌, ◌≤◌, ◌++◌, ◌∷◌, IfNone, IfSome, List, [], Option, Some, None, length};
 ghost use Rattle.ca_term.specs.Program.{ProgramView};
 ghost use Rattle.ca_states.specs.ValidCode.{valid_code};
-ghost use Rattle.ca_value.specs.Seq.{spare};
+ghost use Rattle.ca_journal.specs.Merge.{room};
 ghost use Rattle.ca_turns.specs.Hands.{IsHolding, TableId};
 ghost use Rattle.ca_turns.specs.Views.{stands, turn};
 ghost use Rattle.ca_commit.specs.Moving.{visible};
@@ -196,10 +196,10 @@ pub fn draw_carried<A: Agent, C: Clock + Drop>(
 )
     requires carries { (program : ProgramView) × (code : ValidCode) × (n : ℕ) × (h : Carries (Part A C × PartSeen A)) × IsCarrying A.over A.stands program code table.now.id n worker.old h × IsMoved A.over A.place A.advances A.gives A.starts (part_seen C.least C.faults C.readings) code n worker.old.number (drawn_view drawn) h }
     requires code { drawn_code drawn ≡ valid_code worker.old.code.value }
-    requires room { length (visible (turn_view drawn.what)) ≤ spare worker.old.entries }
+    requires room { length (visible (turn_view drawn.what)) ≤ room worker.old.entries }
     requires turns { length worker.old.hand.view.turns < 2 ^ 59 }
     ensures same { SameWorker worker.old worker.new }
-    ensures spare { spare worker.old.entries ≤ spare worker.new.entries + length (visible (turn_view drawn.what)) }
+    ensures room { room worker.old.entries ≤ room worker.new.entries + length (visible (turn_view drawn.what)) }
     ensures hand { SameHand worker.old.hand worker.new.hand }
     ensures drew { (k : ℕ) × (before : List (PartSeen A)) × (after : List (PartSeen A)) × (worker.new.hand.view.turns ≡ worker.old.hand.view.turns ++ turn k drawn before after ∷ []) }
     ensures carries { (program : ProgramView) (code : ValidCode) (n : ℕ) (h : Carries (Part A C × PartSeen A)) → IsCarrying A.over A.stands program code table.now.id n worker.old h → IsMoved A.over A.place A.advances A.gives A.starts (part_seen C.least C.faults C.readings) code n worker.old.number (drawn_view drawn) h → IsCarrying A.over A.stands program code table.now.id n worker.new (each_by (settled_one (part_seen C.least C.faults C.readings)) h) }
@@ -217,10 +217,10 @@ pub fn draw_beside<A: Agent, C: Clock + Drop>(
     requires carries { (program : ProgramView) × (code : ValidCode) × (n : ℕ) × (h : Carries (Part A C × PartSeen A)) × IsCarrying A.over A.stands program code table.now.id n worker.old h × IsMoved A.over A.place A.advances A.gives A.starts (part_seen C.least C.faults C.readings) code n worker.old.number (drawn_view drawn) (beside_lane h) }
     requires code { drawn_code drawn ≡ valid_code worker.old.code.value }
     requires allows { (i : ℕ) → drawn_allows drawn i }
-    requires room { length (visible (turn_view drawn.what)) ≤ spare worker.old.entries }
+    requires room { length (visible (turn_view drawn.what)) ≤ room worker.old.entries }
     requires turns { length worker.old.hand.view.turns < 2 ^ 59 }
     ensures same { SameWorker worker.old worker.new }
-    ensures spare { spare worker.old.entries ≤ spare worker.new.entries + length (visible (turn_view drawn.what)) }
+    ensures room { room worker.old.entries ≤ room worker.new.entries + length (visible (turn_view drawn.what)) }
     ensures hand { SameHand worker.old.hand worker.new.hand }
     ensures drew { (k : ℕ) × (before : List (PartSeen A)) × (after : List (PartSeen A)) × (worker.new.hand.view.turns ≡ worker.old.hand.view.turns ++ turn k drawn before after ∷ []) }
     ensures carries { (program : ProgramView) (code : ValidCode) (n : ℕ) (h : Carries (Part A C × PartSeen A)) → IsCarrying A.over A.stands program code table.now.id n worker.old h → IsMoved A.over A.place A.advances A.gives A.starts (part_seen C.least C.faults C.readings) code n worker.old.number (drawn_view drawn) (beside_lane h) → IsCarrying A.over A.stands program code table.now.id n worker.new (settled_beside (part_seen C.least C.faults C.readings) h) }

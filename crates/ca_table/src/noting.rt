@@ -1,9 +1,8 @@
 // A worker draws events, and notes those that the journal shows.
 ghost use Rattle.std.specs.Prelude.{◌≡◌, ℕ, ◌+◌, ◌^◌, ◌<◌, ◌≤◌, ◌++◌, List, [], ◌∷◌, Option, OnOk, length, map, true};
 ghost use Rattle.ca_term.specs.Program.{ProgramView};
-ghost use Rattle.ca_value.specs.Seq.{list, spare};
 ghost use Rattle.ca_states.specs.Code.{CodeView};
-ghost use Rattle.ca_journal.specs.Merge.{entries};
+ghost use Rattle.ca_journal.specs.Merge.{entries, room};
 ghost use Rattle.ca_turns.specs.Hands.{IsHolding, IsNone};
 ghost use Rattle.ca_turns.specs.Views.{turn};
 ghost use Rattle.ca_commit.specs.Moving.{visible};
@@ -19,7 +18,8 @@ use crate::moving::draw;
 use crate::pool::Pool;
 use crate::worker::Worker;
 use ca_agent::agent::Agent;
-use ca_journal::entry::{Entries, Entry};
+use ca_journal::entries::Entries;
+use ca_journal::entry::Entry;
 use ca_timers::clock::Clock;
 use ca_turns::Table;
 use ca_value::memory::OutOfMemory;
@@ -28,13 +28,13 @@ const MOST_TURNS: u64 = 576_460_752_303_423_488;
 
 /// Makes room for one more entry, and changes nothing else.
 pub fn make_room<A: Agent, C: Clock + Drop>(worker: &mut Worker<A, C>) -> Result<(), OutOfMemory>
-    ensures room { OnOk result (0 < spare worker.new.entries) }
-    ensures kept { spare worker.old.entries ≤ spare worker.new.entries }
-    ensures entries { list worker.new.entries ≡ list worker.old.entries }
+    ensures room { OnOk result (0 < room worker.new.entries) }
+    ensures kept { room worker.old.entries ≤ room worker.new.entries }
+    ensures entries { entries worker.new.entries ≡ entries worker.old.entries }
     ensures hand { worker.new.hand ≡ worker.old.hand }
     ensures same { SameWorker worker.old worker.new }
 {
-    worker.entries.reserve(1)
+    worker.entries.reserve()
 }
 
 /// Whether the worker's list of events has a place for one more.
@@ -46,9 +46,9 @@ pub fn can_draw<A: Agent, C: Clock + Drop>(worker: &Worker<A, C>) -> bool
 
 // The entry of an event that the journal shows; none of another.
 fn note(into: &mut Entries, number: u64, what: Turned)
-    requires { length (visible (turn_view what)) ≤ spare into.old }
+    requires { length (visible (turn_view what)) ≤ room into.old }
     ensures noted { entries into.new ≡ entries into.old ++ entries_of number what }
-    ensures spare { spare into.old ≤ spare into.new + length (visible (turn_view what)) }
+    ensures room { room into.old ≤ room into.new + length (visible (turn_view what)) }
 {
     if let Turned::Shown(event) = what {
         into.push(Entry { number, event });
@@ -62,7 +62,7 @@ pub fn draw_event<A: Agent, C: Clock + Drop>(
     drawn: Drawn,
 )
     requires one { (program : ProgramView) × (code : CodeView) × (n : ℕ) × IsOne A.over A.stands program code table.now.id n worker.old }
-    requires room { length (visible (turn_view drawn.what)) ≤ spare worker.old.entries }
+    requires room { length (visible (turn_view drawn.what)) ≤ room worker.old.entries }
     requires turns { length worker.old.hand.view.turns < 2 ^ 59 }
     requires allows { (i : ℕ) → IsHolding worker.old.hand i → IsNone (drawn_touches drawn) i → drawn_allows drawn i }
     requires moved { (g : ℕ → Option (Part A C × PartSeen A)) × Grips worker.old.hand g × HasAll g (drawn_touches drawn) × drawn_moves A.over A.place A.advances A.gives A.starts drawn (settled g (drawn_touches drawn)) (map (part_seen C.least C.faults C.readings) (values g (drawn_touches drawn))) }
@@ -71,7 +71,7 @@ pub fn draw_event<A: Agent, C: Clock + Drop>(
     ensures hand { SameHand worker.old.hand worker.new.hand }
     ensures drew { (k : ℕ) × (before : List (PartSeen A)) × (after : List (PartSeen A)) × (worker.new.hand.view.turns ≡ worker.old.hand.view.turns ++ turn k drawn before after ∷ []) }
     ensures same { SameWorker worker.old worker.new }
-    ensures spare { spare worker.old.entries ≤ spare worker.new.entries + length (visible (turn_view drawn.what)) }
+    ensures room { room worker.old.entries ≤ room worker.new.entries + length (visible (turn_view drawn.what)) }
 {
     let number = draw::<Pool<A, C>>(table, &mut worker.hand, &drawn);
     note(&mut worker.entries, number, drawn.what);

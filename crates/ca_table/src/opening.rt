@@ -22,7 +22,7 @@ use ca_bank::bank::Bank;
 use ca_bank::shard::Shard;
 use ca_commit::held::{HeldBank, HeldShard};
 use ca_commit::task::{Ready, Task};
-use ca_journal::entry::Entries;
+use ca_journal::entries::Entries;
 use ca_states::valid_code::ValidCode;
 use ca_term::program::Program;
 use ca_timers::clock::Clock;

@@ -1,7 +1,7 @@
 use crate::answer::{PoolStop, WorkEnd};
 use crate::pool::Pool;
 use ca_agent::agent::Agent;
-use ca_journal::entry::Entries;
+use ca_journal::entries::Entries;
 use ca_states::valid_code::ValidCode;
 use ca_term::program::Program;
 use ca_timers::clock::Clock;

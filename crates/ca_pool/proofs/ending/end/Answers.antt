@@ -1,5 +1,5 @@
 use Rattle.std.proofs.Common.{◌<◌, refl, sym, subst, []}
-use Rattle.ca_value.specs.Seq.{spare}
+use Rattle.ca_journal.specs.Merge.{room}
 use Rattle.ca_meaning.specs.Body.{ended}
 use Rattle.ca_table.specs.Carriers.{just_lane}
 use Rattle.ca_table.specs.Parts.{part_seen}
@@ -32,7 +32,7 @@ finish-requires-clause-ending g c = let a = g.A.Agent in let K = g.C.Clock in le
     )
 
 pub finish-requires-clause-room : goal.finish-requires-clause-room
-finish-requires-clause-room g c = subst (λ e. 0 < spare e) (sym c.take_last-clock.ensures.entries) c.in_ok-make_room.ensures.room
+finish-requires-clause-room g c = subst (λ e. 0 < room e) (sym c.take_last-clock.ensures.entries) c.in_ok-make_room.ensures.room
 
 pub returns-clause-drew : goal.returns-clause-drew
 returns-clause-drew g c = let q = c.make_room.ensures in drew_later q.same (same_turns c.args.worker.now.hand c.make_room.new.worker.hand q.hand) (drew_later c.take_last-clock.ensures.same c.take_last-clock.ensures.turns c.finish.ensures.drew)

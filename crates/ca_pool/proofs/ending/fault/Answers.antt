@@ -1,6 +1,6 @@
 use Rattle.std.proofs.Common.{◌≡◌, ◌∙◌, ℕ, ◌<◌, Some, None, sym, subst, []}
 use Rattle.std.specs.Prelude.{option_map}
-use Rattle.ca_value.specs.Seq.{spare}
+use Rattle.ca_journal.specs.Merge.{room}
 use Rattle.ca_term.specs.Event.{port_number}
 use Rattle.ca_meaning.specs.Body.{faulted}
 use Rattle.ca_table.specs.Carriers.{just_lane}
@@ -37,7 +37,7 @@ pub finish_by_fault-requires-clause-timers : goal.finish_by_fault-requires-claus
 finish_by_fault-requires-clause-timers g c = c.take_banks.ensures.others.timers ∙ c.requires.bare.timers
 
 pub finish_by_fault-requires-clause-room : goal.finish_by_fault-requires-clause-room
-finish_by_fault-requires-clause-room g c = subst (λ e. 0 < spare e) (sym c.take_banks.ensures.entries) c.in_ok-make_room.ensures.room
+finish_by_fault-requires-clause-room g c = subst (λ e. 0 < room e) (sym c.take_banks.ensures.entries) c.in_ok-make_room.ensures.room
 
 pub returns-clause-drew : goal.returns-clause-drew
 returns-clause-drew g c = let q = c.make_room.ensures in drew_later q.same (same_turns c.args.worker.now.hand c.make_room.new.worker.hand q.hand) (drew_later c.take_banks.ensures.same c.take_banks.ensures.turns c.finish_by_fault.ensures.drew)

@@ -1,5 +1,5 @@
 use Rattle.std.proofs.Common.{◌∙◌, ◌<◌, refl, sym, ap, subst, is_some, []}
-use Rattle.ca_value.specs.Seq.{spare}
+use Rattle.ca_journal.specs.Merge.{room}
 use Rattle.ca_term.specs.Event.{port_number}
 use Rattle.std.specs.Prelude.{option_map}
 use Rattle.ca_commit.specs.Showing.{channels_held}
@@ -32,7 +32,7 @@ pub finish-requires-clause-timers : goal.finish-requires-clause-timers
 finish-requires-clause-timers g c = c.apply_fault.ensures.others.1 ∙ c.requires.timers
 
 pub finish-requires-clause-room : goal.finish-requires-clause-room
-finish-requires-clause-room g c = subst (λ e. 0 < spare e) (sym c.take_last-clock.ensures.entries) c.requires.room
+finish-requires-clause-room g c = subst (λ e. 0 < room e) (sym c.take_last-clock.ensures.entries) c.requires.room
 
 pub returns-clause-drew : goal.returns-clause-drew
 returns-clause-drew g c = drew_later c.take_last-clock.ensures.same c.take_last-clock.ensures.turns c.finish.ensures.drew

@@ -1,5 +1,5 @@
 use Rattle.std.proofs.Common.{◌≡◌, ◌∙◌, ℕ, ap, arith, inr, subst}
-use Rattle.ca_value.specs.Seq.{list}
+use Rattle.ca_journal.specs.Merge.{entries}
 use Rattle.ca_table.specs.Parts.{part_seen}
 use Rattle.ca_pool.specs.Surveys.{Fills}
 use Rattle.ca_pool.proofs.AllParts.{free_at}
@@ -13,7 +13,7 @@ loop-at-init g c = let a = g.A.Agent in let K = g.C.Clock in none_held a.over a.
 
 pub try_one-requires-clause-one : goal.try_one-requires-clause-one
 try_one-requires-clause-one g c = let a = g.A.Agent in let r = c.requires.surveys in let v = c.loop-at.invariant.did in let lt = c.loop-at-test.true in let le = r.4 in
-    (r.0, r.1, r.2, still_one a.over a.stands r.0 c.args.table.now.id r.2 c.args.worker.now c.loop-at.worker v.same (ap list v.entries) r.1 v.turns v.left r.3, omega (arith, lt, le))
+    (r.0, r.1, r.2, still_one a.over a.stands r.0 c.args.table.now.id r.2 c.args.worker.now c.loop-at.worker v.same (ap entries v.entries) r.1 v.turns v.left r.3, omega (arith, lt, le))
 
 pub try_one-requires-clause-free : goal.try_one-requires-clause-free
 try_one-requires-clause-free g c = let K = g.C.Clock in let r = c.requires.surveys in let v = c.loop-at.invariant in let at = c.loop-at.at in let h = c.loop-at.worker.hand in let f = v.holds r.0 r.1 r.2 r.3 r.5 r.6 in
@@ -22,7 +22,7 @@ try_one-requires-clause-free g c = let K = g.C.Clock in let r = c.requires.surve
 pub loop-at-preserved : goal.loop-at-preserved
 loop-at-preserved g c = let a = g.A.Agent in let K = g.C.Clock in let v = c.loop-at.invariant in let t = c.try_one in let w0 = c.args.worker.now in let id = c.args.table.now.id in
     one_held a.over a.stands id (part_seen K.least K.faults K.readings) c.args.first w0 c.loop-at.worker t.new.worker c.loop-at.at v t.ensures.same t.ensures.turns t.ensures.entries t.ensures.left
-    (λ P code n one f s. t.ensures.holds c.if-not-try_one.false P code n (still_one a.over a.stands P id n w0 c.loop-at.worker v.did.same (ap list v.did.entries) code v.did.turns v.did.left one) f s)
+    (λ P code n one f s. t.ensures.holds c.if-not-try_one.false P code n (still_one a.over a.stands P id n w0 c.loop-at.worker v.did.same (ap entries v.did.entries) code v.did.turns v.did.left one) f s)
 
 pub returns-then-not-try_one-clause-holds : goal.returns-then-not-try_one-clause-holds
 returns-then-not-try_one-clause-holds g c = λ P code n one f s. let h = c.loop-at.invariant.holds P code n one f s in (h.0, c.try_one.ensures.missed c.if-not-try_one.true n code h.0 h.1, h.2)

@@ -1,10 +1,9 @@
 use Rattle.std.proofs.Common.{◌≡◌, ◌∙◌, ℕ, ◌+◌, List, [], ◌∷◌, ◌++◌, length, refl, sym, ap, subst, arith, length-append, Some}
 use Rattle.std.proofs.lemmas.List.Elements.{All-pop}
 use Rattle.std.specs.Prelude.{◌||◌, option_to_list}
-use Rattle.ca_value.specs.declared.seq.Seq.{Seq}
 use Rattle.ca_term.specs.Program.{program_view}
 use Rattle.ca_states.specs.ValidCode.{valid_code}
-use Rattle.ca_journal.specs.declared.entry.Entry.{Entry}
+use Rattle.ca_journal.specs.declared.entries.Entries.{Entries}
 use Rattle.ca_turns.specs.Places.{total}
 use Rattle.ca_turns.proofs.Lists.{total-snoc}
 use Rattle.ca_table.specs.Workers.{IsJoined, IsReady, stands_for}
@@ -17,7 +16,7 @@ use Rattle.ca_table.proofs.gathering.join_all.Goals as goal
 pub loop-other-init : goal.loop-other-init
 loop-other-init g c = let p = c.push_reserved.ensures in let room = c.requires.room in let first = c.args.first in let P = program_view c.args.program.now in let K = valid_code c.args.code.now in let id = c.args.table.now.id in (
   (let a = p.len in let b = p.capacity in omega (arith, a, b, room)),
-  λ n r all. (stands_for first, subst (λ (ls : List (Seq Entry)). IsJoined {A = g.row.A.Denot} {C = g.row.C.Denot} g.A.Agent.over g.A.Agent.stands P K id n (stands_for first) first.hand ls) (sym (p.items ∙ ap (λ l. l ++ first.entries ∷ []) c.requires.none)) (alone g.A.Agent.over g.A.Agent.stands P K id n first r), all, refl),
+  λ n r all. (stands_for first, subst (λ (ls : List Entries). IsJoined {A = g.row.A.Denot} {C = g.row.C.Denot} g.A.Agent.over g.A.Agent.stands P K id n (stands_for first) first.hand ls) (sym (p.items ∙ ap (λ l. l ++ first.entries ∷ []) c.requires.none)) (alone g.A.Agent.over g.A.Agent.stands P K id n first r), all, refl),
   λ such. refl,
   λ none. (none, refl),
   refl,
@@ -43,7 +42,7 @@ loop-other-preserved g c = let i = c.loop-other.invariant in let other = c.in-So
       (let a = p.len in let b = p.capacity in let room = i.0 in omega (arith, a, b, room, shorter)),
       λ n r all. let j = i.1 n r all in let both = All-pop (IsReady g.A.Agent.over g.A.Agent.stands P K id n) xs ys (Some other) popped j.2 in (
         j.0 + stands_for other,
-        subst (λ (ls : List (Seq Entry)). IsJoined {A = g.row.A.Denot} {C = g.row.C.Denot} g.A.Agent.over g.A.Agent.stands P K id n (j.0 + stands_for other) c.join_hands.new.into ls) (sym p.items) (joins g.A.Agent.over g.A.Agent.stands P K id n j.0 c.loop-other.hand c.join_hands.new.into c.loop-other.lists.items other j.1 both.1 h.table h.parts h.view),
+        subst (λ (ls : List Entries). IsJoined {A = g.row.A.Denot} {C = g.row.C.Denot} g.A.Agent.over g.A.Agent.stands P K id n (j.0 + stands_for other) c.join_hands.new.into ls) (sym p.items) (joins g.A.Agent.over g.A.Agent.stands P K id n j.0 c.loop-other.hand c.join_hands.new.into c.loop-other.lists.items other j.1 both.1 h.table h.parts h.view),
         both.0,
         (let sum = j.3 in omega (arith, less, sum)),
       ),

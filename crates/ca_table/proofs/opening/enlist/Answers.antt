@@ -1,10 +1,9 @@
-use Rattle.std.proofs.Common.{◌≡◌, ◌∙◌, ◌+◌, [], ◌∷◌, ◌++◌, length, map, refl, sym, ap, subst, arith, length-append, Some}
+use Rattle.std.proofs.Common.{◌≡◌, ◌∙◌, ◌+◌, [], ◌∷◌, ◌++◌, length, refl, sym, ap, subst, arith, length-append, Some}
 use Rattle.std.proofs.lemmas.List.Elements.{All-pop, All-push}
 use Rattle.std.specs.Prelude.{All, option_to_list}
 use Rattle.ca_term.specs.Program.{program_view}
 use Rattle.ca_states.specs.ValidCode.{valid_code}
 use Rattle.ca_turns.specs.Hands.{IsFresh}
-use Rattle.ca_journal.specs.Merge.{entry_view}
 use Rattle.ca_table.specs.Workers.{IsNew}
 use Rattle.ca_table.proofs.opening.enlist.Goals as goal
 
@@ -23,7 +22,7 @@ loop-hand-preserved g c = let i = c.loop-hand.invariant in let xs = c.loop-hand.
           below = omega (arith, shorter, count);
           of_program = ap program_view c.of.ensures;
           of_code = ap valid_code c.of-in-Some.ensures;
-          notes = ap (map entry_view) c.new.ensures;
+          notes = c.new.ensures;
           fresh = both.1;
         })),
       ),
