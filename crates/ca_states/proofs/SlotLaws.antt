@@ -56,6 +56,12 @@ write_read [] a lt = absurd (omega (arith, lt))
 write_read (t ∷ s) zero lt = refl
 write_read (t ∷ s) (suc a) lt = ap (λ r. t ∷ r) (write_read s a (omega (arith, lt)))
 
+-- a slot that holds the value already
+pub write_held : (xs : List Value) (a : ℕ) (t : Tree) → a < length xs → read (views xs) a ≡ t → write (views xs) a t ≡ views xs
+write_held xs a t lt e =
+    let within : a < length (views xs) = subst (λ n. a < n) (sym (length-map xs view)) lt in
+    ap (write (views xs) a) (sym e) ∙ write_read (views xs) a within
+
 left_int : (t : Tree) (z : ℤ) → t ≡ int z → left_by t ≡ t
 unfolding left_by
 left_int t z e = subst (λ u. left_by u ≡ u) (sym e) refl

@@ -21,8 +21,34 @@ use ca_value::builtin::scalars::{
 };
 use ca_value::value::{Pair, Value};
 
-// A value of the text, where it is an integer.
+// The bytes of the longest text that is compared before it is copied.
+const SHORT_TEXT: usize = 16;
+
+// Whether both texts are one, and short.
+#[inline(never)]
+fn are_one_text(one: &[u8], other: &[u8]) -> bool
+    ensures { OnTrue result (one.now ≡ other.now) }
+{
+    one.len() <= SHORT_TEXT && one == other
+}
+
+// Whether the value is a short text that is held already.
 #[inline(always)]
+fn is_held(held: &Value, value: &Value) -> bool
+    ensures { OnTrue result (view held.now ≡ view value.now) }
+{
+    match value {
+        Value::Text(text) => match held {
+            Value::Text(other) => are_one_text(other.as_slice(), text.as_slice()),
+            _ => false,
+        },
+        _ => false,
+    }
+}
+
+// A value of the text, where it is an integer, or the slot holds it from the last turn of a loop.
+#[inline(always)]
+#[tactic(auto, using(crate::proofs::SlotLaws::write_held))]
 fn const_in_place(slots: &mut [Value], to: u64, value: &Value) -> bool
     requires { to < length slots.old }
     ensures done { OnTrue result (effect (constant to (view value.now)) (views slots.old) ≡ done (views slots.new)) }
@@ -33,7 +59,7 @@ fn const_in_place(slots: &mut [Value], to: u64, value: &Value) -> bool
         set_int(slots, to, *n);
         return true;
     }
-    false
+    is_held(value_at(slots, to), value)
 }
 
 // A copy, where it is one of an integer.
@@ -279,7 +305,7 @@ fn many_in_place(slots: &mut [Value], builtin: Builtin, to: u64, from: u64, coun
     }
 }
 
-/// The truth of a builtin of two slots, where both hold integers and it compares them.
+/// The truth of a builtin of two slots, where it compares what they hold.
 #[inline(always)]
 pub(crate) fn truth_in_place(
     slots: &[Value],
@@ -291,7 +317,23 @@ pub(crate) fn truth_in_place(
     requires right { right < length slots.now }
     ensures { IfSome result (λ t. applied builtin (read (views slots.now) left ∷ read (views slots.now) right ∷ []) ≡ Ok (bool t)) }
 {
-    truth_of_two(builtin, int_at(slots, left)?, int_at(slots, right)?)
+    let Some(b) = int_at(slots, right) else {
+        return truth_of_slots(slots, builtin, left, right);
+    };
+    let Some(a) = int_at(slots, left) else {
+        return truth_of_slots(slots, builtin, left, right);
+    };
+    truth_of_two(builtin, a, b)
+}
+
+// The same of values of any kind.
+#[inline(never)]
+fn truth_of_slots(slots: &[Value], builtin: Builtin, left: u64, right: u64) -> Option<bool>
+    requires left { left < length slots.now }
+    requires right { right < length slots.now }
+    ensures { IfSome result (λ t. applied builtin (read (views slots.now) left ∷ read (views slots.now) right ∷ []) ≡ Ok (bool t)) }
+{
+    truth_of_values(builtin, value_at(slots, left), value_at(slots, right))
 }
 
 /// The truth of a builtin of a slot and an integer of the text, where the slot holds one too and it compares them.
