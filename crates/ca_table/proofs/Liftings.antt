@@ -146,8 +146,9 @@ module _ {X : Type 0} (now : ℕ → Option X) where
   abbrev pub from_on : ℕ → ℕ → Option X
   from_on k i = cond (nat_lt i k) None (now i)
 
-  pub from_first : (i : ℕ) → from_on 0 i ≡ now i
-  from_first i = ap (λ b. cond b None (now i)) (le-ltb i 0 (omega arith))
+  -- where none lies before k
+  pub from_first : (k : ℕ) → ((j : ℕ) → j < k → now j ≡ None) → (i : ℕ) → from_on k i ≡ now i
+  from_first k none i = ⊎_elim (λ lt. ap (λ b. cond b None (now i)) (lt-ltb i k lt) ∙ sym (none i lt)) (λ le. ap (λ b. cond b None (now i)) (le-ltb i k le)) (cases_lt i k)
 
   none_at : (k : ℕ) → from_on (k + 1) k ≡ None
   none_at k = ap (λ b. cond b None (now k)) (lt-ltb k (k + 1) (omega arith))

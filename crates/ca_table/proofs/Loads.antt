@@ -55,18 +55,23 @@ module _ {A C T : Type 0} (over : CodeView → A → Type 0) (stands_as : Progra
     pub below : (i : ℕ) → IsHolding w.hand i → i < first_of row w0.workers + k
     pub carries : (program : ProgramView) (n : ℕ) (h : Carry) → HasNone row h → Has program n w0 h → Has program n w (with_all row (out n xs) h)
 
-  pub none_loaded : (has : ℕ → Bool) (w : Worker A C) (xs : List T) → xs ≡ [] → ((i : ℕ) → IsHolding w.hand i → i < first_of row w.workers) → IsLoading has w w xs 0
-  none_loaded has w xs e below = record {
+  -- where none of the first k is wanted
+  pub none_loaded : (has : ℕ → Bool) (w : Worker A C) (xs : List T) (k : ℕ) → ((i : ℕ) → i < k → has i ≡ false) → xs ≡ [] → ((i : ℕ) → IsHolding w.hand i → i < first_of row w.workers) → IsLoading has w w xs k
+  none_loaded has w xs k few e below = record {
     same = same_worker w;
     turns = same_turns w;
     entries = refl;
-    wanted = λ i lt. absurd (omega (arith, lt));
+    wanted = λ i lt. ap (λ (l : List T). is_some (listed number l i)) e ∙ sym (few i lt);
     none = λ i le. ap (λ (l : List T). listed number l i) e;
     below = λ i h. let lt = below i h in omega (arith, lt);
     carries = λ program n h none s. subst (λ (f : Carry). Has program n w f) (sym (ap (λ (l : List T). with_all row (out n l) h) e ∙ with_every row (out n []) (all_of row h) h (λ i. sym (none i)) ∙ with_theirs row h)) s;
   }
 
   module _ (has : ℕ → Bool) (w0 w : Worker A C) (xs : List T) (k : ℕ) (l : IsLoading has w0 w xs k) where
+    -- where none is wanted from k on
+    pub all_loaded : ((i : ℕ) → k ≤ i → has i ≡ false) → (i : ℕ) → is_some (listed number xs i) ≡ has i
+    all_loaded few i = ⊎_elim (λ lt. l.wanted i lt) (λ le. ap is_some (l.none i le) ∙ sym (few i le)) (cases_lt i k)
+
     pub not_wanted : has k ≡ false → IsLoading has w0 w xs (k + 1)
     not_wanted e = record {
       same = l.same;
@@ -192,12 +197,20 @@ module _ {A C : Type 0} (over : CodeView → A → Type 0) (stands_as : ProgramV
     pub entries : w.entries ≡ w0.entries
     pub carries : (program : ProgramView) (code : ValidCode) (n : ℕ) (row : Row) (h : Held) (now : Map) → first ≡ first_of row n → AreSettled now → IsCarrying over stands_as program code id n w0 (with_all row now h) → IsCarrying over stands_as program code id n w (with_all row (from_on now k) h)
 
-  pub none_given : (w : Worker A C) → IsGiving w w 0
-  none_given w = record { same = same_worker w; turns = same_turns w; entries = refl; carries = λ program code n row h now e all s. subst (λ (f : Held). IsCarrying over stands_as program code id n w f) (sym (with_every row (from_on now 0) now h (from_first now))) s }
-
   absent : (b : Bool) (o : Option (Part A C × PartSeen A)) → b ≡ false → SettledIf seen b o → o ≡ None
   absent true o e s = absurd (let z : true ≡ false = e in cc)
   absent false o e s = s
+
+  -- where none lies before k
+  pub none_given : (w : Worker A C) (k : ℕ) → k ≤ 16 → ((i : ℕ) → i < k → has_home homes i ≡ false) → IsGiving w w k
+  none_given w k small none = record {
+    same = same_worker w;
+    turns = same_turns w;
+    entries = refl;
+    carries = λ program code n row h now e all s. subst (λ (f : Held). IsCarrying over stands_as program code id n w f)
+        (sym (with_every row (from_on now k) now h (from_first now k (λ j lt. absent (has_home homes j) (now j) (none j lt) (all j (omega (arith, lt, small)))))))
+        s;
+  }
 
   present : (b : Bool) (o : Option (Part A C × PartSeen A)) → b ≡ true → SettledIf seen b o → (x : Part A C) × (o ≡ Some (x, seen x))
   present false o e s = absurd (let z : false ≡ true = e in cc)
@@ -223,8 +236,12 @@ module _ {A C : Type 0} (over : CodeView → A → Type 0) (stands_as : ProgramV
           gives program code n row (with_all row (from_on now (k + 1)) h) (Some (x.0, seen x.0)) is (there_all row k (from_on now (k + 1)) h ∙ gave_at now k) x.1;
     }
 
-  pub all_given : (w0 w : Worker A C) → IsGiving w0 w 16 → (program : ProgramView) (code : ValidCode) (n : ℕ) (row : Row) (h : Held) (now : Map) → first ≡ first_of row n → AreSettled now → IsCarrying over stands_as program code id n w0 (with_all row now h) → IsCarrying over stands_as program code id n w (with_all row (λ i. None) h)
-  all_given w0 w l program code n row h now is all s = subst (λ (f : Held). IsCarrying over stands_as program code id n w f) (with_every row (from_on now 16) (λ i. None) h (λ i. gave_all now 16 i (few row s))) (l.carries program code n row h now is all s) where
+  -- where none lies from k on
+  pub all_given : (w0 w : Worker A C) (k : ℕ) → ((i : ℕ) → k ≤ i → has_home homes i ≡ false) → IsGiving w0 w k → (program : ProgramView) (code : ValidCode) (n : ℕ) (row : Row) (h : Held) (now : Map) → first ≡ first_of row n → AreSettled now → IsCarrying over stands_as program code id n w0 (with_all row now h) → IsCarrying over stands_as program code id n w (with_all row (λ i. None) h)
+  all_given w0 w k none l program code n row h now is all s = subst (λ (f : Held). IsCarrying over stands_as program code id n w f) (with_every row (from_on now k) (λ i. None) h (λ i. gave_all now k i nowhere)) (l.carries program code n row h now is all s) where
     few : (row : Row) → IsCarrying over stands_as program code id n w0 (with_all row now h) → (j : ℕ) → 16 ≤ j → now j ≡ None
     few bank_row s j le = s.sorted.few_banks j le
     few shard_row s j le = s.sorted.few_shards j le
+
+    nowhere : (j : ℕ) → k ≤ j → now j ≡ None
+    nowhere j le = ⊎_elim (λ lt. absent (has_home homes j) (now j) (none j le) (all j lt)) (λ beyond. few row s j beyond) (cases_lt j 16)

@@ -172,7 +172,7 @@ pub fn load<R: Wait, A: Agent, C: Clock + Drop, T: Sixteen<A, C>>(
     ensures ascending { (i : ℕ) → IsHolding worker.new.hand i → i < first_of T.group worker.old.workers + 16 }
     ensures carries { (program : ProgramView) (n : ℕ) (h : Carries (Part A C × PartSeen A)) → HasNone T.group h → IsCarrying A.over A.stands program code.now table.now.id n worker.old h → IsCarrying A.over A.stands program code.now table.now.id n worker.new (with_all T.group (lifted n code.now T.as_contents (part_seen C.least C.faults C.readings) T.number (parts list.new)) h) }
 {
-    for number in 0..ALL {
+    for number in homes.first()..homes.end() {
         if homes.has(number) {
             load_one(rt, table, code, worker, number, list);
         }
@@ -217,7 +217,7 @@ pub fn give_all<A: Agent, C: Clock + Drop>(
     ensures entries { worker.new.entries ≡ worker.old.entries }
     ensures carries { (program : ProgramView) (code : ValidCode) (n : ℕ) (row : Row) (h : Carries (Part A C × PartSeen A)) (now : ℕ → Option (Part A C × PartSeen A)) → first ≡ first_of row n → ((i : ℕ) → i < 16 → SettledIf (part_seen C.least C.faults C.readings) (has_home homes.now i) (now i)) → IsCarrying A.over A.stands program code table.now.id n worker.old (with_all row now h) → IsCarrying A.over A.stands program code table.now.id n worker.new (with_all row (λ i. None) h) }
 {
-    for number in 0..ALL {
+    for number in homes.first()..homes.end() {
         if homes.has(number) {
             give_at(table, worker, first + number);
         }

@@ -1,4 +1,4 @@
-use Rattle.std.proofs.Common.{◌≡◌, ◌∙◌, ℕ, ◌+◌, ◌<◌, ◌≤◌, [], ◌∷◌, length, sym, ap, subst, arith, length-append}
+use Rattle.std.proofs.Common.{◌∙◌, ℕ, ◌+◌, ◌<◌, ◌≤◌, [], ◌∷◌, length, sym, ap, subst, arith, length-append}
 use Rattle.ca_states.specs.ValidCode.{valid_code}
 use Rattle.ca_commit.specs.Listings.{parts, spare}
 use Rattle.ca_commit.specs.declared.listing.Listing.{Listing}
@@ -10,16 +10,17 @@ use Rattle.ca_table.specs.Sound.{IsSound}
 use Rattle.ca_table.specs.declared.worker.Worker.{Worker}
 use Rattle.ca_table.proofs.HomeMembers.{own}
 use Rattle.ca_table.proofs.Lifts.{AreSound, none_sound, one_sound}
-use Rattle.ca_table.proofs.Loads.{IsLoading, none_loaded, not_wanted, one_loaded}
+use Rattle.ca_table.proofs.Loads.{IsLoading, all_loaded, none_loaded, not_wanted, one_loaded}
 use Rattle.ca_table.proofs.lifting.load.Goals as goal
 use Rattle.ca_table.proofs.lifting.load.Goals.{else-has, then-has}
 
 pub loop-number-init : goal.loop-number-init
 loop-number-init g c = let a = g.A.Agent in let K = g.C.Clock in (
   (let r = c.requires.room in omega (arith, r)),
-  none_loaded a.over a.stands c.args.code.now c.args.table.now.id (part_seen K.least K.faults K.readings) g.T.Sixteen.group g.T.Sixteen.as_contents g.T.Numbered.number (has_home c.args.homes.now) c.args.worker.now (parts c.args.list.now) c.requires.empty c.requires.ascending,
+  none_loaded a.over a.stands c.args.code.now c.args.table.now.id (part_seen K.least K.faults K.readings) g.T.Sixteen.group g.T.Sixteen.as_contents g.T.Numbered.number (has_home c.args.homes.now) c.args.worker.now (parts c.args.list.now) c.first-number.result c.first-number.ensures.none c.requires.empty c.requires.ascending,
   omega arith,
   none_sound a.over a.place (valid_code c.args.code.now) K.least K.faults K.readings g.T.Sixteen.as_contents g.T.Numbered.number c.args.worker.now.workers (first_of g.T.Sixteen.group c.args.worker.now.workers) (parts c.args.list.now) c.requires.empty,
+  c.first-number.ensures.small,
 )
 
 pub load_one-requires-clause-carries : goal.load_one-requires-clause-carries
@@ -31,7 +32,7 @@ load_one-requires-clause-ascending g c = let l = c.loop-number.invariant.1 in λ
 
 pub loop-number-preserved : goal.loop-number-preserved
 loop-number-preserved g c = let a = g.A.Agent in let K = g.C.Clock in let seen = part_seen K.least K.faults K.readings in let code = c.args.code.now in let id = c.args.table.now.id in let group = g.T.Sixteen.group in let contents = g.T.Sixteen.as_contents in let number = g.T.Numbered.number in
-    let has = has_home c.args.homes.now in let w0 = c.args.worker.now in let w = c.loop-number.worker in let k = c.loop-number.number in let lt : k < 16 = omega (arith, c.loop-number-test.true) in
+    let has = has_home c.args.homes.now in let w0 = c.args.worker.now in let w = c.loop-number.worker in let k = c.loop-number.number in let small = c.end-number-end.ensures.small in let lt : k < 16 = omega (arith, c.loop-number-test.true, small) in
     let known = sym (ap has (own k lt)) ∙ sym c.has.ensures in let l = c.loop-number.invariant in let valid = valid_code code in let n = w0.workers in let first = first_of group n in
     elim c.if-has.branch [
       | then-has b ↦ let q = b.load_one.ensures in let room = l.0 in let kept = q.room in let fits = l.2 in let longer = ap length q.list.1 ∙ length-append (parts c.loop-number.list) (q.list.0 ∷ []) in (
@@ -43,6 +44,7 @@ loop-number-preserved g c = let a = g.A.Agent in let K = g.C.Clock in let seen =
         subst (λ (ls : Listing g.row.T.Denot). AreSound a.over a.place valid K.least K.faults K.readings contents number n first (parts ls)) (sym b.list-is)
             (one_sound a.over a.place valid K.least K.faults K.readings contents number n first (parts c.loop-number.list) (parts b.load_one.new.list) q.list.0 k l.3 q.list.1 q.list.2 (l.1.none k (omega arith))
             (subst (λ (m : ℕ). IsSound a.over a.place valid m (first_of group m + k) (held_of (contents_seen K.least K.faults K.readings (contents q.list.0)))) l.1.same.workers q.list.3)),
+        omega (arith, lt),
       )
       | else-has b ↦ let room = l.0 in let fits = l.2 in (
         subst (λ (ls : Listing g.row.T.Denot). 16 ≤ spare ls + (k + 1)) (sym b.list-is) (omega (arith, room)),
@@ -51,8 +53,17 @@ loop-number-preserved g c = let a = g.A.Agent in let K = g.C.Clock in let seen =
             (not_wanted a.over a.stands code id seen group contents number has w0 w (parts c.loop-number.list) k l.1 (known ∙ b.if-has.false))),
         subst (λ (ls : Listing g.row.T.Denot). spare c.args.list.now ≤ spare ls + length (parts ls)) (sym b.list-is) fits,
         subst (λ (ls : Listing g.row.T.Denot). AreSound a.over a.place valid K.least K.faults K.readings contents number n first (parts ls)) (sym b.list-is) l.3,
+        omega (arith, lt),
       )
     ]
 
 pub returns-clause-ascending : goal.returns-clause-ascending
-returns-clause-ascending g c = let e : c.loop-number.number ≡ 16 = omega (arith, c.loop-number-test.false, c.loop-number.auto.number-end) in λ i h. let lt = c.loop-number.invariant.1.below i h in omega (arith, e, lt)
+returns-clause-ascending g c = let few = c.loop-number.invariant.4 in λ i h. let lt = c.loop-number.invariant.1.below i h in omega (arith, few, lt)
+
+pub returns-clause-homes : goal.returns-clause-homes
+returns-clause-homes g c = let a = g.A.Agent in let K = g.C.Clock in let end = c.end-number-end in λ i lt.
+    all_loaded a.over a.stands c.args.code.now c.args.table.now.id (part_seen K.least K.faults K.readings) g.T.Sixteen.group g.T.Sixteen.as_contents g.T.Numbered.number (has_home c.args.homes.now) c.args.worker.now c.loop-number.worker (parts c.loop-number.list) c.loop-number.number c.loop-number.invariant.1
+    (λ j le. end.ensures.none j (omega (arith, le, c.loop-number-test.false))) i
+
+pub returns-clause-none : goal.returns-clause-none
+returns-clause-none g c = let few = c.loop-number.invariant.4 in λ i le. c.loop-number.invariant.1.none i (omega (arith, few, le))

@@ -13,3 +13,4 @@ invariant-loop-number g l = (16 ≤ spare l.list + l.number)
     × IsLoading g.A.Agent.over g.A.Agent.stands l.code l.table.id (part_seen g.C.Clock.least g.C.Clock.faults g.C.Clock.readings) g.T.Sixteen.group g.T.Sixteen.as_contents g.T.Numbered.number (has_home l.homes) l.fn.worker l.worker (parts l.list) l.number
     × (spare l.fn.list ≤ spare l.list + length (parts l.list))
     × AreSound g.A.Agent.over g.A.Agent.place (valid_code l.code) g.C.Clock.least g.C.Clock.faults g.C.Clock.readings g.T.Sixteen.as_contents g.T.Numbered.number l.fn.worker.workers (first_of g.T.Sixteen.group l.fn.worker.workers) (parts l.list)
+    × (l.number ≤ 16)
