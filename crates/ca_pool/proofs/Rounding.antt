@@ -8,10 +8,10 @@ use Rattle.ca_meaning.specs.Body.{At}
 use Rattle.ca_meaning.specs.Task.{TaskBody}
 use Rattle.ca_states.specs.Code.{CodeView}
 use Rattle.ca_states.specs.declared.valid_code.ValidCode.{ValidCode}
-use Rattle.ca_turns.specs.Hands.{TableId}
+use Rattle.ca_turns.specs.Hands.{IsHolding, TableId}
 use Rattle.ca_turns.specs.Places.{total}
 use Rattle.ca_journal.specs.Merge.{entries}
-use Rattle.ca_pool.specs.Answers.{Answer, BeginsAlone, EachWorked, IsWorked, StopsAlone, WorkedAlone, WorkedAloneAt, WorkedAt, joined, joined_from}
+use Rattle.ca_pool.specs.Answers.{Answer, BeginsAlone, EachWorked, HoldsLaneAtMost, IsWorked, StopsAlone, WorkedAlone, WorkedAloneAt, WorkedAt, joined, joined_from}
 use Rattle.ca_pool.specs.Lone.{IsLone, LoneStopped}
 use Rattle.ca_table.specs.Seen.{PartSeen}
 use Rattle.ca_table.specs.Worked.{HasWorked, any_drew, fails_clock, gives_up, has, has_drawn, leaves, spent}
@@ -221,6 +221,15 @@ module _ {A C : Type 0} (over : CodeView → A → Type 0) (stands_as : ProgramV
     ready_all many worked all k d lt = let y = slice_index_or ys k d in let h = worked k d (omega (arith, lt, many)) in
         ⊎_elim (λ come. of_ok y.answer (IsReady over stands_as program code id n y) come.0 come.1 h.ready) h.failed (last_at ys all k d lt)
 
+    -- and whatever a worker answered, it has its lane at most
+    kept_one : (a : Answer) (x y : Worker A C) → y.answer ≡ a → IsWorked over stands_as program code id n allowance x y → HoldsLaneAtMost y
+    kept_one (Ok e) x y is w i holds = absurd ((of_ok y.answer (IsReady over stands_as program code id n y) e is w.ready).nothing i holds.0 holds.1)
+    kept_one (Err ClockFailed) x y is w i holds = absurd ((w.failed is).nothing i holds.0 holds.1)
+    kept_one (Err OutOfMemory) x y is w i holds = w.kept is i holds
+
+    pub kept_all : length ys ≡ length xs → WorkedAt over stands_as program code id n allowance xs ys → All HoldsLaneAtMost ys
+    kept_all many worked k d lt = let y = slice_index_or ys k d in kept_one y.answer (slice_index_or xs k d) y refl (worked k d (omega (arith, lt, many)))
+
     pub round_of_all : All (IsReady over stands_as program code id n) xs → r ≡ joined_from (Ok Spent) ys → length ys ≡ length xs → WorkedAt over stands_as program code id n allowance xs ys → IsRound r xs ys
     round_of_all before is many worked = record {
       before = before;
@@ -275,11 +284,12 @@ module _ {A C : Type 0} (over : CodeView → A → Type 0) (stands_as : ProgramV
   keeps_worked allowance old w a h = record { number = h.number; table = h.table; opening = h.opening; stays_for = h.stays_for; more = h.more; drew = h.drew; sparing = h.sparing; answers = h.answers }
 
   pub answered : (allowance : ℕ) (old w : Worker A C) (a : Answer) → IsReady over stands_as program code id n old
-      → OnOk a (IsReady over stands_as (program_view old.program.value) code id old.workers w) → (a ≡ Err ClockFailed → IsReady over stands_as (program_view old.program.value) code id old.workers w) → HasWorked allowance a old w
+      → OnOk a (IsReady over stands_as (program_view old.program.value) code id old.workers w) → (a ≡ Err ClockFailed → IsReady over stands_as (program_view old.program.value) code id old.workers w) → (a ≡ Err OutOfMemory → (i : ℕ) → IsHolding w.hand i → i ≡ old.number) → HasWorked allowance a old w
       → IsWorked over stands_as program code id n allowance old (record w { answer = a })
-  answered allowance old w a r ready failed worked = record {
+  answered allowance old w a r ready failed kept worked = record {
     ready = on_ok a _ (λ e k. keeps_ready w a (shared_ready old w r (of_ok a _ e k ready)));
     failed = λ k. keeps_ready w a (shared_ready old w r (failed k));
+    kept = λ k i holds. kept k i holds ∙ sym worked.number;
     worked = keeps_worked allowance old w a worked;
   }
 

@@ -8,7 +8,7 @@ use Rattle.ca_meaning.specs.Task.{TaskBody}
 use Rattle.ca_states.specs.Code.{CodeView}
 use Rattle.ca_states.specs.ValidCode.{valid_code}
 use Rattle.ca_states.specs.declared.valid_code.ValidCode.{ValidCode}
-use Rattle.ca_turns.specs.Hands.{TableId}
+use Rattle.ca_turns.specs.Hands.{IsHolding, TableId}
 use Rattle.ca_table.specs.Seen.{PartSeen}
 use Rattle.ca_table.specs.Worked.{HasWorked}
 use Rattle.ca_table.specs.Workers.{IsOpenedWith, IsReady}
@@ -38,6 +38,10 @@ module _ {A C : Type 0} where
   joined_from answer [] = answer
   joined_from answer (w ∷ ws) = joined_from (joined answer w.answer) ws
 
+  -- it holds no part but its lane, if that
+  abbrev pub HoldsLaneAtMost : Worker A C → Type 0
+  HoldsLaneAtMost w = (i : ℕ) → IsHolding w.hand i → i ≡ w.number
+
   -- what a call of `work` with that allowance did to each worker, by the answer that it keeps
   abbrev pub EachWorked : ℕ → List (Worker A C) → List (Worker A C) → Type 0
   EachWorked allowance old new = (k : ℕ) (d : Worker A C) → k < length old → HasWorked allowance (slice_index_or new k d).answer (slice_index_or old k d) (slice_index_or new k d)
@@ -47,6 +51,7 @@ module _ {A C : Type 0} (over : CodeView → A → Type 0) (stands_as : ProgramV
   pub record IsWorked (old new : Worker A C) : Type 0 where
     pub ready : OnOk new.answer (IsReady over stands_as program code id n new)
     pub failed : new.answer ≡ Err ClockFailed → IsReady over stands_as program code id n new
+    pub kept : new.answer ≡ Err OutOfMemory → HoldsLaneAtMost new
     pub worked : HasWorked allowance new.answer old new
 
   -- each of them has worked

@@ -4,7 +4,7 @@ ghost use Rattle.ca_term.specs.Program.{program_view};
 ghost use Rattle.ca_lower.specs.Gos.{SameGos};
 ghost use Rattle.ca_lower.specs.Lowered.{Lowered};
 ghost use Rattle.ca_states.specs.ValidCode.{valid_code};
-ghost use Rattle.ca_pool.specs.Answers.{BeginsAlone, CalledAt, EachWorked, HasCalled, StopsAlone, joined, joined_from};
+ghost use Rattle.ca_pool.specs.Answers.{BeginsAlone, CalledAt, EachWorked, HasCalled, HoldsLaneAtMost, StopsAlone, joined, joined_from};
 ghost use Rattle.ca_table.specs.Seen.{PartSeen};
 ghost use Rattle.ca_table.specs.Workers.{IsReady};
 ghost use Rattle.ca_table.specs.declared.answer.PoolStop.TheVariants.{ClockFailed};
@@ -84,7 +84,7 @@ fn work_all<R: Threads + Wait + Sync, A: Starting + Send, C: Clock + Drop + Send
 
 /// Each worker with that allowance, in a thread of its own. It is spent where each of them spent it, and over where
 /// some worker found the run's end and none gave up. Otherwise some worker wanted memory, or, where none did, its clock
-/// failed. An only worker that begins keeps to the schedule.
+/// failed. Afterwards none holds a part, but perhaps its lane. An only worker that begins keeps to the schedule.
 pub fn round<R: Threads + Wait + Sync, A: Starting + Send, C: Clock + Drop + Send, G: Gate + Sync>(
     rt: &R,
     alloc: Global,
@@ -102,6 +102,7 @@ pub fn round<R: Threads + Wait + Sync, A: Starting + Send, C: Clock + Drop + Sen
     ensures many { length workers.new ≡ length workers.old }
     ensures ready { OnOk result (All (IsReady A.over A.stands (program_view program.now) (valid_code code.now) table.now.id (length workers.old)) workers.new) }
     ensures failed { result ≡ Err ClockFailed → All (IsReady A.over A.stands (program_view program.now) (valid_code code.now) table.now.id (length workers.old)) workers.new }
+    ensures kept { All HoldsLaneAtMost workers.new }
     ensures worked { EachWorked allowance workers.old workers.new }
     ensures answer { result ≡ joined_from (Ok Spent) workers.new }
     ensures solo { OnOk result ((opening : List (PartSeen A)) → 0 < allowance → All (BeginsAlone opening) workers.old → All (StopsAlone A.over A.place A.stands A.advances A.gives A.starts code.now allowance opening) workers.new) }

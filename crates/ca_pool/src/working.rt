@@ -4,9 +4,10 @@ ghost use Rattle.ca_term.specs.Program.{program_view};
 ghost use Rattle.ca_lower.specs.Gos.{SameGos};
 ghost use Rattle.ca_lower.specs.Lowered.{Lowered};
 ghost use Rattle.ca_states.specs.ValidCode.{valid_code};
+ghost use Rattle.ca_turns.specs.Hands.{IsHolding};
 ghost use Rattle.ca_table.specs.Worked.{HasWorked};
 ghost use Rattle.ca_table.specs.Workers.{IsReady, SameWorker};
-ghost use Rattle.ca_table.specs.declared.answer.PoolStop.TheVariants.{ClockFailed};
+ghost use Rattle.ca_table.specs.declared.answer.PoolStop.TheVariants.{ClockFailed, OutOfMemory};
 ghost use Rattle.ca_table.specs.declared.worker.Worker.{Worker};
 ghost use Rattle.ca_alone.specs.Schedule.{AtFree};
 ghost use Rattle.ca_pool.specs.AtWork.{HasSpent, IsAtWork, IsGivenUp};
@@ -157,6 +158,7 @@ fn tell_stop<R: Wait, A: Agent, C: Clock + Drop>(
     ensures same { SameWorker worker.old worker.new }
     ensures worked { (start : ℕ) (w : Worker A C) → HasWorked start (Err stopped) w worker.old → HasWorked start (Err result) w worker.new }
     ensures failed { result ≡ ClockFailed → IsReady A.over A.stands (program_view worker.new.program.value) (valid_code code.now) table.now.id worker.new.workers worker.new }
+    ensures kept { result ≡ OutOfMemory → (i : ℕ) → IsHolding worker.new.hand i → i ≡ worker.old.number }
 {
     match stopped {
         PoolStop::ClockFailed => PoolStop::ClockFailed,
@@ -168,7 +170,7 @@ fn tell_stop<R: Wait, A: Agent, C: Clock + Drop>(
 }
 
 /// One worker, until its events cost the allowance or it finds an end. The code is that which the program was lowered
-/// to.
+/// to. It gives back all that it holds, but where memory was refused it may keep its lane, which has its own number.
 pub fn work<R: Wait, A: Starting, C: Clock + Drop, G: Gate>(
     rt: &R,
     alloc: Global,
@@ -183,6 +185,7 @@ pub fn work<R: Wait, A: Starting, C: Clock + Drop, G: Gate>(
     requires gos { SameGos (program_view worker.old.program.value) (valid_code code.now) }
     ensures ready { OnOk result (IsReady A.over A.stands (program_view worker.old.program.value) (valid_code code.now) table.now.id worker.old.workers worker.new) }
     ensures failed { result ≡ Err ClockFailed → IsReady A.over A.stands (program_view worker.old.program.value) (valid_code code.now) table.now.id worker.old.workers worker.new }
+    ensures kept { result ≡ Err OutOfMemory → (i : ℕ) → IsHolding worker.new.hand i → i ≡ worker.old.number }
     ensures worked { HasWorked allowance result worker.old worker.new }
     ensures solo { IfOk result (λ e. IsLone worker.old → worker.old.hand.view.turns ≡ [] → 0 < allowance → LoneStopped A.over A.place A.stands A.advances A.gives A.starts code.now allowance worker.new) }
 {

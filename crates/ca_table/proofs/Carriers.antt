@@ -227,12 +227,22 @@ module _ {A C : Type 0} (over : CodeView → A → Type 0) (stands_as : ProgramV
     grips = subst (λ (g : ℕ → Option (Part A C × PartSeen A)). Grips w.hand g) (only_lane n w.number s.one.below (Some (away n code, part_of_lane n code lane))) s.grips;
   }
 
-  -- and nothing above it
+  -- a worker that carries its lane alone holds nothing else
+  pub holds_lane : IsCarrying over stands_as program code id n w (just_lane n code lane) → (i : ℕ) → IsHolding w.hand i → i ≡ w.number
+  holds_lane s i holds = by (eqb w.number i) refl where
+    part : Part A C × PartSeen A
+    part = (away n code, part_of_lane n code lane)
+
+    grips : Grips w.hand (update eqb nothing w.number (Some part))
+    grips = subst (λ (g : ℕ → Option (Part A C × PartSeen A)). Grips w.hand g) (only_lane n w.number s.one.below (Some part)) s.grips
+
+    by : (b : Bool) → eqb w.number i ≡ b → i ≡ w.number
+    by true e = sym (eqb-true w.number i e)
+    by false e = absurd (held_is w.hand (update eqb nothing w.number (Some part)) i grips holds (ap (λ b. cond b (Some part) None) e))
+
+  -- and one that sits nothing above it
   pub lane_alone : IsSeated over stands_as program code id n w lane → (i : ℕ) → IsHolding w.hand i → i < n
-  lane_alone s i holds = by (eqb w.number i) refl where
-    by : (b : Bool) → eqb w.number i ≡ b → i < n
-    by true e = let k : w.number ≡ i = eqb-true w.number i e in let lt = s.one.below in omega (arith, k, lt)
-    by false e = absurd (held_is w.hand (update eqb nothing w.number (Some (away n code, part_of_lane n code lane))) i s.grips holds (ap (λ b. cond b (Some (away n code, part_of_lane n code lane)) None) e))
+  lane_alone s i holds = let k = holds_lane (seated_carries s) i holds in let lt = s.one.below in omega (arith, k, lt)
 
 abbrev as_lane : {A C : Type 0} → LaneBox A → Contents A C
 as_lane l = V.Lane l

@@ -5,7 +5,7 @@ use Rattle.ca_lower.specs.Gos.{SameGos}
 use Rattle.ca_lower.specs.Lowered.{Lowered}
 use Rattle.ca_table.specs.Workers.{IsReady}
 use Rattle.ca_pool.specs.Answers.{WorkedAt}
-use Rattle.ca_pool.proofs.Rounding.{round_alone, round_of_all}
+use Rattle.ca_pool.proofs.Rounding.{kept_all, round_alone, round_of_all}
 use Rattle.ca_pool.proofs.rounds.round.Goals as goal
 
 pub work_all-requires-clause-ready : goal.work_all-requires-clause-ready
@@ -24,6 +24,10 @@ returns-clause-ready g c = let xs = c.args.workers.now in let w = c.work_all.ens
 pub returns-clause-failed : goal.returns-clause-failed
 returns-clause-failed g c = let xs = c.args.workers.now in let w = c.work_all.ensures in let worked = subst (λ (p : ProgramParts). WorkedAt g.A.Agent.over g.A.Agent.stands (program_view p) (valid_code c.args.code.now) c.args.table.now.id (length xs) c.args.allowance xs c.work_all.new.workers) c.of-text.ensures (λ k d lt. (w.called k d lt).worked) in
     (round_of_all g.A.Agent.over g.A.Agent.stands (program_view c.args.program.now) (valid_code c.args.code.now) c.args.table.now.id (length xs) c.args.allowance c.answer_of.result xs c.work_all.new.workers c.requires.ready c.answer_of.ensures w.many worked).failed
+
+pub returns-clause-kept : goal.returns-clause-kept
+returns-clause-kept g c = let xs = c.args.workers.now in let w = c.work_all.ensures in let worked = subst (λ (p : ProgramParts). WorkedAt g.A.Agent.over g.A.Agent.stands (program_view p) (valid_code c.args.code.now) c.args.table.now.id (length xs) c.args.allowance xs c.work_all.new.workers) c.of-text.ensures (λ k d lt. (w.called k d lt).worked) in
+    kept_all g.A.Agent.over g.A.Agent.stands (program_view c.args.program.now) (valid_code c.args.code.now) c.args.table.now.id (length xs) c.args.allowance c.answer_of.result xs c.work_all.new.workers w.many worked
 
 pub returns-clause-worked : goal.returns-clause-worked
 returns-clause-worked g c = λ k d lt. (c.work_all.ensures.called k d lt).worked.worked

@@ -17,6 +17,6 @@ work-worker-requires-clause-gos g c = subst (λ (p : ProgramView). SameGos p (va
 
 pub returns : goal.returns
 returns g c = let a = g.A.Agent in let w = c.work-worker.ensures in record {
-  worked = answered g.A.Agent.over g.A.Agent.stands (program_view c.args.program.now.value) (valid_code c.args.code.now) c.args.table.now.id c.args.count c.args.allowance c.args.worker.now c.work-worker.new.worker c.work-worker.result c.requires.ready w.ready w.failed w.worked;
+  worked = answered g.A.Agent.over g.A.Agent.stands (program_view c.args.program.now.value) (valid_code c.args.code.now) c.args.table.now.id c.args.count c.args.allowance c.args.worker.now c.work-worker.new.worker c.work-worker.result c.requires.ready w.ready w.failed w.kept w.worked;
   alone = answered_alone a.over a.place a.stands a.advances a.gives a.starts c.args.code.now c.args.allowance c.args.worker.now c.work-worker.new.worker c.work-worker.result w.worked w.solo;
 }
