@@ -63,4 +63,4 @@ returns-in-Err-clause-turns g c = let w = c.args.worker.now.hand in let t = c.ta
 
 pub returns-in-Ok-clause-bank : goal.returns-in-Ok-clause-bank
 returns-in-Ok-clause-bank g c = let t = c.take_banks in let u = c.take_shards in let p = c.args.port.n in
-    bank_held u.new.held p (ap (λ b. is_some (listed number_of_bank (parts b) (home p))) u.ensures.others.banks ∙ c.in_ok-take_banks.ensures.banks (home p) (home_below p) ∙ home_added _ c.add.new.self p c.add.ensures)
+    bank_held u.new.held p (ap (λ b. is_some (listed number_of_bank (parts b) (home p))) u.ensures.others.banks ∙ c.in_ok-take_banks.ensures.banks (home p) (home_below p) ∙ home_added c.none-banks.result c.add.new.self p c.add.ensures)
