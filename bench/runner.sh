@@ -16,10 +16,11 @@ if command -v java >/dev/null && [ -e "$jars/core.async.jar" ]; then
 fi
 if command -v python3 >/dev/null; then python3 bench/runner/peer.py >"$peers/python"; fi
 
-# The microseconds that so many runs of a loop take, the best of five.
+# The microseconds that so many runs of a loop take, the best of thirty: the peers' figures are the best of a hundred
+# rounds and more.
 micros() {
     local start end best=
-    for _ in 1 2 3 4 5; do
+    for _ in $(seq 30); do
         start=$(date +%s%N)
         "$program" "$2" <"bench/runner/$1.clj" >/dev/null
         end=$((($(date +%s%N) - start) / 1000))
