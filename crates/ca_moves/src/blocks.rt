@@ -6,8 +6,8 @@ ghost use Rattle.ca_states.specs.Code.{instruction, block_view};
 ghost use Rattle.ca_states.specs.declared.code.Exit.TheVariants.{Branch};
 ghost use Rattle.ca_moves.specs.Plain.{plain, doing, tests, untested, plain_instrs, plain_block};
 
-use crate::guess::Needs;
-use crate::live::Live;
+use crate::needs::Needs;
+use crate::slots::Slots;
 use ca_states::code::{Block, Exit, Instr};
 use ca_value::builtin::Builtin;
 use ca_value::memory::OutOfMemory;
@@ -44,13 +44,13 @@ fn moving_if(free: bool, instr: Instr) -> Instr
 
 // Whether the slot that each instruction reads first is free after it, the last one first, where these are needed
 // after all of them.
-fn free_slots(alloc: Global, needed: &Live, instrs: &[Instr]) -> Result<Seq<bool>, OutOfMemory> {
-    let mut live = Live::new(alloc, needed.width())?;
-    live.add(needed);
+fn free_slots(alloc: Global, needed: &Slots, instrs: &[Instr]) -> Result<Seq<bool>, OutOfMemory> {
+    let mut needs = Slots::new(alloc, needed.width())?;
+    needs.add(needed);
     let mut free = Seq::new(alloc);
     for instr in instrs.iter().rev() {
         free.reserve(1)?;
-        free.push(live.pass(instr));
+        free.push(needs.pass(instr));
     }
     Ok(free)
 }
@@ -71,58 +71,6 @@ fn moving_where(
         moved.push(moving_if(is_free, instr));
     }
     Ok(moved)
-}
-
-// Whether the text waits behind the exit, for the value of a call or for an answer.
-fn waits(exit: &Exit) -> bool {
-    match exit {
-        Exit::Call { .. } => true,
-        Exit::Cut { .. } => true,
-        _ => false,
-    }
-}
-
-// The slots that hold a value after the instructions which nothing needs, where these hold one before.
-fn held_for_nothing(live: Live, instrs: &[Instr], needed: &Live) -> Live {
-    let mut held = live;
-    for instr in instrs {
-        held.hold(instr);
-    }
-    held.remove(needed);
-    held
-}
-
-// The instructions, and last these slots' values are let go.
-#[tactic(auto, using(crate::proofs::Doing::doing_more))]
-fn letting_go(alloc: Global, instrs: Seq<Instr>, held: &Live) -> Result<Seq<Instr>, OutOfMemory>
-    ensures { IfOk result (λ s. doing (map plain (map instruction (list s))) ≡ doing (map plain (map instruction (list instrs)))) }
-{
-    let mut instrs = instrs;
-    for slot in 0..held.width() {
-        if held.has(slot) {
-            instrs.reserve(1)?;
-            instrs.push(Instr::Clear { slot });
-        }
-    }
-    Ok(instrs)
-}
-
-// The instructions in front of the exit; where the text waits there, what nothing needs is let go before.
-fn before_exit(
-    alloc: Global,
-    instrs: Seq<Instr>,
-    live: Live,
-    needed: &Live,
-    exit: &Exit,
-) -> Result<Seq<Instr>, OutOfMemory>
-    ensures { IfOk result (λ s. doing (map plain (map instruction (list s))) ≡ doing (map plain (map instruction (list instrs)))) }
-{
-    if waits(exit) {
-        let held = held_for_nothing(live, instrs.as_slice(), needed);
-        letting_go(alloc, instrs, &held)
-    } else {
-        Ok(instrs)
-    }
 }
 
 // The test that the instruction and a branch by that slot are, if it is a builtin whose value comes into the slot. But
@@ -176,7 +124,7 @@ fn test_by(instr: &Instr, slot: u64, yes: u64, no: u64) -> Option<Exit>
 }
 
 // The test that the last instruction and the branch are, where these slots are needed behind it.
-fn test_at_end(instrs: &[Instr], exit: Exit, behind: &Live) -> Option<Exit>
+fn test_at_end(instrs: &[Instr], exit: Exit, behind: &Slots) -> Option<Exit>
     ensures same { IfSome result (λ x. untested x ≡ untested exit) }
     ensures instrs { IfSome result (λ x. plain_instrs (map instruction (take (length instrs.now - 1) instrs.now)) x ≡ plain_instrs (map instruction instrs.now) exit) }
 {
@@ -225,21 +173,18 @@ fn moved_block(
 {
     let block = tested_block(alloc, needs, block)?;
     let needed = needs.at_exit(alloc, &block)?;
-    let live = needs.at_entry(alloc, number, block.width)?;
     let free = free_slots(alloc, &needed, block.instrs.as_slice())?;
+    let entry = needs.at_entry(alloc, number, block.width)?;
     let Block {
         width,
         entry: _,
         instrs,
         exit,
     } = block;
-    let entry = live.as_set(alloc)?;
-    let instrs = moving_where(alloc, instrs, free)?;
-    let instrs = before_exit(alloc, instrs, live, &needed, &exit)?;
     Ok(Block {
         width,
-        entry,
-        instrs,
+        entry: entry.as_set(alloc)?,
+        instrs: moving_where(alloc, instrs, free)?,
         exit,
     })
 }

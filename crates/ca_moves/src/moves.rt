@@ -9,7 +9,10 @@ ghost use Rattle.ca_lower.specs.Lowered.{Lowered};
 ghost use Rattle.ca_moves.specs.Plain.{plain_code};
 
 use crate::blocks::moved_blocks;
-use crate::guess::Needs;
+use crate::by_block::ByBlock;
+use crate::held::Held;
+use crate::letting_go::blocks_letting_go;
+use crate::needs::Needs;
 use ca_states::code::{Block, Code};
 use ca_states::valid_code::ValidCode;
 use ca_states::validate::validate;
@@ -27,11 +30,13 @@ fn is_small(blocks: &[Block]) -> bool {
     slots <= MOST_SLOTS
 }
 
-// The same code with each copy a move, and each branch a test, where the guess says so.
+// The same code with each copy a move, and each branch a test, where the guess says so; what is held for nothing is let
+// go where a text waits.
 fn moved(alloc: Global, code: Code) -> Result<Code, OutOfMemory>
     ensures { IfOk result (λ c. plain_code (code_view c) ≡ plain_code (code_view code)) }
 {
     let needs = Needs::of(alloc, &code)?;
+    let at_entries = ByBlock::at_entries(alloc, &code)?;
     let Code {
         blocks,
         main,
@@ -40,8 +45,10 @@ fn moved(alloc: Global, code: Code) -> Result<Code, OutOfMemory>
         functions,
         marks,
     } = code;
+    let blocks = moved_blocks(alloc, &needs, blocks)?;
+    let held = Held::of(alloc, &needs, at_entries, blocks.as_slice())?;
     Ok(Code {
-        blocks: moved_blocks(alloc, &needs, blocks)?,
+        blocks: blocks_letting_go(alloc, &needs, &held, blocks)?,
         main,
         identity,
         bodies,
@@ -60,9 +67,9 @@ fn moved_if_small(alloc: Global, code: Code) -> Result<Code, OutOfMemory>
     }
 }
 
-/// The same code, but that a value is moved out of its slot where it is read for the last time, and that a block ends in
-/// a test where nothing but its branch needs the value of its last instruction; each block names as entry slots what it
-/// needs. Code of more than 16,777,216 slots in all its blocks is only validated. None where what
+/// The same code, but that a value is moved out of its slot where it is read for the last time, that one which nothing
+/// needs any more is let go before the text waits, for a call or for an operation, and that a block ends in a test where
+/// nothing but its branch needs the value of its last instruction; each block names as entry slots what it needs. Code of more than 16,777,216 slots in all its blocks is only validated. None where what
 /// comes of it isn't valid; a guess of what is needed is right as far as is known, so this is said of no valid code.
 pub fn moves(alloc: Global, code: Code) -> Result<Option<ValidCode>, OutOfMemory>
     ensures plain { IfOk result (λ o. IfSome o (λ v. plain_code (valid_code v) ≡ plain_code (code_view code))) }

@@ -1,29 +1,30 @@
-//! The slots that are needed at a place of a block.
+//! Some slots of a text: those that a place of a block needs, or those that hold a value there.
 use ca_states::code::{Exit, Instr, SlotSet};
 use ca_value::memory::OutOfMemory;
 use ca_value::seq::Seq;
 use std::alloc::Global;
 
-/// Which of a text's slots are needed.
+/// Some of a text's slots.
 #[derive(Drop)]
-pub(crate) struct Live {
+pub(crate) struct Slots {
     slots: Seq<bool>,
 }
 
-impl Live {
+impl Slots {
     /// None of so many slots.
-    pub(crate) fn new(alloc: Global, width: u64) -> Result<Live, OutOfMemory> {
+    pub(crate) fn new(alloc: Global, width: u64) -> Result<Slots, OutOfMemory> {
         let mut slots = Seq::new(alloc);
         for _slot in 0..width {
             slots.reserve(1)?;
             slots.push(false);
         }
-        Ok(Live { slots })
+        Ok(Slots { slots })
     }
 
+    /// Whether that is one of them.
     pub(crate) fn has(&self, slot: u64) -> bool {
         match self.slots.get(slot) {
-            Some(live) => *live,
+            Some(has) => *has,
             None => false,
         }
     }
@@ -33,20 +34,21 @@ impl Live {
         self.slots.len()
     }
 
-    fn put(&mut self, slot: u64, live: bool) {
+    /// The slot is one of them now, or none.
+    pub(crate) fn put(&mut self, slot: u64, has: bool) {
         if slot < self.slots.len() {
-            self.slots.set(slot, live);
+            self.slots.set(slot, has);
         }
     }
 
-    fn put_row(&mut self, from: u64, count: u64, live: bool) {
+    fn put_row(&mut self, from: u64, count: u64, has: bool) {
         for i in 0..count {
-            self.put(from.saturating_add(i), live);
+            self.put(from.saturating_add(i), has);
         }
     }
 
-    /// The others are needed too.
-    pub(crate) fn add(&mut self, other: &Live) {
+    /// With the others.
+    pub(crate) fn add(&mut self, other: &Slots) {
         for slot in 0..other.slots.len() {
             if other.has(slot) {
                 self.put(slot, true);
@@ -54,8 +56,8 @@ impl Live {
         }
     }
 
-    /// The others are no part of it.
-    pub(crate) fn remove(&mut self, other: &Live) {
+    /// Without the others.
+    pub(crate) fn remove(&mut self, other: &Slots) {
         for slot in 0..other.slots.len() {
             if other.has(slot) {
                 self.put(slot, false);
@@ -63,7 +65,7 @@ impl Live {
         }
     }
 
-    /// The slots of the set are needed too.
+    /// With those of the set.
     pub(crate) fn add_set(&mut self, set: &SlotSet) {
         for slot in 0..set.below {
             if set.has(slot) {
@@ -73,7 +75,7 @@ impl Live {
     }
 
     /// Whether it has a slot that the other hasn't.
-    pub(crate) fn has_more(&self, other: &Live) -> bool {
+    pub(crate) fn has_more(&self, other: &Slots) -> bool {
         for slot in 0..self.slots.len() {
             if self.has(slot) && !other.has(slot) {
                 return true;
