@@ -26,13 +26,18 @@ impl<T> Seq<T> {
         }
     }
 
-    /// Makes room for `n` more items at the least.
+    /// Makes room for `n` more items at the least: just that where the list is empty, since most lists are made at once;
+    /// one that grows gets room for several at a time.
     pub fn reserve(&mut self, n: u64) -> Result<(), OutOfMemory>
         ensures same { list self.new ≡ list self.old }
         ensures spare { OnOk result (n ≤ spare self.new) }
         ensures keeps { spare self.old ≤ spare self.new }
     {
-        self.items.reserve(n as usize)?;
+        if self.items.is_empty() {
+            self.items.reserve_exact(n as usize)?;
+        } else {
+            self.items.reserve(n as usize)?;
+        }
         Ok(())
     }
 
