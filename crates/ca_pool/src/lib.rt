@@ -11,6 +11,7 @@
 //! `taking`, and let them go by `laying` and `drawing`.
 #![tactic(auto)]
 
+mod ahead;
 mod clocking;
 mod committing;
 mod drawing;
