@@ -6,7 +6,7 @@ use ca_pool::gate::OpenGate;
 use ca_run::standard::{ReaderSource, SteadyClock, WriterSink};
 use ca_run::top::main_call;
 use std::process::ExitCode;
-use std::{env, io};
+use std::{env, io, mem};
 
 /// The exit status of want of memory.
 const OUT_OF_MEMORY: u8 = 8;
@@ -36,5 +36,8 @@ fn main(rt: HostRuntime) -> ExitCode {
         clock,
         &OpenGate,
     );
-    ExitCode::from(finish.status)
+    let status = finish.status;
+    // The journal goes with the process: to let go of its events one by one takes longer than many a run.
+    mem::forget(finish);
+    ExitCode::from(status)
 }
