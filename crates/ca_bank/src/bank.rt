@@ -116,6 +116,17 @@ impl Bank {
         }
     }
 
+    /// The channel, for whoever asks it more than one thing: each question to the bank looks it up. None exactly where the
+    /// port is no channel in this bank.
+    pub fn room(&self, port: PortId) -> Option<&Room>
+        ensures { option_map (λ r. kept_view r.now) result ≡ kept_at self.now port.n }
+    {
+        match self.rooms.get(&port.n) {
+            Some(room) => Some(room),
+            None => None,
+        }
+    }
+
     /// The handler at that place of the queue, from 0; None exactly where the place is past the last one.
     pub fn handler(&self, port: PortId, side: Side, place: u64) -> Option<&Handler>
         ensures { option_map (λ h. handler_view h.now) result ≡ slice_get (queue_at side (kept_at self.now port.n)) place }

@@ -27,7 +27,7 @@ mod mult;
 mod publication;
 mod registry;
 pub mod registry_error;
-mod room;
+pub mod room;
 pub mod shard;
 pub mod standing;
 mod topic;

@@ -14,9 +14,9 @@ use ca_value::value::Value;
 use std::alloc::Global;
 use std::collections::VecDeque;
 
-// A channel in its bank: its buffer, if it has one, whether it is closed, and a queue for each side.
+/// A channel in its bank: its buffer, if it has one, whether it is closed, and a queue for each side.
 #[derive(Drop)]
-pub(crate) struct Room {
+pub struct Room {
     buffer: Option<AnyBuffer>,
     closed: bool,
     takes: VecDeque<Handler>,
@@ -45,13 +45,15 @@ impl Room {
         }
     }
 
-    pub(crate) fn handler(&self, side: Side, place: u64) -> Option<&Handler>
+    /// The handler at that place of the queue, from 0; None exactly where the place is past the last one.
+    pub fn handler(&self, side: Side, place: u64) -> Option<&Handler>
         ensures { option_map (λ h. handler_view h.now) result ≡ slice_get (on side (kept_view self.now)) place }
     {
         self.queue(side).get(place as usize)
     }
 
-    pub(crate) fn waiting(&self, side: Side) -> u64
+    /// How many handlers the queue has, stale ones too.
+    pub fn waiting(&self, side: Side) -> u64
         ensures { result ≡ length (on side (kept_view self.now)) }
     {
         self.queue(side).len() as u64
@@ -102,19 +104,22 @@ impl Room {
         self.closed = true;
     }
 
-    pub(crate) fn is_closed(&self) -> bool
+    /// Whether the channel is closed.
+    pub fn is_closed(&self) -> bool
         ensures { result ≡ (kept_view self.now).channel.closed }
     {
         self.closed
     }
 
-    pub(crate) fn buffer(&self) -> Option<&AnyBuffer>
+    /// The channel's buffer; None exactly where it has none.
+    pub fn buffer(&self) -> Option<&AnyBuffer>
         ensures { option_map (λ b. buffered b.now) result ≡ buffer_at (Some (kept_view self.now)) }
     {
         self.buffer.as_ref()
     }
 
-    pub(crate) fn has_room(&self) -> bool
+    /// Whether the channel has a buffer that takes one more value.
+    pub fn has_room(&self) -> bool
         ensures { result ≡ has_room (kept_view self.now).channel }
     {
         match &self.buffer {

@@ -3,7 +3,7 @@ ghost use Rattle.std.specs.Prelude.{◌≡◌, ◌≤◌, ℕ, ◌+◌, ◌%◌,
 ghost use Rattle.ca_term.specs.declared.event.Side.TheVariants.{Take, Put};
 ghost use Rattle.ca_bank.specs.Bank.{kept_at};
 ghost use Rattle.ca_bank.specs.Kept.{is_closed_at, takes_one_more};
-ghost use Rattle.ca_bank.specs.Room.{handler_view};
+ghost use Rattle.ca_bank.specs.Room.{handler_view, kept_view};
 ghost use Rattle.ca_commit.specs.Contents.{whole};
 ghost use Rattle.ca_commit.specs.Finding.{glance, is_promise_at, holds_one, front_at, asking, find_rival, find_taker, find_putter, put_at, take_at};
 ghost use Rattle.ca_commit.specs.Found.{glance_view, finding_view};
@@ -12,6 +12,7 @@ ghost use Rattle.ca_commit.specs.Showing.{channels_held, waits_held};
 use crate::held::{Banks, Shards};
 use ca_bank::bank::Bank;
 use ca_bank::handler::Handler;
+use ca_bank::room::Room;
 use ca_buffers::buffer::Buffer;
 use ca_term::event::{Side, WaitId};
 use ca_value::value::PortId;
@@ -64,52 +65,52 @@ fn asking<A: Drop>(shards: &Shards<A>, side: Side, wait: WaitId, live: Finding) 
 
 // The handler in front of that side of the channel.
 #[tactic(auto, using(crate::proofs::Fronts::head_is))]
-pub(crate) fn front(bank: &Bank, port: PortId, side: Side) -> Option<&Handler>
-    ensures { option_map (λ h. handler_view h.now) result ≡ front_at side (kept_at bank.now port.n) }
+pub(crate) fn front(room: &Room, side: Side) -> Option<&Handler>
+    ensures { option_map (λ h. handler_view h.now) result ≡ front_at side (Some (kept_view room.now)) }
 {
-    bank.handler(port, side, 0)
+    room.handler(side, 0)
 }
 
 // Whether the channel is a promise.
-fn is_promise(bank: &Bank, port: PortId) -> bool
-    ensures { result ≡ is_promise_at (kept_at bank.now port.n) }
+fn is_promise(room: &Room) -> bool
+    ensures { result ≡ is_promise_at (Some (kept_view room.now)) }
 {
-    match bank.buffer(port) {
+    match room.buffer() {
         Some(buffer) => buffer.keeps(),
         None => false,
     }
 }
 
 // Whether the channel holds a value.
-pub(crate) fn holds_one(bank: &Bank, port: PortId) -> bool
-    ensures { result ≡ holds_one (kept_at bank.now port.n) }
+pub(crate) fn holds_one(room: &Room) -> bool
+    ensures { result ≡ holds_one (Some (kept_view room.now)) }
 {
-    match bank.buffer(port) {
+    match room.buffer() {
         Some(buffer) => buffer.first().is_some(),
         None => false,
     }
 }
 
-fn find_rival<A: Drop>(shards: &Shards<A>, bank: &Bank, port: PortId) -> Finding
-    ensures { finding_view result ≡ find_rival (glance (waits_held shards.now)) (front_at Put (kept_at bank.now port.n)) }
+fn find_rival<A: Drop>(shards: &Shards<A>, room: &Room) -> Finding
+    ensures { finding_view result ≡ find_rival (glance (waits_held shards.now)) (front_at Put (Some (kept_view room.now))) }
 {
-    match front(bank, port, Side::Put) {
+    match front(room, Side::Put) {
         Some(handler) => asking(shards, Side::Put, handler.wait, Finding::Unready),
         None => Finding::Alone,
     }
 }
 
-fn find_taker<A: Drop>(shards: &Shards<A>, bank: &Bank, port: PortId) -> Finding
-    ensures { finding_view result ≡ find_taker (glance (waits_held shards.now)) (takes_one_more (kept_at bank.now port.n)) (front_at Take (kept_at bank.now port.n)) (front_at Put (kept_at bank.now port.n)) }
+fn find_taker<A: Drop>(shards: &Shards<A>, room: &Room) -> Finding
+    ensures { finding_view result ≡ find_taker (glance (waits_held shards.now)) (takes_one_more (Some (kept_view room.now))) (front_at Take (Some (kept_view room.now))) (front_at Put (Some (kept_view room.now))) }
 {
-    match front(bank, port, Side::Take) {
+    match front(room, Side::Take) {
         Some(handler) => {
             let live = Finding::Partner(handler.wait, handler.branch);
             asking(shards, Side::Take, handler.wait, live)
         }
         None => {
-            if bank.has_room(port) {
-                find_rival(shards, bank, port)
+            if room.has_room() {
+                find_rival(shards, room)
             } else {
                 Finding::Unready
             }
@@ -117,16 +118,16 @@ fn find_taker<A: Drop>(shards: &Shards<A>, bank: &Bank, port: PortId) -> Finding
     }
 }
 
-fn find_putter<A: Drop>(shards: &Shards<A>, bank: &Bank, port: PortId) -> Finding
-    ensures { finding_view result ≡ find_putter (glance (waits_held shards.now)) (is_closed_at (kept_at bank.now port.n)) (front_at Put (kept_at bank.now port.n)) }
+fn find_putter<A: Drop>(shards: &Shards<A>, room: &Room) -> Finding
+    ensures { finding_view result ≡ find_putter (glance (waits_held shards.now)) (is_closed_at (Some (kept_view room.now))) (front_at Put (Some (kept_view room.now))) }
 {
-    match front(bank, port, Side::Put) {
+    match front(room, Side::Put) {
         Some(handler) => {
             let live = Finding::Partner(handler.wait, handler.branch);
             asking(shards, Side::Put, handler.wait, live)
         }
         None => {
-            if bank.is_closed(port) {
+            if room.is_closed() {
                 Finding::Alone
             } else {
                 Finding::Unready
@@ -135,23 +136,43 @@ fn find_putter<A: Drop>(shards: &Shards<A>, bank: &Bank, port: PortId) -> Findin
     }
 }
 
-fn put_in<A: Drop>(shards: &Shards<A>, bank: &Bank, port: PortId) -> Finding
-    ensures { finding_view result ≡ put_at (glance (waits_held shards.now)) (kept_at bank.now port.n) }
+fn put_in<A: Drop>(shards: &Shards<A>, room: &Room) -> Finding
+    ensures { finding_view result ≡ put_at (glance (waits_held shards.now)) (Some (kept_view room.now)) }
 {
-    if bank.is_closed(port) || is_promise(bank, port) {
+    if room.is_closed() || is_promise(room) {
         Finding::Alone
     } else {
-        find_taker(shards, bank, port)
+        find_taker(shards, room)
     }
 }
 
-fn take_in<A: Drop>(shards: &Shards<A>, bank: &Bank, port: PortId) -> Finding
-    ensures { finding_view result ≡ take_at (glance (waits_held shards.now)) (kept_at bank.now port.n) }
+fn take_in<A: Drop>(shards: &Shards<A>, room: &Room) -> Finding
+    ensures { finding_view result ≡ take_at (glance (waits_held shards.now)) (Some (kept_view room.now)) }
 {
-    if holds_one(bank, port) {
+    if holds_one(room) {
         Finding::Alone
     } else {
-        find_putter(shards, bank, port)
+        find_putter(shards, room)
+    }
+}
+
+// Of no channel it is not ready.
+fn put_at<A: Drop>(shards: &Shards<A>, bank: &Bank, port: PortId) -> Finding
+    ensures { finding_view result ≡ put_at (glance (waits_held shards.now)) (kept_at bank.now port.n) }
+{
+    match bank.room(port) {
+        Some(room) => put_in(shards, room),
+        None => Finding::Unready,
+    }
+}
+
+// The same of a take.
+fn take_at<A: Drop>(shards: &Shards<A>, bank: &Bank, port: PortId) -> Finding
+    ensures { finding_view result ≡ take_at (glance (waits_held shards.now)) (kept_at bank.now port.n) }
+{
+    match bank.room(port) {
+        Some(room) => take_in(shards, room),
+        None => Finding::Unready,
     }
 }
 
@@ -160,7 +181,7 @@ pub fn find_put<A: Drop>(banks: &Banks, shards: &Shards<A>, port: PortId) -> Fin
     ensures { finding_view result ≡ put_at (glance (waits_held shards.now)) (whole (channels_held banks.now) port.n) }
 {
     match banks.get(port.n % 16) {
-        Some(held) => put_in(shards, &held.bank, port),
+        Some(held) => put_at(shards, &held.bank, port),
         None => Finding::Unready,
     }
 }
@@ -170,7 +191,7 @@ pub fn find_take<A: Drop>(banks: &Banks, shards: &Shards<A>, port: PortId) -> Fi
     ensures { finding_view result ≡ take_at (glance (waits_held shards.now)) (whole (channels_held banks.now) port.n) }
 {
     match banks.get(port.n % 16) {
-        Some(held) => take_in(shards, &held.bank, port),
+        Some(held) => take_at(shards, &held.bank, port),
         None => Finding::Unready,
     }
 }
