@@ -3,7 +3,6 @@
 use ca_agent::agent::Agent;
 use ca_commit::finding::{Finding, find_put, find_take};
 use ca_commit::held::Held;
-use ca_table::homes::Homes;
 use ca_term::operation::Op;
 use ca_value::value::{PortId, Value};
 
@@ -56,13 +55,12 @@ fn find<A: Agent>(held: &Held<A>, op: &Op) -> Option<Finding> {
     }
 }
 
-/// The wait whose shard isn't held, and which the operation will want: the new one where no branch is ready, else the one
-/// in front of the other side.
-pub(crate) fn wait_ahead<A: Agent>(held: &Held<A>, op: &Op, shards: &Homes) -> Option<u64> {
-    let wait = match find(held, op)? {
-        Finding::Unready => held.new_wait,
-        Finding::Unheld(wait) => wait.n,
-        Finding::Alone | Finding::Partner(_, _) | Finding::Stale(_) => return None,
-    };
-    if shards.has(wait) { None } else { Some(wait) }
+/// The wait whose shard the operation will want, where no shard is held: the new one where no branch is ready, else the
+/// one in front of the other side.
+pub(crate) fn wait_ahead<A: Agent>(held: &Held<A>, op: &Op) -> Option<u64> {
+    match find(held, op)? {
+        Finding::Unready => Some(held.new_wait),
+        Finding::Unheld(wait) => Some(wait.n),
+        Finding::Alone | Finding::Partner(_, _) | Finding::Stale(_) => None,
+    }
 }

@@ -338,8 +338,8 @@ fn follow<R: Wait, A: Agent, C: Clock + Drop>(
     }
 }
 
-// What the operation becomes over the parts that are held; None where others are held now.
-fn plan_once<R: Wait, A: Agent, C: Clock + Drop>(
+// One attempt to tell what the operation becomes; None where other parts are held now.
+fn try_once<R: Wait, A: Agent, C: Clock + Drop>(
     rt: &R,
     alloc: Global,
     table: &Table<Pool<A, C>>,
@@ -372,40 +372,6 @@ fn plan_once<R: Wait, A: Agent, C: Clock + Drop>(
     }
 }
 
-// One attempt to tell what the operation becomes; None where other parts are held now.
-fn try_once<R: Wait, A: Agent, C: Clock + Drop>(
-    rt: &R,
-    alloc: Global,
-    table: &Table<Pool<A, C>>,
-    code: &ValidCode,
-    worker: &mut Worker<A, C>,
-    held: &mut Held<A>,
-    task: &Task<A>,
-    wanted: &mut Wanted,
-) -> Result<Option<Plan>, OutOfMemory>
-    requires carries { (program : ProgramView) × (n : ℕ) × (l : Lane A) × HasTaken A.over A.stands code.now table.now.id program n l (part_seen C.least C.faults C.readings) None held.old worker.old }
-    requires held { IsHeld A.place held.old }
-    requires these { HoldsThese wanted.old.banks wanted.old.shards held.old }
-    requires wants { Wants A.place wanted.old.banks held.old.new_port task.now }
-    requires at { is_at_op (A.place task.now.agent) ≡ true }
-    requires apart { BringsApart A.place task.now }
-    ensures drew { Drew 0 false worker.old worker.new }
-    ensures numbers { SameNumbers held.old held.new }
-    ensures wants { Wants A.place wanted.new.banks held.new.new_port task.now }
-    ensures took { OnOk result (Took A.over A.stands A.place (part_seen C.least C.faults C.readings) code.now table.now.id (λ program n l. HasTaken A.over A.stands code.now table.now.id program n l (part_seen C.least C.faults C.readings) None held.old worker.old) wanted.new.banks wanted.new.shards held.new worker.new) }
-    ensures refused { OnErr result (LeftOff A.over A.stands code.now table.now.id (λ program n l. HasTaken A.over A.stands code.now table.now.id program n l (part_seen C.least C.faults C.readings) None held.old worker.old) held.new worker.new) }
-    ensures resolved { IfOk result (λ o. IfSome o (λ p. IsResolved A.place held.new task.now p)) }
-    ensures stayed { Stayed worker.old worker.new }
-{
-    match wait_ahead(held, &task.agent.want().op, &wanted.shards) {
-        Some(wait) => {
-            take_more(rt, table, code, worker, held, wanted, wait)?;
-            Ok(None)
-        }
-        None => plan_once(rt, alloc, table, code, worker, held, task, wanted),
-    }
-}
-
 // What the operation of the task needs at first.
 fn wanted_by<A: Agent>(task: &Task<A>, new_port: u64) -> Wanted
     requires at { is_at_op (A.place task.now.agent) ≡ true }
@@ -414,6 +380,33 @@ fn wanted_by<A: Agent>(task: &Task<A>, new_port: u64) -> Wanted
     Wanted {
         banks: banks_of(&task.agent.want().op, new_port),
         shards: Homes::none(),
+    }
+}
+
+// What the operation of the task needs, and the shard that it will most likely want.
+fn take_first<R: Wait, A: Agent, C: Clock + Drop>(
+    rt: &R,
+    table: &Table<Pool<A, C>>,
+    code: &ValidCode,
+    worker: &mut Worker<A, C>,
+    held: &mut Held<A>,
+    task: &Task<A>,
+    wanted: &mut Wanted,
+) -> Result<(), OutOfMemory>
+    requires carries { (program : ProgramView) × (n : ℕ) × (l : Lane A) × HasLane A.over A.stands code.now table.now.id program n l worker.old }
+    requires bare { IsBare held.old }
+    requires at { is_at_op (A.place task.now.agent) ≡ true }
+    ensures drew { Drew 0 false worker.old worker.new }
+    ensures numbers { SameNumbers held.old held.new }
+    ensures banks { wanted.new.banks ≡ wanted.old.banks }
+    ensures took { OnOk result (Took A.over A.stands A.place (part_seen C.least C.faults C.readings) code.now table.now.id (λ program n l. HasLane A.over A.stands code.now table.now.id program n l worker.old) wanted.new.banks wanted.new.shards held.new worker.new) }
+    ensures refused { OnErr result (LeftOff A.over A.stands code.now table.now.id (λ program n l. HasLane A.over A.stands code.now table.now.id program n l worker.old) held.new worker.new) }
+    ensures stayed { Stayed worker.old worker.new }
+{
+    take_all(rt, table, code, worker, held, wanted)?;
+    match wait_ahead(held, &task.agent.want().op) {
+        Some(wait) => take_more(rt, table, code, worker, held, wanted, wait),
+        None => Ok(()),
     }
 }
 
@@ -441,7 +434,7 @@ pub(crate) fn resolve<R: Wait, A: Agent, C: Clock + Drop>(
     ensures stayed { Stayed worker.old worker.new }
 {
     let mut wanted = wanted_by(task, held.new_port);
-    take_all(rt, table, code, worker, held, &wanted)?;
+    take_first(rt, table, code, worker, held, task, &mut wanted)?;
     'tries: for _ in rt.forever() {
         if let Some(plan) = try_once(rt, alloc, table, code, worker, held, task, &mut wanted)? {
             return Ok(plan);

@@ -1,5 +1,7 @@
-use Rattle.std.proofs.Common.{None}
+use Rattle.std.proofs.Common.{◌≡◌, None, subst, sym, true}
+use Rattle.ca_table.specs.Homes.{has_home}
 use Rattle.ca_table.specs.Parts.{part_seen}
+use Rattle.ca_table.specs.declared.homes.Homes.{Homes}
 use Rattle.ca_table.proofs.Drawing.{drew_both}
 use Rattle.ca_pool.specs.AtEvent.{HasLane, HasTaken}
 use Rattle.ca_pool.proofs.Resolutions.{err_any, left_from, numbers_both, took_from, wants_more}
@@ -7,12 +9,12 @@ use Rattle.ca_pool.proofs.Lone.{stayed_both}
 use Rattle.ca_pool.proofs.resolving.resolve.Goals as goal
 
 pub tries-init : goal.tries-init
-tries-init g c = let t = c.take_all in record {
+tries-init g c = let t = c.take_first in record {
   drew = t.ensures.drew;
   stayed = t.ensures.stayed;
   numbers = t.ensures.numbers;
-  wants = wants_more g.A.Agent.place c.wanted_by-wanted.result.banks c.wanted_by-wanted.result.banks c.args.held.now.new_port t.new.held.new_port c.args.task.now (λ i e. e) t.ensures.numbers.port c.wanted_by-wanted.ensures;
-  took = c.in_ok-take_all.ensures.took;
+  wants = wants_more g.A.Agent.place c.wanted_by-wanted.result.banks t.new.wanted.banks c.args.held.now.new_port t.new.held.new_port c.args.task.now (λ i e. subst (λ (h : Homes). has_home h i ≡ true) (sym t.ensures.banks) e) t.ensures.numbers.port c.wanted_by-wanted.ensures;
+  took = c.in_ok-take_first.ensures.took;
 }
 
 pub try_once-requires-clause-carries : goal.try_once-requires-clause-carries

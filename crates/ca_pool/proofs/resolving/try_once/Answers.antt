@@ -3,7 +3,7 @@ use Rattle.ca_commit.specs.Showing.{state_held}
 use Rattle.ca_table.proofs.Drawing.{drew_none}
 use Rattle.ca_pool.proofs.Resolutions.{wants_more}
 use Rattle.ca_pool.proofs.Lone.{stayed_same}
-use Rattle.ca_pool.proofs.resolving.plan_once.Goals as goal
+use Rattle.ca_pool.proofs.resolving.try_once.Goals as goal
 
 pub plan-requires : goal.plan-requires
 plan-requires g c = record { apart = c.requires.apart (want_view c.want.result.now) c.want.ensures (state_held c.args.held.now.banks) }
