@@ -13,8 +13,8 @@ abbrev pub task_view : {A : Type 0} → Task A → ℕ × TaskAgent A
 task_view t = (t.number, agent_of t)
 
 abbrev pub tasks_in : {A : Type 0} → Ready A → List (ℕ × TaskAgent A)
-tasks_in r = map task_view r.tasks.items
+tasks_in r = map task_view r.tasks.value.items
 
 -- how many more tasks fit with no growth
 abbrev pub ready_spare : {A : Type 0} → Ready A → ℕ
-ready_spare r = deque_capacity r.tasks - deque_len r.tasks
+ready_spare r = deque_capacity r.tasks.value - deque_len r.tasks.value

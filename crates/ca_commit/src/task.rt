@@ -1,4 +1,4 @@
-ghost use Rattle.std.specs.Prelude.{◌≡◌, ◌+◌, ◌<◌, ◌≤◌, [], ◌∷◌, ◌++◌, Some, None, OnOk, IfSome, IfNone, ◌↔◌, IsTrue};
+ghost use Rattle.std.specs.Prelude.{◌≡◌, ◌+◌, ◌<◌, ◌≤◌, [], ◌∷◌, ◌++◌, Some, None, OnOk, IfSome, IfNone, ◌↔◌, IfOk, IsTrue};
 ghost use Rattle.ca_commit.specs.Tasks.{task_view, tasks_in, ready_spare};
 
 use ca_value::memory::OutOfMemory;
@@ -17,20 +17,21 @@ pub struct Task<A> {
     pub agent: A,
 }
 
-/// Tasks that can run, in order.
+/// Tasks that can run, in order. They lie in a box, so that a worker moves one word where it takes them out of its hand or
+/// puts them back.
 #[derive(Drop)]
 pub struct Ready<A> {
-    tasks: VecDeque<Task<A>>,
+    tasks: Box<VecDeque<Task<A>>>,
 }
 
 impl<A> Ready<A> {
-    /// No task, and no memory.
-    pub fn new(alloc: Global) -> Ready<A>
-        ensures { tasks_in result ≡ [] }
+    /// No task.
+    pub fn new(alloc: Global) -> Result<Ready<A>, OutOfMemory>
+        ensures { IfOk result (λ r. tasks_in r ≡ []) }
     {
-        Ready {
-            tasks: VecDeque::new(alloc),
-        }
+        Ok(Ready {
+            tasks: Box::new(alloc, VecDeque::new(alloc))?,
+        })
     }
 
     /// Makes room for one more task, and changes nothing else.

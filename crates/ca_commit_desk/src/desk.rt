@@ -62,7 +62,7 @@ impl Desk {
         fill_banks(alloc, &mut held.banks)?;
         fill_shards(alloc, &mut held.shards)?;
         held.timers = Some(Timers::new(alloc));
-        held.ready = Some(Ready::new(alloc));
+        held.ready = Some(Ready::new(alloc)?);
         held.new_task = 1;
         held.new_port = 1;
         held.new_wait = 1;

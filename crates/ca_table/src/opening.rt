@@ -117,14 +117,14 @@ fn none_ready<A: Agent, C: Clock + Drop>(
     alloc: Global,
     code: &ValidCode,
     workers: u64,
-) -> Part<A, C>
-    ensures { part_seen C.least C.faults C.readings result ≡ none_ready workers (valid_code code.now) }
+) -> Result<Part<A, C>, OutOfMemory>
+    ensures { IfOk result (λ p. part_seen C.least C.faults C.readings p ≡ none_ready workers (valid_code code.now)) }
 {
-    Part {
+    Ok(Part {
         workers,
         code: Snapshot::of(code),
-        contents: Contents::Ready(Ready::new(alloc)),
-    }
+        contents: Contents::Ready(Ready::new(alloc)?),
+    })
 }
 
 fn main_ready<A: Agent, C: Clock + Drop>(
@@ -135,7 +135,7 @@ fn main_ready<A: Agent, C: Clock + Drop>(
 ) -> Result<Part<A, C>, OutOfMemory>
     ensures { IfOk result (λ p. part_seen C.least C.faults C.readings p ≡ main_ready workers (valid_code code.now) main) }
 {
-    let mut ready = Ready::new(alloc);
+    let mut ready = Ready::new(alloc)?;
     ready.reserve()?;
     ready.push(Task {
         number: 0,
@@ -207,7 +207,7 @@ fn push_readys<A: Agent, C: Clock + Drop>(
     ensures { IfOk result (λ u. map (part_seen C.least C.faults C.readings) parts.new.items ≡ map (part_seen C.least C.faults C.readings) parts.old.items ++ replicate count (none_ready workers (valid_code code.now))) }
 {
     for _ in 0..count {
-        parts.push(none_ready(alloc, code, workers))?;
+        parts.push(none_ready(alloc, code, workers)?)?;
     }
     Ok(())
 }
