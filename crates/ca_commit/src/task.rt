@@ -24,7 +24,7 @@ pub struct Ready<A> {
     tasks: Box<VecDeque<Task<A>>>,
 }
 
-impl<A> Ready<A> {
+impl<A: Drop> Ready<A> {
     /// No task.
     pub fn new(alloc: Global) -> Result<Ready<A>, OutOfMemory>
         ensures { IfOk result (λ r. tasks_in r ≡ []) }
