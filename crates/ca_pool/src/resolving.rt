@@ -404,7 +404,7 @@ fn take_first<R: Wait, A: Agent, C: Clock + Drop>(
     ensures stayed { Stayed worker.old worker.new }
 {
     take_all(rt, table, code, worker, held, wanted)?;
-    match wait_ahead(held, &task.agent.want().op) {
+    match wait_ahead(held, &task.agent.want().op, task.alts) {
         Some(wait) => take_more(rt, table, code, worker, held, wanted, wait),
         None => Ok(()),
     }
