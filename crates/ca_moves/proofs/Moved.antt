@@ -1,5 +1,5 @@
 -- Valid code that differs only in what it moves stands for the same programs.
-use Rattle.std.proofs.Common.{◌≡◌, ℕ, zero, suc, ◌<◌, List, [], ◌∷◌, length, Bool, true, refl, sym, ap, ◌∙◌, subst, arith, ◌&&◌}
+use Rattle.std.proofs.Common.{◌≡◌, ℕ, zero, suc, ◌<◌, List, [], ◌∷◌, true, sym, ap, ◌∙◌, subst, arith}
 use Rattle.std.proofs.lemmas.Bool.{ltb-true}
 use Rattle.std.specs.Prelude.{nat_lt, slice_index_or}
 use Rattle.ca_value.specs.Tree.{Tree}
@@ -7,7 +7,7 @@ use Rattle.ca_term.specs.Program.{ProgramView}
 use Rattle.ca_meaning.specs.Body.{BodyView, fill}
 use Rattle.ca_states.specs.declared.code.EntryPoint.{EntryPoint}
 use Rattle.ca_states.specs.Code.{BlockView, CodeView, size, block_at, no_entry, function_at, body_at}
-use Rattle.ca_states.specs.Machine.{read, write, begun, begun_at, State, Move, move, started, outermost, calling, resumed}
+use Rattle.ca_states.specs.Machine.{read, write, begun, begun_at, State, Move, started, outermost, calling}
 use Rattle.ca_states.specs.Valid.{each, are_just, begins_well, main_entry, is_valid}
 use Rattle.ca_states.proofs.RowLaws.{both}
 use Rattle.ca_states.proofs.Calling.{identity_room}

@@ -4,7 +4,7 @@ use ca_agent::agent::Agent;
 use ca_commit::finding::{Finding, find_put, find_take};
 use ca_commit::held::Held;
 use ca_term::operation::Op;
-use ca_value::value::{PortId, Value};
+use ca_value::value::Value;
 
 // What is found of a take from the channel, if it is one.
 fn find_take_from<A: Agent>(held: &Held<A>, channel: &Value) -> Option<Finding> {

@@ -35,6 +35,7 @@ use ca_commit::task::Ready;
 use ca_states::valid_code::ValidCode;
 use ca_timers::clock::Clock;
 use ca_turns::Table;
+use std::mem;
 use std::sync::Wait;
 
 /// Holds a part above all that the worker holds, once it is free, and moves it out of the hand.
@@ -134,7 +135,9 @@ pub fn put_at<A: Agent, C: Clock + Drop>(
     ensures carries { (program : ProgramView) (id : TableId) (n : ℕ) (h : Carries (Part A C × PartSeen A)) (z : Place) (y : Part A C) (c : PartSeen A) → IsCarrying A.over A.stands program code.now id n worker.old (with_at z (Some (y, c)) h) → IsPlace z → at ≡ number_at n worker.old.number z → IsCarrying A.over A.stands program code.now id n worker.new (with_at z (Some (part_of n code.now contents, c)) h) }
 {
     let part = part_with(code, worker.workers, contents);
-    let _other = take_part::<Pool<A, C>>(&mut worker.hand, at, part);
+    // What stood there is `Away`, which has nothing to let go.
+    let other = take_part::<Pool<A, C>>(&mut worker.hand, at, part);
+    mem::forget(other);
 }
 
 /// Moves a part out of the hand again.
