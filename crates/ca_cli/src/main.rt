@@ -37,7 +37,7 @@ fn main(rt: HostRuntime) -> ExitCode {
         &OpenGate,
     );
     let status = finish.status;
-    // The journal goes with the process: to let go of its events one by one takes longer than many a run.
+    // The journal goes with the process, and its events aren't let go of one by one.
     mem::forget(finish);
     ExitCode::from(status)
 }
