@@ -1,7 +1,6 @@
 ghost use Rattle.std.specs.Prelude.{◌≡◌, IfOk};
-ghost use Rattle.ca_value.specs.Seq.{list};
-ghost use Rattle.ca_value.specs.Tree.{text};
-ghost use Rattle.ca_value.specs.View.{view, trees};
+ghost use Rattle.ca_value.specs.Tree.{text, trees_of};
+ghost use Rattle.ca_value.specs.View.{view, trees, vector_trees};
 ghost use Rattle.ca_term.specs.Operation.{op_view, seed_view, putting, posting, spawning, registering, printing};
 ghost use Rattle.ca_term.specs.Operands.{first_of, second_of};
 ghost use Rattle.ca_term.specs.Asking.{asked, asked_to_make, unless_faulted, too_large, bad_alts, alts_of, made_of, ports_in, bad_operands, seed_of, bad_arguments, line_of};
@@ -18,7 +17,7 @@ use ca_term::head::{AltsOptions, Head, MakeKind, RegisterName, SeedKind};
 use ca_term::operation::{GoSeed, Op, Seed, SystemSeed};
 use ca_term::place::Place;
 use ca_value::memory::OutOfMemory;
-use ca_value::value::{Items, Value};
+use ca_value::value::{Items, Value, Vector};
 use std::alloc::Global;
 
 /// The operation of the head over these values, or the fault of one of them; the head's form stands at the
@@ -106,12 +105,12 @@ fn choice(alloc: Global, options: AltsOptions, values: &[Value]) -> Result<Op, O
 }
 
 // The items of a vector of ports.
-fn ports(alloc: Global, value: &Value) -> Result<Items, OutOfMemory>
-    ensures { IfOk result (λ s. trees (list s) ≡ ports_in (view value.now)) }
+fn ports(alloc: Global, value: &Value) -> Result<Vector, OutOfMemory>
+    ensures { IfOk result (λ v. trees_of (vector_trees v) ≡ ports_in (view value.now)) }
 {
     match value {
-        Value::Vector(items) => copy_values(alloc, items.as_slice()),
-        _ => Ok(Items::new(alloc)),
+        Value::Vector(items) => items.copy(),
+        _ => Vector::of(alloc, Items::new(alloc)),
     }
 }
 

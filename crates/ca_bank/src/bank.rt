@@ -45,6 +45,11 @@ pub enum Made {
     Pub(PortId),
 }
 
+// Where the channel of that number stands in its bank, of sixteen, if all ports before it are channels.
+fn likely_place(port: PortId) -> usize {
+    (port.n.saturating_sub(1) / 16) as usize
+}
+
 /// The channels and registries of one bank, by number.
 #[derive(Drop)]
 pub struct Bank {
@@ -77,6 +82,19 @@ impl Bank {
         }
     }
 
+    // The channel. A bank's channels are numbered as they are made, and none leaves: so one mostly stands at the place that
+    // its number tells. It is looked up where it doesn't.
+    fn find(&self, port: PortId) -> Option<&Room>
+        ensures { option_map (λ r. r.now) result ≡ get nat_eq self.now.rooms port.n }
+    {
+        if let Some((number, room)) = self.rooms.get_index(likely_place(port)) {
+            if *number == port.n {
+                return Some(room);
+            }
+        }
+        self.rooms.get(&port.n)
+    }
+
     /// Whether the port can stand in this bank.
     pub fn owns(&self, port: PortId) -> bool
         ensures owns { result ≡ belongs (bank_number self.now) (bank_count self.now) port.n }
@@ -89,7 +107,7 @@ impl Bank {
     pub fn kind(&self, port: PortId) -> Option<PortKind>
         ensures { result ≡ kind_at (kept_at self.now port.n) (registry_at self.now port.n) }
     {
-        match self.rooms.get(&port.n) {
+        match self.find(port) {
             Some(_) => Some(PortKind::Channel),
             None => self.registry_kind(port),
         }
@@ -121,17 +139,14 @@ impl Bank {
     pub fn room(&self, port: PortId) -> Option<&Room>
         ensures { option_map (λ r. kept_view r.now) result ≡ kept_at self.now port.n }
     {
-        match self.rooms.get(&port.n) {
-            Some(room) => Some(room),
-            None => None,
-        }
+        self.find(port)
     }
 
     /// The handler at that place of the queue, from 0; None exactly where the place is past the last one.
     pub fn handler(&self, port: PortId, side: Side, place: u64) -> Option<&Handler>
         ensures { option_map (λ h. handler_view h.now) result ≡ slice_get (queue_at side (kept_at self.now port.n)) place }
     {
-        match self.rooms.get(&port.n) {
+        match self.find(port) {
             Some(room) => room.handler(side, place),
             None => None,
         }
@@ -141,7 +156,7 @@ impl Bank {
     pub fn waiting(&self, port: PortId, side: Side) -> u64
         ensures { result ≡ length (queue_at side (kept_at self.now port.n)) }
     {
-        match self.rooms.get(&port.n) {
+        match self.find(port) {
             Some(room) => room.waiting(side),
             None => 0,
         }
@@ -151,7 +166,7 @@ impl Bank {
     pub fn is_closed(&self, port: PortId) -> bool
         ensures { result ≡ is_closed_at (kept_at self.now port.n) }
     {
-        match self.rooms.get(&port.n) {
+        match self.find(port) {
             Some(room) => room.is_closed(),
             None => false,
         }
@@ -161,7 +176,7 @@ impl Bank {
     pub fn buffer(&self, port: PortId) -> Option<&AnyBuffer>
         ensures { option_map (λ b. buffered b.now) result ≡ buffer_at (kept_at self.now port.n) }
     {
-        match self.rooms.get(&port.n) {
+        match self.find(port) {
             Some(room) => room.buffer(),
             None => None,
         }
@@ -171,7 +186,7 @@ impl Bank {
     pub fn is_channel(&self, port: PortId) -> bool
         ensures { result ≡ is_some (kept_at self.now port.n) }
     {
-        self.rooms.get(&port.n).is_some()
+        self.find(port).is_some()
     }
 
     /// Whether the port is a registry here.
@@ -185,7 +200,7 @@ impl Bank {
     pub fn has_room(&self, port: PortId) -> bool
         ensures { result ≡ takes_one_more (kept_at self.now port.n) }
     {
-        match self.rooms.get(&port.n) {
+        match self.find(port) {
             Some(room) => room.has_room(),
             None => false,
         }

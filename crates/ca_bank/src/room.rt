@@ -169,6 +169,7 @@ impl Room {
 }
 
 // Takes the item at that place out. In front it costs the same however many there are.
+#[inline(always)]
 #[tactic(auto, using(crate::proofs::Queues::view_removed, crate::proofs::Queues::view_past))]
 fn take_at(queue: &mut VecDeque<Handler>, place: u64) -> Option<Handler>
     ensures handler { option_map handler_view result ≡ slice_get (map handler_view queue.old.items) place }

@@ -1,12 +1,13 @@
 -- What a plan stands for.
-use Rattle.std.specs.Prelude.{◌≡◌, option_map, map}
+use Rattle.std.specs.Prelude.{◌≡◌, List, [], ◌∷◌, option_map, map}
 use Rattle.ca_value.specs.Seq.{list}
 use Rattle.ca_value.specs.View.{view, trees}
 use Rattle.ca_term.specs.Operation.{what_view}
-use Rattle.ca_term.specs.Event.{branch_view, port_number}
+use Rattle.ca_term.specs.Event.{BranchView, branch_view, port_number}
 use Rattle.ca_meaning.specs.Wait.{brought}
 use Rattle.ca_commit.specs.Planning.{Planned, to_do, to_meet, to_park, to_post, to_default, to_make, to_spawn, to_close, to_register, to_print, to_look, to_prune, to_refuse}
 use Rattle.ca_commit.specs.declared.planned.Chosen.{Chosen}
+use Rattle.ca_commit.specs.declared.planned.Handlers.{Handlers}
 use Rattle.ca_commit.specs.declared.planned.Joining.{Joining}
 use Rattle.ca_commit.specs.declared.planned.Plan.{Plan}
 use Rattle.ca_commit.specs.declared.planned.Plan.TheVariants as P
@@ -30,9 +31,14 @@ plan_view (P.Refused f) = to_refuse f
 abbrev pub IsTwice : Chosen → Type 0
 IsTwice c = view c.value ≡ brought (branch_view c.operation)
 
+-- the branches that come to the queues
+abbrev pub handled : Handlers → List BranchView
+handled (Handlers.One branch) = branch_view branch ∷ []
+handled (Handlers.Many branches) = map branch_view (list branches)
+
 -- the branches once more
 abbrev pub AreTwice : Joining → Type 0
-AreTwice j = map branch_view (list j.handlers) ≡ map branch_view (list j.branches)
+AreTwice j = handled j.handlers ≡ map branch_view (list j.branches)
 
 -- what a plan has twice is equal
 abbrev pub HasCopies : Plan → Type 0

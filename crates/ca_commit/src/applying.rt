@@ -25,6 +25,7 @@ use ca_value::memory::OutOfMemory;
 use std::alloc::Global;
 
 /// Makes all that the event of the plan needs. Nothing else changes.
+#[inline(always)]
 pub fn reserve<A: Agent>(alloc: Global, held: &mut Held<A>, plan: &Plan) -> Result<(), OutOfMemory>
     requires paused { (w : ℕ) → IsPaused A.place (whole (waits_held held.old.shards) w) }
     requires parts { HasParts held.old (plan_view plan.now) }
@@ -54,6 +55,7 @@ pub fn reserve<A: Agent>(alloc: Global, held: &mut Held<A>, plan: &Plan) -> Resu
 /// The event of the plan, which is what `plan` answers for the task's operation over the parts as they are held, and for
 /// which `reserve` made what it needs. `running` is the task with its answer, None exactly where it waits. It takes no
 /// memory.
+#[inline(always)]
 pub fn apply<A: Agent>(
     alloc: Global,
     held: &mut Held<A>,

@@ -92,6 +92,7 @@ fn brought(alloc: Global, value: Option<&Value>) -> Result<Value, OutOfMemory>
     }
 }
 
+#[inline(always)]
 fn chosen(
     alloc: Global,
     number: u64,
@@ -113,6 +114,7 @@ fn chosen(
 }
 
 // What the finding of a branch decides, if it does.
+#[inline(always)]
 fn decide(
     alloc: Global,
     finding: Finding,
@@ -138,6 +140,7 @@ fn decide(
 }
 
 // What the branch of that number decides, if it does.
+#[inline(always)]
 pub(crate) fn look_at<A: Drop>(
     alloc: Global,
     banks: &Banks,

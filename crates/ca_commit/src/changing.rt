@@ -55,6 +55,7 @@ pub(crate) fn remove(banks: &mut Banks, port: PortId)
 }
 
 // The handler at that place leaves its queue.
+#[inline(always)]
 pub(crate) fn prune(banks: &mut Banks, port: PortId, side: Side, place: u64)
     ensures channels { (i : ℕ) → channels_held banks.new i ≡ changed_at port.n (option_map (pruned side place)) (channels_held banks.old) i }
     ensures registries { (i : ℕ) → registries_held banks.new i ≡ registries_held banks.old i }
@@ -65,6 +66,7 @@ pub(crate) fn prune(banks: &mut Banks, port: PortId, side: Side, place: u64)
 }
 
 // The handler stands last in its queue.
+#[inline(always)]
 pub(crate) fn enqueue(banks: &mut Banks, port: PortId, side: Side, handler: Handler)
     requires { 0 < queue_spare side (whole (spares_held banks.old) port.n) }
     ensures channels { (i : ℕ) → channels_held banks.new i ≡ changed_at port.n (option_map (enqueued side (handler_view handler))) (channels_held banks.old) i }

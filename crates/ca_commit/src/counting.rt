@@ -106,6 +106,7 @@ fn crowd(side: Side) -> Fault
     }
 }
 
+#[inline(always)]
 fn count_in<A: Drop>(
     banks: &Banks,
     shards: &Shards<A>,
@@ -132,6 +133,7 @@ fn count_in<A: Drop>(
 }
 
 /// What keeps a new wait from joining the queue, if anything does.
+#[inline(always)]
 pub(crate) fn count<A: Drop>(
     banks: &Banks,
     shards: &Shards<A>,

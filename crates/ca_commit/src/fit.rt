@@ -28,6 +28,7 @@ pub enum Need {
 const MOST_PORTS: usize = 256;
 
 // Whether a held bank has the channel.
+#[inline(always)]
 fn has_channel(banks: &Banks, port: PortId) -> bool
     ensures { result ≡ is_some (whole (channels_held banks.now) port.n) }
 {
@@ -85,7 +86,10 @@ fn meets_need(banks: &Banks, need: Need, value: &Value) -> bool
 pub fn is_channel(banks: &Banks, value: &Value) -> bool
     ensures { result ≡ is_channel (state_held banks.now) (view value.now) }
 {
-    meets_need(banks, Need::Channel, value)
+    match value {
+        Value::Port(port) => has_channel(banks, *port),
+        _ => false,
+    }
 }
 
 /// The fault of an operand that isn't a channel.

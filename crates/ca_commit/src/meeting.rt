@@ -94,6 +94,7 @@ fn answer_of<A: Agent>(
 }
 
 // The answer of whoever waits there, if it is a task.
+#[inline(always)]
 pub(crate) fn partner<A: Agent>(
     alloc: Global,
     shards: &Shards<A>,

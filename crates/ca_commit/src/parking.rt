@@ -11,7 +11,7 @@ ghost use Rattle.ca_bank.specs.Kept.{enqueued, one_less, queue_spare};
 ghost use Rattle.ca_commit.specs.Contents.{home, nobody, owner, whole};
 ghost use Rattle.ca_commit.specs.Listing.{changed_at};
 ghost use Rattle.ca_commit.specs.Parking.{AreChannels, IsMadeToWait, QueuesTake, front_port, front_value, is_alts_at, queued_from, waiting_as};
-ghost use Rattle.ca_commit.specs.Plans.{AreTwice};
+ghost use Rattle.ca_commit.specs.Plans.{AreTwice, handled};
 ghost use Rattle.ca_commit.specs.Replies.{GoesOn};
 ghost use Rattle.ca_commit.specs.Showing.{channels_held, registries_held, spares_held, waits_held};
 ghost use Rattle.ca_commit.specs.Tasks.{agent_of};
@@ -21,7 +21,7 @@ use crate::changing::enqueue;
 use crate::doing::port_in;
 use crate::held::{Applied, Banks, Held};
 use crate::meeting::side_in;
-use crate::planned::Joining;
+use crate::planned::{Handlers, Joining};
 use crate::replying::goes_on;
 use crate::reserving::{reserve_queue, reserve_shard};
 use crate::task::Task;
@@ -49,6 +49,7 @@ fn reserve_queues(banks: &mut Banks, branches: &[Branch]) -> Result<(), OutOfMem
 }
 
 // The branch of that number stands last in its queue.
+#[inline(always)]
 fn queue_one(banks: &mut Banks, wait: WaitId, number: u64, branch: Branch)
     requires { 0 < queue_spare (side_of (branch_view branch)) (whole (spares_held banks.old) (port_of (branch_view branch))) }
     ensures channels { (i : ℕ) → channels_held banks.new i ≡ changed_at (port_of (branch_view branch)) (option_map (enqueued (side_of (branch_view branch)) (record { wait = wait.n; branch = number; value = brought (branch_view branch) }))) (channels_held banks.old) i }
@@ -71,8 +72,8 @@ fn queue_one(banks: &mut Banks, wait: WaitId, number: u64, branch: Branch)
     );
 }
 
-// All of them, in order.
-fn queue_all(banks: &mut Banks, wait: WaitId, handlers: Seq<Branch>)
+// All of the list, in order.
+fn queue_list(banks: &mut Banks, wait: WaitId, handlers: Seq<Branch>)
     requires channels { AreChannels (whole (channels_held banks.old)) (map branch_view (list handlers)) }
     requires room { QueuesTake (length (map branch_view (list handlers))) (whole (channels_held banks.old)) (whole (spares_held banks.old)) (map branch_view (list handlers)) }
     ensures channels { (i : ℕ) → channels_held banks.new i ≡ queued_from wait.n 0 (map branch_view (list handlers)) (channels_held banks.old) i }
@@ -82,6 +83,20 @@ fn queue_all(banks: &mut Banks, wait: WaitId, handlers: Seq<Branch>)
     for branch in handlers.into_vec() {
         queue_one(banks, wait, number, branch);
         number += 1;
+    }
+}
+
+// All of them, in order.
+#[inline(always)]
+fn queue_all(banks: &mut Banks, wait: WaitId, handlers: Handlers)
+    requires channels { AreChannels (whole (channels_held banks.old)) (handled handlers) }
+    requires room { QueuesTake (length (handled handlers)) (whole (channels_held banks.old)) (whole (spares_held banks.old)) (handled handlers) }
+    ensures channels { (i : ℕ) → channels_held banks.new i ≡ queued_from wait.n 0 (handled handlers) (channels_held banks.old) i }
+    ensures registries { (i : ℕ) → registries_held banks.new i ≡ registries_held banks.old i }
+{
+    match handlers {
+        Handlers::One(branch) => queue_one(banks, wait, 0, branch),
+        Handlers::Many(list) => queue_list(banks, wait, list),
     }
 }
 
@@ -111,6 +126,7 @@ fn waiting<A: Agent>(task: Task<A>) -> Task<A>
 }
 
 /// Makes the room that a new wait needs: in the queues of its branches, and in its shard. Nothing else changes.
+#[inline(always)]
 pub fn reserve_wait<A: Drop>(held: &mut Held<A>, joining: &Joining) -> Result<(), OutOfMemory>
     requires shard { IsSome (waits_held held.old.shards (home held.old.new_wait)) }
     ensures channels { (i : ℕ) → channels_held held.new.banks i ≡ channels_held held.old.banks i }

@@ -15,11 +15,18 @@ pub struct Chosen {
     pub of_alts: bool,
 }
 
+/// What a new wait brings to its queues: one branch, which takes no list, or more.
+#[derive(Drop)]
+pub enum Handlers {
+    One(Branch),
+    Many(Seq<Branch>),
+}
+
 /// The branches of a new wait, for the event and once more for the queues.
 #[derive(Drop)]
 pub struct Joining {
     pub branches: Seq<Branch>,
-    pub handlers: Seq<Branch>,
+    pub handlers: Handlers,
 }
 
 /// What an operation becomes, with copies of its values.

@@ -15,7 +15,7 @@ use crate::branching::{branch, branches, count_for, look_at, parts_of, port_of};
 use crate::fit::{bad_choice, bad_put, not_a_channel};
 use crate::held::{Banks, Held, Shards};
 use crate::making::{bad_make, bad_seed, copy_what, kind_of, result_of};
-use crate::planned::{Joining, Plan};
+use crate::planned::{Handlers, Joining, Plan};
 use crate::registering::bad_register;
 use ca_term::copy::copy_values;
 use ca_term::event::Branch;
@@ -42,9 +42,8 @@ fn in_turn<A: Drop>(
         let nil = Value::Nil;
         let (port, value) = parts_of(&ports[place], &nil);
         let number = base + place as u64;
-        let found = look_at(alloc, banks, shards, number, port, value, true)?;
-        if found.is_some() {
-            return Ok(found);
+        if let Some(plan) = look_at(alloc, banks, shards, number, port, value, true)? {
+            return Ok(Some(plan));
         }
     }
     Ok(None)
@@ -75,17 +74,19 @@ fn only(alloc: Global, branch: Branch) -> Result<Seq<Branch>, OutOfMemory>
 }
 
 // A new wait of this one branch.
+#[inline(always)]
 fn joining_one(alloc: Global, port: PortId, value: Option<&Value>) -> Result<Joining, OutOfMemory>
     ensures branches { IfOk result (λ j. map branch_view (list j.branches) ≡ branch_by port.n (option_map (λ v. view v.now) value.entry) ∷ []) }
     ensures twice { IfOk result AreTwice }
 {
     Ok(Joining {
         branches: only(alloc, branch(alloc, port, value)?)?,
-        handlers: only(alloc, branch(alloc, port, value)?)?,
+        handlers: Handlers::One(branch(alloc, port, value)?),
     })
 }
 
 // A take, or a put of the value: its one branch decides, or a new wait joins.
+#[inline(always)]
 fn one_branch<A: Drop>(
     alloc: Global,
     banks: &Banks,
@@ -126,6 +127,7 @@ fn plan_take<A: Drop>(
     }
 }
 
+#[inline(always)]
 fn plan_put<A: Drop>(
     alloc: Global,
     banks: &Banks,
@@ -170,7 +172,7 @@ fn joining_all<A: Drop>(
         Some(plan) => Ok(plan),
         None => Ok(Plan::Park(Joining {
             branches: branches(alloc, ports)?,
-            handlers: branches(alloc, ports)?,
+            handlers: Handlers::Many(branches(alloc, ports)?),
         })),
     }
 }

@@ -13,6 +13,7 @@ use ca_value::value::{PortId, Value};
 use std::alloc::Global;
 
 // A copy of the value; of an alts the vector of it and the port.
+#[inline(always)]
 pub(crate) fn reply(
     alloc: Global,
     of_alts: bool,

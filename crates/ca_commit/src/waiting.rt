@@ -16,6 +16,7 @@ use ca_term::event::WaitId;
 use ca_value::value::Value;
 
 // The wait leaves its shard.
+#[inline(always)]
 pub(crate) fn take_out<A: Drop>(shards: &mut Shards<A>, wait: WaitId) -> Option<Parked<Task<A>>>
     ensures parked { option_map parked_view result ≡ whole (waits_held shards.old) wait.n }
     ensures waits { (i : ℕ) → waits_held shards.new i ≡ changed_at wait.n (λ o. None) (waits_held shards.old) i }
@@ -27,6 +28,7 @@ pub(crate) fn take_out<A: Drop>(shards: &mut Shards<A>, wait: WaitId) -> Option<
 }
 
 // A new wait comes into its shard.
+#[inline(always)]
 pub(crate) fn put_in<A: Drop>(shards: &mut Shards<A>, wait: WaitId, parked: Parked<Task<A>>)
     requires { HasShardRoom shards.old wait.n }
     ensures { (i : ℕ) → waits_held shards.new i ≡ changed_at wait.n (λ o. Some (parked_view parked)) (waits_held shards.old) i }
@@ -64,6 +66,7 @@ fn go_on<A: Agent>(task: Task<A>, value: Value, branch: u64) -> Task<A>
 }
 
 // Whoever waited goes on with the answer of that branch, last in the ready part.
+#[inline(always)]
 pub(crate) fn wake<A: Agent>(
     ready: &mut Option<Ready<A>>,
     parked: Option<Parked<Task<A>>>,

@@ -4,7 +4,7 @@ use ca_commit_desk::desk::{Came, Desk};
 use ca_term::operation::{Op, Want, What};
 use ca_term::place::Place;
 use ca_value::memory::OutOfMemory;
-use ca_value::value::{Items, PortId, Value};
+use ca_value::value::{Items, PortId, Value, Vector};
 use std::alloc::Global;
 
 fn task_of(number: u64, op: Op) -> Option<Task<Asker>> {
@@ -125,7 +125,7 @@ fn alts(alloc: Global, desk: &mut Desk, count: u64, times: u64) -> Result<u64, O
     let mut chooser = task_of(
         1,
         Op::Alts {
-            ports: Items::from_vec(ports),
+            ports: Vector::of(alloc, Items::from_vec(ports))?,
             priority: false,
             default: Some(Value::Int(7)),
         },

@@ -5,7 +5,7 @@ use ca_reader::form::{Form, Shape};
 use ca_term::operation::{Op, What};
 use ca_value::memory::OutOfMemory;
 use ca_value::seq::Text;
-use ca_value::value::{Items, PortId, Value};
+use ca_value::value::{Items, PortId, Value, Vector};
 use std::alloc::Global;
 
 /// Why a form is no command.
@@ -163,7 +163,7 @@ fn alts(alloc: Global, forms: &[Form]) -> Result<Op, Unread> {
         None => None,
     };
     Ok(Op::Alts {
-        ports,
+        ports: Vector::of(alloc, ports)?,
         priority: place_of(forms, b"priority").is_some(),
         default,
     })

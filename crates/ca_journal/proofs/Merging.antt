@@ -2,6 +2,7 @@
 use Rattle.std.proofs.Common.{◌≡◌, ℕ, suc, ◌+◌, ◌≤◌, ◌<◌, List, [], ◌∷◌, ◌++◌, length, drop, Bool, true, false, cond, Option, Some, None, refl, sym, ◌∙◌, ap, subst, arith}
 use Rattle.std.specs.Prelude.{nat_le, nat_lt, slice_get, slice_set, slice_index_or, option_to_list}
 use Rattle.std.proofs.lemmas.Bool.Decides.{nat_tests}
+use Rattle.std.proofs.lemmas.List.{append-nil}
 use Rattle.ca_journal.specs.declared.merge.Least.{Least}
 use Rattle.ca_journal.specs.Merge.{Numbered, joined, placed, in_order, NoneLower, Ascends, EachAscends}
 use Rattle.ca_journal.specs.Least.{first_number, nearer, least_from}
@@ -156,3 +157,15 @@ took qs after b r all e f g =
 
 pub none_left : (qs : List (List Numbered)) → EachAscends qs → None ≡ least_from 0 qs → joined qs ≡ []
 none_left qs all e = subst (λ (o : Option Least). Next 0 qs o) (sym e) (next 0 qs all)
+
+-- entries whose numbers never fall are in order
+pub ordered : (es : List Numbered) → Ascends es → in_order es ≡ es
+ordered [] h = refl
+ordered (e ∷ es) h = first_in_order e es h.0 ∙ ap (λ r. e ∷ r) (ordered es h.1)
+
+-- of one list alone
+pub ordered_one : (lists : List (List Numbered)) (es : List Numbered) → lists ≡ es ∷ [] → EachAscends lists → in_order (joined lists) ≡ es
+ordered_one lists es is h =
+    let one : EachAscends (es ∷ []) = subst EachAscends is h in
+    let all : joined (es ∷ []) ≡ es = append-nil es in
+    ap (λ ls. in_order (joined ls)) is ∙ ap in_order all ∙ ordered es one.0

@@ -1,4 +1,4 @@
-ghost use Rattle.std.specs.Prelude.{◌≡◌, ◌<◌, [], ◌++◌, true, length, map, drop, IfOk, IfNone, IfSome, option_map, option_to_list, slice_get, slice_set, slice_index_or, vec_len};
+ghost use Rattle.std.specs.Prelude.{◌≡◌, ◌<◌, [], ◌++◌, true, length, map, drop, IfOk, OnOk, IfNone, IfSome, option_map, option_to_list, slice_get, slice_set, slice_index_or, vec_len};
 ghost use Rattle.ca_journal.specs.Events.{events};
 ghost use Rattle.ca_journal.specs.Merge.{entries, entry_view, events_of, in_order, joined, piece, EachAscends};
 ghost use Rattle.ca_journal.specs.Least.{waiting, nearer, least_from};
@@ -26,12 +26,54 @@ pub fn merge(alloc: Global, lists: Vec<Entries>) -> Result<Journal, OutOfMemory>
 {
     let mut journal = Journal::new(alloc);
     journal.reserve(entry_count(lists.as_slice()))?;
+    if lists.len() == 1 {
+        return only(journal, lists);
+    }
     let mut queues = queues_of(alloc, lists)?;
     while let Some(entry) = take_least(&mut queues) {
         journal.reserve(1)?;
         journal.push(entry.event);
     }
     Ok(journal)
+}
+
+// The events of these entries come behind those of the journal.
+fn add_piece(journal: &mut Journal, taken: Vec<Entry>) -> Result<(), OutOfMemory>
+    ensures { OnOk result (events journal.new ≡ events journal.old ++ events_of (piece taken)) }
+{
+    journal.reserve(taken.len() as u64)?;
+    for entry in taken {
+        journal.push(entry.event);
+    }
+    Ok(())
+}
+
+// The same of a list, whose memory goes back piece by piece.
+fn add_list(journal: &mut Journal, list: Entries) -> Result<(), OutOfMemory>
+    ensures { OnOk result (events journal.new ≡ events journal.old ++ events_of (entries list)) }
+{
+    let Entries { full, last } = list;
+    for piece in full {
+        add_piece(journal, piece)?;
+    }
+    add_piece(journal, last)
+}
+
+// Where there is one list alone, its events are in order already.
+fn only(journal: Journal, mut lists: Vec<Entries>) -> Result<Journal, OutOfMemory>
+    requires empty { events journal ≡ [] }
+    requires one { length lists.items ≡ 1 }
+    requires ascends { EachAscends (map entries lists.items) }
+    ensures { IfOk result (λ j. events j ≡ events_of (in_order (joined (map entries lists.items)))) }
+{
+    let mut journal = journal;
+    match lists.pop() {
+        Some(list) => {
+            add_list(&mut journal, list)?;
+            Ok(journal)
+        }
+        None => unreachable!(),
+    }
 }
 
 /// Whether the numbers of each list never fall.

@@ -15,6 +15,7 @@ pub enum Stage {
 
 impl Stage {
     /// It stands there from now on.
+    #[inline(always)]
     pub(crate) fn put(&mut self, next: Stage)
         ensures { self.new ≡ next }
     {

@@ -26,7 +26,11 @@ fn is_same_op(left: &Op, right: &Op) -> bool {
                 priority: first,
                 default: given,
             },
-        ) => ports.equal(others) && priority == first && is_same_default(default, given),
+        ) => {
+            are_same_items(ports.as_slice(), others.as_slice())
+                && priority == first
+                && is_same_default(default, given)
+        }
         (Op::Make(what), Op::Make(other)) => is_same_what(what, other),
         (Op::Spawn(seed), Op::Spawn(other)) => is_same_seed(seed, other),
         (Op::Register(name, values), Op::Register(other, given)) => {
@@ -35,6 +39,18 @@ fn is_same_op(left: &Op, right: &Op) -> bool {
         (Op::Print(line), Op::Print(other)) => line.as_slice() == other.as_slice(),
         _ => false,
     }
+}
+
+fn are_same_items(left: &[Value], right: &[Value]) -> bool {
+    if left.len() != right.len() {
+        return false;
+    }
+    for place in 0..left.len() {
+        if !left[place].equal(&right[place]) {
+            return false;
+        }
+    }
+    true
 }
 
 fn is_same_default(left: &Option<Value>, right: &Option<Value>) -> bool {

@@ -1,6 +1,7 @@
 ghost use Rattle.std.specs.Prelude.{◌≡◌, ℕ, IfOk, true, is_ok};
 ghost use Rattle.ca_value.specs.Seq.{list};
-ghost use Rattle.ca_value.specs.View.{view, trees};
+ghost use Rattle.ca_value.specs.Tree.{trees_of};
+ghost use Rattle.ca_value.specs.View.{view, trees, vector_trees};
 ghost use Rattle.ca_term.specs.View.{kernel, kernels};
 ghost use Rattle.ca_term.specs.Operation.{op_view, want_view, what_view, seed_view};
 ghost use Rattle.ca_meaning.specs.Redex.{values_of};
@@ -13,14 +14,13 @@ use crate::asking::default_operand;
 use crate::line::line;
 use crate::making::{number_to_make, what_of};
 use crate::operands::{is_true, last_operand, operand, values};
-use ca_term::copy::copy_values;
 use ca_term::head::{AltsOptions, Head, MakeKind, SeedKind};
 use ca_term::operation::{GoSeed, Op, Seed, SystemSeed, Want, What};
 use ca_term::place::Place;
 use ca_term::term::Term;
 use ca_value::memory::OutOfMemory;
 use ca_value::seq::Seq;
-use ca_value::value::{Items, PortId, Value};
+use ca_value::value::{Items, PortId, Value, Vector};
 use std::alloc::Global;
 
 // The operation of a redex that stands at one, with its values.
@@ -84,12 +84,12 @@ fn choice(alloc: Global, options: AltsOptions, operands: &Seq<Term>) -> Result<O
 }
 
 // The items of a vector of ports.
-fn ports(alloc: Global, value: &Value) -> Result<Items, OutOfMemory>
-    ensures { IfOk result (λ s. trees (list s) ≡ ports_in (view value.now)) }
+fn ports(alloc: Global, value: &Value) -> Result<Vector, OutOfMemory>
+    ensures { IfOk result (λ v. trees_of (vector_trees v) ≡ ports_in (view value.now)) }
 {
     match value {
-        Value::Vector(items) => copy_values(alloc, items.as_slice()),
-        _ => Ok(Items::new(alloc)),
+        Value::Vector(items) => items.copy(),
+        _ => Vector::of(alloc, Items::new(alloc)),
     }
 }
 

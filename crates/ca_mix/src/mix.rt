@@ -22,7 +22,7 @@ use ca_term::head::RegisterName;
 use ca_term::operation::Op;
 use ca_term::place::Place;
 use ca_value::memory::OutOfMemory;
-use ca_value::value::{Items, PortId, Value};
+use ca_value::value::{Items, PortId, Value, Vector};
 use std::alloc::Global;
 use std::mem;
 
@@ -141,7 +141,7 @@ impl Ports {
         ensures { IfOk result (λ s. stand_at s ≡ chooses (port_trees (map (λ p. p.n) reads.now ++ self.now.changes.n ∷ [])) place) }
     {
         let op = Op::Alts {
-            ports: branches(alloc, reads, self.changes)?,
+            ports: Vector::of(alloc, branches(alloc, reads, self.changes)?)?,
             priority: false,
             default: None,
         };

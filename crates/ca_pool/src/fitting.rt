@@ -17,6 +17,7 @@ use ca_value::value::{Items, Value};
 use std::sync::Wait;
 
 /// What the event costs of a run's budget. A weight that doesn't fit comes in no run.
+#[inline(always)]
 #[tactic(auto, using(crate::proofs::Lightness::light))]
 pub(crate) fn cost_of<R: Wait>(rt: &R, event: &Event) -> u64
     ensures { result ≡ cost_of (event_view event.now) }
@@ -40,6 +41,7 @@ pub(crate) fn all_fit(journal: &Journal) -> bool
 }
 
 /// Whether the weight that the event's line shows fits.
+#[inline(always)]
 pub(crate) fn fits(event: &Event) -> bool
     ensures { result ≡ is_light (event_view event.now) }
 {

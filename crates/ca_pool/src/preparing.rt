@@ -210,6 +210,7 @@ fn joined<C: Clock + Drop>(clock: Box<Clockwork<C>>, timers: Option<Timers>) -> 
 }
 
 /// The timers that are held, if they are, go back into the clockwork.
+#[inline(always)]
 pub(crate) fn put_times<A: Agent, C: Clock + Drop>(
     held: &mut Held<A>,
     clock: Option<Box<Clockwork<C>>>,
@@ -219,6 +220,10 @@ pub(crate) fn put_times<A: Agent, C: Clock + Drop>(
     ensures seen { clock_seen C.least C.faults C.readings result ≡ clock_with C.least C.faults C.readings clock held.old.timers }
     ensures others { ButTimers held.old held.new }
 {
+    // Most events have no timers, and nothing is moved then.
+    if held.timers.is_none() {
+        return clock;
+    }
     let timers = held.timers.take();
     match clock {
         None => None,

@@ -103,15 +103,11 @@ fn take_again<R: Wait, A: Agent, C: Clock + Drop>(
 fn is_above(shards: &Homes, number: u64) -> bool
     ensures { IsTrue result → (i : ℕ) → number ≤ i → i < 16 → has_home shards.now i ≡ false }
 {
-    for home in number..16 {
-        if shards.has(home) {
-            return false;
-        }
-    }
-    true
+    shards.end() <= number
 }
 
 // One shard more, above all that are held.
+#[inline(always)]
 fn take_above<R: Wait, A: Agent, C: Clock + Drop>(
     rt: &R,
     table: &Table<Pool<A, C>>,
@@ -144,6 +140,7 @@ fn take_above<R: Wait, A: Agent, C: Clock + Drop>(
 }
 
 // The shard of that wait is held, too. Where it stands below one that is held, all is given back first.
+#[inline(always)]
 fn take_more<R: Wait, A: Agent, C: Clock + Drop>(
     rt: &R,
     table: &Table<Pool<A, C>>,

@@ -47,6 +47,7 @@ use std::sync::Wait;
 const ALL: u64 = 16;
 
 /// Holds these banks, as they are free, and moves them out into what is held.
+#[inline(always)]
 pub(crate) fn take_banks<R: Wait, A: Agent, C: Clock + Drop>(
     rt: &R,
     table: &Table<Pool<A, C>>,
@@ -72,6 +73,7 @@ pub(crate) fn take_banks<R: Wait, A: Agent, C: Clock + Drop>(
 }
 
 /// Holds these shards, as they are free, and moves them out into what is held.
+#[inline(always)]
 pub(crate) fn take_shards<R: Wait, A: Agent, C: Clock + Drop>(
     rt: &R,
     table: &Table<Pool<A, C>>,

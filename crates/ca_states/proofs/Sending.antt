@@ -2,7 +2,7 @@
 use denote.Param.Send.{IsSend, IsSync, sendable}
 use denote.Param.SendFields.{declared_send, declared_sync, variants_send, variants_sync}
 use Rattle.std.proofs.Crossing.{crosses}
-use Rattle.ca_value.proofs.Crosses.{value_send, value_sync}
+use Rattle.ca_value.proofs.Crosses.{value_send, value_sync, vector_send}
 use Rattle.ca_value.proofs.seq.Seq.TheSendSync as seq
 use Rattle.ca_value.proofs.value.PortId.TheSendSync as port
 use Rattle.ca_value.proofs.builtin.Builtin.TheSendSync as builtin
@@ -47,7 +47,7 @@ seed_send : IsSend Seed.the_row
 seed_send = variants_send Seed.enum (search (sendable, go_seed_send, system_seed_send) depth 20)
 
 op_send : IsSend Op.the_row
-op_send = variants_send Op.enum (search (sends, what_send, seed_send) depth 20)
+op_send = variants_send Op.enum (search (sends, vector_send, what_send, seed_send) depth 20)
 
 pub want_send : IsSend Want.the_row
 want_send = declared_send Want.the_type (search (sendable, op_send, place.the_send) depth 20)

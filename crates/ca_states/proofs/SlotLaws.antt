@@ -1,6 +1,6 @@
 -- A runner's slots as trees: one is read, written and taken out.
-use Rattle.std.proofs.Common.{◌≡◌, ℕ, ℤ, zero, suc, ◌+◌, ◌-◌, ◌++◌, append_assoc, ◌<◌, List, [], ◌∷◌, length, get_or, set, take, Some, None, refl, sym, ap, ◌∙◌, subst, arith}
-use Rattle.std.specs.Prelude.{slice_get, ok_or, Result, Ok, Err, IfOk, IfErr}
+use Rattle.std.proofs.Common.{◌≡◌, ℕ, ℤ, zero, suc, ◌+◌, ◌-◌, ◌++◌, append_assoc, ◌<◌, ◌≤◌, List, [], ◌∷◌, length, get_or, set, take, drop, Some, None, refl, sym, ap, ◌∙◌, subst, arith}
+use Rattle.std.specs.Prelude.{IsTrue, slice_get, ok_or, Result, Ok, Err, IfOk, IfErr}
 use Rattle.std.proofs.lemmas.List.{length-map, take_more_set}
 use Rattle.ca_value.specs.Tree.{Tree, nil, int, vector, trees_of}
 use Rattle.ca_value.proofs.Lists.{items_of_trees_of}
@@ -13,8 +13,9 @@ use Rattle.ca_value.specs.Outcome.{Outcome, judged, Gives, IsFault}
 use Rattle.ca_value.specs.declared.value.Value.{Value}
 use Rattle.ca_value.specs.declared.value.Value.TheVariants.{Nil, Bool, Int, Text, Key, Vector, Map, Port}
 use Rattle.ca_value.specs.declared.fault.ApplyError.{ApplyError}
+use Rattle.ca_states.specs.Valid.{are_below}
 use Rattle.ca_states.specs.Machine.{read, write, reads, taken, taken_all, left_by, slots_from, applied}
-use Rattle.ca_states.proofs.RowLaws.{row_first}
+use Rattle.ca_states.proofs.RowLaws.{row_first, row_within}
 
 pub read_view : (xs : List Value) (a : ℕ) (v : Value) → a < length xs → v ≡ get_or xs a v → view v ≡ read (views xs) a
 read_view [] a v lt e = absurd (omega (arith, lt))
@@ -114,6 +115,21 @@ take_next s t a i n lt e = ap (λ z. taken_all z (slots_from (a + (i + 1)) (n - 
 pub views_push : (xs : List Value) (x : Value) → views (xs ++ x ∷ []) ≡ views xs ++ view x ∷ []
 views_push [] x = refl
 views_push (y ∷ xs) x = ap (λ r. view y ∷ r) (views_push xs x)
+
+reads_later : (t : Tree) (s : List Tree) (a n : ℕ) → reads (t ∷ s) (slots_from (suc a) n) ≡ reads s (slots_from a n)
+reads_later t s a zero = refl
+reads_later t s a (suc n) = ap (λ r. read s a ∷ r) (reads_later t s (suc a) n)
+
+-- the values of slots in a row, where they lie
+pub row_view : (xs : List Value) (a n : ℕ) → a + n ≤ length xs → views (take n (drop a xs)) ≡ reads (views xs) (slots_from a n)
+row_view xs a zero le = refl
+row_view [] a (suc n) le = absurd (omega (arith, le))
+row_view (x ∷ xs) zero (suc n) le = ap (λ r. view x ∷ r) (row_view xs zero n (omega (arith, le)) ∙ sym (reads_later (view x) (views xs) zero n))
+row_view (x ∷ xs) (suc a) (suc n) le = row_view xs a (suc n) (omega (arith, le)) ∙ sym (reads_later (view x) (views xs) a (suc n))
+
+-- a row of some slots ends within the width
+pub row_ends : (width a n : ℕ) → IsTrue (are_below width (slots_from a n)) → 0 < n → a + n ≤ width
+row_ends width a n h lt = let last : a + (n - 1) < width = row_within width a n (n - 1) h (omega (arith, lt)) in omega (arith, last, lt)
 
 pub length_reads : (s : List Tree) (a n : ℕ) → length (reads s (slots_from a n)) ≡ n
 length_reads s a zero = refl

@@ -11,7 +11,7 @@ ghost use Rattle.ca_states.specs.Standing.{calls_view, state_view, halts_at, Fit
 
 use crate::code::{Block, Code, Exit};
 use crate::runner::{Halt, Runner};
-use crate::slots::{take_at, take_row};
+use crate::slots::{clear_row, row_at, take_at};
 use crate::stop::Stop;
 use ca_asking::asking::ask;
 use ca_term::head::Head;
@@ -35,10 +35,16 @@ impl Runner {
         requires { IsTrue (are_below (length self.old.slots.items) (slots_from from count)) }
         ensures { IfOk result (λ h. HaltedAs (waiting place answer (record (state_view self.old) { block = next; slots = taken_all (views self.old.slots.items) (slots_from from count) }) (asked head (trees_of (reads (views self.old.slots.items) (slots_from from count))) place)) h self.new) }
     {
-        let values = take_row(alloc, self.slots.as_mut_slice(), from, count)?;
+        let asked = ask(
+            alloc,
+            head,
+            row_at(self.slots.as_slice(), from, count),
+            place,
+        )?;
+        clear_row(self.slots.as_mut_slice(), from, count);
         self.block = next;
         self.answer = answer;
-        match ask(alloc, head, values.as_slice(), place)? {
+        match asked {
             Ok(op) => Ok(Halt::Cut(Want { op, place })),
             Err(fault) => Ok(Halt::Faulted(fault, place)),
         }

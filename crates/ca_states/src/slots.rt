@@ -355,6 +355,20 @@ pub(crate) fn clear_row(slots: &mut [Value], from: u64, count: u64)
     }
 }
 
+/// The values of so many slots, from one on, where they lie.
+#[tactic(auto, using(crate::proofs::SlotLaws::row_view, crate::proofs::SlotLaws::row_ends))]
+pub(crate) fn row_at(slots: &[Value], from: u64, count: u64) -> &[Value]
+    requires { IsTrue (are_below (length slots.now) (slots_from from count)) }
+    ensures { views result.now ≡ reads (views slots.now) (slots_from from count) }
+{
+    // Of no slots there is no first.
+    if count == 0 {
+        return &[];
+    }
+    let end = from + count;
+    &slots[from as usize..end as usize]
+}
+
 /// The values of so many slots, from one on, taken out of them.
 pub(crate) fn take_row(
     alloc: Global,

@@ -67,6 +67,7 @@ fn move_out<A: Agent, C: Clock + Drop>(
 }
 
 /// Holds a part once it is free, and moves what it is out of the hand.
+#[inline(always)]
 pub fn hold_out<R: Wait, A: Agent, C: Clock + Drop>(
     rt: &R,
     table: &Table<Pool<A, C>>,

@@ -54,7 +54,7 @@ impl Homes {
     }
 
     /// None of them is that one or lies beyond it.
-    pub(crate) fn end(&self) -> u64
+    pub fn end(&self) -> u64
         ensures small { result ≤ 16 }
         ensures none { (i : ℕ) → result ≤ i → has_home self.now i ≡ false }
     {

@@ -30,6 +30,7 @@ impl Agent for AnyTask {
         }
     }
 
+    #[inline(always)]
     fn give(&mut self, outcome: Outcome) {
         match self {
             AnyTask::Text(machine) => machine.give(outcome),

@@ -1,8 +1,8 @@
 -- What a task wants, as plain data.
 use Rattle.std.specs.Prelude.{ℕ, List, Bool, Option, option_map}
 use Rattle.ca_value.specs.Seq.{list}
-use Rattle.ca_value.specs.Tree.{Tree, Trees}
-use Rattle.ca_value.specs.View.{view, trees}
+use Rattle.ca_value.specs.Tree.{Tree, Trees, trees_of}
+use Rattle.ca_value.specs.View.{view, trees, vector_trees}
 use Rattle.ca_term.specs.declared.place.Place.{Place}
 use Rattle.ca_term.specs.declared.head.RegisterName.{RegisterName}
 use Rattle.ca_term.specs.declared.head.SystemTask.{SystemTask}
@@ -60,7 +60,7 @@ pub data OpView : Type 0 where
 abbrev pub op_view : Op → OpView
 op_view (Op.Take c) = taking (view c)
 op_view (Op.Put c v) = putting (view c) (view v)
-op_view (Op.Alts ports priority default) = choosing (trees (list ports)) priority (option_map view default)
+op_view (Op.Alts ports priority default) = choosing (trees_of (vector_trees ports)) priority (option_map view default)
 op_view (Op.Make what) = making (what_view what)
 op_view (Op.Spawn seed) = spawning (seed_view seed)
 op_view (Op.Close c) = closing (view c)

@@ -1,7 +1,7 @@
 use crate::head::{RegisterName, SystemTask};
 use crate::place::Place;
 use ca_value::seq::Text;
-use ca_value::value::{Items, PortId, Value};
+use ca_value::value::{Items, PortId, Value, Vector};
 
 /// What a task wants: an operation with its values, and the place of the form that asks for it. In a
 /// system task that is the place of the form that made the task.
@@ -17,8 +17,9 @@ pub enum Op {
     Take(Value),
     /// A channel, and the value to put.
     Put(Value, Value),
+    /// Channels, and pairs of a channel and the value to put. They are shared, so it costs nothing to ask for them again.
     Alts {
-        ports: Items,
+        ports: Vector,
         priority: bool,
         default: Option<Value>,
     },

@@ -99,6 +99,27 @@ impl<O: Object> Table<O> {
         false
     }
 
+    // Tries again until the part is held, and sleeps between two tries.
+    #[inline(never)]
+    fn hold_later<R: Wait>(&self, rt: &R, hand: &mut Hand<O>, part: u64)
+        requires table { hand.old.table ≡ self.now.id }
+        requires range { part < self.now.id.slots }
+        requires free { IsWithout hand.old part }
+        ensures table { hand.new.table ≡ hand.old.table }
+        ensures held { (x : O.Part) × (missed : List ℕ) × (hand.new.parts ≡ slice_set hand.old.parts part (Some x)) × (hand.new.view ≡ holding (having_missed hand.old.view missed) part (Some (O.content x))) }
+        ensures settled { IsSettled O.content hand.new part }
+        ensures history { SeesOne O.touches O.moves hand.new.view }
+        ensures others { SameBut part hand.old hand.new }
+    {
+        for _ in rt.forever() {
+            wait_for::<O, R>(rt, &self.owned.shared, &self.waiters, part as usize);
+            if self.try_a_while(hand, part) {
+                return;
+            }
+        }
+        unreachable!()
+    }
+
     /// Tries again until the part is held: a few times at once, and then with a sleep between. It may
     /// wait for ever. That a hand takes its parts in ascending order is to keep hands from waiting
     /// for one another in a circle; nothing is proved of it.
@@ -112,13 +133,9 @@ impl<O: Object> Table<O> {
         ensures history { SeesOne O.touches O.moves hand.new.view }
         ensures others { SameBut part hand.old hand.new }
     {
-        for _ in rt.forever() {
-            if self.try_a_while(hand, part) {
-                return;
-            }
-            wait_for::<O, R>(rt, &self.owned.shared, &self.waiters, part as usize);
+        if !self.try_a_while(hand, part) {
+            self.hold_later(rt, hand, part);
         }
-        unreachable!()
     }
 
     /// Draws the number of an event, whose changes the hand has made to the parts that it touches.

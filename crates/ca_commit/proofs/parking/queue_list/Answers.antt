@@ -9,7 +9,7 @@ use Rattle.ca_commit.specs.Contents.{whole}
 use Rattle.ca_commit.specs.Parking.{queued_from}
 use Rattle.ca_commit.specs.Showing.{channels_held, spares_held}
 use Rattle.ca_commit.proofs.Parkings.{first_takes, joined_room, queued_on, rest_takes, rest_there}
-use Rattle.ca_commit.proofs.parking.queue_all.Goals as goal
+use Rattle.ca_commit.proofs.parking.queue_list.Goals as goal
 
 pub queue_one-requires : goal.queue_one-requires
 queue_one-requires c =

@@ -4,7 +4,7 @@ use Rattle.ca_term.specs.Event.{branch_view}
 use Rattle.ca_commit.specs.Contents.{whole}
 use Rattle.ca_commit.specs.Parking.{AreChannels, QueuesTake, queued_from}
 use Rattle.ca_commit.specs.Showing.{channels_held, registries_held, spares_held}
-use Rattle.ca_commit.proofs.parking.queue_all.Given as goal
+use Rattle.ca_commit.proofs.parking.queue_list.Given as goal
 
 abbrev pub invariant-loop-branch : goal.invariant-loop-branch
 invariant-loop-branch l = record {

@@ -1,6 +1,6 @@
 use Rattle.std.proofs.Common.{◌≡◌, ℕ, List}
 use Rattle.ca_turns.specs.Views.{having_missed}
-use Rattle.ca_turns.proofs.table.Table.hold.Given as goal
+use Rattle.ca_turns.proofs.table.Table.hold_later.Given as goal
 
 abbrev pub invariant-loop : goal.invariant-loop
 invariant-loop g l =
