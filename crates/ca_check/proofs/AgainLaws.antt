@@ -1,6 +1,5 @@
 -- A `loop` with patterns: a Let of its bindings, a loop over their whole values, and a Let of the patterns in it.
-use Rattle.std.proofs.Common.{◌≡◌, ℕ, suc, ◌+◌, ◌*◌, ◌-◌, ◌<◌, ◌≤◌, List, [], ◌∷◌, ◌++◌, length, map, drop, get_or, refl, sym, ap, ap₂, ◌∙◌, arith, append_assoc, append-nil, length-append, length-drop, ⊎_elim, Some, None, Bool, true, false, cond, nat_lt}
-use Rattle.std.specs.List.{list_any}
+use Rattle.std.proofs.Common.{◌≡◌, ℕ, suc, ◌+◌, ◌*◌, ◌-◌, ◌<◌, ◌≤◌, List, [], ◌∷◌, ◌++◌, length, drop, get_or, refl, sym, ap, ap₂, ◌∙◌, arith, append_assoc, append-nil, length-append, length-drop, ⊎_elim, Some, Bool, true, false, cond, nat_lt}
 use Rattle.std.proofs.lemmas.Bool.{cases_lt, lt-ltb}
 use Rattle.std.proofs.lemmas.List.{length-map}
 use Rattle.ca_term.specs.declared.place.Place.{Place}
@@ -8,26 +7,25 @@ use Rattle.ca_term.specs.declared.term.Term.{Term}
 use Rattle.ca_term.specs.Kernel.{Kernel, Bindings, var, binding, bind, loop, seq, none, item}
 use Rattle.ca_term.specs.View.{kernel}
 use Rattle.ca_reader.specs.declared.form.Form.{Form}
-use Rattle.ca_reader.specs.Form.{FormTree}
 use Rattle.ca_reader.specs.View.{form_tree, form_trees}
-use Rattle.ca_check.specs.declared.error.CheckError.{CheckError}
-use Rattle.ca_check.specs.declared.error.CheckErrorKind.TheVariants.{TooMany}
+use Rattle.ca_forms.specs.declared.error.CheckError.{CheckError}
+use Rattle.ca_forms.specs.declared.error.CheckErrorKind.TheVariants.{TooMany}
 use Rattle.ca_check.specs.Again.{widths, again_terms, whole_names, again_row}
-use Rattle.ca_check.specs.Binders.{Binder, Bound, one, many, width, whole_name, counted, spread_items, spread_one, spread, is_pattern, patterns}
-use Rattle.ca_check.specs.Judged.{bound_names, total_binder, total_bounds, total_name, total_names, part_terms}
-use Rattle.ca_check.specs.Meaning.{Env, Meaning, Named, size, inner, behind, binds, block, lets, loops, fail, joined, numbered}
-use Rattle.ca_check.specs.Outcome.{Gathered, Outcome, done, refused, after, limited}
-use Rattle.ca_check.specs.Plain.{meanings, again, binders, loop_over_patterns, looping}
-use Rattle.ca_check.specs.Rounds.{loop_parts, under}
-use Rattle.ca_check.specs.TopsView.{pattern_of, pattern_names, pattern_parts, AreCounted}
-use Rattle.ca_check.specs.Walk.{within}
-use Rattle.ca_check.specs.WalkView.{part, parts_of, pairs_of, terms_of, Fails}
-use Rattle.ca_check.proofs.BindLaws.{at, binds_append, bound_names_append, one_width, terms_append}
+use Rattle.ca_forms.specs.Binders.{Binder, Bound, one, many, width, whole_name, spread_items, spread_one, spread, patterns}
+use Rattle.ca_forms.specs.Judged.{bound_names, total_binder, total_bounds, total_name, total_names, part_terms, pattern_of}
+use Rattle.ca_forms.specs.Meaning.{Env, Meaning, Named, size, behind, binds, block, lets, loops, fail, numbered}
+use Rattle.ca_forms.specs.Outcome.{Gathered, Outcome, done, refused, after, limited}
+use Rattle.ca_forms.specs.Plain.{meanings, again, binders, loop_over_patterns}
+use Rattle.ca_forms.specs.Rounds.{loop_parts, under}
+use Rattle.ca_check.specs.TopsView.{pattern_names, pattern_parts, AreCounted}
+use Rattle.ca_forms.specs.Walk.{within}
+use Rattle.ca_forms.specs.WalkView.{parts_of, pairs_of, terms_of, Fails}
+use Rattle.ca_forms.proofs.BindLaws.{at, binds_append, one_width, terms_append}
 use Rattle.ca_check.proofs.DefnLaws.{name_whole}
-use Rattle.ca_check.proofs.LoopLaws.{binders_from, binders_step, has_pattern}
-use Rattle.ca_check.proofs.PartLaws.{after_fails, parts_second}
+use Rattle.ca_forms.proofs.LoopLaws.{binders_from, binders_step, has_pattern}
+use Rattle.ca_forms.proofs.PartLaws.{after_fails, parts_second}
 use Rattle.ca_check.proofs.PatternLaws.{parts_are, names_are, count_is, counted_behind, patterns_bound, patterns_named}
-use Rattle.ca_check.proofs.RoundLaws.{block_one, loops_walked, loops_fails}
+use Rattle.ca_forms.proofs.RoundLaws.{block_one, loops_walked, loops_fails}
 
 one_longer : (sc : List (List ℕ)) (x : List ℕ) → length (sc ++ x ∷ []) ≡ suc (length sc)
 one_longer sc x = length-append sc (x ∷ []) ∙ omega arith

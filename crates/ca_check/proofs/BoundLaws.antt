@@ -1,29 +1,29 @@
 -- Forms that bind a tested value, and forms with the only binding of a vector of two.
-use Rattle.std.proofs.Common.{◌≡◌, ℕ, suc, ◌+◌, ◌<◌, List, [], ◌∷◌, ◌++◌, length, map, drop, get_or, refl, sym, ap, ap₂, ◌∙◌, arith, Option, None, Some, is_some, Bool, true, false}
+use Rattle.std.proofs.Common.{◌≡◌, ℕ, ◌<◌, List, [], ◌∷◌, ◌++◌, length, drop, get_or, refl, sym, ap, ap₂, ◌∙◌, arith, Option, None, Some, is_some, Bool, true, false}
 use Rattle.ca_value.specs.declared.seq.Seq.{Seq}
 use Rattle.ca_value.specs.Seq.{list}
 use Rattle.ca_term.specs.declared.place.Place.{Place}
-use Rattle.ca_term.specs.Kernel.{Kernel, Bindings, var, branch, bind, seq, none as no_terms, item as term, empty, binding}
+use Rattle.ca_term.specs.Kernel.{Kernel, var, branch, bind, empty, binding}
 use Rattle.ca_reader.specs.declared.form.Form.{Form}
 use Rattle.ca_reader.specs.declared.form.Shape.{Vector}
 use Rattle.ca_reader.specs.declared.form.Bracket.TheVariants.{Round, Square, Curly}
-use Rattle.ca_reader.specs.Form.{FormTree, FormTrees, Atom, form, atom, group, none, item, nil, bool, int, text, key, symbol}
+use Rattle.ca_reader.specs.Form.{FormTree, form, atom, group, none, item, nil, bool, int, text, key, symbol}
 use Rattle.ca_reader.specs.View.{form_tree, form_trees}
-use Rattle.ca_check.specs.declared.error.CheckError.{CheckError}
-use Rattle.ca_check.specs.declared.error.CheckError.TheVariants.{Fault, OutOfMemory}
-use Rattle.ca_check.specs.declared.error.CheckErrorKind.TheVariants.{BadForm}
-use Rattle.ca_check.specs.Binders.{Pair, Part, Binder, Bound, one, many, free_name, name_in, names_in, binder, single, pattern, bounds, with_bound, bindings_in, whole_name}
+use Rattle.ca_forms.specs.declared.error.CheckError.{CheckError}
+use Rattle.ca_forms.specs.declared.error.CheckError.TheVariants.{Fault, OutOfMemory}
+use Rattle.ca_forms.specs.declared.error.CheckErrorKind.TheVariants.{BadForm}
+use Rattle.ca_forms.specs.Binders.{Pair, Part, Binder, Bound, one, many, free_name, name_in, names_in, binder, single, pattern, bounds, with_bound, bindings_in, whole_name}
 use Rattle.ca_check.specs.Choices.{first_in, second_means, only_means, tested_by, row_bound, bound_shape, bound_body, bound_other, test_term, bound_choice}
-use Rattle.ca_check.specs.Judged.{total_name, total_binder}
-use Rattle.ca_check.specs.Meaning.{Env, Meaning, Named, size, inner, named, block, hide, iff, local, name_as, nothing, behind, lets}
-use Rattle.ca_check.specs.Outcome.{Gathered, Outcome, done, refused, after, limited}
-use Rattle.ca_check.specs.Plain.{meanings, one_bound, only, if_bound}
-use Rattle.ca_check.specs.Rounds.{under}
-use Rattle.ca_check.specs.Walk.{walk, within}
-use Rattle.ca_check.specs.WalkView.{part, parts_of, pairs_of, Fails}
-use Rattle.ca_check.proofs.PartLaws.{after_after, after_fails, parts_second}
-use Rattle.ca_check.proofs.RoundLaws.{block_one}
-use Rattle.ca_check.proofs.ShapeLaws.{given, binder_is, tree_vector}
+use Rattle.ca_forms.specs.Judged.{total_name, total_binder}
+use Rattle.ca_forms.specs.Meaning.{Env, Meaning, Named, size, inner, named, block, hide, iff, local, name_as, nothing}
+use Rattle.ca_forms.specs.Outcome.{Gathered, Outcome, done, refused, after, limited}
+use Rattle.ca_forms.specs.Plain.{meanings, one_bound, if_bound}
+use Rattle.ca_forms.specs.Rounds.{under}
+use Rattle.ca_forms.specs.Walk.{walk, within}
+use Rattle.ca_forms.specs.WalkView.{part, parts_of, pairs_of, Fails}
+use Rattle.ca_forms.proofs.PartLaws.{after_after, after_fails, parts_second}
+use Rattle.ca_forms.proofs.RoundLaws.{block_one}
+use Rattle.ca_forms.proofs.ShapeLaws.{given, binder_is, tree_vector}
 
 -- a binding's name is that of its form
 pub whole_is : (f : FormTree) → whole_name (total_binder f) ≡ total_name f

@@ -11,13 +11,13 @@ use Rattle.ca_term.specs.Closed.{IsIn}
 use Rattle.ca_term.specs.Fits.{Known, Takes, IsPlain}
 use Rattle.ca_term.specs.Program.{ProcedureView, ProgramView, arity, known_in, IsText, IsProcedure, ArePlainFrom, IsProgram}
 use Rattle.ca_reader.specs.Form.{FormTrees, none, item, place_of}
-use Rattle.ca_check.specs.declared.error.CheckErrorKind.{CheckErrorKind}
-use Rattle.ca_check.specs.declared.error.CheckErrorKind.TheVariants.{Redefined, TooMany}
-use Rattle.ca_check.specs.Depth.{depth_of}
-use Rattle.ca_check.specs.Uses.{uses, aims_out, is_plain, IsGoBody}
-use Rattle.ca_check.specs.Outcome.{Gathered, Outcome, done, refused, after}
-use Rattle.ca_check.specs.Meaning.{Signature, Meaning}
-use Rattle.ca_check.specs.Tops.{Tops, Written, Top, definition, function, expression, wrong, top, is_taken, main_env, numbers, names_of, judged_body, straight, signature, function_env, plain_with, is_empty, with_function, Settled, settled, add_function, shallow, Ended, bound_before, bound_top, one_top, is_past, list_parts}
+use Rattle.ca_forms.specs.declared.error.CheckErrorKind.{CheckErrorKind}
+use Rattle.ca_forms.specs.declared.error.CheckErrorKind.TheVariants.{Redefined, TooMany}
+use Rattle.ca_forms.specs.Depth.{depth_of}
+use Rattle.ca_forms.specs.Uses.{uses, aims_out, is_plain, IsGoBody}
+use Rattle.ca_forms.specs.Outcome.{Gathered, Outcome, done, refused, after}
+use Rattle.ca_forms.specs.Meaning.{Signature, Meaning}
+use Rattle.ca_forms.specs.Tops.{Tops, Written, Top, definition, function, expression, wrong, top, is_taken, main_env, numbers, names_of, judged_body, straight, signature, function_env, plain_with, is_empty, with_function, Settled, settled, add_function, shallow, Ended, bound_before, bound_top, one_top, is_past, list_parts}
 use Rattle.ca_check.specs.Expansion.{tops, is_namespace, script, program_of, expansion_of}
 use Rattle.ca_check.proofs.Well.{Well, WellBindings, fits, source, anew, closed, Below, uses_only, uses_below, Implies, plain_term}
 use Rattle.ca_check.proofs.Grew.{Each, each_append, Agrees, agrees_prefix, IsMade, Grew, IfDone, if_cond}

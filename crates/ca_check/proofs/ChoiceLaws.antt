@@ -1,5 +1,5 @@
 -- `cond`: a walk of its tests and of what they choose, and a fold from the last one back.
-use Rattle.std.proofs.Common.{◌≡◌, ℕ, suc, ◌+◌, ◌*◌, ◌-◌, ◌<◌, ◌≤◌, List, [], ◌∷◌, ◌++◌, length, map, refl, sym, ap, ◌∙◌, arith, append_assoc, append-nil, drop, get_or, true, false, length-drop, drop-cons, ◌/◌}
+use Rattle.std.proofs.Common.{◌≡◌, ℕ, suc, ◌+◌, ◌*◌, ◌-◌, ◌<◌, ◌≤◌, List, [], ◌∷◌, ◌++◌, length, refl, sym, ap, ◌∙◌, arith, append_assoc, append-nil, drop, get_or, true, false, length-drop, drop-cons, ◌/◌}
 use Rattle.std.proofs.lemmas.List.{map-append}
 use Rattle.ca_reader.specs.declared.form.Form.{Form}
 use Rattle.ca_reader.specs.View.{form_tree}
@@ -8,18 +8,17 @@ use Rattle.ca_value.specs.Tree.{nil}
 use Rattle.ca_term.specs.Kernel.{Kernel, const, branch}
 use Rattle.ca_term.specs.View.{kernel}
 use Rattle.ca_check.specs.declared.choices.Choice.{Choice}
-use Rattle.ca_check.specs.declared.error.CheckError.{CheckError}
-use Rattle.ca_check.specs.declared.error.CheckError.TheVariants.{Fault, OutOfMemory}
-use Rattle.ca_check.specs.declared.error.CheckErrorKind.TheVariants.{BadForm}
+use Rattle.ca_forms.specs.declared.error.CheckError.{CheckError}
+use Rattle.ca_forms.specs.declared.error.CheckError.TheVariants.{Fault, OutOfMemory}
+use Rattle.ca_forms.specs.declared.error.CheckErrorKind.TheVariants.{BadForm}
 use Rattle.ca_check.specs.Choices.{tested, chosen, choice_terms}
-use Rattle.ca_check.specs.Meaning.{Env, Meaning, inner}
-use Rattle.ca_check.specs.Outcome.{Gathered, Outcome, done, refused, after, limited}
-use Rattle.ca_check.specs.Plain.{meanings, cond_of, is_even, row_cond}
-use Rattle.ca_check.specs.Walk.{walk}
-use Rattle.ca_check.specs.WalkView.{parts_of, Fails}
-use Rattle.ca_check.proofs.PartLaws.{after_after, after_same, cut_at}
-use Rattle.ca_check.proofs.TermLaws.{drop_all}
-use Rattle.ca_check.proofs.BindLaws.{after_done}
+use Rattle.ca_forms.specs.Meaning.{Env, Meaning, inner}
+use Rattle.ca_forms.specs.Outcome.{Gathered, Outcome, done, refused, after, limited}
+use Rattle.ca_forms.specs.Plain.{meanings, cond_of, is_even, row_cond}
+use Rattle.ca_forms.specs.Walk.{walk}
+use Rattle.ca_forms.specs.WalkView.{parts_of, Fails}
+use Rattle.ca_forms.proofs.PartLaws.{after_after, after_same, cut_at}
+use Rattle.ca_forms.proofs.BindLaws.{after_done}
 
 pub choices_append : (cs ds : List Choice) → choice_terms (cs ++ ds) ≡ choice_terms cs ++ choice_terms ds
 choices_append cs ds = map-append (λ c. (kernel c.test, kernel c.term)) cs ds

@@ -1,27 +1,25 @@
 -- `dotimes` and `doseq`: loops that count under hidden names.
-use Rattle.std.proofs.Common.{◌≡◌, ℕ, suc, ◌+◌, ◌<◌, List, [], ◌∷◌, ◌++◌, length, map, drop, get_or, refl, sym, ap, ap₂, ◌∙◌, arith, append-nil, append_assoc, length-append, Option, None, Some, is_some, Bool, true, false, pos}
+use Rattle.std.proofs.Common.{◌≡◌, ℕ, ◌+◌, ◌<◌, List, [], ◌∷◌, ◌++◌, length, map, drop, get_or, refl, sym, ap, ap₂, ◌∙◌, length-append, Option, None, Some, is_some, true, false, pos}
 use Rattle.ca_value.specs.Tree.{int}
-use Rattle.ca_value.specs.declared.builtin.Builtin.TheVariants.{Less, Items, Count, Nth}
+use Rattle.ca_value.specs.declared.builtin.Builtin.TheVariants.{Less}
 use Rattle.ca_term.specs.declared.place.Place.{Place}
 use Rattle.ca_term.specs.declared.head.Head.TheVariants.{Builtin}
-use Rattle.ca_term.specs.Kernel.{Kernel, Kernels, const, var, apply, none as no_terms, item as term, empty, binding, bind}
+use Rattle.ca_term.specs.Kernel.{Kernel, Kernels, const, var, apply, empty, binding}
 use Rattle.ca_term.specs.View.{kernels_of}
 use Rattle.ca_reader.specs.declared.form.Form.{Form}
 use Rattle.ca_reader.specs.View.{form_tree}
-use Rattle.ca_check.specs.declared.error.CheckError.{CheckError}
-use Rattle.ca_check.specs.declared.error.CheckError.TheVariants.{Fault, OutOfMemory}
-use Rattle.ca_check.specs.declared.error.CheckErrorKind.TheVariants.{BadForm}
-use Rattle.ca_check.specs.Binders.{Part, bindings_in}
+use Rattle.ca_forms.specs.declared.error.CheckError.{CheckError}
+use Rattle.ca_forms.specs.declared.error.CheckErrorKind.TheVariants.{BadForm}
+use Rattle.ca_forms.specs.Binders.{Part, bindings_in}
 use Rattle.ca_check.specs.Choices.{first_in, only_means, bound_shape}
-use Rattle.ca_check.specs.Judged.{total_name}
-use Rattle.ca_check.specs.Meaning.{Env, Meaning, Named, size, inner, named, in_order, operation, local, hide}
-use Rattle.ca_check.specs.Outcome.{Gathered, Outcome, done, refused, after}
-use Rattle.ca_check.specs.Plain.{meanings, one_bound, number, counting, recur_with_next, dotimes, row_dotimes}
-use Rattle.ca_check.specs.Rounds.{turn_of, counted_rounds, next_term, recur_term, under}
-use Rattle.ca_check.specs.Walk.{walk}
-use Rattle.ca_check.specs.WalkView.{part, parts_of, Fails}
-use Rattle.ca_check.proofs.PartLaws.{parts_second}
-use Rattle.ca_check.proofs.RoundLaws.{turns, turn_walked, turn_body_fails, loops_walked, loops_fails}
+use Rattle.ca_forms.specs.Judged.{total_name}
+use Rattle.ca_forms.specs.Meaning.{Env, Meaning, Named, size, inner, named, in_order, operation, local, hide}
+use Rattle.ca_forms.specs.Outcome.{Gathered, done, refused, after}
+use Rattle.ca_forms.specs.Plain.{meanings, one_bound, number, counting, recur_with_next, dotimes, row_dotimes}
+use Rattle.ca_forms.specs.Rounds.{turn_of, counted_rounds, next_term, recur_term, under}
+use Rattle.ca_forms.specs.WalkView.{part, parts_of, Fails}
+use Rattle.ca_forms.proofs.PartLaws.{parts_second}
+use Rattle.ca_forms.proofs.RoundLaws.{turns, turn_walked, turn_body_fails, loops_walked, loops_fails}
 use Rattle.ca_check.proofs.BoundLaws.{only_is, hide_walked, hide_fails, hidden_fails}
 
 abbrev less : ℕ → ℕ → Place → Kernel

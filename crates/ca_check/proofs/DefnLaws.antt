@@ -10,23 +10,23 @@ use Rattle.ca_reader.specs.declared.form.Form.{Form}
 use Rattle.ca_reader.specs.declared.form.Bracket.TheVariants.{Round, Square, Curly}
 use Rattle.ca_reader.specs.Form.{FormTree, FormTrees, form, atom, group, none as no_forms, item as form_item, nil, bool, int, text, key, symbol}
 use Rattle.ca_reader.specs.View.{form_tree, form_trees}
-use Rattle.ca_check.specs.declared.context.Context.TheVariants.{Function}
-use Rattle.ca_check.specs.declared.error.CheckErrorKind.TheVariants.{TooMany}
-use Rattle.ca_check.specs.declared.error.CheckError.{CheckError}
-use Rattle.ca_check.specs.declared.error.CheckError.TheVariants.{Fault, OutOfMemory}
-use Rattle.ca_check.specs.Binders.{Binder, many, binder, whole_name}
-use Rattle.ca_check.specs.Judged.{total_name, total_names, total_binder}
-use Rattle.ca_check.specs.Meaning.{Meaning, Env, Named, Signature, size, named, binds, behind, numbered, fail}
-use Rattle.ca_check.specs.FunctionsView.{find}
-use Rattle.ca_check.specs.Names.{is_known}
-use Rattle.ca_check.specs.Words.{builtin, special}
-use Rattle.ca_check.specs.Operands.{with_vars}
-use Rattle.ca_check.specs.Outcome.{Gathered, Outcome, done, refused, after, limited}
-use Rattle.ca_check.specs.Tops.{Written, wrong, defn_top, binders_in, with_binder, counted_patterns, names_of, numbers, same_names, looped, over_parameters}
+use Rattle.ca_forms.specs.declared.context.Context.TheVariants.{Function}
+use Rattle.ca_forms.specs.declared.error.CheckErrorKind.TheVariants.{TooMany}
+use Rattle.ca_forms.specs.declared.error.CheckError.{CheckError}
+use Rattle.ca_forms.specs.declared.error.CheckError.TheVariants.{Fault, OutOfMemory}
+use Rattle.ca_forms.specs.Binders.{Binder, many, binder, whole_name}
+use Rattle.ca_forms.specs.Judged.{total_name, total_names, total_binder}
+use Rattle.ca_forms.specs.Meaning.{Meaning, Env, Named, Signature, size, named, binds, behind, numbered, fail}
+use Rattle.ca_forms.specs.FunctionsView.{find}
+use Rattle.ca_forms.specs.Names.{is_known}
+use Rattle.ca_forms.specs.Words.{builtin, special}
+use Rattle.ca_forms.specs.Operands.{with_vars}
+use Rattle.ca_forms.specs.Outcome.{Gathered, Outcome, done, refused, after, limited}
+use Rattle.ca_forms.specs.Tops.{Written, wrong, defn_top, binders_in, with_binder, counted_patterns, names_of, numbers, same_names, looped, over_parameters}
 use Rattle.ca_check.specs.TopsView.{total_binders, in_function, AreCounted}
-use Rattle.ca_check.specs.WalkView.{terms_of, parts_of, Fails}
-use Rattle.ca_check.proofs.PartLaws.{cut_at}
-use Rattle.ca_check.proofs.ShapeLaws.{given, binder_is}
+use Rattle.ca_forms.specs.WalkView.{terms_of, parts_of, Fails}
+use Rattle.ca_forms.proofs.PartLaws.{cut_at}
+use Rattle.ca_forms.proofs.ShapeLaws.{given, binder_is}
 
 pub drop_over : (gs : List Form) (i : ℕ) → length gs ≤ i → drop i gs ≡ []
 drop_over [] zero h = refl

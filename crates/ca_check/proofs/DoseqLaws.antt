@@ -1,35 +1,34 @@
 -- `doseq`: a `let` of each item, in a loop that counts through them.
-use Rattle.std.proofs.Common.{◌≡◌, ℕ, suc, ◌+◌, ◌<◌, List, [], ◌∷◌, ◌++◌, length, map, drop, get_or, refl, sym, ap, ap₂, ◌∙◌, arith, append-nil, append_assoc, length-append, Option, None, Some, Bool, true, false, is_some}
+use Rattle.std.proofs.Common.{◌≡◌, ℕ, ◌+◌, ◌<◌, List, [], ◌∷◌, ◌++◌, length, drop, get_or, refl, sym, ap, ◌∙◌, arith, append-nil, length-append, Option, None, Some, true, false, is_some}
 use Rattle.ca_value.specs.declared.seq.Seq.{Seq}
 use Rattle.ca_value.specs.Seq.{list}
 use Rattle.ca_value.specs.declared.builtin.Builtin.TheVariants.{Items, Count, Nth}
 use Rattle.ca_term.specs.declared.place.Place.{Place}
 use Rattle.ca_term.specs.declared.head.Head.TheVariants.{Builtin}
-use Rattle.ca_term.specs.Kernel.{Kernel, Kernels, Bindings, const, var, apply, none as no_terms, item as term, empty, binding, bind}
-use Rattle.ca_term.specs.View.{kernels_of}
+use Rattle.ca_term.specs.Kernel.{Kernel, Bindings, none as no_terms, item as term, empty, binding, bind}
 use Rattle.ca_reader.specs.declared.form.Form.{Form}
 use Rattle.ca_reader.specs.declared.form.Shape.{Vector}
 use Rattle.ca_reader.specs.declared.form.Bracket.TheVariants.{Round, Square, Curly}
 use Rattle.ca_reader.specs.Form.{FormTree, form, atom, group, none, item, place_of}
-use Rattle.ca_reader.specs.View.{form_tree, form_trees}
-use Rattle.ca_check.specs.declared.error.CheckError.{CheckError}
-use Rattle.ca_check.specs.declared.error.CheckError.TheVariants.{Fault, OutOfMemory}
-use Rattle.ca_check.specs.declared.error.CheckErrorKind.TheVariants.{BadForm, TooMany}
-use Rattle.ca_check.specs.Binders.{Pair, Part, Binder, Bound, binder, bounds, with_bound, bindings_in, spread, spread_one, letting}
+use Rattle.ca_reader.specs.View.{form_tree}
+use Rattle.ca_forms.specs.declared.error.CheckError.{CheckError}
+use Rattle.ca_forms.specs.declared.error.CheckError.TheVariants.{Fault, OutOfMemory}
+use Rattle.ca_forms.specs.declared.error.CheckErrorKind.TheVariants.{BadForm, TooMany}
+use Rattle.ca_forms.specs.Binders.{Part, Binder, Bound, binder, bounds, with_bound, bindings_in, spread, spread_one}
 use Rattle.ca_check.specs.Choices.{first_in, only_means, is_only, only_shape}
-use Rattle.ca_check.specs.Judged.{total_binder, over_long, binder_names, binder_parts, bound_names}
-use Rattle.ca_check.specs.Meaning.{Env, Meaning, Named, size, inner, named, behind, in_order, operation, local, block, binds, lets, unnamed, numbered}
-use Rattle.ca_check.specs.Outcome.{Gathered, Outcome, done, refused, after, limited}
-use Rattle.ca_check.specs.Plain.{meanings, counting, nth_bound, doseq, row_doseq}
-use Rattle.ca_check.specs.Rounds.{counted_rounds, under, nth_term, count_term, items_of, item_of}
-use Rattle.ca_check.specs.Walk.{walk, within}
-use Rattle.ca_check.specs.WalkView.{part, parts_of, pairs_of, Fails}
-use Rattle.ca_check.proofs.BindLaws.{at, one_walked, one_names, one_long}
-use Rattle.ca_check.proofs.PartLaws.{parts_second, after_after, after_fails}
-use Rattle.ca_check.proofs.RoundLaws.{block_one}
+use Rattle.ca_forms.specs.Judged.{total_binder, over_long, binder_names, binder_parts, bound_names}
+use Rattle.ca_forms.specs.Meaning.{Env, Meaning, Named, size, inner, named, behind, operation, local, block, binds, lets, unnamed, numbered}
+use Rattle.ca_forms.specs.Outcome.{Gathered, Outcome, done, refused, after, limited}
+use Rattle.ca_forms.specs.Plain.{meanings, counting, nth_bound, doseq, row_doseq}
+use Rattle.ca_forms.specs.Rounds.{counted_rounds, under, nth_term, count_term, items_of, item_of}
+use Rattle.ca_forms.specs.Walk.{walk, within}
+use Rattle.ca_forms.specs.WalkView.{part, parts_of, pairs_of, Fails}
+use Rattle.ca_forms.proofs.BindLaws.{one_walked, one_names, one_long}
+use Rattle.ca_forms.proofs.PartLaws.{parts_second, after_after, after_fails}
+use Rattle.ca_forms.proofs.RoundLaws.{block_one}
 use Rattle.ca_check.proofs.BoundLaws.{some_bound, vector_bindings}
 use Rattle.ca_check.proofs.CountLaws.{counting_walked, counting_fails}
-use Rattle.ca_check.proofs.ShapeLaws.{given, binder_is}
+use Rattle.ca_forms.proofs.ShapeLaws.{given, binder_is}
 
 -- the `let` of an item
 module _ (p : Place) (f : FormTree) (h j : ℕ) (body : Meaning) (e : Env) (s : Gathered) where

@@ -6,10 +6,10 @@ use Rattle.ca_value.specs.Tree.{nil}
 use Rattle.ca_term.specs.Kernel.{Kernel, const}
 use Rattle.ca_term.specs.Program.{ProcedureView, arity, IsProcedure}
 use Rattle.ca_term.specs.Fits.{Known, Takes}
-use Rattle.ca_check.specs.Depth.{depth_of}
-use Rattle.ca_check.specs.Uses.{IsGoBody}
-use Rattle.ca_check.specs.Outcome.{Gathered, Outcome, done, refused, after, limited}
-use Rattle.ca_check.specs.Go.{unmade}
+use Rattle.ca_forms.specs.Depth.{depth_of}
+use Rattle.ca_forms.specs.Uses.{IsGoBody}
+use Rattle.ca_forms.specs.Outcome.{Gathered, Outcome, done, refused, after, limited}
+use Rattle.ca_forms.specs.Go.{unmade}
 
 abbrev pub Each : {A : Type 0} → (A → Type 0) → List A → Type 0
 Each P [] = Unit {0}

@@ -12,27 +12,27 @@ use Rattle.ca_term.specs.Kernel.{Kernel, Kernels, Bindings, const, var, bind, se
 use Rattle.ca_term.specs.View.{kernel, kernels, kernels_of}
 use Rattle.ca_reader.specs.declared.form.Form.{Form}
 use Rattle.ca_reader.specs.View.{form_tree}
-use Rattle.ca_check.specs.declared.error.CheckError.{CheckError}
-use Rattle.ca_check.specs.declared.error.CheckError.TheVariants.{Fault, OutOfMemory}
-use Rattle.ca_check.specs.declared.error.CheckErrorKind.TheVariants.{BadForm}
-use Rattle.ca_check.specs.declared.planned.HiddenForm.{HiddenForm}
-use Rattle.ca_check.specs.Outcome.{Gathered, Outcome, done, refused, after, limited}
-use Rattle.ca_check.specs.Meaning.{Env, Meaning, Named, size, inner, named, binds, unnamed, joined, numbered, hiding, in_order, operation}
-use Rattle.ca_check.specs.Plain.{meanings}
-use Rattle.ca_check.specs.Judged.{bound_names}
+use Rattle.ca_forms.specs.declared.error.CheckError.{CheckError}
+use Rattle.ca_forms.specs.declared.error.CheckError.TheVariants.{Fault, OutOfMemory}
+use Rattle.ca_forms.specs.declared.error.CheckErrorKind.TheVariants.{BadForm}
+use Rattle.ca_forms.specs.declared.planned.HiddenForm.{HiddenForm}
+use Rattle.ca_forms.specs.Outcome.{Gathered, Outcome, done, refused, after, limited}
+use Rattle.ca_forms.specs.Meaning.{Env, Meaning, Named, size, inner, named, binds, unnamed, joined, numbered, hiding, in_order, operation}
+use Rattle.ca_forms.specs.Plain.{meanings}
+use Rattle.ca_forms.specs.Judged.{bound_names}
 use Rattle.ca_term.specs.declared.head.SystemTask.{SystemTask}
 use Rattle.ca_term.specs.declared.head.PlainFunction.{PlainFunction}
 use Rattle.ca_reader.specs.Form.{place_of}
-use Rattle.ca_check.specs.declared.error.CheckErrorKind.{CheckErrorKind}
-use Rattle.ca_check.specs.GivenView.{IsWrong}
-use Rattle.ca_check.specs.Names.{Given, applied, wrong, given}
-use Rattle.ca_check.specs.Channels.{yes, started, made, pub_of, row_pub, stopping, operands_in, row_chan, with_buffer}
-use Rattle.ca_check.specs.Planned.{and_yes, and_true, further, closing, hidden_row, hidden_let, merge_row, pub_over}
-use Rattle.ca_check.specs.Walk.{walk}
-use Rattle.ca_check.specs.WalkView.{parts_of, pairs_of, terms_of, Fails}
-use Rattle.ca_check.proofs.TermLaws.{followed, followed_end, kernels_more}
-use Rattle.ca_check.proofs.PartLaws.{after_after, after_fails, before_inner}
-use Rattle.ca_check.proofs.BindLaws.{at, after_done, binds_append, numbered_append}
+use Rattle.ca_forms.specs.declared.error.CheckErrorKind.{CheckErrorKind}
+use Rattle.ca_forms.specs.GivenView.{IsWrong}
+use Rattle.ca_forms.specs.Names.{Given, applied, wrong, given}
+use Rattle.ca_forms.specs.Channels.{yes, started, made, pub_of, row_pub, stopping, operands_in, row_chan, with_buffer}
+use Rattle.ca_forms.specs.Planned.{and_yes, and_true, further, closing, hidden_row, hidden_let, merge_row, pub_over}
+use Rattle.ca_forms.specs.Walk.{walk}
+use Rattle.ca_forms.specs.WalkView.{parts_of, pairs_of, terms_of, Fails}
+use Rattle.ca_forms.proofs.TermLaws.{followed, followed_end, kernels_more}
+use Rattle.ca_forms.proofs.PartLaws.{after_after, after_fails, before_inner}
+use Rattle.ca_forms.proofs.BindLaws.{at, after_done, binds_append, numbered_append}
 
 -- as many bindings as names
 abbrev width_of : Bindings → ℕ

@@ -8,13 +8,13 @@ use Rattle.ca_term.specs.Program.{ProcedureView}
 use Rattle.ca_reader.specs.View.{form_trees}
 use Rattle.ca_check.specs.declared.defn.Defn.{Defn}
 use Rattle.ca_check.specs.declared.defn.Pass.{Pass}
-use Rattle.ca_check.specs.Outcome.{Gathered, Outcome, done}
-use Rattle.ca_check.specs.Uses.{uses}
-use Rattle.ca_check.specs.Meaning.{Env, Signature}
-use Rattle.ca_check.specs.Plain.{meanings}
-use Rattle.ca_check.specs.Tops.{Tops, Written, function_env, straight, names_of, is_empty}
+use Rattle.ca_forms.specs.Outcome.{Gathered, Outcome, done}
+use Rattle.ca_forms.specs.Uses.{uses}
+use Rattle.ca_forms.specs.Meaning.{Env, Signature}
+use Rattle.ca_forms.specs.Plain.{meanings}
+use Rattle.ca_forms.specs.Tops.{Tops, Written, function_env, straight, names_of, is_empty}
 use Rattle.ca_check.specs.TopsView.{body_in, written_as, AreBelow, AreSafe}
-use Rattle.ca_check.specs.WalkView.{parts_of}
+use Rattle.ca_forms.specs.WalkView.{parts_of}
 use Rattle.ca_check.proofs.Grew.{Grew, IfDone}
 use Rattle.ca_check.proofs.Well.{Well, uses_below}
 use Rattle.ca_check.proofs.Sound.{Ground, AreSigned, Stands, Sound, sound_block}

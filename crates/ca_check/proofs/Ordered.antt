@@ -4,19 +4,19 @@ use Rattle.std.proofs.lemmas.List.{append-nil, append_assoc, map-append, length-
 use Rattle.ca_value.specs.Tree.{Tree, nil}
 use Rattle.ca_term.specs.declared.place.Place.{Place}
 use Rattle.ca_term.specs.declared.head.Head.{Head}
-use Rattle.ca_term.specs.Kernel.{Kernel, Kernels, Bindings, const, var, branch, bind, loop, seq, apply, none, item, empty, binding}
+use Rattle.ca_term.specs.Kernel.{Kernel, const, branch, bind, loop, seq, apply, empty, binding}
 use Rattle.ca_term.specs.Program.{ProcedureView}
 use Rattle.ca_term.specs.View.{kernels_of}
-use Rattle.ca_check.specs.declared.error.CheckErrorKind.{CheckErrorKind}
-use Rattle.ca_check.specs.Depth.{depth_of}
-use Rattle.ca_check.specs.Uses.{uses}
-use Rattle.ca_check.specs.Outcome.{Gathered, Outcome, done, refused, after, limited}
-use Rattle.ca_check.specs.Meaning.{Env, Meaning, Named, size, inner, named, fail, constant, nothing, local, iff, unless, before_others, in_order, operation, block, unnamed, binds, behind, lets, loops, name_as, hide, numbered, joined, hiding}
-use Rattle.ca_check.specs.Go.{task, in_task, unmade, spawned, go}
-use Rattle.ca_check.specs.GoView.{ending}
+use Rattle.ca_forms.specs.declared.error.CheckErrorKind.{CheckErrorKind}
+use Rattle.ca_forms.specs.Depth.{depth_of}
+use Rattle.ca_forms.specs.Uses.{uses}
+use Rattle.ca_forms.specs.Outcome.{Gathered, Outcome, done, refused, after, limited}
+use Rattle.ca_forms.specs.Meaning.{Env, Meaning, Named, size, inner, named, fail, constant, local, iff, unless, before_others, in_order, operation, block, unnamed, binds, behind, lets, loops, name_as, hide, numbered, joined, hiding}
+use Rattle.ca_forms.specs.Go.{task, in_task, unmade, go}
+use Rattle.ca_forms.specs.GoView.{ending}
 use Rattle.ca_check.specs.Order.{end_place, block_place}
 use Rattle.ca_check.proofs.Grew.{IfDone, if_after}
-use Rattle.ca_check.proofs.GoLaws.{task_is}
+use Rattle.ca_forms.proofs.GoLaws.{task_is}
 use Rattle.ca_check.proofs.Sound.{size_named}
 
 abbrev pub places : List ProcedureView → List (Option Place)

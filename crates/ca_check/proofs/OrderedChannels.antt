@@ -1,5 +1,5 @@
 -- The rows of calls and of the forms of core.async add the go bodies of their parts in order.
-use Rattle.std.proofs.Common.{◌≡◌, ℕ, ◌+◌, List, [], ◌∷◌, ◌++◌, length, map, refl, sym, ap, ◌∙◌, subst, Option, Some, None, Bool, true, false, cond, nat_lt, nat_eq}
+use Rattle.std.proofs.Common.{◌≡◌, ℕ, ◌+◌, List, [], ◌∷◌, ◌++◌, length, map, refl, sym, ap, ◌∙◌, Option, Some, None, Bool, true, false, cond, nat_lt, nat_eq}
 use Rattle.std.proofs.lemmas.List.{append-nil}
 use Rattle.ca_value.specs.Tree.{nil, bool, key}
 use Rattle.ca_value.specs.Builtins.{admits}
@@ -16,21 +16,19 @@ use Rattle.ca_term.specs.declared.head.SystemTask.{SystemTask}
 use Rattle.ca_term.specs.declared.head.PlainFunction.{PlainFunction}
 use Rattle.ca_term.specs.Kernel.{Kernel, const, var, branch, apply}
 use Rattle.ca_term.specs.View.{kernels_of}
-use Rattle.ca_reader.specs.declared.form.Bracket.TheVariants.{Round, Square, Curly}
-use Rattle.ca_reader.specs.Form.{FormTree, form, atom, group, symbol, nil as nil_atom, bool as bool_atom, int as int_atom, text as text_atom, key as keyword, place_of}
-use Rattle.ca_check.specs.declared.context.Context.{Context}
-use Rattle.ca_check.specs.declared.context.Context.TheVariants.{Main, Go, Function}
-use Rattle.ca_check.specs.declared.error.CheckErrorKind.{CheckErrorKind}
-use Rattle.ca_check.specs.declared.error.CheckErrorKind.TheVariants.{BadForm, BadArity, UnknownName, TooMany}
-use Rattle.ca_check.specs.declared.special.Special.{Special}
-use Rattle.ca_check.specs.Words.{builtin}
-use Rattle.ca_check.specs.Outcome.{Outcome, done, refused, after}
-use Rattle.ca_check.specs.Meaning.{Env, Signature, Meaning, inner, lookup, constant, local, fail, in_order, operation}
-use Rattle.ca_check.specs.Binders.{Pair, Part}
-use Rattle.ca_check.specs.Names.{find_function, symbol_of, row_symbol, written, builtin_call, function_call, call_of_builtin, call_of_function, call_of, row_call, row_keyword, Given, applied, wrong, given_atom, given}
-use Rattle.ca_check.specs.Channels.{parking, blocking, row_of_one, row_of_two, row_take, row_put, option_of, both_options, options_in, operands_in, alts_of, row_alts, whole, built, made, started, registered, nth_of, tried, unless_default, placed, repeated, row_offer, row_poll, buffer_named, head_word, is_list, word_of, word_in, with_buffer, chan_of, row_chan, row_promise, row_mult, yes, row_tap, row_mix, changing, row_change_of_one, row_change_of_two, stopping, pub_of, row_pub, subscribing, row_sub, row_unsub, row_unsub_all, piping, row_pipe, merging, is_sized, row_merge, transform_named, pipelining, workers, pipeline_over, pipeline_of, row_pipeline, putting_onto, row_onto, row_to}
+use Rattle.ca_reader.specs.Form.{FormTree, form, atom, group, place_of}
+use Rattle.ca_forms.specs.declared.context.Context.{Context}
+use Rattle.ca_forms.specs.declared.context.Context.TheVariants.{Main, Go, Function}
+use Rattle.ca_forms.specs.declared.error.CheckErrorKind.{CheckErrorKind}
+use Rattle.ca_forms.specs.declared.error.CheckErrorKind.TheVariants.{BadForm, BadArity, UnknownName, TooMany}
+use Rattle.ca_forms.specs.declared.special.Special.{Special}
+use Rattle.ca_forms.specs.Words.{builtin}
+use Rattle.ca_forms.specs.Outcome.{Outcome, done, refused, after}
+use Rattle.ca_forms.specs.Meaning.{Env, Signature, Meaning, inner, lookup, constant, local, fail, in_order, operation}
+use Rattle.ca_forms.specs.Binders.{Pair, Part}
+use Rattle.ca_forms.specs.Names.{find_function, symbol_of, row_symbol, written, builtin_call, function_call, call_of_builtin, call_of_function, call_of, row_call, row_keyword, Given, applied, wrong, given_atom, given}
+use Rattle.ca_forms.specs.Channels.{parking, blocking, row_of_one, row_of_two, row_take, row_put, option_of, both_options, alts_of, row_alts, whole, built, made, started, registered, nth_of, tried, unless_default, placed, repeated, row_offer, row_poll, buffer_named, head_word, is_list, word_of, word_in, with_buffer, chan_of, row_chan, row_promise, row_mult, yes, row_tap, row_mix, changing, row_change_of_one, row_change_of_two, stopping, pub_of, row_pub, subscribing, row_sub, row_unsub, row_unsub_all, piping, row_pipe, merging, is_sized, row_merge, transform_named, pipelining, workers, pipeline_over, pipeline_of, row_pipeline, putting_onto, row_onto, row_to}
 use Rattle.ca_check.specs.Order.{is_go, go_blocks_in}
-use Rattle.ca_check.proofs.Grew.{IfDone}
 use Rattle.ca_check.proofs.Ordered.{Leaves, Ordered, ordered_same, ordered_constant, ordered_local, ordered_fail, ordered_cond, total, total_append, AllOrdered, all_append, ordered_operation, ordered_hiding}
 use Rattle.ca_check.proofs.OrderedPlain.{blocks_of, pair_blocks, PairsOrdered, PartOrdered, PartsOrdered, means_ordered}
 

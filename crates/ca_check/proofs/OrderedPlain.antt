@@ -8,11 +8,11 @@ use Rattle.ca_term.specs.declared.place.Place.{Place}
 use Rattle.ca_term.specs.declared.head.Head.TheVariants.{Recur, Builtin}
 use Rattle.ca_reader.specs.declared.form.Bracket.TheVariants.{Round, Square, Curly}
 use Rattle.ca_reader.specs.Form.{FormTree, FormTrees, form, atom, group, none, item}
-use Rattle.ca_check.specs.declared.error.CheckErrorKind.TheVariants.{BadForm, BadArity, RecurNotTail, TooMany}
-use Rattle.ca_check.specs.Meaning.{Env, Meaning, Named, size, constant, nothing, local, fail, iff, unless, operation, block, unnamed, lets, loops, name_as, hide}
-use Rattle.ca_check.specs.Binders.{Part, Pair, Binder, Bound, one, many, name_in, with_name, names_in, pattern, binder, with_bound, bounds, is_vector, bindings_in, spread_items, spread_one, spread, width, letting, is_pattern, patterns}
-use Rattle.ca_check.specs.Plain.{meanings, number, let_of, row_let, row_if, row_if_not, row_when, row_when_not, is_even, cond_of, row_cond, and_of, or_of, by_truth, by_some, only, one_bound, if_bound, row_if_bound, row_when_bound, again, binders, loop_over_patterns, looping, loop_of, row_loop, recur_of, row_recur, recur_with_next, row_while, counting, dotimes, row_dotimes, nth_bound, doseq, row_doseq}
-use Rattle.ca_check.specs.Channels.{is_list, word_of}
+use Rattle.ca_forms.specs.declared.error.CheckErrorKind.TheVariants.{BadForm, BadArity, RecurNotTail, TooMany}
+use Rattle.ca_forms.specs.Meaning.{Meaning, Named, size, constant, nothing, local, fail, iff, unless, operation, block, unnamed, lets, loops, name_as}
+use Rattle.ca_forms.specs.Binders.{Part, Pair, Binder, Bound, one, many, name_in, with_name, names_in, pattern, binder, with_bound, bounds, is_vector, bindings_in, spread_items, spread_one, spread, width, letting, is_pattern, patterns}
+use Rattle.ca_forms.specs.Plain.{meanings, number, let_of, row_let, row_if, row_if_not, row_when, row_when_not, is_even, cond_of, row_cond, and_of, or_of, by_truth, by_some, only, one_bound, if_bound, row_if_bound, row_when_bound, again, binders, loop_over_patterns, looping, loop_of, row_loop, recur_of, row_recur, recur_with_next, row_while, counting, dotimes, row_dotimes, nth_bound, doseq, row_doseq}
+use Rattle.ca_forms.specs.Channels.{is_list, word_of}
 use Rattle.ca_check.specs.Order.{is_go, go_blocks, go_blocks_in}
 use Rattle.ca_check.proofs.Ordered.{Leaves, Ordered, ordered_same, ordered_constant, ordered_local, ordered_fail, ordered_cond, ordered_iff, ordered_unless, total, total_append, AllOrdered, all_append, ordered_operation, ordered_block, ordered_body, NamedOrdered, named_append, ordered_lets, ordered_loops, ordered_name_as, ordered_hide}
 

@@ -3,22 +3,22 @@ use Rattle.std.proofs.Common.{◌≡◌, ℕ, zero, suc, List, [], ◌∷◌, �
 use Rattle.std.specs.List.{list_any}
 use Rattle.std.proofs.lemmas.List.{append-nil}
 use Rattle.ca_term.specs.declared.place.Place.{Place}
-use Rattle.ca_term.specs.Kernel.{Kernel, binding}
+use Rattle.ca_term.specs.Kernel.{Kernel}
 use Rattle.ca_term.specs.Program.{ProgramView}
 use Rattle.ca_reader.specs.declared.form.Bracket.TheVariants.{Round, Square, Curly}
 use Rattle.ca_reader.specs.Form.{FormTree, FormTrees, form, atom, group, none, item, symbol, nil as nil_atom, bool as bool_atom, int as int_atom, text as text_atom, key as key_atom, place_of}
-use Rattle.ca_check.specs.declared.special.Special.{Special}
-use Rattle.ca_check.specs.declared.error.CheckErrorKind.{CheckErrorKind}
-use Rattle.ca_check.specs.declared.error.CheckErrorKind.TheVariants.{TooMany, Redefined}
-use Rattle.ca_check.specs.Words.{special}
-use Rattle.ca_check.specs.Depth.{depth_of}
-use Rattle.ca_check.specs.Uses.{uses, aims_out}
-use Rattle.ca_check.specs.Outcome.{Gathered, Outcome, done, refused, after}
-use Rattle.ca_check.specs.Meaning.{Env, Meaning, block, lets, loops, local}
-use Rattle.ca_check.specs.Binders.{Part, Binder, binder, is_pattern, patterns}
-use Rattle.ca_check.specs.Plain.{meanings}
-use Rattle.ca_check.specs.Walk.{walk, parts}
-use Rattle.ca_check.specs.Tops.{Tops, Written, Top, definition, function, expression, wrong, top_name, definition_of, def_top, with_binder, binders_in, parameters_in, function_of, note_in, defn_behind, defn_top, word_at_head, behind_head, list_top, list_parts, top, is_taken, main_env, same_names, names_of, judged_body, over_parameters, straight, looped, body_of, signature, function_env, with_function, Settled, settled, add_function, shallow, Ended, bound_before, bound_top, one_top, is_past}
+use Rattle.ca_forms.specs.declared.special.Special.{Special}
+use Rattle.ca_forms.specs.declared.error.CheckErrorKind.{CheckErrorKind}
+use Rattle.ca_forms.specs.declared.error.CheckErrorKind.TheVariants.{TooMany, Redefined}
+use Rattle.ca_forms.specs.Words.{special}
+use Rattle.ca_forms.specs.Depth.{depth_of}
+use Rattle.ca_forms.specs.Uses.{uses, aims_out}
+use Rattle.ca_forms.specs.Outcome.{Gathered, Outcome, done, refused, after}
+use Rattle.ca_forms.specs.Meaning.{Meaning, block, lets, local}
+use Rattle.ca_forms.specs.Binders.{Part, Binder, binder, is_pattern, patterns}
+use Rattle.ca_forms.specs.Plain.{meanings}
+use Rattle.ca_forms.specs.Walk.{walk, parts}
+use Rattle.ca_forms.specs.Tops.{Tops, Written, Top, definition, function, expression, wrong, top_name, definition_of, def_top, with_binder, binders_in, parameters_in, function_of, note_in, defn_behind, defn_top, list_top, list_parts, top, is_taken, main_env, same_names, names_of, judged_body, over_parameters, straight, body_of, signature, function_env, with_function, Settled, settled, add_function, shallow, Ended, bound_before, bound_top, one_top, is_past}
 use Rattle.ca_check.specs.Expansion.{tops, is_namespace, script, program_of, expansion_of}
 use Rattle.ca_check.specs.Order.{go_blocks, go_blocks_in, script_go_blocks, block_place}
 use Rattle.ca_check.proofs.Grew.{IfDone}

@@ -1,5 +1,5 @@
 -- Each form adds the go bodies of its text in order.
-use Rattle.std.proofs.Common.{◌≡◌, ℕ, List, [], ◌∷◌, ◌++◌, length, map, refl, sym, ap, ◌∙◌, subst, Option, Some, None, Bool, true, false, cond, nat_lt}
+use Rattle.std.proofs.Common.{◌≡◌, ℕ, List, [], ◌∷◌, ◌++◌, length, refl, sym, ap, Option, Some, None, true, false, cond, nat_lt}
 use Rattle.ca_value.specs.Tree.{nil, bool, int, text, key}
 use Rattle.ca_value.specs.declared.builtin.Builtin.TheVariants.{Vector, HashMap}
 use Rattle.ca_term.specs.declared.place.Place.{Place}
@@ -9,17 +9,17 @@ use Rattle.ca_term.specs.declared.head.RegisterName.{RegisterName}
 use Rattle.ca_reader.specs.declared.form.Bracket.{Bracket}
 use Rattle.ca_reader.specs.declared.form.Bracket.TheVariants.{Round, Square, Curly}
 use Rattle.ca_reader.specs.Form.{FormTree, FormTrees, ShapeTree, Atom, form, atom, group, none, item, symbol, nil as nil_atom, bool as bool_atom, int as int_atom, text as text_atom, key as key_atom}
-use Rattle.ca_check.specs.declared.special.Special.{Special}
-use Rattle.ca_check.specs.declared.error.CheckErrorKind.TheVariants.{TooMany}
-use Rattle.ca_check.specs.Words.{special}
-use Rattle.ca_check.specs.Meaning.{block, fail}
-use Rattle.ca_check.specs.Binders.{Part, counted, is_vector}
-use Rattle.ca_check.specs.Plain.{meanings, row_loop, by_truth, by_some}
-use Rattle.ca_check.specs.Channels.{parking, blocking, head_word, is_list, word_of}
-use Rattle.ca_check.specs.Walk.{row, row_or_call, headed, row_list, row_atom, row_group, walk, walk_shape, parts, within, within_shape, pairs}
-use Rattle.ca_check.specs.Order.{is_go, is_go_block, go_blocks, go_blocks_in, go_blocks_of}
+use Rattle.ca_forms.specs.declared.special.Special.{Special}
+use Rattle.ca_forms.specs.declared.error.CheckErrorKind.TheVariants.{TooMany}
+use Rattle.ca_forms.specs.Words.{special}
+use Rattle.ca_forms.specs.Meaning.{block, fail}
+use Rattle.ca_forms.specs.Binders.{Part, is_vector}
+use Rattle.ca_forms.specs.Plain.{meanings, row_loop, by_truth, by_some}
+use Rattle.ca_forms.specs.Channels.{parking, blocking, is_list, word_of}
+use Rattle.ca_forms.specs.Walk.{row, row_or_call, row_atom, row_group, walk, walk_shape, parts, within, within_shape, pairs}
+use Rattle.ca_check.specs.Order.{is_go, go_blocks, go_blocks_in, go_blocks_of}
 use Rattle.ca_check.proofs.Ordered.{Ordered, ordered_same, ordered_constant, ordered_fail, ordered_cond, total, ordered_operation, ordered_body, ordered_go}
-use Rattle.ca_check.proofs.OrderedPlain.{blocks_of, pair_blocks, PairsOrdered, PartOrdered, PartsOrdered, means_ordered, block_ordered, ordered_row_let, ordered_row_if, ordered_row_if_not, ordered_row_when, ordered_row_when_not, ordered_row_cond, ordered_and, ordered_or, ordered_truth, ordered_some, ordered_row_if_bound, ordered_row_when_bound, ordered_row_loop, ordered_row_recur, ordered_row_while, ordered_row_dotimes, ordered_row_doseq}
+use Rattle.ca_check.proofs.OrderedPlain.{blocks_of, pair_blocks, PairsOrdered, PartsOrdered, means_ordered, block_ordered, ordered_row_let, ordered_row_if, ordered_row_if_not, ordered_row_when, ordered_row_when_not, ordered_row_cond, ordered_and, ordered_or, ordered_truth, ordered_some, ordered_row_if_bound, ordered_row_when_bound, ordered_row_loop, ordered_row_recur, ordered_row_while, ordered_row_dotimes, ordered_row_doseq}
 use Rattle.ca_check.proofs.OrderedChannels.{ordered_symbol, ordered_written, ordered_builtin_call, ordered_row_call, ordered_keyword, ordered_row_of_one, ordered_row_of_two, parking_ordered, blocking_ordered, ordered_row_take, ordered_row_put, ordered_row_alts, ordered_row_offer, ordered_row_poll, ordered_row_chan, ordered_row_promise, ordered_row_mult, ordered_row_tap, ordered_row_mix, ordered_row_change_of_one, ordered_row_change_of_two, ordered_row_pub, ordered_row_sub, ordered_row_unsub, ordered_row_unsub_all, ordered_row_pipe, ordered_row_merge, ordered_row_pipeline, ordered_row_onto, ordered_row_to}
 
 -- the go block itself, if the word heads one

@@ -9,17 +9,17 @@ use Rattle.ca_reader.specs.declared.form.Form.{Form}
 use Rattle.ca_reader.specs.declared.form.Bracket.TheVariants.{Round, Square, Curly}
 use Rattle.ca_reader.specs.Form.{FormTree, FormTrees, form, atom, group, none as no_forms, nil, bool, int, text, key, symbol}
 use Rattle.ca_reader.specs.View.{form_tree, form_trees}
-use Rattle.ca_check.specs.declared.error.CheckError.{CheckError}
-use Rattle.ca_check.specs.declared.error.CheckError.TheVariants.{Fault, OutOfMemory}
-use Rattle.ca_check.specs.Binders.{Binder, one, many, is_pattern, spread_items, patterns, unpacked}
-use Rattle.ca_check.specs.Judged.{total_binder, total_names, binder_parts, bound_names, part_terms}
-use Rattle.ca_check.specs.Meaning.{Env, Meaning, Named, binds, lets, joined, numbered}
-use Rattle.ca_check.specs.Outcome.{Gathered, Outcome, done, after, limited}
-use Rattle.ca_check.specs.TopsView.{total_binders, pattern_of, inner_names, pattern_names, pattern_parts, AreCounted}
-use Rattle.ca_check.specs.WalkView.{terms_of, Fails}
-use Rattle.ca_check.proofs.BindLaws.{at, binds_append, numbered_append, bound_names_append, parts_bound, items_names, parts_count}
+use Rattle.ca_forms.specs.declared.error.CheckError.{CheckError}
+use Rattle.ca_forms.specs.declared.error.CheckError.TheVariants.{Fault, OutOfMemory}
+use Rattle.ca_forms.specs.Binders.{Binder, one, many, is_pattern, spread_items, patterns, unpacked}
+use Rattle.ca_forms.specs.Judged.{total_binder, total_names, binder_parts, bound_names, part_terms, pattern_of}
+use Rattle.ca_forms.specs.Meaning.{Env, Meaning, Named, binds, lets, joined, numbered}
+use Rattle.ca_forms.specs.Outcome.{Gathered, Outcome, done, after, limited}
+use Rattle.ca_check.specs.TopsView.{total_binders, inner_names, pattern_names, pattern_parts, AreCounted}
+use Rattle.ca_forms.specs.WalkView.{terms_of, Fails}
+use Rattle.ca_forms.proofs.BindLaws.{at, binds_append, numbered_append, bound_names_append, parts_bound, items_names, parts_count}
 use Rattle.ca_check.proofs.DefnLaws.{drop_over, names_length}
-use Rattle.ca_check.proofs.PartLaws.{cut_at}
+use Rattle.ca_forms.proofs.PartLaws.{cut_at}
 
 no_items : (xs : List Form) → form_trees xs ≡ no_forms → length xs ≡ 0
 no_items [] h = refl

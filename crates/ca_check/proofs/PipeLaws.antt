@@ -10,25 +10,25 @@ use Rattle.ca_term.specs.Kernel.{Kernel, var, apply, none, item}
 use Rattle.ca_term.specs.View.{kernels, kernels_of}
 use Rattle.ca_reader.specs.declared.form.Form.{Form}
 use Rattle.ca_reader.specs.View.{form_tree}
-use Rattle.ca_check.specs.declared.error.CheckError.{CheckError}
-use Rattle.ca_check.specs.declared.error.CheckError.TheVariants.{Fault, OutOfMemory}
-use Rattle.ca_check.specs.declared.error.CheckErrorKind.TheVariants.{BadForm}
-use Rattle.ca_check.specs.Outcome.{Gathered, done, refused, limited}
-use Rattle.ca_check.specs.Meaning.{Env, Meaning, size, inner, binds, unnamed, numbered, hiding}
-use Rattle.ca_check.specs.Binders.{Pair}
-use Rattle.ca_check.specs.Plain.{meanings}
-use Rattle.ca_check.specs.Judged.{bound_names}
+use Rattle.ca_forms.specs.declared.error.CheckError.{CheckError}
+use Rattle.ca_forms.specs.declared.error.CheckError.TheVariants.{Fault, OutOfMemory}
+use Rattle.ca_forms.specs.declared.error.CheckErrorKind.TheVariants.{BadForm}
+use Rattle.ca_forms.specs.Outcome.{Gathered, done, refused, limited}
+use Rattle.ca_forms.specs.Meaning.{Env, Meaning, size, inner, binds, unnamed, numbered, hiding}
+use Rattle.ca_forms.specs.Binders.{Pair}
+use Rattle.ca_forms.specs.Plain.{meanings}
+use Rattle.ca_forms.specs.Judged.{bound_names}
 use Rattle.ca_term.specs.declared.head.SystemTask.{SystemTask}
 use Rattle.ca_term.specs.declared.head.PlainFunction.{PlainFunction}
 use Rattle.ca_term.specs.declared.head.Transform.{Transform}
 use Rattle.ca_reader.specs.Form.{FormTree, place_of}
-use Rattle.ca_check.specs.declared.error.CheckErrorKind.{CheckErrorKind}
-use Rattle.ca_check.specs.Names.{applied, wrong, given}
-use Rattle.ca_check.specs.Channels.{yes, started, made, whole, repeated, stopping, pipeline_of, pipeline_over, workers}
-use Rattle.ca_check.specs.Planned.{and_yes, and_true, hidden_let, pipeline_row, pipeline_by, function_within}
-use Rattle.ca_check.specs.Walk.{walk, within}
-use Rattle.ca_check.specs.WalkView.{parts_of, terms_of, Fails}
-use Rattle.ca_check.proofs.BindLaws.{at}
+use Rattle.ca_forms.specs.declared.error.CheckErrorKind.{CheckErrorKind}
+use Rattle.ca_forms.specs.Names.{applied, wrong, given}
+use Rattle.ca_forms.specs.Channels.{yes, started, made, whole, repeated, stopping, pipeline_of, pipeline_over, workers}
+use Rattle.ca_forms.specs.Planned.{and_yes, and_true, hidden_let, pipeline_row, pipeline_by, function_within}
+use Rattle.ca_forms.specs.Walk.{walk, within}
+use Rattle.ca_forms.specs.WalkView.{parts_of, terms_of, Fails}
+use Rattle.ca_forms.proofs.BindLaws.{at}
 use Rattle.ca_check.proofs.HideLaws.{Hides, hiding_done, hiding_fails, hides_more, hides_yes, first_fails, second_fails, yes_fails, take_all, More, more_is, kernels_listed}
 
 -- a pipeline

@@ -5,16 +5,16 @@ use Rattle.ca_term.specs.Kernel.{Bindings, empty}
 use Rattle.ca_reader.specs.declared.form.Form.{Form}
 use Rattle.ca_reader.specs.Form.{FormTrees, place_of}
 use Rattle.ca_reader.specs.View.{form_tree, form_trees}
-use Rattle.ca_check.specs.declared.error.CheckError.{CheckError}
-use Rattle.ca_check.specs.declared.error.CheckError.TheVariants.{Fault, OutOfMemory}
-use Rattle.ca_check.specs.declared.error.CheckErrorKind.TheVariants.{TooMany}
-use Rattle.ca_check.specs.Outcome.{Gathered, Outcome, done, refused}
-use Rattle.ca_check.specs.Tops.{Tops, Ended, list_parts}
+use Rattle.ca_forms.specs.declared.error.CheckError.{CheckError}
+use Rattle.ca_forms.specs.declared.error.CheckError.TheVariants.{Fault, OutOfMemory}
+use Rattle.ca_forms.specs.declared.error.CheckErrorKind.TheVariants.{TooMany}
+use Rattle.ca_forms.specs.Outcome.{Gathered, Outcome, done, refused}
+use Rattle.ca_forms.specs.Tops.{Tops, Ended, list_parts}
 use Rattle.ca_check.specs.ScriptView.{Rest, ahead, form_top, has_namespace, nothing_defined, nothing_gathered}
 use Rattle.ca_check.specs.Expansion.{tops, script, program_of, Refuses}
-use Rattle.ca_check.specs.WalkView.{parts_of, Fails}
-use Rattle.ca_check.proofs.PartLaws.{cut_at, count_parts}
-use Rattle.ca_check.proofs.TermLaws.{joined_end}
+use Rattle.ca_forms.specs.WalkView.{parts_of, Fails}
+use Rattle.ca_forms.proofs.PartLaws.{cut_at, count_parts}
+use Rattle.ca_forms.proofs.TermLaws.{joined_end}
 use Rattle.ca_check.proofs.DefnLaws.{drop_over}
 
 -- the first form is no namespace

@@ -9,18 +9,18 @@ use Rattle.ca_term.specs.declared.program.Procedure.{Procedure}
 use Rattle.ca_term.specs.View.{kernel}
 use Rattle.ca_term.specs.Program.{ProcedureView, procedure_view}
 use Rattle.ca_check.specs.declared.defn.Pass.{Pass}
-use Rattle.ca_check.specs.declared.error.CheckErrorKind.TheVariants.{TooMany}
-use Rattle.ca_check.specs.declared.error.CheckError.{CheckError}
-use Rattle.ca_check.specs.declared.error.CheckError.TheVariants.{Fault, OutOfMemory}
-use Rattle.ca_check.specs.declared.gathered.Bodies.{Bodies}
-use Rattle.ca_check.specs.Depth.{depth_of}
-use Rattle.ca_check.specs.Uses.{uses, aims_out, is_plain}
-use Rattle.ca_check.specs.Outcome.{Gathered, Outcome, done, refused, after}
-use Rattle.ca_check.specs.Meaning.{Meaning, Signature}
-use Rattle.ca_check.specs.Tops.{Tops, Written, Settled, straight, body_of, signature, function_env, judged_body, settled, add_function, with_function, is_empty, plain_with, numbers, names_of}
+use Rattle.ca_forms.specs.declared.error.CheckErrorKind.TheVariants.{TooMany}
+use Rattle.ca_forms.specs.declared.error.CheckError.{CheckError}
+use Rattle.ca_forms.specs.declared.error.CheckError.TheVariants.{Fault, OutOfMemory}
+use Rattle.ca_forms.specs.declared.gathered.Bodies.{Bodies}
+use Rattle.ca_forms.specs.Depth.{depth_of}
+use Rattle.ca_forms.specs.Uses.{uses, aims_out, is_plain}
+use Rattle.ca_forms.specs.Outcome.{Gathered, Outcome, done, refused, after}
+use Rattle.ca_forms.specs.Meaning.{Meaning, Signature}
+use Rattle.ca_forms.specs.Tops.{Tops, Written, Settled, straight, body_of, signature, function_env, judged_body, settled, add_function, with_function, is_empty, plain_with, numbers, names_of}
 use Rattle.ca_check.specs.TopsView.{body_in, settled_function}
-use Rattle.ca_check.specs.WalkView.{gathered, Fails}
-use Rattle.ca_check.proofs.PartLaws.{after_fails}
+use Rattle.ca_forms.specs.WalkView.{gathered, Fails}
+use Rattle.ca_forms.proofs.PartLaws.{after_fails}
 
 abbrev pub for_good : Bool → Pass
 for_good looping = cond looping Pass.Looped Pass.Straight

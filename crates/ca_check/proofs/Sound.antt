@@ -10,11 +10,11 @@ use Rattle.ca_term.specs.Kernel.{Kernel, Kernels, Bindings, var, branch, bind, l
 use Rattle.ca_term.specs.Fits.{Known, Suits, Takes, count_terms, count_bindings}
 use Rattle.ca_term.specs.Program.{ProcedureView, IsProcedure}
 use Rattle.ca_term.specs.View.{kernels_of}
-use Rattle.ca_check.specs.declared.error.CheckErrorKind.{CheckErrorKind}
-use Rattle.ca_check.specs.Uses.{uses}
-use Rattle.ca_check.specs.Outcome.{Gathered, Outcome, after, limited}
-use Rattle.ca_check.specs.Meaning.{Env, Signature, Meaning, Named, size, inner, named, fail, constant, nothing, local, iff, unless, before_others, in_order, operation, block, unnamed, binds, behind, lets, loops, name_as, hide, numbered, joined, hiding}
-use Rattle.ca_check.specs.Go.{task, in_task, unmade, go}
+use Rattle.ca_forms.specs.declared.error.CheckErrorKind.{CheckErrorKind}
+use Rattle.ca_forms.specs.Uses.{uses}
+use Rattle.ca_forms.specs.Outcome.{Gathered, Outcome, after, limited}
+use Rattle.ca_forms.specs.Meaning.{Env, Signature, Meaning, Named, size, inner, named, fail, constant, nothing, local, iff, unless, before_others, in_order, operation, block, unnamed, binds, behind, lets, loops, name_as, hide, numbered, joined, hiding}
+use Rattle.ca_forms.specs.Go.{task, in_task, unmade, go}
 use Rattle.ca_check.proofs.Well.{Well, WellTerms, WellInOrder, WellBindings, fits, source, anew, closed, Below, below_more, below_append, uses_only, uses_below, in_left, in_right}
 use Rattle.ca_check.proofs.Grew.{Each, Agrees, agrees_unmade, agrees_at, set_between, IsMade, Grew, stays, gives, behind_it, IfDone, if_after, if_limited}
 

@@ -9,14 +9,14 @@ use Rattle.ca_term.specs.declared.head.RegisterName.{RegisterName}
 use Rattle.ca_reader.specs.declared.form.Bracket.{Bracket}
 use Rattle.ca_reader.specs.declared.form.Bracket.TheVariants.{Round, Square, Curly}
 use Rattle.ca_reader.specs.Form.{FormTree, FormTrees, ShapeTree, Atom, form, atom, group, none, item, symbol, nil as nil_atom, bool as bool_atom, int as int_atom, text as text_atom, key as key_atom}
-use Rattle.ca_check.specs.declared.special.Special.{Special}
-use Rattle.ca_check.specs.declared.error.CheckErrorKind.TheVariants.{BadForm, TooMany}
-use Rattle.ca_check.specs.Words.{special}
-use Rattle.ca_check.specs.Meaning.{block}
-use Rattle.ca_check.specs.Binders.{Part}
-use Rattle.ca_check.specs.Plain.{meanings, row_loop, by_truth, by_some}
-use Rattle.ca_check.specs.Channels.{parking, blocking}
-use Rattle.ca_check.specs.Walk.{row, row_or_call, headed, row_list, row_atom, row_group, walk, walk_shape, parts, within, within_shape, pairs}
+use Rattle.ca_forms.specs.declared.special.Special.{Special}
+use Rattle.ca_forms.specs.declared.error.CheckErrorKind.TheVariants.{BadForm, TooMany}
+use Rattle.ca_forms.specs.Words.{special}
+use Rattle.ca_forms.specs.Meaning.{block}
+use Rattle.ca_forms.specs.Binders.{Part}
+use Rattle.ca_forms.specs.Plain.{meanings, row_loop, by_truth, by_some}
+use Rattle.ca_forms.specs.Channels.{parking, blocking}
+use Rattle.ca_forms.specs.Walk.{row, row_or_call, headed, row_list, row_atom, row_group, walk, walk_shape, parts, within, within_shape, pairs}
 use Rattle.ca_check.proofs.Sound.{Ground, Sound, sound_constant, sound_fail, sound_cond, sound_operation, sound_body, sound_go}
 use Rattle.ca_check.proofs.SoundPlain.{PairsSound, PartsSound, means_sound, block_sound, sound_row_let, sound_row_if, sound_row_if_not, sound_row_when, sound_row_when_not, sound_row_cond, sound_and, sound_or, sound_truth, sound_some, sound_row_if_bound, sound_row_when_bound, sound_row_loop, sound_row_recur, sound_row_while, sound_row_dotimes, sound_row_doseq}
 use Rattle.ca_check.proofs.SoundNames.{sound_symbol, sound_written, sound_builtin_call, sound_row_call, sound_keyword}

@@ -9,20 +9,20 @@ use Rattle.ca_term.specs.View.{bindings, named}
 use Rattle.ca_reader.specs.declared.form.Form.{Form, the_lemmas}
 use Rattle.ca_reader.specs.Form.{place_of}
 use Rattle.ca_reader.specs.View.{form_tree}
-use Rattle.ca_check.specs.declared.error.CheckError.{CheckError}
-use Rattle.ca_check.specs.declared.error.CheckErrorKind.TheVariants.{TooMany, BadForm, Redefined}
+use Rattle.ca_forms.specs.declared.error.CheckError.{CheckError}
+use Rattle.ca_forms.specs.declared.error.CheckErrorKind.TheVariants.{TooMany, BadForm, Redefined}
 use Rattle.ca_check.specs.declared.tops.Expansion.{Expansion}
 use Rattle.ca_check.specs.declared.tops.Kind.{Kind}
-use Rattle.ca_check.specs.Depth.{depth_of}
-use Rattle.ca_check.specs.Outcome.{Gathered, Outcome, done, refused, after}
-use Rattle.ca_check.specs.Meaning.{Meaning, joined}
-use Rattle.ca_check.specs.Binders.{Part}
-use Rattle.ca_check.specs.Tops.{Tops, Ended, Written, function, definition, definition_of, top_name, main_env, bound_top, bound_before, one_top, top, is_past, is_taken, list_top, list_parts, word_at_head, behind_head, def_top, is_defining, add_function, shallow}
+use Rattle.ca_forms.specs.Depth.{depth_of}
+use Rattle.ca_forms.specs.Outcome.{Gathered, Outcome, done, refused, after}
+use Rattle.ca_forms.specs.Meaning.{Meaning, joined}
+use Rattle.ca_forms.specs.Binders.{Part}
+use Rattle.ca_forms.specs.Tops.{Tops, Ended, Written, function, definition, definition_of, top_name, main_env, bound_top, bound_before, one_top, top, is_past, is_taken, list_top, list_parts, word_at_head, behind_head, def_top, is_defining, add_function, shallow}
 use Rattle.ca_check.specs.ScriptView.{Rest, ahead, rest_of, Leads, Stops, form_top, kind_top, is_defining_kind}
-use Rattle.ca_check.specs.Walk.{walk}
-use Rattle.ca_check.specs.WalkView.{parts_of, Fails}
-use Rattle.ca_check.proofs.PartLaws.{after_fails, count_parts, two_parts}
-use Rattle.ca_check.proofs.TermLaws.{bindings_more}
+use Rattle.ca_forms.specs.Walk.{walk}
+use Rattle.ca_forms.specs.WalkView.{parts_of, Fails}
+use Rattle.ca_forms.proofs.PartLaws.{after_fails, count_parts, two_parts}
+use Rattle.ca_forms.proofs.TermLaws.{bindings_more}
 use Rattle.ca_check.proofs.DefnLaws.{fails_same}
 
 pub leads_by : {A : Type 0} (r : Result A CheckError) (F G : Rest → Rest) (a b : Expansion) → ((rest : Rest) → rest_of a (F rest) ≡ rest_of a (G rest))

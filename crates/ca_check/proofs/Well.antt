@@ -9,7 +9,7 @@ use Rattle.ca_term.specs.Kernel.{Kernel, Kernels, Bindings, const, var, branch, 
 use Rattle.ca_term.specs.Closed.{IsIn, IsClosed, AreClosed, AreClosedBindings, behind}
 use Rattle.ca_term.specs.Fits.{Known, Suits, Fits, FitTerms, FitInOrder, FitBindings, count_terms, count_bindings, BindsAnew, TermsAnew, BindingsAnew, IsPlainHead, IsPlain, ArePlain, ArePlainBindings}
 use Rattle.ca_term.specs.Source.{IsSource, AreSource, AreSourceBindings}
-use Rattle.ca_check.specs.Uses.{is_among, noted, uses, uses_items, uses_bindings, is_plain_head, is_plain, are_plain, are_plain_bindings}
+use Rattle.ca_forms.specs.Uses.{is_among, noted, uses, uses_items, uses_bindings, is_plain_head, is_plain, are_plain, are_plain_bindings}
 
 abbrev mutual
   pub Well : Known → ℕ → Option ℕ → Kernel → Type 0

@@ -3,11 +3,11 @@ use Rattle.std.specs.Prelude.{ℕ, ◌+◌, List, [], ◌∷◌, map}
 use Rattle.ca_term.specs.declared.place.Place.{Place}
 use Rattle.ca_term.specs.Kernel.{Kernel, var}
 use Rattle.ca_reader.specs.declared.form.Form.{Form}
-use Rattle.ca_check.specs.Binders.{Binder, Bound, width, whole_name, patterns}
-use Rattle.ca_check.specs.Judged.{total_bounds}
-use Rattle.ca_check.specs.Meaning.{Meaning, size, block, lets, loops}
-use Rattle.ca_check.specs.Plain.{again, binders}
-use Rattle.ca_check.specs.WalkView.{pairs_of}
+use Rattle.ca_forms.specs.Binders.{Binder, Bound, width, whole_name, patterns}
+use Rattle.ca_forms.specs.Judged.{total_bounds}
+use Rattle.ca_forms.specs.Meaning.{Meaning, size, block, lets, loops}
+use Rattle.ca_forms.specs.Plain.{again, binders}
+use Rattle.ca_forms.specs.WalkView.{pairs_of}
 
 -- how many names they bind
 abbrev pub widths : List Binder → ℕ

@@ -8,13 +8,13 @@ use Rattle.ca_term.specs.Kernel.{Kernel, const, var, branch, apply}
 use Rattle.ca_term.specs.View.{kernel, kernels_of}
 use Rattle.ca_reader.specs.declared.form.Bracket.TheVariants.{Square}
 use Rattle.ca_reader.specs.Form.{FormTree, FormTrees, form, group, none, item}
-use Rattle.ca_check.specs.Binders.{Part, Bound, bindings_in}
-use Rattle.ca_check.specs.Plain.{meanings, by_truth, by_some, one_bound, row_if_bound, row_when_bound}
-use Rattle.ca_check.specs.Rounds.{under}
-use Rattle.ca_check.specs.Walk.{walk}
+use Rattle.ca_forms.specs.Binders.{Part, Bound, bindings_in}
+use Rattle.ca_forms.specs.Plain.{meanings, by_truth, by_some, one_bound, row_if_bound, row_when_bound}
+use Rattle.ca_forms.specs.Rounds.{under}
+use Rattle.ca_forms.specs.Walk.{walk}
 use Rattle.ca_check.specs.declared.choices.Choice.{Choice}
-use Rattle.ca_check.specs.Outcome.{Gathered, Outcome, done, after, limited}
-use Rattle.ca_check.specs.Meaning.{Env, Meaning, inner, nothing, block}
+use Rattle.ca_forms.specs.Outcome.{Gathered, Outcome, done, after, limited}
+use Rattle.ca_forms.specs.Meaning.{Env, Meaning, inner, nothing, block}
 
 -- the tests of a `cond`, each with what is done where it holds
 abbrev pub tested : List Meaning → Env → Gathered → Outcome (List (Kernel × Kernel))

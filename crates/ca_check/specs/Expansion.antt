@@ -7,12 +7,12 @@ use Rattle.ca_term.specs.Kernel.{const, bind, empty}
 use Rattle.ca_term.specs.Program.{ProgramView}
 use Rattle.ca_reader.specs.declared.form.Bracket.TheVariants.{Round}
 use Rattle.ca_reader.specs.Form.{FormTree, FormTrees, form, atom, group, symbol, none, item, place_of}
-use Rattle.ca_check.specs.declared.error.CheckError.{CheckError}
-use Rattle.ca_check.specs.declared.error.CheckError.TheVariants.{Fault, OutOfMemory}
-use Rattle.ca_check.specs.declared.error.CheckErrorKind.{CheckErrorKind}
-use Rattle.ca_check.specs.declared.error.CheckErrorKind.TheVariants.{TooMany}
-use Rattle.ca_check.specs.Outcome.{Gathered, Outcome, done, refused}
-use Rattle.ca_check.specs.Tops.{Tops, Ended, top, one_top, is_past, list_parts}
+use Rattle.ca_forms.specs.declared.error.CheckError.{CheckError}
+use Rattle.ca_forms.specs.declared.error.CheckError.TheVariants.{Fault, OutOfMemory}
+use Rattle.ca_forms.specs.declared.error.CheckErrorKind.{CheckErrorKind}
+use Rattle.ca_forms.specs.declared.error.CheckErrorKind.TheVariants.{TooMany}
+use Rattle.ca_forms.specs.Outcome.{Gathered, Outcome, done, refused}
+use Rattle.ca_forms.specs.Tops.{Tops, Ended, top, one_top, is_past, list_parts}
 
 -- the forms from number i on
 abbrev pub tops : ℕ → FormTrees → Tops → Gathered → Outcome Ended

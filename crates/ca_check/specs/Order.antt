@@ -1,13 +1,13 @@
 -- The go blocks of a script in order of its text, and the place that a go body keeps of its block.
-use Rattle.std.specs.Prelude.{ℕ, List, [], ◌∷◌, ◌++◌, Option, None, Some, Bool, true, false, cond}
+use Rattle.std.specs.Prelude.{List, [], ◌∷◌, ◌++◌, Option, None, Some, Bool, true, false, cond}
 use Rattle.ca_term.specs.declared.place.Place.{Place}
 use Rattle.ca_term.specs.Kernel.{Kernel, bind, seq, apply, none, item}
 use Rattle.ca_term.specs.Program.{ProcedureView}
 use Rattle.ca_reader.specs.declared.form.Bracket.{Bracket}
 use Rattle.ca_reader.specs.declared.form.Bracket.TheVariants.{Round}
 use Rattle.ca_reader.specs.Form.{FormTree, FormTrees, ShapeTree, form, atom, group, symbol, none as no_forms, item as form_item}
-use Rattle.ca_check.specs.declared.special.Special.{Special}
-use Rattle.ca_check.specs.Words.{special}
+use Rattle.ca_forms.specs.declared.special.Special.{Special}
+use Rattle.ca_forms.specs.Words.{special}
 use Rattle.ca_check.specs.Expansion.{is_namespace}
 
 abbrev pub is_go : Option Special → Bool

@@ -4,17 +4,17 @@ use Rattle.ca_value.specs.Seq.{list}
 use Rattle.ca_term.specs.Kernel.{Bindings}
 use Rattle.ca_term.specs.View.{bindings}
 use Rattle.ca_reader.specs.Form.{FormTree, FormTrees, none, item, place_of}
-use Rattle.ca_check.specs.declared.error.CheckError.{CheckError}
-use Rattle.ca_check.specs.declared.error.CheckErrorKind.TheVariants.{TooMany}
+use Rattle.ca_forms.specs.declared.error.CheckError.{CheckError}
+use Rattle.ca_forms.specs.declared.error.CheckErrorKind.TheVariants.{TooMany}
 use Rattle.ca_check.specs.declared.tops.Expansion.{Expansion}
 use Rattle.ca_check.specs.declared.tops.Kind.{Kind}
-use Rattle.ca_check.specs.Outcome.{Gathered, Outcome, done, refused, after}
-use Rattle.ca_check.specs.Meaning.{Meaning, joined}
-use Rattle.ca_check.specs.Binders.{Part}
-use Rattle.ca_check.specs.Tops.{Tops, Top, Ended, top, one_top, is_past, def_top, defn_top, expression}
+use Rattle.ca_forms.specs.Outcome.{Gathered, Outcome, done, refused, after}
+use Rattle.ca_forms.specs.Meaning.{Meaning, joined}
+use Rattle.ca_forms.specs.Binders.{Part}
+use Rattle.ca_forms.specs.Tops.{Tops, Top, Ended, top, one_top, is_past, def_top, defn_top, expression}
 use Rattle.ca_check.specs.Expansion.{is_namespace}
 use Rattle.ca_check.specs.TopsView.{tops_of, IsSafe}
-use Rattle.ca_check.specs.WalkView.{gathered, Fails}
+use Rattle.ca_forms.specs.WalkView.{gathered, Fails}
 
 abbrev pub nothing_defined : Tops
 nothing_defined = record { scope = []; functions = []; procedures = []; defined = 0 }

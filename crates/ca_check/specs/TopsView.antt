@@ -7,33 +7,27 @@ use Rattle.ca_term.specs.declared.term.Term.{Term}
 use Rattle.ca_term.specs.Program.{procedure_view}
 use Rattle.ca_term.specs.Kernel.{Kernel}
 use Rattle.ca_term.specs.View.{kernel}
-use Rattle.ca_reader.specs.declared.form.Bracket.TheVariants.{Square}
-use Rattle.ca_reader.specs.Form.{FormTree, FormTrees, form, group, none, item}
+use Rattle.ca_reader.specs.Form.{FormTrees, none, item}
 use Rattle.ca_reader.specs.View.{form_tree, form_trees}
 use Rattle.ca_reader.specs.declared.form.Form.{Form}
-use Rattle.ca_check.specs.declared.context.Context.TheVariants.{Function}
+use Rattle.ca_forms.specs.declared.context.Context.TheVariants.{Function}
 use Rattle.ca_check.specs.declared.defn.Defn.{Defn}
 use Rattle.ca_check.specs.declared.defn.Pass.{Pass}
 use Rattle.ca_check.specs.declared.definitions.Definitions.{Definitions}
-use Rattle.ca_check.specs.declared.error.CheckErrorKind.TheVariants.{TooMany}
-use Rattle.ca_check.specs.Depth.{depth_of}
-use Rattle.ca_check.specs.Outcome.{Gathered, Outcome, done, refused, after}
-use Rattle.ca_check.specs.Meaning.{Meaning, Env, Signature, block}
-use Rattle.ca_check.specs.Binders.{Binder, one, many}
-use Rattle.ca_check.specs.Plain.{meanings}
-use Rattle.ca_check.specs.Tops.{Tops, Written, Settled, note_in, straight, looped, settled, with_function}
-use Rattle.ca_check.specs.Judged.{total_binder, binder_parts}
-use Rattle.ca_check.specs.WalkView.{parts_of}
+use Rattle.ca_forms.specs.declared.error.CheckErrorKind.TheVariants.{TooMany}
+use Rattle.ca_forms.specs.Depth.{depth_of}
+use Rattle.ca_forms.specs.Outcome.{Gathered, Outcome, done, refused, after}
+use Rattle.ca_forms.specs.Meaning.{Meaning, Env, Signature, block}
+use Rattle.ca_forms.specs.Binders.{Binder, one, many}
+use Rattle.ca_forms.specs.Plain.{meanings}
+use Rattle.ca_forms.specs.Tops.{Tops, Written, Settled, note_in, straight, looped, settled, with_function}
+use Rattle.ca_forms.specs.Judged.{total_binder, binder_parts}
+use Rattle.ca_forms.specs.WalkView.{parts_of}
 
 -- the parameters of a function, read without a test
 abbrev pub total_binders : FormTrees → List Binder
 total_binders none = []
 total_binders (item f fs) = total_binder f ∷ total_binders fs
-
--- the names of a pattern, none of another form
-abbrev pub pattern_of : FormTree → FormTrees
-pattern_of (form (group Square fs) p) = fs
-pattern_of (form s p) = none
 
 abbrev pub inner_names : Binder → List (List ℕ)
 inner_names (one x) = []

@@ -2,23 +2,23 @@ ghost use Rattle.std.specs.Prelude.{◌≡◌, ◌<◌, ◌+◌, ◌^◌, IfOk, 
 ghost use Rattle.ca_value.specs.Seq.{list};
 ghost use Rattle.ca_reader.specs.View.{form_tree, form_trees};
 ghost use Rattle.ca_term.specs.View.{kernel};
-ghost use Rattle.ca_check.specs.Binders.{bindings_in};
+ghost use Rattle.ca_forms.specs.Binders.{bindings_in};
 ghost use Rattle.ca_check.specs.Choices.{is_only, only_shape, first_in, second_means, only_means, row_bound, bound_shape, bound_body, bound_other, test_term, bound_choice};
-ghost use Rattle.ca_check.specs.Judged.{total_name};
-ghost use Rattle.ca_check.specs.Meaning.{local, name_as};
-ghost use Rattle.ca_check.specs.Outcome.{done};
-ghost use Rattle.ca_check.specs.Plain.{one_bound};
-ghost use Rattle.ca_check.specs.WalkView.{gathered, env, part, parts_of, terms_of, Fails};
-ghost use Rattle.ca_check.specs.declared.error.CheckError.{CheckError};
+ghost use Rattle.ca_forms.specs.Judged.{total_name};
+ghost use Rattle.ca_forms.specs.Meaning.{local, name_as};
+ghost use Rattle.ca_forms.specs.Outcome.{done};
+ghost use Rattle.ca_forms.specs.Plain.{one_bound};
+ghost use Rattle.ca_forms.specs.WalkView.{gathered, env, part, parts_of, terms_of, Fails};
+ghost use Rattle.ca_forms.specs.declared.error.CheckError.{CheckError};
 
-use crate::context::At;
-use crate::error::{CheckError, CheckErrorKind};
-use crate::fixed::{nothing, over};
-use crate::functions::Functions;
-use crate::gathered::{Bodies, Made};
-use crate::operands::single;
-use crate::shapes::{is_binder, is_name};
 use crate::walk::Walker;
+use ca_forms::context::At;
+use ca_forms::error::{CheckError, CheckErrorKind};
+use ca_forms::fixed::{nothing, over};
+use ca_forms::functions::Functions;
+use ca_forms::gathered::{Bodies, Made};
+use ca_forms::operands::single;
+use ca_forms::shapes::{is_binder, is_name};
 use ca_reader::form::{Form, Shape};
 use ca_term::head::Head;
 use ca_term::place::Place;
@@ -128,26 +128,24 @@ fn bound_test(alloc: Global, some: bool, number: u64, place: Place) -> Result<Ma
     }
 }
 
-impl Bodies {
-    /// The choice by the value that has the hidden name of number `first`.
-    pub fn choice(
-        &mut self,
-        alloc: Global,
-        some: bool,
-        first: u64,
-        values: Seq<Made>,
-        body: Made,
-        other: Made,
-        place: Place,
-    ) -> Result<Made, CheckError>
-        requires { first + length (list values) < 2 ^ 64 }
-        ensures ok { IfOk result (λ t. bound_choice some first (terms_of (list values)) (kernel body) (kernel other) place (gathered self.old) ≡ done (kernel t) (gathered self.new)) }
-        ensures err { IfErr result (λ e. e ≡ CheckError.OutOfMemory) }
-    {
-        let test = bound_test(alloc, some, first, place)?;
-        let choice = self.branch(alloc, test, body, other)?;
-        self.under(alloc, first, values, choice)
-    }
+// The choice by the value that has the hidden name of number `first`.
+fn choice(
+    bodies: &mut Bodies,
+    alloc: Global,
+    some: bool,
+    first: u64,
+    values: Seq<Made>,
+    body: Made,
+    other: Made,
+    place: Place,
+) -> Result<Made, CheckError>
+    requires { first + length (list values) < 2 ^ 64 }
+    ensures ok { IfOk result (λ t. bound_choice some first (terms_of (list values)) (kernel body) (kernel other) place (gathered bodies.old) ≡ done (kernel t) (gathered bodies.new)) }
+    ensures err { IfErr result (λ e. e ≡ CheckError.OutOfMemory) }
+{
+    let test = bound_test(alloc, some, first, place)?;
+    let choice = bodies.branch(alloc, test, body, other)?;
+    bodies.under(alloc, first, values, choice)
 }
 
 impl Walker {
@@ -206,8 +204,16 @@ impl Walker {
         // The length of the scope bounds the numbers of its names.
         let _most = self.scope.len();
         self.scope.leave(first);
-        self.gathered
-            .choice(alloc, some, first, values, body, other, place)
+        choice(
+            &mut self.gathered,
+            alloc,
+            some,
+            first,
+            values,
+            body,
+            other,
+            place,
+        )
     }
 
     /// The value of the only binding in a form; nil for another form.

@@ -1,16 +1,16 @@
 ghost use Rattle.std.specs.Prelude.{◌≡◌, ◌<◌, IfOk, IfErr, OnOk, length, drop};
 ghost use Rattle.ca_term.specs.View.{kernel};
-ghost use Rattle.ca_check.specs.Outcome.{done};
-ghost use Rattle.ca_check.specs.Judged.{more_of};
-ghost use Rattle.ca_check.specs.Plain.{meanings, row_if, row_if_not, row_when, row_when_not};
-ghost use Rattle.ca_check.specs.WalkView.{gathered, env, parts_of, Fails};
+ghost use Rattle.ca_forms.specs.Outcome.{done};
+ghost use Rattle.ca_forms.specs.Judged.{more_of};
+ghost use Rattle.ca_forms.specs.Plain.{meanings, row_if, row_if_not, row_when, row_when_not};
+ghost use Rattle.ca_forms.specs.WalkView.{gathered, env, parts_of, Fails};
 
-use crate::context::At;
-use crate::error::{CheckError, CheckErrorKind};
-use crate::fixed::nothing;
-use crate::functions::Functions;
-use crate::gathered::Made;
 use crate::walk::Walker;
+use ca_forms::context::At;
+use ca_forms::error::{CheckError, CheckErrorKind};
+use ca_forms::fixed::nothing;
+use ca_forms::functions::Functions;
+use ca_forms::gathered::Made;
 use ca_reader::form::Form;
 use ca_term::place::Place;
 use ca_value::value::Value;
@@ -19,7 +19,7 @@ use std::alloc::Global;
 impl Walker {
     /// `(if test a)` and `(if test a b)`.
     #[cycle(walk)]
-    #[tactic(auto, using(crate::proofs::PartLaws::two_parts, crate::proofs::PartLaws::three_parts))]
+    #[tactic(auto, using(crate::proofs::Parts::two_parts, crate::proofs::Parts::three_parts))]
     pub fn if_form(
         &mut self,
         alloc: Global,
@@ -51,7 +51,7 @@ impl Walker {
 
     /// `(if-not test a b)`: both branches are written.
     #[cycle(walk)]
-    #[tactic(auto, using(crate::proofs::PartLaws::three_parts))]
+    #[tactic(auto, using(crate::proofs::Parts::three_parts))]
     pub fn if_not_form(
         &mut self,
         alloc: Global,

@@ -1,18 +1,18 @@
 ghost use Rattle.std.specs.Prelude.{◌≡◌, ◌<◌, IfOk, IfErr, OnOk, length, drop};
 ghost use Rattle.ca_value.specs.Seq.{list};
 ghost use Rattle.ca_term.specs.View.{kernel};
-ghost use Rattle.ca_check.specs.declared.error.CheckError.{CheckError};
+ghost use Rattle.ca_forms.specs.declared.error.CheckError.{CheckError};
 ghost use Rattle.ca_check.specs.Choices.{tested, chosen, choice_terms};
-ghost use Rattle.ca_check.specs.Outcome.{done};
-ghost use Rattle.ca_check.specs.Plain.{meanings, row_cond};
-ghost use Rattle.ca_check.specs.WalkView.{gathered, env, parts_of, Fails};
+ghost use Rattle.ca_forms.specs.Outcome.{done};
+ghost use Rattle.ca_forms.specs.Plain.{meanings, row_cond};
+ghost use Rattle.ca_forms.specs.WalkView.{gathered, env, parts_of, Fails};
 
-use crate::context::At;
-use crate::error::{CheckError, CheckErrorKind};
-use crate::fixed::nothing;
-use crate::functions::Functions;
-use crate::gathered::{Bodies, Made};
 use crate::walk::Walker;
+use ca_forms::context::At;
+use ca_forms::error::{CheckError, CheckErrorKind};
+use ca_forms::fixed::nothing;
+use ca_forms::functions::Functions;
+use ca_forms::gathered::{Bodies, Made};
 use ca_reader::form::Form;
 use ca_term::place::Place;
 use ca_value::seq::Seq;
@@ -25,19 +25,17 @@ pub struct Choice {
     pub term: Made,
 }
 
-impl Bodies {
-    /// The Ifs of these choices, each in the other branch of the one before it; nil behind the last.
-    pub fn choose(&mut self, alloc: Global, mut choices: Seq<Choice>) -> Result<Made, CheckError>
-        ensures ok { IfOk result (λ t. chosen (choice_terms (list choices)) (gathered self.old) ≡ done (kernel t) (gathered self.new)) }
-        ensures err { IfErr result (λ e. e ≡ CheckError.OutOfMemory) }
-    {
-        let mut made = nothing();
-        while let Some(choice) = choices.pop() {
-            let Choice { test, term } = choice;
-            made = self.branch(alloc, test, term, made)?;
-        }
-        Ok(made)
+// The Ifs of these choices, each in the other branch of the one before it; nil behind the last.
+fn choose(bodies: &mut Bodies, alloc: Global, mut choices: Seq<Choice>) -> Result<Made, CheckError>
+    ensures ok { IfOk result (λ t. chosen (choice_terms (list choices)) (gathered bodies.old) ≡ done (kernel t) (gathered bodies.new)) }
+    ensures err { IfErr result (λ e. e ≡ CheckError.OutOfMemory) }
+{
+    let mut made = nothing();
+    while let Some(choice) = choices.pop() {
+        let Choice { test, term } = choice;
+        made = bodies.branch(alloc, test, term, made)?;
     }
+    Ok(made)
 }
 
 impl Walker {
@@ -59,7 +57,7 @@ impl Walker {
         let pairs = (parts.len() - 1) / 2;
         if 2 * pairs + 1 == parts.len() {
             let choices = self.tested(alloc, functions, at, parts)?;
-            self.gathered.choose(alloc, choices)
+            choose(&mut self.gathered, alloc, choices)
         } else {
             Err(CheckError::Fault(CheckErrorKind::BadForm, place))
         }

@@ -1,16 +1,16 @@
 ghost use Rattle.std.specs.Prelude.{◌≡◌, ◌<◌, IfOk, IfErr, OnOk, length, drop};
 ghost use Rattle.ca_term.specs.View.{kernel};
-ghost use Rattle.ca_check.specs.Go.{go};
-ghost use Rattle.ca_check.specs.GoView.{go_text};
-ghost use Rattle.ca_check.specs.Outcome.{done};
-ghost use Rattle.ca_check.specs.WalkView.{gathered, env, parts_of, Fails};
+ghost use Rattle.ca_forms.specs.Go.{go};
+ghost use Rattle.ca_forms.specs.GoView.{go_text};
+ghost use Rattle.ca_forms.specs.Outcome.{done};
+ghost use Rattle.ca_forms.specs.WalkView.{gathered, env, parts_of, Fails};
 
-use crate::context::At;
-use crate::error::CheckError;
-use crate::functions::Functions;
-use crate::gathered::Made;
-use crate::operands::single;
 use crate::walk::Walker;
+use ca_forms::context::At;
+use ca_forms::error::CheckError;
+use ca_forms::functions::Functions;
+use ca_forms::gathered::Made;
+use ca_forms::operands::single;
 use ca_reader::form::Form;
 use ca_term::place::Place;
 use std::alloc::Global;

@@ -1,6 +1,6 @@
 use crate::script::script_of;
 use ca_check::check::check;
-use ca_check::error::CheckError;
+use ca_forms::error::CheckError;
 use ca_reader::error::ReadError;
 use ca_reader::read::read;
 use ca_term::place::Place;

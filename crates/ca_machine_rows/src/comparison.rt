@@ -13,7 +13,7 @@ use crate::same::are_same;
 use crate::tally::Tally;
 use ca_agent::agent::{Agent, Outcome, Pause};
 use ca_check::check::check;
-use ca_check::error::CheckError;
+use ca_forms::error::CheckError;
 use ca_machine::machine::Machine;
 use ca_moves::lower::lower_moving;
 use ca_plain::task::PlainTask;

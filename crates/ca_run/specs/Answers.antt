@@ -8,7 +8,7 @@ use Rattle.ca_meaning.specs.Texts.{output, fault_line}
 use Rattle.ca_meaning.specs.Legal.{Legal}
 use Rattle.ca_meaning.specs.Ends.{RunEnd, ended, faulted, limit, stuck, HasEnd}
 use Rattle.ca_reader.specs.Kind.{kind_name}
-use Rattle.ca_check.specs.Kind.{kind_name as check_kind_name}
+use Rattle.ca_forms.specs.Kind.{kind_name as check_kind_name}
 use Rattle.ca_words.specs.declared.command.Command.{Command}
 use Rattle.ca_words.specs.declared.command.Command.TheVariants.{Check, Load, Run}
 use Rattle.ca_table.specs.Moments.{KeepsTime}

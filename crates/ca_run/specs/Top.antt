@@ -17,8 +17,8 @@ use Rattle.ca_reader.specs.declared.error.ReadErrorKind.{ReadErrorKind}
 use Rattle.ca_reader.specs.Form.{FormTrees}
 use Rattle.ca_reader.specs.Kind.{kind_name}
 use Rattle.ca_reader.specs.Reads.{Reads, ReadFault}
-use Rattle.ca_check.specs.declared.error.CheckErrorKind.{CheckErrorKind}
-use Rattle.ca_check.specs.Kind.{kind_name as check_kind_name}
+use Rattle.ca_forms.specs.declared.error.CheckErrorKind.{CheckErrorKind}
+use Rattle.ca_forms.specs.Kind.{kind_name as check_kind_name}
 use Rattle.ca_check.specs.Expansion.{expansion_of}
 use Rattle.ca_words.specs.declared.command.Command.{Command}
 use Rattle.ca_words.specs.declared.command.Command.TheVariants.{Check, Load, Run}

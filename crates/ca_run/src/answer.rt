@@ -13,7 +13,7 @@ ghost use Rattle.ca_run.specs.declared.stop.Stop.TheVariants.{ClockFailed, Sourc
 use crate::run::{ScriptEnd, ScriptRun, run_script};
 use crate::stop::Stop;
 use ca_check::check::check;
-use ca_check::error::{CheckError, CheckErrorKind};
+use ca_forms::error::{CheckError, CheckErrorKind};
 use ca_journal::output::{append_fault, output};
 use ca_journal::print::print;
 use ca_pool::gate::Gate;

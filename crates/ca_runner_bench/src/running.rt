@@ -2,7 +2,7 @@ ghost use Rattle.ca_states.specs.ValidCode.{valid_code};
 ghost use Rattle.ca_states.specs.Standing.{state_view, Stands};
 
 use ca_check::check::check;
-use ca_check::error::CheckError;
+use ca_forms::error::CheckError;
 use ca_moves::lower::lower_moving;
 use ca_reader::error::ReadError;
 use ca_reader::read::read;

@@ -2,7 +2,7 @@ ghost use Rattle.std.specs.Prelude.{◌≤◌};
 
 use crate::same::are_same;
 use ca_check::check::check;
-use ca_check::error::CheckError;
+use ca_forms::error::CheckError;
 use ca_reader::error::ReadError;
 use ca_reader::print::print;
 use ca_reader::read::read;

@@ -1,6 +1,6 @@
 use crate::scripts::script;
 use ca_check::check::check;
-use ca_check::error::CheckError;
+use ca_forms::error::CheckError;
 use ca_reader::error::ReadError;
 use ca_reader::read::read;
 use std::alloc::Global;

@@ -14,14 +14,14 @@ use Rattle.ca_term.specs.Kernel.{Kernel, const, var, branch, seq, apply}
 use Rattle.ca_term.specs.declared.head.PlainFunction.{PlainFunction}
 use Rattle.ca_term.specs.View.{kernels_of}
 use Rattle.ca_reader.specs.Form.{place_of}
-use Rattle.ca_check.specs.declared.context.Context.{Context}
-use Rattle.ca_check.specs.declared.context.Context.TheVariants.{Main, Go, Function}
-use Rattle.ca_check.specs.declared.error.CheckErrorKind.{CheckErrorKind}
-use Rattle.ca_check.specs.declared.error.CheckErrorKind.TheVariants.{BadForm, ParkOutsideGo, BlockOutsideMain}
-use Rattle.ca_check.specs.Meaning.{Meaning, inner, fail, in_order, operation, numbered, hiding}
-use Rattle.ca_check.specs.Binders.{Pair, Part}
-use Rattle.ca_check.specs.Names.{Given, applied, wrong, given}
-use Rattle.ca_check.specs.Channels.{parking, blocking, row_of_one, row_of_two, row_take, row_put, options_in, operands_in, alts_of, row_alts, whole, built, made, started, registered, nth_of, tried, unless_default, row_offer, row_poll, buffer_named, word_in, with_buffer, chan_of, row_chan, row_promise, row_mult, yes, row_tap, row_mix, changing, row_change_of_one, row_change_of_two, stopping, pub_of, row_pub, placed, subscribing, row_sub, row_unsub, row_unsub_all, piping, row_pipe, merging, is_sized, row_merge, transform_named, repeated, pipelining, workers, pipeline_over, pipeline_of, row_pipeline, putting_onto, row_onto, row_to}
+use Rattle.ca_forms.specs.declared.context.Context.{Context}
+use Rattle.ca_forms.specs.declared.context.Context.TheVariants.{Main, Go, Function}
+use Rattle.ca_forms.specs.declared.error.CheckErrorKind.{CheckErrorKind}
+use Rattle.ca_forms.specs.declared.error.CheckErrorKind.TheVariants.{BadForm, ParkOutsideGo, BlockOutsideMain}
+use Rattle.ca_forms.specs.Meaning.{Meaning, inner, fail, in_order, operation, numbered, hiding}
+use Rattle.ca_forms.specs.Binders.{Pair, Part}
+use Rattle.ca_forms.specs.Names.{Given, applied, wrong, given}
+use Rattle.ca_forms.specs.Channels.{parking, blocking, row_of_one, row_of_two, row_take, row_put, options_in, operands_in, alts_of, row_alts, whole, built, made, started, registered, nth_of, tried, unless_default, row_offer, row_poll, buffer_named, word_in, with_buffer, chan_of, row_chan, row_promise, row_mult, yes, row_tap, row_mix, changing, row_change_of_one, row_change_of_two, stopping, pub_of, row_pub, placed, subscribing, row_sub, row_unsub, row_unsub_all, piping, row_pipe, merging, is_sized, row_merge, transform_named, repeated, pipelining, workers, pipeline_over, pipeline_of, row_pipeline, putting_onto, row_onto, row_to}
 use Rattle.ca_sealed.proofs.Outcomes.{if_after, any_done}
 use Rattle.ca_sealed.proofs.Tidy.{HasKeyword, bare, keyed, Secret, of_mult, of_place, of_pipeline, Tidy, TidyTerms}
 use Rattle.ca_sealed.proofs.Words.{Keeps, tidy_constant, tidy_fail, tidy_cond, AllKeep, HidesNone, tidy_operation, TidyNumbered, tidy_hiding, tidy_secret}

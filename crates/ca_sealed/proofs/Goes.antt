@@ -7,9 +7,9 @@ use Rattle.ca_term.specs.declared.head.Head.TheVariants.{Builtin, Close, Post}
 use Rattle.ca_term.specs.Kernel.{Kernel, var}
 use Rattle.ca_term.specs.Program.{ProcedureView}
 use Rattle.ca_term.specs.View.{kernels_of}
-use Rattle.ca_check.specs.Uses.{uses}
-use Rattle.ca_check.specs.Meaning.{Meaning, size, nothing, local, iff, operation, block}
-use Rattle.ca_check.specs.Go.{task, in_task, unmade, go}
+use Rattle.ca_forms.specs.Uses.{uses}
+use Rattle.ca_forms.specs.Meaning.{Meaning, size, nothing, local, iff, operation, block}
+use Rattle.ca_forms.specs.Go.{task, in_task, unmade, go}
 use Rattle.ca_meaning.specs.Sound.{Each}
 use Rattle.ca_sealed.proofs.Used.{Below, below_more, below_append, uses_only, uses_below, in_left, in_right}
 use Rattle.ca_sealed.proofs.Outcomes.{if_after, size_named}

@@ -10,10 +10,10 @@ use Rattle.ca_term.specs.declared.head.Head.TheVariants.{Builtin, Call}
 use Rattle.ca_term.specs.declared.head.PlainFunction.{PlainFunction}
 use Rattle.ca_term.specs.Kernel.{const}
 use Rattle.ca_reader.specs.Form.{FormTree, Atom, form, atom, group, symbol, nil as nil_atom, bool as bool_atom, int as int_atom, text as text_atom, key as keyword}
-use Rattle.ca_check.specs.declared.error.CheckErrorKind.TheVariants.{UnknownName, BadArity, NotPlain, TooMany}
-use Rattle.ca_check.specs.Words.{special, builtin}
-use Rattle.ca_check.specs.Meaning.{Env, Signature, Meaning, size, lookup, constant, local, fail, operation}
-use Rattle.ca_check.specs.Names.{find_function, symbol_of, row_symbol, written, builtin_call, function_call, call_of_builtin, call_of_function, call_of, row_call, row_keyword, Given, applied, wrong, given_builtin, given_function, given_name, given_atom, given}
+use Rattle.ca_forms.specs.declared.error.CheckErrorKind.TheVariants.{UnknownName, BadArity, NotPlain, TooMany}
+use Rattle.ca_forms.specs.Words.{special, builtin}
+use Rattle.ca_forms.specs.Meaning.{Env, Signature, Meaning, size, lookup, constant, local, fail, operation}
+use Rattle.ca_forms.specs.Names.{find_function, symbol_of, row_symbol, written, builtin_call, function_call, call_of_builtin, call_of_function, call_of, row_call, row_keyword, Given, applied, wrong, given_builtin, given_function, given_name, given_atom, given}
 use Rattle.ca_sealed.proofs.Used.{Below}
 use Rattle.ca_sealed.proofs.Outcomes.{below_of}
 use Rattle.ca_sealed.proofs.Tidy.{HasKeyword, bare, keyed}

@@ -7,12 +7,12 @@ use Rattle.ca_term.specs.declared.place.Place.{Place}
 use Rattle.ca_term.specs.Closed.{IsIn}
 use Rattle.ca_term.specs.Fits.{count_bindings}
 use Rattle.ca_term.specs.Kernel.{Bindings, empty, binding}
-use Rattle.ca_check.specs.Outcome.{Gathered, Outcome, done, refused, after}
-use Rattle.ca_check.specs.Meaning.{Env, Meaning, Named, size, named, behind, joined, last_of}
-use Rattle.ca_check.specs.Binders.{Binder, Bound, one, many, spread_items, spread_one, spread, width}
-use Rattle.ca_check.specs.Plain.{again}
-use Rattle.ca_check.specs.Tops.{Tops, numbers, same_names, names_of}
-use Rattle.ca_check.specs.Binders.{whole_name}
+use Rattle.ca_forms.specs.Outcome.{Gathered, Outcome, done, refused, after}
+use Rattle.ca_forms.specs.Meaning.{Env, Meaning, Named, size, named, behind, joined, last_of}
+use Rattle.ca_forms.specs.Binders.{Binder, Bound, one, many, spread_items, spread_one, spread, width}
+use Rattle.ca_forms.specs.Plain.{again}
+use Rattle.ca_forms.specs.Tops.{Tops, numbers, same_names, names_of}
+use Rattle.ca_forms.specs.Binders.{whole_name}
 use Rattle.ca_sealed.proofs.Used.{Below}
 use Rattle.ca_meaning.specs.Sound.{Each}
 

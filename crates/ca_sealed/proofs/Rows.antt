@@ -6,11 +6,11 @@ use Rattle.ca_value.specs.Tree.{int, bool}
 use Rattle.ca_value.specs.declared.builtin.Builtin.TheVariants.{Part as PartOf, Inc, Less, Nth, Count, Items, IsSome}
 use Rattle.ca_term.specs.declared.place.Place.{Place}
 use Rattle.ca_term.specs.declared.head.Head.TheVariants.{Recur, Builtin}
-use Rattle.ca_check.specs.declared.error.CheckErrorKind.TheVariants.{BadForm, BadArity, TooMany}
-use Rattle.ca_check.specs.Outcome.{Gathered}
-use Rattle.ca_check.specs.Meaning.{Env, Meaning, Named, size, constant, nothing, local, fail, iff, operation, block, unnamed, lets, loops, name_as}
-use Rattle.ca_check.specs.Binders.{Part, Pair, Binder, Bound, one, many, with_bound, bounds, binder, is_vector, bindings_in, spread_items, spread_one, spread, width, letting, is_pattern, patterns}
-use Rattle.ca_check.specs.Plain.{meanings, number, let_of, row_let, row_if, row_if_not, row_when, row_when_not, is_even, cond_of, row_cond, and_of, or_of, by_truth, by_some, only, one_bound, if_bound, row_if_bound, row_when_bound, again, binders, loop_over_patterns, looping, loop_of, row_loop, recur_of, row_recur, recur_with_next, row_while, counting, dotimes, row_dotimes, nth_bound, doseq, row_doseq}
+use Rattle.ca_forms.specs.declared.error.CheckErrorKind.TheVariants.{BadForm, BadArity, TooMany}
+use Rattle.ca_forms.specs.Outcome.{Gathered}
+use Rattle.ca_forms.specs.Meaning.{Env, Meaning, Named, size, constant, nothing, local, fail, iff, operation, block, unnamed, lets, loops, name_as}
+use Rattle.ca_forms.specs.Binders.{Part, Pair, Binder, Bound, one, many, with_bound, bounds, binder, is_vector, bindings_in, spread_items, spread_one, spread, width, letting, is_pattern, patterns}
+use Rattle.ca_forms.specs.Plain.{meanings, number, let_of, row_let, row_if, row_if_not, row_when, row_when_not, is_even, cond_of, row_cond, and_of, or_of, by_truth, by_some, only, one_bound, if_bound, row_if_bound, row_when_bound, again, binders, loop_over_patterns, looping, loop_of, row_loop, recur_of, row_recur, recur_with_next, row_while, counting, dotimes, row_dotimes, nth_bound, doseq, row_doseq}
 use Rattle.ca_sealed.proofs.Outcomes.{spread_one_length, widths, spread_length, again_length}
 use Rattle.ca_sealed.proofs.Words.{Holds, Makes, Keeps, weaken, tidy_constant, tidy_nothing, tidy_local, tidy_fail, tidy_cond, tidy_iff, tidy_unless, AllKeep, all_weaken, all_append, tidy_operation, tidy_block, tidy_body, tidy_when, NamedKeep, named_weaken, named_append, tidy_lets, tidy_loops, tidy_name_as, at_size, tidy_hide}
 

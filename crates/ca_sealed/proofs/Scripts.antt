@@ -6,13 +6,13 @@ use Rattle.ca_term.specs.declared.place.Place.{Place}
 use Rattle.ca_term.specs.Kernel.{Kernel, const, bind}
 use Rattle.ca_term.specs.Program.{ProgramView}
 use Rattle.ca_reader.specs.Form.{FormTrees, none, item, place_of}
-use Rattle.ca_check.specs.declared.error.CheckErrorKind.{CheckErrorKind}
-use Rattle.ca_check.specs.declared.error.CheckErrorKind.TheVariants.{Redefined, TooMany}
-use Rattle.ca_check.specs.Depth.{depth_of}
-use Rattle.ca_check.specs.Uses.{uses, aims_out}
-use Rattle.ca_check.specs.Outcome.{Gathered, Outcome, done, refused, after}
-use Rattle.ca_check.specs.Meaning.{Meaning}
-use Rattle.ca_check.specs.Tops.{Tops, Written, Top, definition, function, expression, wrong, top, is_taken, main_env, names_of, judged_body, straight, signature, function_env, with_function, Settled, settled, add_function, shallow, Ended, bound_before, bound_top, one_top, is_past, list_parts}
+use Rattle.ca_forms.specs.declared.error.CheckErrorKind.{CheckErrorKind}
+use Rattle.ca_forms.specs.declared.error.CheckErrorKind.TheVariants.{Redefined, TooMany}
+use Rattle.ca_forms.specs.Depth.{depth_of}
+use Rattle.ca_forms.specs.Uses.{uses, aims_out}
+use Rattle.ca_forms.specs.Outcome.{Gathered, Outcome, done, refused, after}
+use Rattle.ca_forms.specs.Meaning.{Meaning}
+use Rattle.ca_forms.specs.Tops.{Tops, Written, Top, definition, function, expression, wrong, top, is_taken, main_env, names_of, judged_body, straight, signature, function_env, with_function, Settled, settled, add_function, shallow, Ended, bound_before, bound_top, one_top, is_past, list_parts}
 use Rattle.ca_check.specs.Expansion.{tops, is_namespace, script, program_of, expansion_of}
 use Rattle.ca_meaning.specs.Sound.{Each}
 use Rattle.ca_sealed.proofs.Used.{uses_only, uses_below}

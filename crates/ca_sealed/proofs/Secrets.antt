@@ -9,8 +9,8 @@ use Rattle.ca_term.specs.declared.head.RegisterName.{RegisterName}
 use Rattle.ca_term.specs.Kernel.{Kernel, Bindings, const, var, branch, seq}
 use Rattle.ca_term.specs.View.{kernels_of}
 use Rattle.ca_meaning.specs.Applied.{Work}
-use Rattle.ca_check.specs.Channels.{whole, built, made, started, registered, nth_of, repeated}
-use Rattle.ca_check.specs.Meaning.{numbered}
+use Rattle.ca_forms.specs.Channels.{whole, built, made, started, registered, nth_of, repeated}
+use Rattle.ca_forms.specs.Meaning.{numbered}
 use Rattle.ca_sealed.proofs.Used.{Only, OnlyBindings}
 use Rattle.ca_roles.specs.Roles.{jobs, replies, acks, Role, public, hidden, Roles, nobody, known_as}
 use Rattle.ca_roles.specs.Sealed.{KeywordIs, no_keyword, a_keyword, plain, of_job, of_feed, of_collect, of_mult as mult_mask, Sealed, AllSealed, SealedBindings}

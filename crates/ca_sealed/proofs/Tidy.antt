@@ -11,8 +11,8 @@ use Rattle.ca_term.specs.Kernel.{Kernel, Kernels, Bindings, const, var, branch, 
 use Rattle.ca_term.specs.Fits.{count_bindings}
 use Rattle.ca_term.specs.View.{kernels_of}
 use Rattle.ca_meaning.specs.Applied.{Work}
-use Rattle.ca_check.specs.Channels.{whole, built, made, started, registered, nth_of, repeated}
-use Rattle.ca_check.specs.Meaning.{numbered}
+use Rattle.ca_forms.specs.Channels.{whole, built, made, started, registered, nth_of, repeated}
+use Rattle.ca_forms.specs.Meaning.{numbered}
 use Rattle.ca_roles.specs.Roles.{nobody, IsPublic}
 use Rattle.ca_roles.specs.Sealed.{hides_in}
 

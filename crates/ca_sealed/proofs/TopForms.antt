@@ -7,15 +7,15 @@ use Rattle.ca_term.specs.declared.place.Place.{Place}
 use Rattle.ca_term.specs.Kernel.{Kernel}
 use Rattle.ca_reader.specs.declared.form.Bracket.TheVariants.{Round, Square, Curly}
 use Rattle.ca_reader.specs.Form.{FormTree, form, atom, group}
-use Rattle.ca_check.specs.declared.special.Special.{Special}
-use Rattle.ca_check.specs.declared.error.CheckErrorKind.TheVariants.{TooMany}
-use Rattle.ca_check.specs.Uses.{uses}
-use Rattle.ca_check.specs.Outcome.{Gathered, Outcome, done, refused, after}
-use Rattle.ca_check.specs.Meaning.{Env, Signature, Meaning}
-use Rattle.ca_check.specs.Binders.{Part, Binder, is_pattern}
-use Rattle.ca_check.specs.Plain.{meanings}
-use Rattle.ca_check.specs.Walk.{walk}
-use Rattle.ca_check.specs.Tops.{Tops, Written, Top, definition, function, expression, wrong, top_name, definition_of, def_top, parameters_in, function_of, note_in, defn_behind, defn_top, word_at_head, behind_head, list_top, list_parts, top, numbers, same_names, names_of, over_parameters, straight, looped, body_of, signature, function_env, Settled, settled}
+use Rattle.ca_forms.specs.declared.special.Special.{Special}
+use Rattle.ca_forms.specs.declared.error.CheckErrorKind.TheVariants.{TooMany}
+use Rattle.ca_forms.specs.Uses.{uses}
+use Rattle.ca_forms.specs.Outcome.{Gathered, Outcome, done, refused, after}
+use Rattle.ca_forms.specs.Meaning.{Env, Signature, Meaning}
+use Rattle.ca_forms.specs.Binders.{Part, Binder, is_pattern}
+use Rattle.ca_forms.specs.Plain.{meanings}
+use Rattle.ca_forms.specs.Walk.{walk}
+use Rattle.ca_forms.specs.Tops.{Tops, Written, Top, definition, function, expression, wrong, top_name, definition_of, def_top, parameters_in, function_of, note_in, defn_behind, defn_top, word_at_head, behind_head, list_top, list_parts, top, numbers, same_names, names_of, over_parameters, straight, looped, body_of, signature, function_env, Settled, settled}
 use Rattle.ca_sealed.proofs.Used.{Below, below_more, below_append, Only, uses_only, uses_below, uses_extends, extended_same, in_left, in_right}
 use Rattle.ca_sealed.proofs.Outcomes.{IfDone, if_cond, numbers_below, in_numbers, same_names_length, names_length}
 use Rattle.ca_sealed.proofs.Tidy.{Tidy}

@@ -4,7 +4,7 @@ use Rattle.std.proofs.lemmas.List.{append-nil, append_assoc, length-append}
 use Rattle.std.proofs.lemmas.Bool.{ltb-true, ltb-false, eqb-true}
 use Rattle.ca_term.specs.Kernel.{Kernel, Kernels, Bindings, const, var, branch, bind, loop, seq, frame, turn, apply, none, item, empty, binding}
 use Rattle.ca_term.specs.Closed.{IsIn}
-use Rattle.ca_check.specs.Uses.{is_among, noted, uses, uses_items, uses_bindings}
+use Rattle.ca_forms.specs.Uses.{is_among, noted, uses, uses_items, uses_bindings}
 
 -- each of the numbers is below n
 abbrev pub Below : ℕ → List ℕ → Type 0

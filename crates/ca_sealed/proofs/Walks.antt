@@ -9,14 +9,14 @@ use Rattle.ca_term.specs.declared.head.RegisterName.{RegisterName}
 use Rattle.ca_reader.specs.declared.form.Bracket.{Bracket}
 use Rattle.ca_reader.specs.declared.form.Bracket.TheVariants.{Round, Square, Curly}
 use Rattle.ca_reader.specs.Form.{FormTree, FormTrees, ShapeTree, Atom, form, atom, group, none, item, symbol, nil as nil_atom, bool as bool_atom, int as int_atom, text as text_atom, key as key_atom}
-use Rattle.ca_check.specs.declared.special.Special.{Special}
-use Rattle.ca_check.specs.declared.error.CheckErrorKind.TheVariants.{BadForm, TooMany}
-use Rattle.ca_check.specs.Words.{special}
-use Rattle.ca_check.specs.Meaning.{block}
-use Rattle.ca_check.specs.Binders.{Part}
-use Rattle.ca_check.specs.Plain.{meanings, row_loop, by_truth, by_some}
-use Rattle.ca_check.specs.Channels.{parking, blocking}
-use Rattle.ca_check.specs.Walk.{row, row_or_call, headed, row_list, row_atom, row_group, walk, walk_shape, parts, within, within_shape, pairs}
+use Rattle.ca_forms.specs.declared.special.Special.{Special}
+use Rattle.ca_forms.specs.declared.error.CheckErrorKind.TheVariants.{BadForm, TooMany}
+use Rattle.ca_forms.specs.Words.{special}
+use Rattle.ca_forms.specs.Meaning.{block}
+use Rattle.ca_forms.specs.Binders.{Part}
+use Rattle.ca_forms.specs.Plain.{meanings, row_loop, by_truth, by_some}
+use Rattle.ca_forms.specs.Channels.{parking, blocking}
+use Rattle.ca_forms.specs.Walk.{row, row_or_call, headed, row_list, row_atom, row_group, walk, walk_shape, parts, within, within_shape, pairs}
 use Rattle.ca_sealed.proofs.Words.{Keeps, tidy_constant, tidy_fail, tidy_cond, tidy_operation, tidy_body}
 use Rattle.ca_sealed.proofs.Goes.{tidy_go}
 use Rattle.ca_sealed.proofs.Names.{tidy_symbol, tidy_written, tidy_builtin_call, tidy_row_call, tidy_keyword}

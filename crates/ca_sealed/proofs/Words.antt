@@ -9,9 +9,9 @@ use Rattle.ca_term.specs.Kernel.{Kernel, Kernels, Bindings, const, branch, bind,
 use Rattle.ca_term.specs.Fits.{count_bindings}
 use Rattle.ca_term.specs.Program.{ProcedureView}
 use Rattle.ca_term.specs.View.{kernels_of}
-use Rattle.ca_check.specs.declared.error.CheckErrorKind.{CheckErrorKind}
-use Rattle.ca_check.specs.Outcome.{Gathered, Outcome, done, after, limited}
-use Rattle.ca_check.specs.Meaning.{Env, Signature, Meaning, Named, size, inner, named, fail, constant, nothing, local, iff, unless, before_others, in_order, operation, block, unnamed, binds, behind, lets, loops, name_as, hide, numbered, joined, hiding}
+use Rattle.ca_forms.specs.declared.error.CheckErrorKind.{CheckErrorKind}
+use Rattle.ca_forms.specs.Outcome.{Gathered, Outcome, done, after, limited}
+use Rattle.ca_forms.specs.Meaning.{Env, Signature, Meaning, Named, size, inner, named, fail, constant, nothing, local, iff, unless, before_others, in_order, operation, block, unnamed, binds, behind, lets, loops, name_as, hide, numbered, joined, hiding}
 use Rattle.ca_meaning.specs.Sound.{Each}
 use Rattle.ca_sealed.proofs.Used.{Only, Below}
 use Rattle.ca_sealed.proofs.Outcomes.{IfDone, if_after, if_cond, size_named, size_behind, joined_count}

@@ -5,7 +5,7 @@ use Rattle.ca_term.specs.Kernel.{Kernel}
 use Rattle.ca_reader.specs.declared.form.Form.{Form}
 use Rattle.ca_reader.specs.View.{form_trees}
 use Rattle.ca_check.specs.Expansion.{expansion_of, program_of, Refuses}
-use Rattle.ca_check.specs.WalkView.{gathered}
+use Rattle.ca_forms.specs.WalkView.{gathered}
 use Rattle.ca_check.proofs.Checked.{accepted_program}
 use Rattle.ca_check.proofs.ScriptLaws.{refuses_is}
 use Rattle.ca_check.proofs.check.check.Goals as goal

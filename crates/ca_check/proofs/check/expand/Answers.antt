@@ -3,7 +3,7 @@ use Rattle.ca_value.specs.Seq.{list}
 use Rattle.ca_term.specs.View.{bindings}
 use Rattle.ca_check.specs.TopsView.{tops_of}
 use Rattle.ca_check.specs.ScriptView.{ahead, rest_of, nothing_defined, nothing_gathered}
-use Rattle.ca_check.specs.WalkView.{gathered, Fails}
+use Rattle.ca_forms.specs.WalkView.{gathered, Fails}
 use Rattle.ca_check.specs.Expansion.{script}
 use Rattle.ca_reader.specs.View.{form_trees}
 use Rattle.ca_check.proofs.ScriptLaws.{from_form, from_cut, script_starts, script_ends, ahead_fails}

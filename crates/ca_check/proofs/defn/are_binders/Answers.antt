@@ -1,6 +1,6 @@
 use Rattle.std.proofs.Common.{◌≡◌, arith, sym, ◌∙◌, true, is_some}
 use Rattle.ca_reader.specs.View.{form_tree}
-use Rattle.ca_check.specs.Binders.{binder}
+use Rattle.ca_forms.specs.Binders.{binder}
 use Rattle.ca_check.proofs.DefnLaws.{binders_step}
 use Rattle.ca_check.proofs.defn.are_binders.Goals as goal
 

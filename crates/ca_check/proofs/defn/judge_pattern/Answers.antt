@@ -3,8 +3,8 @@ use Rattle.ca_value.specs.Seq.{list}
 use Rattle.ca_reader.specs.declared.form.Form.{the_lemmas as form_lemmas}
 use Rattle.ca_reader.specs.declared.form.Shape.{the_lemmas as shape_lemmas}
 use Rattle.ca_reader.specs.View.{form_tree, form_trees}
-use Rattle.ca_check.specs.Binders.{many}
-use Rattle.ca_check.specs.Judged.{total_binder, total_names}
+use Rattle.ca_forms.specs.Binders.{many}
+use Rattle.ca_forms.specs.Judged.{total_binder, total_names}
 use Rattle.ca_check.proofs.DefnLaws.{pattern_long, pattern_short, pattern_counted}
 use Rattle.ca_check.proofs.defn.judge_pattern.Goals as goal
 

@@ -1,9 +1,9 @@
 use Rattle.std.proofs.Common.{rules, Err, ◌≡◌, ◌+◌, arith, sym, ◌∙◌, drop}
 use Rattle.ca_reader.specs.View.{form_trees}
-use Rattle.ca_check.specs.Meaning.{Meaning, Env}
-use Rattle.ca_check.specs.Outcome.{Gathered}
-use Rattle.ca_check.specs.Tops.{counted_patterns}
-use Rattle.ca_check.specs.WalkView.{Fails}
+use Rattle.ca_forms.specs.Meaning.{Meaning, Env}
+use Rattle.ca_forms.specs.Outcome.{Gathered}
+use Rattle.ca_forms.specs.Tops.{counted_patterns}
+use Rattle.ca_forms.specs.WalkView.{Fails}
 use Rattle.ca_check.specs.TopsView.{total_binders}
 use Rattle.ca_check.proofs.DefnLaws.{counted_step, counted_over, patterns_step, patterns_over, fails_same, err_is}
 use Rattle.ca_check.proofs.defn.judge_patterns.Goals as goal

@@ -1,8 +1,8 @@
 use Rattle.std.proofs.Common.{◌≡◌, drop}
 use Rattle.ca_reader.specs.View.{form_trees}
-use Rattle.ca_check.specs.Meaning.{Meaning, Env}
-use Rattle.ca_check.specs.Outcome.{Gathered}
-use Rattle.ca_check.specs.Tops.{counted_patterns}
+use Rattle.ca_forms.specs.Meaning.{Meaning, Env}
+use Rattle.ca_forms.specs.Outcome.{Gathered}
+use Rattle.ca_forms.specs.Tops.{counted_patterns}
 use Rattle.ca_check.specs.TopsView.{total_binders, AreCounted}
 use Rattle.ca_check.proofs.defn.judge_patterns.Given as goal
 

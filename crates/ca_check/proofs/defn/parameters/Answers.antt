@@ -2,7 +2,7 @@ use Rattle.std.proofs.Common.{rules, ◌≡◌, sym, ◌∙◌}
 use Rattle.ca_reader.specs.declared.form.Form.{the_lemmas as form_lemmas}
 use Rattle.ca_reader.specs.declared.form.Shape.{the_lemmas as shape_lemmas}
 use Rattle.ca_reader.specs.View.{form_tree, form_trees}
-use Rattle.ca_check.specs.Tops.{binders_in, parameters_in}
+use Rattle.ca_forms.specs.Tops.{binders_in, parameters_in}
 use Rattle.ca_check.proofs.DefnLaws.{binders_total}
 use Rattle.ca_check.proofs.defn.parameters.Goals as goal
 

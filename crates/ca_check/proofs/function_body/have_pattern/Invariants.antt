@@ -1,7 +1,7 @@
 use Rattle.std.proofs.Common.{◌≡◌, drop}
 use Rattle.std.specs.List.{list_any}
 use Rattle.ca_reader.specs.View.{form_trees}
-use Rattle.ca_check.specs.Binders.{is_pattern}
+use Rattle.ca_forms.specs.Binders.{is_pattern}
 use Rattle.ca_check.specs.TopsView.{total_binders}
 use Rattle.ca_check.proofs.function_body.have_pattern.Given as goal
 

@@ -1,6 +1,6 @@
 use Rattle.std.proofs.Common.{rules, ◌≡◌, ◌+◌, ◌++◌, ap, sym, ◌∙◌, arith, List, ℕ}
 use Rattle.ca_value.specs.Seq.{list}
-use Rattle.ca_check.specs.Tops.{numbers}
+use Rattle.ca_forms.specs.Tops.{numbers}
 use Rattle.ca_check.proofs.DefnLaws.{numbers_step, numbers_over, names_from}
 use Rattle.ca_check.proofs.function_body.parameter_numbers.Goals as goal
 

@@ -1,6 +1,6 @@
 use Rattle.std.proofs.Common.{◌≡◌, ◌≤◌, ◌+◌, ◌++◌, length}
 use Rattle.ca_value.specs.Seq.{list, spare}
-use Rattle.ca_check.specs.Tops.{numbers}
+use Rattle.ca_forms.specs.Tops.{numbers}
 use Rattle.ca_check.proofs.DefnLaws.{names_from}
 use Rattle.ca_check.proofs.function_body.parameter_numbers.Given as goal
 

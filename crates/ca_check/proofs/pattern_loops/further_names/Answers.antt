@@ -1,8 +1,8 @@
 use Rattle.std.proofs.Common.{suc, length, List, ap, sym, ◌∙◌}
 use Rattle.ca_value.specs.Seq.{list}
 use Rattle.ca_reader.specs.declared.form.Form.{Form}
-use Rattle.ca_check.specs.Binders.{width}
-use Rattle.ca_check.proofs.ShapeLaws.{names_count, vector_binder}
+use Rattle.ca_forms.specs.Binders.{width}
+use Rattle.ca_forms.proofs.ShapeLaws.{names_count, vector_binder}
 use Rattle.ca_check.proofs.pattern_loops.further_names.Goals as goal
 
 pub returns-in-Vector : goal.returns-in-Vector

@@ -1,9 +1,9 @@
 use Rattle.std.proofs.Common.{rules, ◌<◌, ◌≤◌}
 use Rattle.ca_term.specs.View.{kernel}
-use Rattle.ca_check.specs.Depth.{depth_of}
-use Rattle.ca_check.specs.Tops.{add_function}
+use Rattle.ca_forms.specs.Depth.{depth_of}
+use Rattle.ca_forms.specs.Tops.{add_function}
 use Rattle.ca_check.specs.TopsView.{tops_of, written_as, settled_as}
-use Rattle.ca_check.specs.WalkView.{gathered, Fails}
+use Rattle.ca_forms.specs.WalkView.{gathered, Fails}
 use Rattle.ca_check.proofs.SettledLaws.{add_fails, add_deep, add_done}
 use Rattle.ca_check.proofs.DefnLaws.{if_on_by}
 use Rattle.ca_check.proofs.definitions.Definitions.add_function.Goals as goal

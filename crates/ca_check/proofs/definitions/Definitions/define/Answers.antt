@@ -1,9 +1,9 @@
 use Rattle.std.proofs.Common.{rules, ◌≡◌, ◌+◌, ◌++◌, ◌∷◌, [], List, ℕ, suc, refl, ap, sym, ◌∙◌, arith, length, ◌&&◌, subst}
 use Rattle.ca_value.specs.Seq.{list}
 use Rattle.ca_term.specs.View.{kernel}
-use Rattle.ca_check.specs.Meaning.{Signature}
-use Rattle.ca_check.specs.Tops.{signature, numbers, names_of, is_empty, plain_with}
-use Rattle.ca_check.specs.Uses.{is_plain}
+use Rattle.ca_forms.specs.Meaning.{Signature}
+use Rattle.ca_forms.specs.Tops.{signature, numbers, names_of, is_empty, plain_with}
+use Rattle.ca_forms.specs.Uses.{is_plain}
 use Rattle.ca_check.specs.TopsView.{tops_of, written_as, AreSafe}
 use Rattle.ca_check.proofs.DefnLaws.{free_find, sign_is, binders_length}
 use Rattle.ca_check.proofs.KeepsLaws.{safe_behind, bare}

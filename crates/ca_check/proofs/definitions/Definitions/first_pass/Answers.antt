@@ -1,10 +1,10 @@
 use Rattle.std.proofs.Common.{rules, ◌≡◌, [], Some, length, false, refl, ap, sym, ◌∙◌, List, ℕ, subst}
 use Rattle.ca_term.specs.View.{kernel}
 use Rattle.ca_check.specs.declared.defn.Pass.{Pass}
-use Rattle.ca_check.specs.Tops.{Tops, straight, signature, function_env, add_function}
+use Rattle.ca_forms.specs.Tops.{Tops, straight, signature, function_env, add_function}
 use Rattle.ca_check.specs.TopsView.{tops_of, written_as, settled_function, AreBelow}
-use Rattle.ca_check.specs.Uses.{uses}
-use Rattle.ca_check.specs.WalkView.{gathered, Fails}
+use Rattle.ca_forms.specs.Uses.{uses}
+use Rattle.ca_forms.specs.WalkView.{gathered, Fails}
 use Rattle.ca_check.proofs.KeepsLaws.{body_keeps, safe_behind, uses_safe}
 use Rattle.ca_check.proofs.SettledLaws.{first_is, first_deep, first_fails, left_behind}
 use Rattle.ca_check.proofs.DefnLaws.{fails_same}

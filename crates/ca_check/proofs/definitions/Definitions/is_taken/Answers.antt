@@ -1,8 +1,8 @@
 use Rattle.std.proofs.Common.{◌≡◌, ap, sym, ◌∙◌, false, ◌||◌, is_some, Option, ℕ}
 use Rattle.std.specs.List.{list_any}
 use Rattle.std.specs.Str.{bytes_eq}
-use Rattle.ca_check.specs.Names.{is_known}
-use Rattle.ca_check.proofs.ScopeLaws.{lookup_any}
+use Rattle.ca_forms.specs.Names.{is_known}
+use Rattle.ca_forms.proofs.ScopeLaws.{lookup_any}
 use Rattle.ca_check.proofs.definitions.Definitions.is_taken.Goals as goal
 
 pub returns-else-is_known : goal.returns-else-is_known

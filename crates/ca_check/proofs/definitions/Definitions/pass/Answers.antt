@@ -1,8 +1,8 @@
 use Rattle.std.proofs.Common.{rules, ◌≡◌, ◌++◌, ◌∷◌, [], List, false, ap, sym, ◌∙◌}
-use Rattle.ca_check.specs.Meaning.{Signature}
-use Rattle.ca_check.specs.Tops.{signature, function_env}
+use Rattle.ca_forms.specs.Meaning.{Signature}
+use Rattle.ca_forms.specs.Tops.{signature, function_env}
 use Rattle.ca_check.specs.TopsView.{tops_of, written_as, body_in, in_function}
-use Rattle.ca_check.specs.WalkView.{gathered, Fails}
+use Rattle.ca_forms.specs.WalkView.{gathered, Fails}
 use Rattle.ca_check.proofs.DefnLaws.{free_find, sign_is, binders_length, fails_same}
 use Rattle.ca_check.proofs.definitions.Definitions.pass.Goals as goal
 

@@ -1,8 +1,8 @@
 use Rattle.std.proofs.Common.{rules, arith, ◌≡◌, ◌-◌, suc, length, ap, ◌∙◌, subst}
-use Rattle.ca_check.specs.Tops.{Tops, settled}
+use Rattle.ca_forms.specs.Tops.{Tops, settled}
 use Rattle.ca_check.specs.TopsView.{tops_of, written_as, settled_as, AreBelow}
-use Rattle.ca_check.specs.Outcome.{done}
-use Rattle.ca_check.specs.WalkView.{gathered, Fails}
+use Rattle.ca_forms.specs.Outcome.{done}
+use Rattle.ca_forms.specs.WalkView.{gathered, Fails}
 use Rattle.ca_check.proofs.SettledLaws.{settle_step, settle_done, settle_fails, settle_over}
 use Rattle.ca_check.proofs.definitions.Definitions.settle.Goals as goal
 

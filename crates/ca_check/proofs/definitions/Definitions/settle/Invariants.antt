@@ -1,7 +1,7 @@
 use Rattle.std.proofs.Common.{◌≡◌, length}
-use Rattle.ca_check.specs.Tops.{settled}
+use Rattle.ca_forms.specs.Tops.{settled}
 use Rattle.ca_check.specs.TopsView.{tops_of, written_as, AreBelow}
-use Rattle.ca_check.specs.WalkView.{gathered}
+use Rattle.ca_forms.specs.WalkView.{gathered}
 use Rattle.ca_check.proofs.definitions.Definitions.settle.Given as goal
 
 abbrev pub invariant-loop-left : goal.invariant-loop-left

@@ -1,12 +1,12 @@
 use Rattle.std.proofs.Common.{rules, ◌≡◌, ◌≤◌, length, false, refl, ap, sym, ◌∙◌, List, ℕ, true≢false, subst}
 use Rattle.ca_term.specs.View.{kernel}
-use Rattle.ca_check.specs.Outcome.{done}
-use Rattle.ca_check.specs.Tops.{Tops, signature, function_env}
+use Rattle.ca_forms.specs.Outcome.{done}
+use Rattle.ca_forms.specs.Tops.{Tops, signature, function_env}
 use Rattle.ca_check.specs.TopsView.{tops_of, written_as, body_in, AreBelow}
-use Rattle.ca_check.specs.Uses.{uses}
-use Rattle.ca_check.specs.WalkView.{gathered}
+use Rattle.ca_forms.specs.Uses.{uses}
+use Rattle.ca_forms.specs.WalkView.{gathered}
 use Rattle.ca_check.proofs.KeepsLaws.{body_keeps, safe_behind, uses_safe}
-use Rattle.ca_check.proofs.UsesLaws.{uses_same}
+use Rattle.ca_forms.proofs.UsesLaws.{uses_same}
 use Rattle.ca_check.proofs.SettledLaws.{walked, settled_done, settled_on, left_behind}
 use Rattle.ca_check.proofs.definitions.Definitions.walk_again.Goals as goal
 

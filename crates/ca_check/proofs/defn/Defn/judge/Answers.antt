@@ -1,10 +1,10 @@
 use Rattle.std.proofs.Common.{rules, Err, ◌≡◌, sym, ◌∙◌}
 use Rattle.ca_reader.specs.View.{form_trees}
-use Rattle.ca_check.specs.Meaning.{Meaning, Env}
-use Rattle.ca_check.specs.Outcome.{Gathered}
-use Rattle.ca_check.specs.Tops.{counted_patterns, judged_body}
+use Rattle.ca_forms.specs.Meaning.{Meaning, Env}
+use Rattle.ca_forms.specs.Outcome.{Gathered}
+use Rattle.ca_forms.specs.Tops.{counted_patterns, judged_body}
 use Rattle.ca_check.specs.TopsView.{total_binders, written_as}
-use Rattle.ca_check.specs.WalkView.{Fails}
+use Rattle.ca_forms.specs.WalkView.{Fails}
 use Rattle.ca_check.proofs.DefnLaws.{fails_same, err_is}
 use Rattle.ca_check.proofs.defn.Defn.judge.Goals as goal
 

@@ -1,10 +1,10 @@
 use Rattle.std.proofs.Common.{rules, Err, arith, ◌≡◌, ◌≤◌, length, false, ap, sym, ◌∙◌}
 use Rattle.ca_value.specs.Seq.{list}
 use Rattle.ca_term.specs.View.{bindings}
-use Rattle.ca_check.specs.Tops.{one_top, function, is_taken}
+use Rattle.ca_forms.specs.Tops.{one_top, function, is_taken}
 use Rattle.ca_check.specs.TopsView.{tops_of, written_as}
 use Rattle.ca_check.specs.ScriptView.{Rest, ahead, rest_of}
-use Rattle.ca_check.specs.WalkView.{gathered, Fails}
+use Rattle.ca_forms.specs.WalkView.{gathered, Fails}
 use Rattle.ca_check.proofs.DefnLaws.{binders_length, err_is}
 use Rattle.ca_check.proofs.TopLaws.{function_leads, function_fails, function_many, or_left}
 use Rattle.ca_check.proofs.tops.Expansion.add.Goals as goal

@@ -2,10 +2,10 @@ use Rattle.std.proofs.Common.{rules, arith, ◌≡◌, ◌+◌, ◌++◌, ◌∷
 use Rattle.ca_value.specs.Seq.{list}
 use Rattle.ca_term.specs.View.{kernel}
 use Rattle.ca_reader.specs.View.{form_tree}
-use Rattle.ca_check.specs.Depth.{depth_of}
+use Rattle.ca_forms.specs.Depth.{depth_of}
 use Rattle.ca_check.specs.TopsView.{tops_of}
-use Rattle.ca_check.specs.Walk.{walk}
-use Rattle.ca_check.specs.WalkView.{gathered}
+use Rattle.ca_forms.specs.Walk.{walk}
+use Rattle.ca_forms.specs.WalkView.{gathered}
 use Rattle.ca_check.proofs.TopLaws.{bound_leads, bound_deep}
 use Rattle.ca_check.proofs.KeepsLaws.{safe_more}
 use Rattle.std.proofs.lemmas.List.{length-append}

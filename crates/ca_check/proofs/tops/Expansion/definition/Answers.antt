@@ -1,9 +1,9 @@
 use Rattle.std.proofs.Common.{arith, drop, sym, ◌∙◌}
 use Rattle.ca_reader.specs.View.{form_tree}
-use Rattle.ca_check.specs.Tops.{one_top, def_top, bound_top}
+use Rattle.ca_forms.specs.Tops.{one_top, def_top, bound_top}
 use Rattle.ca_check.specs.TopsView.{tops_of}
-use Rattle.ca_check.specs.Walk.{walk}
-use Rattle.ca_check.specs.WalkView.{gathered, parts_of}
+use Rattle.ca_forms.specs.Walk.{walk}
+use Rattle.ca_forms.specs.WalkView.{gathered, parts_of}
 use Rattle.ca_check.proofs.TopLaws.{def_redefined, def_free, def_short, def_long, leads_by, stops_by}
 use Rattle.ca_check.proofs.tops.Expansion.definition.Goals as goal
 

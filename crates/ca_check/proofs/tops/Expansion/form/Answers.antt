@@ -1,10 +1,10 @@
 use Rattle.std.proofs.Common.{arith, ◌≡◌, [], drop, ap, sym, ◌∙◌}
 use Rattle.ca_reader.specs.View.{form_tree}
-use Rattle.ca_check.specs.Tops.{one_top, def_top, defn_top, bound_top, list_top, is_defining}
+use Rattle.ca_forms.specs.Tops.{one_top, def_top, defn_top, bound_top, list_top, is_defining}
 use Rattle.ca_check.specs.TopsView.{tops_of}
 use Rattle.ca_check.specs.ScriptView.{Rest, form_top, kind_top, rest_of}
-use Rattle.ca_check.specs.Walk.{walk}
-use Rattle.ca_check.specs.WalkView.{gathered, parts_of}
+use Rattle.ca_forms.specs.Walk.{walk}
+use Rattle.ca_forms.specs.WalkView.{gathered, parts_of}
 use Rattle.ca_check.proofs.TopLaws.{leads_by, stops_by, form_is, form_past, form_over, place_is}
 use Rattle.ca_check.proofs.tops.Expansion.form.Goals as goal
 

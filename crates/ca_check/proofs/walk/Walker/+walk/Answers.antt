@@ -2,42 +2,42 @@ use Rattle.std.proofs.Common.{rules, ◌≡◌, ◌∷◌, [], length, ℕ, ◌+
 use Rattle.ca_value.specs.Seq.{list}
 use Rattle.ca_term.specs.View.{kernel, kernels}
 use Rattle.ca_reader.specs.View.{form_tree}
-use Rattle.ca_check.specs.Outcome.{done, refused, limited}
-use Rattle.ca_check.specs.declared.context.At.{At}
+use Rattle.ca_forms.specs.Outcome.{done, refused, limited}
+use Rattle.ca_forms.specs.declared.context.At.{At}
 use Rattle.ca_value.specs.Tree.{text, key}
 use Rattle.ca_value.specs.declared.builtin.Builtin.TheVariants.{Vector, HashMap}
 use Rattle.ca_term.specs.declared.head.Head.TheVariants.{Builtin}
 use Rattle.ca_term.specs.Kernel.{const, branch, Kernel, none as no_terms, item as term}
-use Rattle.ca_check.specs.FunctionsView.{named_function}
-use Rattle.ca_check.specs.Meaning.{Env, in_order, binds, before_others, inner, constant, operation, named, local, name_as, Meaning, block, lets, numbered}
-use Rattle.ca_check.specs.Names.{function_call, builtin_call, row_keyword, row_symbol, written, given}
-use Rattle.ca_check.specs.Operands.{with_second, with_vars}
+use Rattle.ca_forms.specs.FunctionsView.{named_function}
+use Rattle.ca_forms.specs.Meaning.{Env, in_order, binds, before_others, inner, constant, operation, named, local, name_as, Meaning, block, lets, numbered}
+use Rattle.ca_forms.specs.Names.{function_call, builtin_call, row_keyword, row_symbol, written, given}
+use Rattle.ca_forms.specs.Operands.{with_second, with_vars}
 use Rattle.ca_term.specs.declared.term.Term.{Term}
 use Rattle.ca_reader.specs.Form.{place_of, FormTree}
-use Rattle.ca_check.specs.declared.error.CheckError.TheVariants.{Fault}
-use Rattle.ca_check.specs.declared.error.CheckErrorKind.TheVariants.{TooMany}
-use Rattle.ca_check.proofs.ChainLaws.{chain_parts, firsts, after_second, second_of_three}
-use Rattle.ca_check.specs.Plain.{meanings, row_let, row_if, row_if_not, row_cond, row_while, row_dotimes, row_doseq, binders}
-use Rattle.ca_check.specs.Walk.{walk, row_list}
-use Rattle.ca_check.specs.WalkView.{gathered, env, part, parts_of, pairs_of, terms_of, Fails}
-use Rattle.ca_check.proofs.PartLaws.{three_parts, in_order_step, in_order_over, in_order_fails, block_some, if_off, if_not_off, recur_fits, recur_off, builtin_fits, builtin_off, function_fits, function_off, after_fails, parts_second, keyword_on, keyword_off, written_short, written_fails, counted_past, counted_within, ok_at, err_at, ok_for, err_for}
-use Rattle.ca_check.specs.Binders.{spread, Bound, patterns}
+use Rattle.ca_forms.specs.declared.error.CheckError.TheVariants.{Fault}
+use Rattle.ca_forms.specs.declared.error.CheckErrorKind.TheVariants.{TooMany}
+use Rattle.ca_forms.proofs.ChainLaws.{chain_parts, firsts, after_second, second_of_three}
+use Rattle.ca_forms.specs.Plain.{meanings, row_let, row_if, row_if_not, row_cond, row_while, row_dotimes, row_doseq, binders}
+use Rattle.ca_forms.specs.Walk.{walk, row_list}
+use Rattle.ca_forms.specs.WalkView.{gathered, env, part, parts_of, pairs_of, terms_of, Fails}
+use Rattle.ca_forms.proofs.PartLaws.{three_parts, in_order_step, in_order_over, in_order_fails, block_some, if_off, if_not_off, recur_fits, recur_off, builtin_fits, builtin_off, function_fits, function_off, after_fails, parts_second, keyword_on, keyword_off, written_short, written_fails, counted_past, counted_within, ok_at, err_at, ok_for, err_for}
+use Rattle.ca_forms.specs.Binders.{spread, Bound, patterns}
 use Rattle.std.proofs.lemmas.List.{length-map}
-use Rattle.ca_check.specs.Judged.{total_bounds, total_binder, over_long, let_parts, more_of, chain_of, bound_names, binder_names, binder_parts, total_name}
-use Rattle.ca_check.proofs.BindLaws.{bound_step2, names_step2, bound_over, names_over, bound_fails, one_fails, one_names, bound_longer, hidden_over, one_long, hidden_step, hidden_names, terms_append}
-use Rattle.ca_check.proofs.ShapeLaws.{row_let_right, row_let_wrong, tree_is, tree_text, tree_key, tree_symbol}
+use Rattle.ca_forms.specs.Judged.{total_bounds, total_binder, over_long, let_parts, more_of, chain_of, bound_names, binder_names, binder_parts, total_name}
+use Rattle.ca_forms.proofs.BindLaws.{bound_step2, names_step2, bound_over, names_over, bound_fails, one_fails, one_names, bound_longer, hidden_over, one_long, hidden_step, hidden_names, terms_append}
+use Rattle.ca_forms.proofs.ShapeLaws.{row_let_right, row_let_wrong, tree_is, tree_text, tree_key, tree_symbol}
 use Rattle.ca_check.proofs.walk.Walker.+walk.Goals.{if_form-in_default-via-then-parts-lt3, if_form-in_default-via-else-parts-lt3+else-parts-lt4+else-parts-lt5}
-use Rattle.ca_check.specs.Choices.{tested, chosen, choice_terms, first_in, only_means, row_bound, bound_body, bound_other}
+use Rattle.ca_check.specs.Choices.{tested, first_in, only_means, row_bound, bound_body, bound_other}
 use Rattle.ca_check.specs.declared.choices.Choice.{Choice}
-use Rattle.ca_check.proofs.ChoiceLaws.{cond_fits, cond_off, tested_step, tested_over, test_fails, choice_fails}
-use Rattle.ca_check.proofs.LoopLaws.{loop_right, loop_wrong, while_walked, while_body_fails}
-use Rattle.ca_check.specs.Channels.{row_chan, workers}
-use Rattle.ca_check.specs.Planned.{hidden_row, and_yes, pub_over, pipeline_by}
-use Rattle.ca_check.proofs.PlanLaws.{row_planned}
+use Rattle.ca_check.proofs.ChoiceLaws.{cond_fits, cond_off, tested_step, tested_over, test_fails}
+use Rattle.ca_forms.proofs.LoopLaws.{loop_right, loop_wrong, while_walked, while_body_fails}
+use Rattle.ca_forms.specs.Channels.{row_chan, workers}
+use Rattle.ca_forms.specs.Planned.{hidden_row, and_yes, pub_over, pipeline_by}
+use Rattle.ca_forms.proofs.PlanLaws.{row_planned}
 use Rattle.ca_check.proofs.HideLaws.{sized_on, sized_off, chan_off, hidden_row_done, hidden_row_fails, merge_done, alts_three, alts_two, alts_one, kernels_listed, operation_yes, operation_yes_fails, published_done, published_fails, pub_off, pub_on, pub_wrong, Hides}
 use Rattle.ca_check.proofs.PipeLaws.{worker_done, count_fails, target_fails, source_fails, piped_done, left_again, held, pipeline_off, pipeline_on, by_any, by_wrong}
-use Rattle.ca_check.specs.GivenView.{given_view, keyword_terms, IsWrong}
-use Rattle.ca_check.specs.Rounds.{counted_rounds, items_of, item_of, nth_term, loop_parts}
+use Rattle.ca_forms.specs.GivenView.{given_view, keyword_terms, IsWrong}
+use Rattle.ca_forms.specs.Rounds.{counted_rounds, items_of, item_of, nth_term, loop_parts}
 use Rattle.ca_check.proofs.BoundLaws.{other_less, bound_right, bound_off, shape_less, bound_value_fails, bound_body_fails, bound_other_fails, bound_walked, then_fails, then_walked}
 use Rattle.ca_check.proofs.CountLaws.{dotimes_off, dotimes_value_fails, dotimes_body_fails, dotimes_walked}
 use Rattle.ca_check.proofs.DoseqLaws.{doseq_off, doseq_row, items_fail, round_fails, round_walked, item_long, item_fails, item_walked}

@@ -1,14 +1,14 @@
 use Rattle.std.proofs.Common.{◌≡◌, ◌≤◌, ◌+◌, ◌*◌, ◌++◌, length, map, take, drop}
 use Rattle.ca_value.specs.Seq.{list, spare}
 use Rattle.ca_term.specs.View.{kernels}
-use Rattle.ca_check.specs.Outcome.{after, done}
-use Rattle.ca_check.specs.Binders.{spread}
-use Rattle.ca_check.specs.Judged.{bound_names, total_bounds}
-use Rattle.ca_check.specs.Meaning.{in_order, binds, joined, numbered, unnamed}
-use Rattle.ca_check.specs.Plain.{meanings}
-use Rattle.ca_check.specs.WalkView.{gathered, env, parts_of, pairs_of, terms_of}
+use Rattle.ca_forms.specs.Outcome.{after, done}
+use Rattle.ca_forms.specs.Binders.{spread}
+use Rattle.ca_forms.specs.Judged.{bound_names, total_bounds}
+use Rattle.ca_forms.specs.Meaning.{in_order, binds, joined, numbered, unnamed}
+use Rattle.ca_forms.specs.Plain.{meanings}
+use Rattle.ca_forms.specs.WalkView.{gathered, env, parts_of, pairs_of, terms_of}
 use Rattle.ca_check.specs.Choices.{tested, choice_terms}
-use Rattle.ca_check.proofs.TermLaws.{followed}
+use Rattle.ca_forms.proofs.TermLaws.{followed}
 use Rattle.ca_check.proofs.walk.Walker.+walk.Given as goal
 
 abbrev pub invariant-in_order-loop-i : goal.invariant-in_order-loop-i

@@ -1,13 +1,13 @@
-use Rattle.std.proofs.Common.{◌≡◌, ◌<◌, ◌+◌, ◌*◌, ◌++◌, ◌∷◌, [], List, ℕ, length, suc, ap, sym, ◌∙◌, arith, length-append}
+use Rattle.std.proofs.Common.{◌≡◌, ◌<◌, ◌+◌, ◌*◌, ◌++◌, ◌∷◌, [], List, ℕ, length, ap, sym, ◌∙◌, arith, length-append}
 use Rattle.ca_value.specs.Seq.{list}
 use Rattle.ca_term.specs.declared.term.Term.{Term}
 use Rattle.ca_reader.specs.View.{form_tree}
-use Rattle.ca_check.specs.Again.{widths, again_terms, whole_names}
-use Rattle.ca_check.specs.Binders.{width}
-use Rattle.ca_check.specs.Judged.{total_binder, total_name}
-use Rattle.ca_check.specs.WalkView.{terms_of}
+use Rattle.ca_check.specs.Again.{again_terms, whole_names}
+use Rattle.ca_forms.specs.Binders.{width}
+use Rattle.ca_forms.specs.Judged.{total_binder, total_name}
+use Rattle.ca_forms.specs.WalkView.{terms_of}
 use Rattle.ca_check.proofs.AgainLaws.{again_step, whole_step, widths_step, again_over, whole_over}
-use Rattle.ca_check.proofs.LoopLaws.{binders_from}
+use Rattle.ca_forms.proofs.LoopLaws.{binders_from}
 use Rattle.ca_check.proofs.walk.Walker.bind_again.Goals as goal
 
 pub overflow_add-number : goal.overflow_add-number

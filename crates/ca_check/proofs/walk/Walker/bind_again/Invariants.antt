@@ -1,8 +1,8 @@
 use Rattle.std.proofs.Common.{◌≡◌, ◌≤◌, ◌+◌, ◌++◌, length}
 use Rattle.ca_value.specs.Seq.{list}
 use Rattle.ca_check.specs.Again.{widths, again_terms, whole_names, binders_of}
-use Rattle.ca_check.specs.WalkView.{gathered, terms_of}
-use Rattle.ca_check.proofs.LoopLaws.{binders_from}
+use Rattle.ca_forms.specs.WalkView.{gathered, terms_of}
+use Rattle.ca_forms.proofs.LoopLaws.{binders_from}
 use Rattle.ca_check.proofs.walk.Walker.bind_again.Given as goal
 
 abbrev pub invariant-loop-i : goal.invariant-loop-i

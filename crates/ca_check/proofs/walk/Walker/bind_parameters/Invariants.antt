@@ -1,5 +1,5 @@
 use Rattle.std.proofs.Common.{◌≡◌, ◌++◌}
-use Rattle.ca_check.specs.WalkView.{gathered}
+use Rattle.ca_forms.specs.WalkView.{gathered}
 use Rattle.ca_check.proofs.DefnLaws.{names_from}
 use Rattle.ca_check.proofs.walk.Walker.bind_parameters.Given as goal
 

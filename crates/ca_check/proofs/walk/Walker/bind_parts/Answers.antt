@@ -2,10 +2,10 @@ use Rattle.std.proofs.Common.{arith, ◌≡◌, ◌≤◌, ◌++◌, ◌∷◌, 
 use Rattle.std.proofs.lemmas.Bool.{ltb-false}
 use Rattle.ca_value.specs.Seq.{list}
 use Rattle.ca_reader.specs.View.{form_tree, form_trees}
-use Rattle.ca_check.specs.Judged.{over_long, total_binder, total_names, binder_names}
-use Rattle.ca_check.specs.WalkView.{terms_of}
-use Rattle.ca_check.proofs.BindLaws.{relisted, on_ok, pattern_parts}
-use Rattle.ca_check.proofs.ShapeLaws.{names_count, vector_binder}
+use Rattle.ca_forms.specs.Judged.{over_long, total_binder, total_names, binder_names}
+use Rattle.ca_forms.specs.WalkView.{terms_of}
+use Rattle.ca_forms.proofs.BindLaws.{relisted, on_ok, pattern_parts}
+use Rattle.ca_forms.proofs.ShapeLaws.{names_count, vector_binder}
 use Rattle.ca_check.proofs.walk.Walker.bind_parts.Goals as goal
 
 pub unpack-requires : goal.unpack-requires

@@ -4,9 +4,9 @@ use Rattle.ca_term.specs.declared.term.Term.{Term}
 use Rattle.ca_term.specs.Kernel.{Kernel}
 use Rattle.ca_term.specs.View.{kernel}
 use Rattle.ca_reader.specs.View.{form_tree}
-use Rattle.ca_check.specs.Judged.{total_binder, binder_parts}
-use Rattle.ca_check.specs.WalkView.{terms_of}
-use Rattle.ca_check.proofs.BindLaws.{relisted, terms_append}
+use Rattle.ca_forms.specs.Judged.{total_binder, binder_parts}
+use Rattle.ca_forms.specs.WalkView.{terms_of}
+use Rattle.ca_forms.proofs.BindLaws.{relisted, terms_append}
 use Rattle.ca_check.proofs.walk.Walker.bind_value.Goals as goal
 
 pub returns-clause-ok : goal.returns-clause-ok

@@ -1,7 +1,7 @@
 use Rattle.std.proofs.Common.{Some, ap, sym, ◌∙◌}
-use Rattle.ca_check.specs.Tops.{straight}
+use Rattle.ca_forms.specs.Tops.{straight}
 use Rattle.ca_check.specs.TopsView.{in_function, written_as, body_in}
-use Rattle.ca_check.specs.WalkView.{gathered}
+use Rattle.ca_forms.specs.WalkView.{gathered}
 use Rattle.ca_check.proofs.DefnLaws.{if_ok_by, if_err_by, fails_same, binders_length}
 use Rattle.ca_check.proofs.walk.Walker.body.Goals as goal
 

@@ -2,9 +2,9 @@ use Rattle.std.proofs.Common.{rules, ◌≡◌, ◌+◌, length, arith, ap, sym,
 use Rattle.std.proofs.lemmas.List.{length-append, length-map}
 use Rattle.ca_value.specs.Seq.{list}
 use Rattle.ca_term.specs.View.{kernel}
-use Rattle.ca_check.specs.Tops.{looped, names_of, numbers}
+use Rattle.ca_forms.specs.Tops.{looped, names_of, numbers}
 use Rattle.ca_check.specs.TopsView.{in_function, written_as}
-use Rattle.ca_check.specs.WalkView.{gathered, terms_of, Fails}
+use Rattle.ca_forms.specs.WalkView.{gathered, terms_of, Fails}
 use Rattle.ca_check.proofs.DefnLaws.{if_ok_by, looped_walked, looped_fails, terms_are_vars, binders_length, vars_many, names_many}
 use Rattle.ca_check.proofs.walk.Walker.looped.Goals as goal
 

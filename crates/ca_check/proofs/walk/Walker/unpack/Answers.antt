@@ -1,6 +1,6 @@
 use Rattle.std.proofs.Common.{arith, ◌<◌, ◌++◌, ◌∷◌, [], List, length, ap, ◌∙◌, length-append}
 use Rattle.ca_value.specs.Seq.{list}
-use Rattle.ca_check.proofs.BindLaws.{part_step, total_step}
+use Rattle.ca_forms.proofs.BindLaws.{part_step, total_step}
 use Rattle.ca_check.proofs.walk.Walker.unpack.Goals as goal
 
 pub loop-i-preserved : goal.loop-i-preserved

@@ -1,8 +1,8 @@
 use Rattle.std.proofs.Common.{◌≡◌, ◌+◌, ◌++◌, ◌-◌, length, drop}
 use Rattle.ca_value.specs.Seq.{list}
 use Rattle.ca_reader.specs.View.{form_trees}
-use Rattle.ca_check.specs.Judged.{part_terms, total_names}
-use Rattle.ca_check.specs.WalkView.{gathered, terms_of}
+use Rattle.ca_forms.specs.Judged.{part_terms, total_names}
+use Rattle.ca_forms.specs.WalkView.{gathered, terms_of}
 use Rattle.ca_check.proofs.walk.Walker.unpack.Given as goal
 
 abbrev pub invariant-loop-i : goal.invariant-loop-i

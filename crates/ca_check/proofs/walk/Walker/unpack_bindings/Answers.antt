@@ -1,12 +1,12 @@
-use Rattle.std.proofs.Common.{◌≡◌, ◌<◌, ◌+◌, ◌*◌, ◌++◌, List, ℕ, length, ap, sym, ◌∙◌, arith, length-append}
+use Rattle.std.proofs.Common.{◌<◌, ◌+◌, ◌*◌, ◌++◌, List, ℕ, length, ap, sym, ◌∙◌, arith, length-append}
 use Rattle.ca_value.specs.Seq.{list}
 use Rattle.ca_reader.specs.View.{form_trees}
-use Rattle.ca_check.specs.Judged.{total_names}
+use Rattle.ca_forms.specs.Judged.{total_names}
 use Rattle.ca_check.specs.TopsView.{pattern_names}
-use Rattle.ca_check.specs.WalkView.{terms_of}
+use Rattle.ca_forms.specs.WalkView.{terms_of}
 use Rattle.ca_check.proofs.AgainLaws.{unpack_step, inside_step, unpack_over, inside_over, counted_here, counted_next, many_from}
 use Rattle.ca_check.proofs.DefnLaws.{names_length}
-use Rattle.ca_check.proofs.LoopLaws.{binders_from}
+use Rattle.ca_forms.proofs.LoopLaws.{binders_from}
 use Rattle.ca_check.proofs.walk.Walker.unpack_bindings.Goals as goal
 
 pub unpack-requires : goal.unpack-requires

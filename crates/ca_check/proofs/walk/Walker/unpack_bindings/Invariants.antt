@@ -2,8 +2,8 @@ use Rattle.std.proofs.Common.{◌≡◌, ◌≤◌, ◌+◌, ◌++◌, length}
 use Rattle.ca_value.specs.Seq.{list}
 use Rattle.ca_check.specs.Again.{binders_of}
 use Rattle.ca_check.specs.TopsView.{pattern_names, pattern_parts, AreCounted}
-use Rattle.ca_check.specs.WalkView.{gathered, terms_of}
-use Rattle.ca_check.proofs.LoopLaws.{binders_from}
+use Rattle.ca_forms.specs.WalkView.{gathered, terms_of}
+use Rattle.ca_forms.proofs.LoopLaws.{binders_from}
 use Rattle.ca_check.proofs.walk.Walker.unpack_bindings.Given as goal
 
 abbrev pub invariant-loop-i : goal.invariant-loop-i

@@ -1,7 +1,7 @@
 use Rattle.std.proofs.Common.{arith, ◌+◌, ◌<◌, ◌++◌, List, ℕ, length, ap, sym, ◌∙◌, length-append}
 use Rattle.ca_value.specs.Seq.{list}
 use Rattle.ca_reader.specs.View.{form_trees}
-use Rattle.ca_check.specs.Judged.{total_names}
+use Rattle.ca_forms.specs.Judged.{total_names}
 use Rattle.ca_check.proofs.DefnLaws.{names_length}
 use Rattle.ca_check.proofs.PatternLaws.{counted_at, parts_step, inner_step, inner_from, parts_over, inner_over}
 use Rattle.ca_check.proofs.walk.Walker.unpack_patterns.Goals as goal

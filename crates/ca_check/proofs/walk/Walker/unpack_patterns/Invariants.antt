@@ -2,7 +2,7 @@ use Rattle.std.proofs.Common.{◌≡◌, ◌+◌, ◌++◌, length}
 use Rattle.ca_value.specs.Seq.{list}
 use Rattle.ca_reader.specs.View.{form_trees}
 use Rattle.ca_check.specs.TopsView.{total_binders, pattern_parts, pattern_names}
-use Rattle.ca_check.specs.WalkView.{gathered, terms_of}
+use Rattle.ca_forms.specs.WalkView.{gathered, terms_of}
 use Rattle.ca_check.proofs.PatternLaws.{parts_from, inner_from}
 use Rattle.ca_check.proofs.walk.Walker.unpack_patterns.Given as goal
 

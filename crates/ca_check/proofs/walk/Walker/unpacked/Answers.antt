@@ -3,11 +3,11 @@ use Rattle.std.specs.List.{list_any}
 use Rattle.ca_value.specs.Seq.{list}
 use Rattle.ca_term.specs.View.{kernel}
 use Rattle.ca_reader.specs.View.{form_trees}
-use Rattle.ca_check.specs.Binders.{is_pattern, unpacked}
-use Rattle.ca_check.specs.Meaning.{Meaning, block}
-use Rattle.ca_check.specs.Plain.{meanings}
+use Rattle.ca_forms.specs.Binders.{is_pattern, unpacked}
+use Rattle.ca_forms.specs.Meaning.{Meaning, block}
+use Rattle.ca_forms.specs.Plain.{meanings}
 use Rattle.ca_check.specs.TopsView.{total_binders}
-use Rattle.ca_check.specs.WalkView.{gathered, env, parts_of, terms_of, Fails}
+use Rattle.ca_forms.specs.WalkView.{gathered, env, parts_of, terms_of, Fails}
 use Rattle.ca_check.proofs.DefnLaws.{if_ok_by}
 use Rattle.ca_check.proofs.PatternLaws.{unpacked_without, unpacked_walked, unpacked_fails}
 use Rattle.ca_check.proofs.walk.Walker.unpacked.Goals as goal

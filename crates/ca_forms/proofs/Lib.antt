@@ -1,0 +1,15 @@
+pub mod BindLaws
+pub mod ChainLaws
+pub mod FixedLaws
+pub mod FunctionsLaws
+pub mod GoLaws
+pub mod LoopLaws
+pub mod OptionLaws
+pub mod PartLaws
+pub mod PlanLaws
+pub mod RoundLaws
+pub mod ScopeLaws
+pub mod ShapeLaws
+pub mod TermLaws
+pub mod UsesLaws
+pub mod WordsLaws

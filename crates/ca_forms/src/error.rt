@@ -1,0 +1,85 @@
+ghost use Rattle.std.specs.Prelude.{◌≡◌};
+ghost use Rattle.ca_forms.specs.Kind.{kind_name};
+
+use ca_term::place::Place;
+use ca_value::memory::OutOfMemory as NoMemory;
+use std::alloc::{AllocError, AllocFailed};
+
+/// What can be wrong with a script, each at one of its forms.
+#[derive(Clone, Copy, PartialEq, Eq, Debug)]
+pub enum CheckErrorKind {
+    /// A symbol that is no local, no earlier `def`, function or builtin, and no form.
+    UnknownName,
+    /// A `def` or `defn` of a name that is defined, a builtin or a form.
+    Redefined,
+    /// A function, a builtin or a `recur` with a wrong number of arguments.
+    BadArity,
+    /// A form unlike its row of the table.
+    BadForm,
+    /// A `recur` outside tail position, or without a loop or function that it goes back to.
+    RecurNotTail,
+    /// `<!`, `>!` or `alts!` outside the visible text of a go block.
+    ParkOutsideGo,
+    /// `<!!`, `>!!` or `alts!!` in a go block or a `defn`.
+    BlockOutsideMain,
+    /// A function given to `pub` or `pipeline` that isn't a plain one of one parameter.
+    NotPlain,
+    /// A number past its limit.
+    TooMany,
+}
+
+impl CheckErrorKind {
+    /// The word that a runner prints for it.
+    pub fn name(self) -> &'static str
+        ensures { result.now ≡ kind_name self }
+    {
+        match self {
+            CheckErrorKind::UnknownName => "UnknownName",
+            CheckErrorKind::Redefined => "Redefined",
+            CheckErrorKind::BadArity => "BadArity",
+            CheckErrorKind::BadForm => "BadForm",
+            CheckErrorKind::RecurNotTail => "RecurNotTail",
+            CheckErrorKind::ParkOutsideGo => "ParkOutsideGo",
+            CheckErrorKind::BlockOutsideMain => "BlockOutsideMain",
+            CheckErrorKind::NotPlain => "NotPlain",
+            CheckErrorKind::TooMany => "TooMany",
+        }
+    }
+}
+
+/// Why a script has no program: the first error in it with its place, or want of memory.
+#[derive(Clone, Copy, PartialEq, Eq, Debug)]
+pub enum CheckError {
+    Fault(CheckErrorKind, Place),
+    OutOfMemory,
+}
+
+impl From<NoMemory> for CheckError {
+    ghost use Rattle.ca_forms.specs.declared.error.CheckError.TheVariants.{OutOfMemory};
+
+    ghost from_gives = { λ _ e. e ≡ OutOfMemory };
+
+    fn from(_: NoMemory) -> CheckError {
+        CheckError::OutOfMemory
+    }
+}
+
+impl From<AllocError> for CheckError {
+    ghost use Rattle.ca_forms.specs.declared.error.CheckError.TheVariants.{OutOfMemory};
+
+    ghost from_gives = { λ _ e. e ≡ OutOfMemory };
+
+    fn from(_: AllocError) -> CheckError {
+        CheckError::OutOfMemory
+    }
+}
+
+impl<T: Drop> From<AllocFailed<T>> for CheckError {
+    ghost use Rattle.ca_forms.specs.declared.error.CheckError.TheVariants.{OutOfMemory};
+
+    ghost from_gives = { λ _ e. e ≡ OutOfMemory };
+
+    fn from(_: AllocFailed<T>) -> CheckError {
+        CheckError::OutOfMemory
+    }
+}

@@ -1,0 +1,142 @@
+ghost use Rattle.std.specs.Prelude.{◌≡◌, ◌≤◌, ◌<◌, ◌+◌, ◌^◌, IfOk, IfErr, [], ◌∷◌, ◌++◌, map};
+ghost use Rattle.ca_value.specs.Seq.{list};
+ghost use Rattle.ca_term.specs.Kernel.{var, seq as seq_of};
+ghost use Rattle.ca_term.specs.View.{kernel, kernels_of};
+ghost use Rattle.ca_term.specs.declared.head.MakeKind.{MakeKind};
+ghost use Rattle.ca_term.specs.declared.head.SystemTask.{SystemTask};
+ghost use Rattle.ca_forms.specs.Channels.{made, started, whole, repeated};
+ghost use Rattle.ca_forms.specs.Depth.{depth_of};
+ghost use Rattle.ca_forms.specs.GivenView.{keyword_terms};
+ghost use Rattle.ca_forms.specs.WalkView.{terms_of};
+ghost use Rattle.ca_forms.specs.declared.error.CheckError.{CheckError};
+
+use crate::channels::Hidden;
+use crate::error::CheckError;
+use crate::fixed::{
+    apply, branch, followed, locals, made, made_of_one, nothing, over, pair, repeat, seq, started,
+    whole, with_last,
+};
+use crate::gathered::Made;
+use crate::given::Applied;
+use crate::operands::single;
+use ca_term::head::{Head, MakeKind, SeedKind, SystemTask, Transform};
+use ca_term::place::Place;
+use ca_value::builtin::Builtin;
+use ca_value::seq::{Seq, Text};
+use ca_value::value::Value;
+use std::alloc::Global;
+
+// The operands, and the keyword behind them.
+fn with_keyword(
+    alloc: Global,
+    operands: Seq<Made>,
+    keyword: Option<Text>,
+) -> Result<Seq<Made>, CheckError>
+    ensures ok { IfOk result (λ s. terms_of (list s) ≡ terms_of (list operands) ++ keyword_terms keyword) }
+    ensures err { IfErr result (λ e. e ≡ CheckError.OutOfMemory) }
+{
+    match keyword {
+        None => Ok(operands),
+        Some(name) => with_last(operands, Made::constant(Value::key(alloc, name)?)),
+    }
+}
+
+/// A new system task over names, and a keyword that it applies.
+#[tactic(auto, using(crate::proofs::FixedLaws::vars_and_keyword))]
+pub fn applying(
+    alloc: Global,
+    task: SystemTask,
+    numbers: &[u64],
+    keyword: Option<Text>,
+    place: Place,
+) -> Result<Made, CheckError>
+    ensures ok { IfOk result (λ t. kernel t ≡ started task (map var numbers.now ++ keyword_terms keyword) place) }
+    ensures small { IfOk result (λ t. depth_of (kernel t) ≤ 2) }
+    ensures err { IfErr result (λ e. e ≡ CheckError.OutOfMemory) }
+{
+    let operands = locals(alloc, numbers)?;
+    let operands = with_keyword(alloc, operands, keyword)?;
+    apply(alloc, Head::Spawn(SeedKind::System(task)), operands, place)
+}
+
+// What is done as often as the name `count` says, `index` being the next number.
+fn repeated(
+    alloc: Global,
+    count: u64,
+    index: u64,
+    job: Made,
+    place: Place,
+) -> Result<Made, CheckError>
+    requires number { index + 1 < 2 ^ 64 }
+    requires small { depth_of (kernel job) ≤ 2 }
+    ensures ok { IfOk result (λ t. kernel t ≡ repeated count index (kernel job) place) }
+    ensures err { IfErr result (λ e. e ≡ CheckError.OutOfMemory) }
+{
+    let test = over(alloc, Head::Builtin(Builtin::Less), &[index, count], place)?;
+    let next = over(alloc, Head::Builtin(Builtin::Inc), &[index], place)?;
+    let next = single(alloc, next)?;
+    let again = apply(alloc, Head::Recur, next, place)?;
+    let turn = followed(alloc, job, again)?;
+    let turn = branch(alloc, test, turn, nothing())?;
+    let turns = single(alloc, turn)?;
+    let body = seq(alloc, turns)?;
+    let start = single(alloc, whole(0))?;
+    repeat(alloc, index, start, body)
+}
+
+/// `(pipeline n t xf f z)`, behind the count of workers, the target, the source and whether to close.
+pub fn pipeline(
+    alloc: Global,
+    first: u64,
+    transform: Transform,
+    given: Applied,
+    place: Place,
+) -> Result<Hidden, CheckError>
+    requires { first + 8 < 2 ^ 64 }
+    ensures more { IfOk result (λ r. terms_of (list r.more) ≡ made MakeKind.Fixed (var first ∷ []) place ∷ made MakeKind.Fixed (var first ∷ []) place ∷ made MakeKind.Fixed (whole 1 ∷ []) place ∷ []) }
+    ensures body { IfOk result (λ r. kernel r.body ≡ seq_of (kernels_of (repeated first (first + 7) (started (SystemTask.Job transform given.function) (var (first + 4) ∷ keyword_terms given.keyword) place) place
+        ∷ started SystemTask.Feed (var (first + 2) ∷ var (first + 4) ∷ var (first + 5) ∷ []) place
+        ∷ started SystemTask.Collect (var (first + 5) ∷ var (first + 1) ∷ var (first + 3) ∷ var (first + 6) ∷ []) place
+        ∷ var (first + 6) ∷ []))) }
+    ensures err { IfErr result (λ e. e ≡ CheckError.OutOfMemory) }
+{
+    let more = pipes(alloc, first, place)?;
+    let Applied { function, keyword } = given;
+    let job = applying(
+        alloc,
+        SystemTask::Job(transform, function),
+        &[first + 4],
+        keyword,
+        place,
+    )?;
+    let jobs = repeated(alloc, first, first + 7, job, place)?;
+    let feed = started(
+        alloc,
+        SystemTask::Feed,
+        &[first + 2, first + 4, first + 5],
+        place,
+    )?;
+    let tasks = pair(alloc, jobs, feed)?;
+    let collect = started(
+        alloc,
+        SystemTask::Collect,
+        &[first + 5, first + 1, first + 3, first + 6],
+        place,
+    )?;
+    let tasks = with_last(tasks, collect)?;
+    let terms = with_last(tasks, Made::local(first + 6))?;
+    let body = seq(alloc, terms)?;
+    Ok(Hidden { more, body })
+}
+
+// The channels of jobs and of results, and the port that answers at the end.
+fn pipes(alloc: Global, workers: u64, place: Place) -> Result<Seq<Made>, CheckError>
+    ensures ok { IfOk result (λ s. terms_of (list s) ≡ made MakeKind.Fixed (var workers ∷ []) place ∷ made MakeKind.Fixed (var workers ∷ []) place ∷ made MakeKind.Fixed (whole 1 ∷ []) place ∷ []) }
+    ensures err { IfErr result (λ e. e ≡ CheckError.OutOfMemory) }
+{
+    let jobs = made(alloc, MakeKind::Fixed, &[workers], place)?;
+    let results = made(alloc, MakeKind::Fixed, &[workers], place)?;
+    let both = pair(alloc, jobs, results)?;
+    let answer = made_of_one(alloc, MakeKind::Fixed, place)?;
+    with_last(both, answer)
+}
