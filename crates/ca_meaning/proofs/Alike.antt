@@ -11,7 +11,7 @@ use Rattle.ca_term.specs.declared.fault.Fault.{Fault}
 use Rattle.ca_term.specs.declared.event.Ending.TheVariants.{Ended, Faulted}
 use Rattle.ca_term.specs.declared.event.Side.{Side}
 use Rattle.ca_term.specs.declared.head.RegisterName.{RegisterName}
-use Rattle.ca_term.specs.declared.head.SeedKind.{SeedKind}
+use Rattle.ca_term.specs.declared.event.TaskKind.{TaskKind}
 use Rattle.ca_term.specs.Operation.{OpView, WhatView, unbuffered, fixed, dropping, sliding, promise, timeout, mult, mix, publication, taking, putting, choosing, posting, making, spawning, closing, registering, printing}
 use Rattle.ca_term.specs.Program.{ProgramView}
 use Rattle.ca_term.specs.Event.{BranchView, EventView, made, spawned, done, met, parked, posted, settled, defaulted, closed, registered, printed, ticked, over as is_over, port_number}
@@ -265,7 +265,7 @@ same_made program s t d a p b q v w m n c f g i j x y o h k l =
     let mn = moment_once s.now w m n d k.0 l.0 (subst (λ z. IsMoment s.now z m) vw x.5) y.5 k.2 l.2 in
     λ r. made (ab r) (pq r) (vw r) (mn r)
 
-same_spawned : (program : ProgramView) (s : State) (t : ℕ) (d : Desk) (a u b w : ℕ) (c e : SeedKind) (m n : Option ℕ) → Same program s t d (spawned a u c m) (spawned b w e n)
+same_spawned : (program : ProgramView) (s : State) (t : ℕ) (d : Desk) (a u b w : ℕ) (c e : TaskKind) (m n : Option ℕ) → Same program s t d (spawned a u c m) (spawned b w e n)
 same_spawned program s t d a u b w c e m n cl f g i j x y o h k l =
     let ab = both a b t o h in
     let uw : u ≡ w = k.0 ∙ sym l.0 in

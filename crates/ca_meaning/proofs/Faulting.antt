@@ -7,7 +7,7 @@ use Rattle.ca_value.specs.Tree.{nil, int, port, none}
 use Rattle.ca_term.specs.declared.fault.Fault.TheVariants.{ZeroDivisor}
 use Rattle.ca_term.specs.declared.event.Side.TheVariants.{Take}
 use Rattle.ca_term.specs.declared.event.Ending.TheVariants.{Ended, Faulted}
-use Rattle.ca_term.specs.declared.head.SeedKind.TheVariants.{Go}
+use Rattle.ca_term.specs.declared.event.TaskKind.{TaskKind}
 use Rattle.ca_term.specs.Operation.{fixed, taking, go, SeedView}
 use Rattle.ca_term.specs.Event.{take_of, made, spawned, parked, settled, printed, over as is_over}
 use Rattle.ca_value.specs.Buffer.{fixed_buffer}
@@ -78,7 +78,7 @@ opens = (script main0, (main0, walk faulting 0 main0 refl, refl), refl)
 pub makes : Step faulting s0 (made 0 1 (fixed 1) None) s1
 makes = (main_task main0, s1.tasks, (refl, refl, (at_column 8, refl), refl), refl, refl, refl, goes faulting s0.tasks 0 (main_task main0) main0 (port 1) 2 refl (refl, (refl, refl)), refl)
 
-pub starts : Step faulting s1 (spawned 0 1 (Go 0) (Some 1)) s2
+pub starts : Step faulting s1 (spawned 0 1 TaskKind.Go (Some 1)) s2
 unfolding builtin_result
 starts = (
   main_task main1,

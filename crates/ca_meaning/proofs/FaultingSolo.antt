@@ -5,7 +5,7 @@ use Rattle.ca_value.specs.Tree.{nil, port}
 use Rattle.ca_term.specs.declared.fault.Fault.TheVariants.{ZeroDivisor}
 use Rattle.ca_term.specs.declared.event.Side.TheVariants.{Take}
 use Rattle.ca_term.specs.declared.event.Ending.TheVariants.{Ended, Faulted}
-use Rattle.ca_term.specs.declared.head.SeedKind.TheVariants.{Go}
+use Rattle.ca_term.specs.declared.event.TaskKind.{TaskKind}
 use Rattle.ca_term.specs.Operation.{fixed, taking}
 use Rattle.ca_term.specs.Event.{take_of, made, spawned, parked, settled, printed, over as is_over}
 use Rattle.ca_meaning.specs.Channel.{shut}
@@ -68,7 +68,7 @@ still6 = none_settles s6 others5 (Some (shut r)) None refl refl refl tt
 next0 : IsNext s0 d0 (made 0 1 (fixed 1) None) d1
 next0 = (picked d0 0 [], still0, picks s0 d0 0 [] refl refl refl, (picked d0 0 [], refl, refl, refl))
 
-next1 : IsNext s1 d1 (spawned 0 1 (Go 0) (Some 1)) d2
+next1 : IsNext s1 d1 (spawned 0 1 TaskKind.Go (Some 1)) d2
 next1 = (d1, still1, goes_on_lane s1 d1 0 1 refl (omega arith), (refl, refl))
 
 next2 : IsNext s2 d2 (parked 0 1 (take_of 1 ∷ [])) d3

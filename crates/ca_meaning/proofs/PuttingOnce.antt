@@ -7,7 +7,7 @@ use Rattle.ca_value.specs.Tree.{Tree, nil, bool, int, port, none, item}
 use Rattle.ca_term.specs.declared.event.Side.TheVariants.{Put}
 use Rattle.ca_term.specs.Operation.{unbuffered, fixed, taking, putting, posting, go, SeedView}
 use Rattle.ca_term.specs.declared.event.Ending.TheVariants.{Ended}
-use Rattle.ca_term.specs.declared.head.SeedKind.TheVariants.{Go}
+use Rattle.ca_term.specs.declared.event.TaskKind.{TaskKind}
 use Rattle.ca_term.specs.Event.{BranchView, take_of, put_of, made, spawned, done, met, parked, closed, printed, over as is_over}
 use Rattle.ca_value.specs.Buffer.{no_buffer, fixed_buffer}
 use Rattle.ca_meaning.specs.Channel.{Channel, new_channel}
@@ -106,7 +106,7 @@ makes_c = (main_task main0, s1.tasks, (refl, refl, (at_column 8, refl), refl), r
 pub makes_r : Step putting_once s1 (made 0 2 (fixed 1) None) s2
 makes_r = (main_task main1, s2.tasks, (refl, refl, (at_column 16, refl), refl), refl, refl, refl, goes putting_once s1.tasks 0 (main_task main1) main1 (port 2) 2 refl (refl, (refl, refl)), refl)
 
-pub starts : Step putting_once s2 (spawned 0 1 (Go 0) (Some 2)) s3
+pub starts : Step putting_once s2 (spawned 0 1 TaskKind.Go (Some 2)) s3
 starts = (
   main_task main2,
   seed,

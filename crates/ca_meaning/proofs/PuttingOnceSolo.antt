@@ -5,7 +5,7 @@ use Rattle.ca_value.specs.Builtins.{builtin_result}
 use Rattle.ca_value.specs.Tree.{bool, int, port}
 use Rattle.ca_term.specs.declared.event.Side.TheVariants.{Put}
 use Rattle.ca_term.specs.declared.event.Ending.TheVariants.{Ended}
-use Rattle.ca_term.specs.declared.head.SeedKind.TheVariants.{Go}
+use Rattle.ca_term.specs.declared.event.TaskKind.{TaskKind}
 use Rattle.ca_term.specs.Operation.{unbuffered, fixed, taking, putting, posting}
 use Rattle.ca_term.specs.Event.{take_of, put_of, made, spawned, done, met, parked, closed, printed, over as is_over}
 use Rattle.ca_meaning.specs.Channel.{shut}
@@ -98,7 +98,7 @@ next0 = (picked d0 0 [], still0, picks s0 d0 0 [] refl refl refl, (picked d0 0 [
 next1 : IsNext s1 d1 (made 0 2 (fixed 1) None) d2
 next1 = (d1, still1, goes_on_lane s1 d1 0 1 refl (omega arith), (d1, refl, refl, refl))
 
-next2 : IsNext s2 d2 (spawned 0 1 (Go 0) (Some 2)) d3
+next2 : IsNext s2 d2 (spawned 0 1 TaskKind.Go (Some 2)) d3
 next2 = (d2, still2, goes_on_lane s2 d2 0 2 refl (omega arith), (refl, refl))
 
 next3 : IsNext s3 d3 (parked 0 1 (take_of 1 ∷ [])) d4

@@ -1,5 +1,5 @@
 -- A system task has one rest, and stands there at an operation, its end or a fault. It starts no go block.
-use Rattle.std.proofs.Common.{◌≡◌, ◌≢◌, ℕ, List, [], ◌∷◌, ◌++◌, refl, sym, ap, ◌∙◌, subst, Bool, true, false, not, Option, Some, None}
+use Rattle.std.proofs.Common.{◌≡◌, ◌≢◌, ℕ, [], ◌∷◌, ◌++◌, refl, sym, ap, ◌∙◌, subst, Bool, true, false, not, Option, Some, None}
 use Rattle.std.specs.Prelude.{Ok, Err}
 use Rattle.ca_value.specs.Tree.{Tree, Trees, bool, vector, port, item}
 use Rattle.ca_term.specs.declared.place.Place.{Place}

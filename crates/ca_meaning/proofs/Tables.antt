@@ -38,13 +38,14 @@ merge-empty p = refl
 
 -- a nil among the outputs
 job-nil : outputs_of Mapcat seven (vector (item nil none)) ≡ no_outputs NilPut
-unfolding builtin_result
 job-nil = refl
 
--- a mapcat's function gave nil
+-- a mapcat's function gave nil, and what is neither nil nor a vector
 job-none : outputs_of Mapcat seven nil ≡ outputs none
-unfolding builtin_result
 job-none = refl
+
+job-number : outputs_of Mapcat seven eight ≡ no_outputs WrongKind
+job-number = refl
 
 -- Each table followed from a new task to its end.
 pub mult_worked : (program : ProgramView) (p : Place) → Works program p SystemTask.Mult (port 1 ∷ port 2 ∷ port 3 ∷ []) (mult_rows p)

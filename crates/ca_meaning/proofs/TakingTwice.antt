@@ -6,7 +6,7 @@ use Rattle.ca_value.specs.Builtins.{builtin_result}
 use Rattle.ca_value.specs.Tree.{Tree, nil, bool, int, port, none, item}
 use Rattle.ca_term.specs.declared.event.Side.TheVariants.{Put}
 use Rattle.ca_term.specs.declared.event.Ending.TheVariants.{Ended}
-use Rattle.ca_term.specs.declared.head.SeedKind.TheVariants.{Go}
+use Rattle.ca_term.specs.declared.event.TaskKind.{TaskKind}
 use Rattle.ca_term.specs.Operation.{OpView, unbuffered, fixed, taking, putting, go, SeedView}
 use Rattle.ca_term.specs.Event.{BranchView, take_of, put_of, made, spawned, done, met, parked, over as is_over}
 use Rattle.ca_value.specs.Buffer.{no_buffer, fixed_buffer}
@@ -115,7 +115,7 @@ makes_c = (main_task main0, s1.tasks, (refl, refl, (at_column 8, refl), refl), r
 makes_one : Step taking_twice s1 (made 0 2 (fixed 1) None) s2
 makes_one = (main_task main1, s2.tasks, (refl, refl, (at_column 16, refl), refl), refl, refl, refl, goes taking_twice s1.tasks 0 (main_task main1) main1 (port 2) 2 refl (refl, (refl, refl)), refl)
 
-starts_one : Step taking_twice s2 (spawned 0 1 (Go 0) (Some 2)) s3
+starts_one : Step taking_twice s2 (spawned 0 1 TaskKind.Go (Some 2)) s3
 starts_one = (
   main_task main2,
   seed1,
@@ -133,7 +133,7 @@ starts_one = (
 makes_two : Step taking_twice s3 (made 0 3 (fixed 1) None) s4
 makes_two = (main_task main3, s4.tasks, (refl, refl, (at_column 28, refl), refl), refl, refl, refl, goes taking_twice s3.tasks 0 (main_task main3) main3 (port 3) 2 refl (refl, (refl, refl)), refl)
 
-starts_two : Step taking_twice s4 (spawned 0 2 (Go 1) (Some 3)) s5
+starts_two : Step taking_twice s4 (spawned 0 2 TaskKind.Go (Some 3)) s5
 starts_two = (
   main_task main4,
   seed2,

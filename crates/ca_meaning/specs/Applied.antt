@@ -4,7 +4,7 @@ use Rattle.std.specs.Prelude.{◌≡◌, Result, Ok, Err, Bool, false, ◌||◌,
 use Rattle.ca_value.specs.declared.builtin.Builtin.{Builtin}
 use Rattle.ca_value.specs.Outcome.{Outcome}
 use Rattle.ca_value.specs.Builtins.{builtin_result}
-use Rattle.ca_value.specs.Tree.{Tree, Trees, none, item}
+use Rattle.ca_value.specs.Tree.{Tree, Trees, nil, vector, none, item}
 use Rattle.ca_term.specs.declared.place.Place.{Place}
 use Rattle.ca_term.specs.declared.fault.Fault.{Fault}
 use Rattle.ca_term.specs.declared.fault.Fault.TheVariants.{WrongKind, NilPut}
@@ -19,7 +19,7 @@ use Rattle.ca_meaning.specs.Operands.{is_nil, truth}
 use Rattle.ca_meaning.specs.Asking.{task_fault}
 use Rattle.ca_meaning.specs.Body.{BodyView, At, local, at_op, ended, faulted, nowhere, at, new_body}
 use Rattle.ca_meaning.specs.Rest.{Rest}
-use Rattle.ca_meaning.specs.Asks.{one_of, two_of, trees_in}
+use Rattle.ca_meaning.specs.Asks.{one_of, two_of}
 
 -- A value, or a fault. The fault is one of the form that applies the function, wherever in the function it arose.
 abbrev pub Returned : Type 0
@@ -64,15 +64,17 @@ has_nil (item v vs) = is_nil v || has_nil vs
 abbrev pub without_nil : Trees → Outputs
 without_nil ys = cond (has_nil ys) (no_outputs NilPut) (outputs ys)
 
-abbrev pub items_output : Outcome → Outputs
-items_output (Ok ys) = without_nil (trees_in ys)
-items_output (Err f) = no_outputs (task_fault f)
+-- the items of a vector; nil has none, and nothing else has any
+abbrev pub items_output : Tree → Outputs
+items_output (vector ys) = without_nil ys
+items_output nil = outputs none
+items_output w = no_outputs WrongKind
 
 -- of the value v, where the function gave w
 abbrev pub outputs_of : Transform → Tree → Tree → Outputs
 outputs_of Map v w = without_nil (one_of w)
 outputs_of Filter v w = without_nil (cond (truth w) (one_of v) none)
-outputs_of Mapcat v w = items_output (builtin_result Builtin.Items (one_of w))
+outputs_of Mapcat v w = items_output w
 
 abbrev pub outputs_by : Transform → Tree → Returned → Outputs
 outputs_by x v (Ok w) = outputs_of x v w

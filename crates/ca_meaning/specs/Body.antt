@@ -2,7 +2,6 @@
 -- replaced by the answer.
 use Rattle.std.specs.Prelude.{ℕ, suc, ◌-◌, List, [], ◌∷◌, ◌++◌, cond, nat_le, Option, Some, None, Result, Ok, Err}
 use Rattle.ca_value.specs.Tree.{Tree, Trees, nil, text as line_text}
-use Rattle.ca_value.specs.Printed.{plain_items}
 use Rattle.ca_value.specs.Outcome.{Outcome}
 use Rattle.ca_value.specs.Builtins.{builtin_result}
 use Rattle.ca_term.specs.declared.place.Place.{Place}
@@ -18,6 +17,7 @@ use Rattle.ca_meaning.specs.Redex.{redex, replace, value_of, values_of, is_ready
 use Rattle.ca_meaning.specs.Started.{named, names_of, procedure_at, started}
 use Rattle.ca_meaning.specs.Operands.{truth, first_of, second_of, values_in}
 use Rattle.ca_meaning.specs.Asking.{task_fault, too_large, bad_alts, alts_of, made_of, bad_operands, seed_of, bad_arguments}
+pub use Rattle.ca_term.specs.Asking.{line_of}
 
 -- A term, its turns since the last event (calls and recurs), the calls that it stands in, and the fault that a
 -- builtin of it came to.
@@ -36,10 +36,6 @@ pub data At : Type 0 where
   faulted : Fault → Place → At
   -- at a name without a value, or at a recur without its loop
   nowhere : At
-
--- the values' plain texts joined by a space, and a line feed (Clojure reference, `println`)
-abbrev pub line_of : Trees → List ℕ
-line_of vs = plain_items vs ++ 10 ∷ []
 
 -- at the operation, unless an operand faults
 abbrev pub asking : Place → Option Fault → OpView → At

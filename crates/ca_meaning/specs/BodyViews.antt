@@ -1,5 +1,6 @@
 -- The body that a `Body` stands for, and what the code tells of where it stands.
-use Rattle.std.specs.Prelude.{Bool, true, false}
+use Rattle.std.specs.Prelude.{◌≡◌, Bool, true, false}
+use Rattle.ca_term.specs.Operation.{WantView}
 use Rattle.ca_term.specs.View.{kernel}
 use Rattle.ca_meaning.specs.Body.{BodyView, At, local, at_op, ended, faulted, nowhere}
 use Rattle.ca_meaning.specs.BodyParts.{BodyParts}
@@ -18,3 +19,7 @@ stand_of nowhere = Stand.Ended
 abbrev pub is_at_op : At → Bool
 is_at_op (at_op w) = true
 is_at_op a = false
+
+-- where it is at an operation, it is at that one
+abbrev pub AtNoOther : At → WantView → Type 0
+AtNoOther a w = is_at_op a ≡ true → a ≡ at_op w

@@ -5,10 +5,8 @@ use Rattle.ca_value.specs.Printed.{readable_text, readable_items, quoted}
 use Rattle.ca_term.specs.declared.event.Side.{Side}
 use Rattle.ca_term.specs.declared.event.Side.TheVariants.{Take, Put}
 use Rattle.ca_term.specs.declared.event.Ending.TheVariants.{Ended, Faulted}
-use Rattle.ca_term.specs.declared.head.SeedKind.{SeedKind}
-use Rattle.ca_term.specs.declared.head.SeedKind.TheVariants.{Go, System}
-use Rattle.ca_term.specs.declared.head.SystemTask.{SystemTask}
-use Rattle.ca_term.specs.declared.head.SystemTask.TheVariants.{Mult, Deliver, Mix, Pub, Pipe, Merge, Onto, Feed, Job, Collect}
+use Rattle.ca_term.specs.declared.event.TaskKind.{TaskKind}
+use Rattle.ca_term.specs.declared.event.TaskKind.TheVariants.{Go, Mult, Deliver, Mix, Pub, Pipe, Merge, Onto, Feed, Job, Collect}
 use Rattle.ca_term.specs.declared.head.RegisterName.{RegisterName}
 use Rattle.ca_term.specs.declared.head.RegisterName.TheVariants.{Tap, Untap, UntapAll, Taps, Admix, Unmix, UnmixAll, Toggle, SoloMode, Modes, Find, Place, Drop, Clear, Topics}
 use Rattle.ca_term.specs.Operation.{WhatView, unbuffered, fixed, dropping, sliding, promise, timeout, mult, mix, publication}
@@ -48,21 +46,18 @@ what_text (mult source) moment = codes "mult" ⋅ port_text (port_number source)
 what_text (mix out changes) moment = codes "mix" ⋅ port_text (port_number out) ⋅ port_text (port_number changes)
 what_text (publication source) moment = codes "pub" ⋅ port_text (port_number source)
 
-abbrev pub system_text : SystemTask → List ℕ
-system_text Mult = codes "mult"
-system_text Deliver = codes "deliver"
-system_text Mix = codes "mix"
-system_text (Pub f) = codes "pub"
-system_text Pipe = codes "pipe"
-system_text Merge = codes "merge"
-system_text Onto = codes "onto"
-system_text Feed = codes "feed"
-system_text (Job xf f) = codes "job"
-system_text Collect = codes "collect"
-
-abbrev pub kind_text : SeedKind → List ℕ
-kind_text (Go n) = codes "go"
-kind_text (System kind) = system_text kind
+abbrev pub kind_text : TaskKind → List ℕ
+kind_text Go = codes "go"
+kind_text Mult = codes "mult"
+kind_text Deliver = codes "deliver"
+kind_text Mix = codes "mix"
+kind_text Pub = codes "pub"
+kind_text Pipe = codes "pipe"
+kind_text Merge = codes "merge"
+kind_text Onto = codes "onto"
+kind_text Feed = codes "feed"
+kind_text Job = codes "job"
+kind_text Collect = codes "collect"
 
 abbrev pub name_text : RegisterName → List ℕ
 name_text Tap = codes "tap"

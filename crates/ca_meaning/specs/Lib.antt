@@ -44,3 +44,5 @@ pub mod Worked
 pub mod WorkedTables
 pub mod Texts
 pub mod Journal
+pub mod Shown
+pub mod RunValues

@@ -1,5 +1,5 @@
 -- A mult, and the task that delivers one value to one tap. (core.async API reference: `mult`, `tap`.)
-use Rattle.std.specs.Prelude.{ℕ, zero, suc, List, [], ◌∷◌, Bool, true, filter, map as each_of, cond}
+use Rattle.std.specs.Prelude.{ℕ, zero, suc, List, [], ◌∷◌, true, filter, map as each_of, cond}
 use Rattle.ca_value.specs.Tree.{Tree, bool, port, item}
 use Rattle.ca_term.specs.declared.head.SystemTask.{SystemTask}
 use Rattle.ca_term.specs.declared.head.RegisterName.TheVariants.{Taps, Untap}

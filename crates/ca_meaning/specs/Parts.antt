@@ -1,13 +1,9 @@
 -- Tests of the parts of a term that the code makes.
-use Rattle.std.specs.Prelude.{ℕ, zero, suc, pos, Bool, true, false, not, ◌||◌, cond, IsTrue, ◌==◌, Option, Some, None}
-use Rattle.ca_value.specs.Tree.{Tree, Trees, nil, int}
+use Rattle.std.specs.Prelude.{ℕ, suc, Bool, true, false, not, ◌||◌, cond, IsTrue, Option, Some, None}
 use Rattle.ca_value.specs.Builtins.{admits}
-use Rattle.ca_term.specs.declared.head.MakeKind.{MakeKind}
 use Rattle.ca_term.specs.declared.head.Head.TheVariants.{Recur, Builtin}
-use Rattle.ca_term.specs.Operation.{WhatView, unbuffered, fixed, dropping, sliding, promise, timeout, mult, mix, publication}
 use Rattle.ca_term.specs.Fits.{count_terms}
 use Rattle.ca_term.specs.Kernel.{Kernel, Kernels, const, var, branch, bind, loop, seq, frame, turn, apply, none, item}
-use Rattle.ca_meaning.specs.Operands.{first_of, second_of, rest_of}
 use Rattle.ca_meaning.specs.Redex.{is_value, all_values, is_open, is_ready_recur}
 
 -- the first of several terms isn't a value yet
@@ -32,33 +28,6 @@ is_whole (seq ts) = not (is_open_sequence ts)
 is_whole (frame body) = is_value body
 is_whole (turn ns text now) = is_value now || is_ready_recur now
 is_whole (apply h ts p) = all_values ts
-
--- the operand at the place
-abbrev pub operand_at : ℕ → Trees → Tree
-operand_at zero vs = first_of vs
-operand_at (suc n) vs = operand_at n (rest_of vs)
-
--- nil and 0 are no buffer
-abbrev pub is_unbuffered : Tree → Bool
-is_unbuffered nil = true
-is_unbuffered (int (pos zero)) = true
-is_unbuffered v = false
-
--- what a Make makes with the number that it takes
-abbrev pub sized_with : ℕ → WhatView
-sized_with n = cond (n == 0) unbuffered (fixed n)
-
-abbrev pub made_with : MakeKind → ℕ → Trees → WhatView
-made_with MakeKind.Unbuffered n vs = unbuffered
-made_with MakeKind.Sized n vs = sized_with n
-made_with MakeKind.Fixed n vs = fixed n
-made_with MakeKind.Dropping n vs = dropping n
-made_with MakeKind.Sliding n vs = sliding n
-made_with MakeKind.Promise n vs = promise
-made_with MakeKind.Timeout n vs = timeout n
-made_with MakeKind.Mult n vs = mult (first_of vs)
-made_with MakeKind.Mix n vs = mix (first_of vs) (second_of vs)
-made_with MakeKind.Pub n vs = publication (first_of vs)
 
 -- a builtin has as many operands as it takes
 abbrev pub IsAdmitted : Kernel → Type 0

@@ -1,6 +1,6 @@
 -- A publication: each value goes to the topic that its function makes of it. (core.async API reference: `pub`,
 -- `sub`.)
-use Rattle.std.specs.Prelude.{ℕ, List, Option, Some, None, Result, Ok, Err, cond}
+use Rattle.std.specs.Prelude.{ℕ, List, Option, Some, None, Ok, Err, cond}
 use Rattle.ca_value.specs.Tree.{Tree, vector, port, none, item}
 use Rattle.ca_term.specs.declared.head.PlainFunction.{PlainFunction}
 use Rattle.ca_term.specs.declared.head.RegisterName.TheVariants.{Find, Topics}

@@ -1,26 +1,17 @@
 -- The direct meaning of a term: the place where it goes on, and the whole term with another there.
 -- No term is ever taken apart into pieces that are kept.
 use Rattle.std.specs.Prelude.{Bool, true, false, cond, not, ◌&&◌}
-use Rattle.ca_value.specs.Tree.{Tree, Trees, nil, none as no_values, item as value_item}
 use Rattle.ca_term.specs.declared.head.Head.TheVariants.{Recur}
 use Rattle.ca_term.specs.Kernel.{Kernel, Kernels, Bindings, const, var, branch, bind, loop, seq, frame, turn, apply, none, item, empty, binding}
+pub use Rattle.ca_term.specs.Operands.{value_of, values_of}
 
 abbrev pub is_value : Kernel → Bool
 is_value (const v) = true
 is_value t = false
 
--- the value of a term that is one
-abbrev pub value_of : Kernel → Tree
-value_of (const v) = v
-value_of t = nil
-
 abbrev pub all_values : Kernels → Bool
 all_values none = true
 all_values (item t ts) = is_value t && all_values ts
-
-abbrev pub values_of : Kernels → Trees
-values_of none = no_values
-values_of (item t ts) = value_item (value_of t) (values_of ts)
 
 -- the first binding's term isn't a value yet
 abbrev pub is_open : Bindings → Bool

@@ -114,6 +114,15 @@ abbrev pub all_channels : (Tree → Bool) → TreePairs → Bool
 all_channels is_channel empty = true
 all_channels is_channel (pair c m ps) = is_channel c && all_channels is_channel ps
 
+abbrev pub names_channel : ℕ → TreePairs → Bool
+names_channel c empty = false
+names_channel c (pair k m ps) = cond (eqb c (port_number k)) true (names_channel c ps)
+
+-- no two keys name one channel
+abbrev pub channels_differ : TreePairs → Bool
+channels_differ empty = true
+channels_differ (pair k m ps) = not (names_channel (port_number k) ps) && channels_differ ps
+
 abbrev pub source_value : Source → Tree
 source_value x = vector (item (port x.channel) (item (bool x.mute) (item (bool x.pause) (item (bool x.solo) none))))
 

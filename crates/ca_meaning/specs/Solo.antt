@@ -1,5 +1,5 @@
 -- The schedule with one worker: which of the free choices it makes, and when it asks the clock.
-use Rattle.std.specs.Prelude.{◌≡◌, ◌≢◌, ◌⊎◌, ℕ, suc, ◌+◌, ◌-◌, ◌%◌, ◌<◌, ◌≤◌, List, [], ◌∷◌, ◌++◌, length, slice_get, Option, Some, None, false, cond, eqb, nat_lt}
+use Rattle.std.specs.Prelude.{◌≡◌, ◌≢◌, ◌⊎◌, ℕ, suc, ◌+◌, ◌-◌, ◌%◌, ◌<◌, ◌≤◌, List, [], ◌∷◌, ◌++◌, length, slice_get, Option, Some, None, Bool, true, false, cond, eqb, nat_lt}
 use Rattle.ca_term.specs.declared.event.Side.TheVariants.{Take, Put}
 use Rattle.ca_term.specs.Operation.{OpView, choosing}
 use Rattle.ca_term.specs.Program.{ProgramView}
@@ -179,3 +179,12 @@ pub record Solo (program : ProgramView) (readings : List ℕ) (journal : List Ev
   pub opens : Opening program opening
   pub steps : SoloSteps program opening (opening_desk readings) journal state desk
   pub none_left : desk.readings ≡ []
+
+-- the event makes a timeout, which alone has a moment
+abbrev pub makes_timeout : EventView → Bool
+makes_timeout (made t p what (Some m)) = true
+makes_timeout e = false
+
+abbrev pub NoTimeouts : List EventView → Type 0
+NoTimeouts [] = Unit {0}
+NoTimeouts (e ∷ es) = (makes_timeout e ≡ false) × NoTimeouts es

@@ -1,7 +1,7 @@
 -- A task's body: a script's text, or a system task. Where it stands, the body with its operation
 -- replaced by the answer, and the body after all its local steps.
 use Rattle.std.specs.Prelude.{◌≡◌, ℕ, [], ◌∷◌, ◌++◌}
-use Rattle.ca_value.specs.Tree.{Tree, Trees, port, vector, none, item}
+use Rattle.ca_value.specs.Tree.{Tree, port, vector, none, item}
 use Rattle.ca_term.specs.Operation.{OpView, SeedView, go, system, choosing}
 use Rattle.ca_term.specs.Program.{ProgramView}
 use Rattle.ca_meaning.specs.Body.{BodyView, At, at_op, at, fill, new_body}

@@ -7,8 +7,7 @@ use Rattle.ca_value.specs.Tree.{Tree, Trees, nil, port}
 use Rattle.ca_term.specs.declared.place.Place.{Place}
 use Rattle.ca_term.specs.declared.fault.Fault.{Fault}
 use Rattle.ca_term.specs.declared.head.RegisterName.{RegisterName}
-use Rattle.ca_term.specs.declared.head.SeedKind.{SeedKind}
-use Rattle.ca_term.specs.declared.head.SeedKind.TheVariants.{Go, System}
+use Rattle.ca_term.specs.declared.event.TaskKind.{TaskKind}
 use Rattle.ca_term.specs.declared.head.SystemTask.{SystemTask}
 use Rattle.ca_term.specs.declared.head.SystemTask.TheVariants.{Onto, Collect}
 use Rattle.ca_term.specs.Operation.{WhatView, unbuffered, fixed, dropping, sliding, promise, timeout, mult, mix, publication, SeedView, go, system, making, spawning, registering, printing}
@@ -61,9 +60,22 @@ MakeStep program s t p what moment s2 =
       now = unwrap_or moment s.now;
     })
 
-abbrev pub kind_of : SeedView → SeedKind
-kind_of (go n values result place) = Go n
-kind_of (system kind values place) = System kind
+-- a system task's kind without its function
+abbrev pub kind_of_system : SystemTask → TaskKind
+kind_of_system SystemTask.Mult = TaskKind.Mult
+kind_of_system SystemTask.Deliver = TaskKind.Deliver
+kind_of_system SystemTask.Mix = TaskKind.Mix
+kind_of_system (SystemTask.Pub f) = TaskKind.Pub
+kind_of_system SystemTask.Pipe = TaskKind.Pipe
+kind_of_system SystemTask.Merge = TaskKind.Merge
+kind_of_system Onto = TaskKind.Onto
+kind_of_system SystemTask.Feed = TaskKind.Feed
+kind_of_system (SystemTask.Job xf f) = TaskKind.Job
+kind_of_system Collect = TaskKind.Collect
+
+abbrev pub kind_of : SeedView → TaskKind
+kind_of (go n values result place) = TaskKind.Go
+kind_of (system kind values place) = kind_of_system kind
 
 -- the last of the values, which is a port
 abbrev pub last_port : List Tree → Option ℕ
@@ -82,7 +94,7 @@ result_of (go n values result place) = Some result
 result_of (system kind values place) = result_of_system kind values
 
 -- task t starts the new task u
-abbrev pub SpawnStep : ProgramView → State → ℕ → ℕ → SeedKind → Option ℕ → State → Type 0
+abbrev pub SpawnStep : ProgramView → State → ℕ → ℕ → TaskKind → Option ℕ → State → Type 0
 SpawnStep program s t u kind result s2 =
     (x : Task) × (seed : SeedView) × (tasks : Tasks) × (b : TaskBody)
     × Stands s t (spawning seed) x

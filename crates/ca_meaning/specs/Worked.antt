@@ -7,7 +7,7 @@ use Rattle.ca_term.specs.declared.fault.Fault.{Fault}
 use Rattle.ca_term.specs.declared.fault.Fault.TheVariants.{ZeroDivisor}
 use Rattle.ca_term.specs.declared.event.Side.TheVariants.{Take, Put}
 use Rattle.ca_term.specs.declared.event.Ending.TheVariants.{Ended, Faulted}
-use Rattle.ca_term.specs.declared.head.SeedKind.TheVariants.{Go}
+use Rattle.ca_term.specs.declared.event.TaskKind.{TaskKind}
 use Rattle.ca_term.specs.Operation.{unbuffered, fixed, timeout, putting}
 use Rattle.ca_term.specs.Program.{ProgramView}
 use Rattle.ca_term.specs.Event.{take_of, put_of, EventView, made, spawned, done, met, parked, settled, closed, printed, ticked, over}
@@ -31,7 +31,7 @@ abbrev pub put_and_take : List EventView
 put_and_take =
     made 0 1 unbuffered None
     ∷ made 0 2 (fixed 1) None
-    ∷ spawned 0 1 (Go 0) (Some 2)
+    ∷ spawned 0 1 TaskKind.Go (Some 2)
     ∷ parked 0 1 (take_of 1 ∷ [])
     ∷ met 1 0 Put 1 (int (pos 42)) 1 0
     ∷ done 1 0 (put_of 2 (bool true)) (bool true)
@@ -82,7 +82,7 @@ timed_out_lines =
 abbrev pub go_faulted : List EventView
 go_faulted =
     made 0 1 (fixed 1) None
-    ∷ spawned 0 1 (Go 0) (Some 1)
+    ∷ spawned 0 1 TaskKind.Go (Some 1)
     ∷ parked 0 1 (take_of 1 ∷ [])
     ∷ over 1 (Faulted ZeroDivisor (record { line = 1; column = 12 }) (Some (record { n = 1 })))
     ∷ settled 1 0 Take 1 nil
@@ -125,9 +125,9 @@ abbrev pub first_taker : List EventView
 first_taker =
     made 0 1 unbuffered None
     ∷ made 0 2 (fixed 1) None
-    ∷ spawned 0 1 (Go 0) (Some 2)
+    ∷ spawned 0 1 TaskKind.Go (Some 2)
     ∷ made 0 3 (fixed 1) None
-    ∷ spawned 0 2 (Go 1) (Some 3)
+    ∷ spawned 0 2 TaskKind.Go (Some 3)
     ∷ parked 1 1 (take_of 1 ∷ [])
     ∷ parked 2 2 (take_of 1 ∷ [])
     ∷ met 0 0 Put 1 (int (pos 42)) 1 0

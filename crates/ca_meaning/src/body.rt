@@ -25,7 +25,7 @@ use std::marker::Model;
 use std::mem;
 
 /// Where a body stands: it goes on by a local step, or it stands at an operation, or it is over.
-#[derive(Clone, Copy, PartialEq, Eq, Debug)]
+#[derive(Clone, Copy)]
 pub enum Stand {
     Local,
     AtOp,
@@ -34,7 +34,7 @@ pub enum Stand {
 }
 
 /// A fault, and the place of the form that came to it.
-#[derive(Clone, Copy, PartialEq, Eq, Debug)]
+#[derive(Clone, Copy)]
 pub struct FaultAt {
     pub fault: Fault,
     pub place: Place,
@@ -148,6 +148,6 @@ impl Body {
     fn is_local(&self) -> bool
         ensures { IsTrue result ↔ (at (body_view self.now) ≡ local) }
     {
-        self.at() == Stand::Local
+        matches!(self.at(), Stand::Local)
     }
 }

@@ -1,6 +1,6 @@
 ghost use Rattle.std.specs.Prelude.{◌≡◌, ◌++◌, ◌∷◌, [], IsTrue, IfOk, None, cond, option_map};
 ghost use Rattle.ca_value.specs.Seq.{list};
-ghost use Rattle.ca_value.specs.View.{view};
+ghost use Rattle.ca_value.specs.View.{view, trees};
 ghost use Rattle.ca_value.specs.Builtins.{admits, builtin_result};
 ghost use Rattle.ca_term.specs.Fits.{count_terms};
 ghost use Rattle.ca_term.specs.Kernel.{const, apply, frame};
@@ -9,25 +9,24 @@ ghost use Rattle.ca_term.specs.View.{kernel, kernels, bindings, founds};
 ghost use Rattle.ca_meaning.specs.Redex.{value_of, values_of};
 ghost use Rattle.ca_meaning.specs.Operands.{truth, values_in};
 ghost use Rattle.ca_meaning.specs.Started.{procedure_at, started};
-ghost use Rattle.ca_meaning.specs.Asking.{task_fault};
 ghost use Rattle.ca_meaning.specs.Body.{contract, after_let, after_loop, after_do, after_turn, after_apply, value_in, failed, fault_of};
 ghost use Rattle.ca_meaning.specs.Parts.{IsAdmitted, recur_operands};
 
 use crate::body::FaultAt;
-use crate::operands::{is_true, value_or, values};
 use crate::started::{loop_text, names_of, text_with};
+use ca_asking::judging::task_fault;
+use ca_asking::operands::{AsOperand, copies, is_true};
 use ca_term::copy::{copy_found, copy_names, copy_terms};
-use ca_term::fault::Fault;
 use ca_term::head::Head;
 use ca_term::place::Place;
 use ca_term::program::Program;
 use ca_term::put::bindings_with;
 use ca_term::term::{Binding, Found, Term};
 use ca_value::builtin::{Builtin, apply_builtin};
-use ca_value::fault::{ApplyError, ValueFault};
+use ca_value::fault::ApplyError;
 use ca_value::memory::OutOfMemory;
 use ca_value::seq::Seq;
-use ca_value::value::Value;
+use ca_value::value::{Items, Value};
 use std::alloc::Global;
 
 // What a local step makes of a redex, and the fault that a builtin came to.
@@ -84,7 +83,7 @@ fn contracted_if(
     ensures { IfOk result (λ t. kernel t ≡ cond (truth (value_of (kernel test.now))) (kernel then.now) (kernel otherwise.now)) }
 {
     let nil = Value::Nil;
-    if is_true(value_or(test, &nil)) {
+    if is_true(test.value(&nil)) {
         then.copy(alloc)
     } else {
         otherwise.copy(alloc)
@@ -99,7 +98,7 @@ fn contracted_let(alloc: Global, rest: &Seq<Binding>, body: &Term) -> Result<Ter
         return body.copy(alloc);
     };
     let nil = Value::Nil;
-    let value = value_or(&first.term, &nil);
+    let value = first.term.value(&nil);
     let later = bindings_with(alloc, later, first.name, value)?;
     let body = body.with(alloc, first.name, value)?;
     Ok(Term::Let(later, Box::new(alloc, body)?))
@@ -121,7 +120,7 @@ fn contracted_loop(
         return Ok(Term::Turn(names_of(alloc, known)?, again, now));
     };
     let nil = Value::Nil;
-    let value = value_or(&first.term, &nil);
+    let value = first.term.value(&nil);
     let others = bindings_with(alloc, later, first.name, value)?;
     Ok(Term::Loop(found_more(alloc, known, first.name, value)?, others, again))
 }
@@ -226,6 +225,13 @@ fn unchanged(
     Ok(Term::Apply(head, copy_terms(alloc, operands.as_slice())?, place))
 }
 
+// Copies of the operands' values.
+fn values(alloc: Global, operands: &Seq<Term>) -> Result<Items, OutOfMemory>
+    ensures { IfOk result (λ s. trees (list s) ≡ values_of (kernels (list operands.now))) }
+{
+    copies(alloc, operands.as_slice())
+}
+
 // A builtin's value, or its fault.
 fn evaluated(
     alloc: Global,
@@ -237,7 +243,7 @@ fn evaluated(
     ensures term { IfOk result (λ c. kernel c.term ≡ const (value_in (builtin_result builtin (values_of (kernels (list operands.now)))))) }
     ensures fault { IfOk result (λ c. c.fault ≡ failed place (builtin_result builtin (values_of (kernels (list operands.now))))) }
 {
-    let args = values(alloc, operands.as_slice())?;
+    let args = values(alloc, operands)?;
     match apply_builtin(alloc, builtin, args) {
         Ok(value) => Ok(Contractum::of(Term::Const(value))),
         Err(ApplyError::Fault(fault)) => Ok(Contractum {
@@ -248,20 +254,6 @@ fn evaluated(
             }),
         }),
         Err(ApplyError::OutOfMemory) => Err(OutOfMemory),
-    }
-}
-
-// A builtin's fault, as a task's.
-fn task_fault(fault: ValueFault) -> Fault
-    ensures { result ≡ task_fault fault }
-{
-    match fault {
-        ValueFault::Overflow => Fault::Overflow,
-        ValueFault::ZeroDivisor => Fault::ZeroDivisor,
-        ValueFault::WrongKind => Fault::WrongKind,
-        ValueFault::OutOfRange => Fault::OutOfRange,
-        ValueFault::TooHeavy => Fault::TooHeavy,
-        ValueFault::TooNested => Fault::TooNested,
     }
 }
 

@@ -8,5 +8,7 @@ pub mod ends;
 pub mod solo;
 pub mod states;
 pub mod systems;
+pub mod texts;
+pub mod values;
 pub mod waits;
 pub mod worked;

@@ -5,24 +5,19 @@
 //! takes the place of an operation. A run is a list of events that lead from the opening state to a state,
 //! one by one. Nothing here is ever cut into pieces: all compiled code is measured against this crate.
 //!
-//! Stands on `ca_value` and `ca_term`. Start with `specs/Redex.antt`, `specs/Body.antt` and
+//! Stands on `ca_value`, `ca_term` and, for what an operation asks for, `ca_asking`. Start with `specs/Redex.antt`, `specs/Body.antt` and
 //! `specs/Steps.antt`, then `body`.
 #![tactic(auto)]
 
-mod asking;
+pub mod beginning;
 pub mod body;
 mod contract;
-pub mod ending;
 pub mod laws;
-mod line;
-mod making;
-mod modes;
-mod operands;
 pub mod redex;
 pub mod replace;
 pub mod rest;
 pub mod row;
 mod standing;
-mod started;
+pub mod started;
 pub mod text;
 mod want;

@@ -6,13 +6,13 @@ ghost use Rattle.ca_meaning.specs.Redex.{values_of};
 ghost use Rattle.ca_meaning.specs.Body.{asking, standing, standing_with, standing_turn, at_turn, at_call, turns_after, depth_after};
 ghost use Rattle.ca_meaning.specs.BodyViews.{stand_of};
 
-use crate::asking::{alts_fault, size_fault, spawn_fault};
 use crate::body::Stand;
-use crate::line::line_fault;
-use crate::making::number_to_make;
-use crate::modes::register_fault;
-use crate::operands::operand;
 use crate::redex::is_ready_recur;
+use ca_asking::judging::{alts_fault, size_fault, spawn_fault};
+use ca_asking::line::line_fault;
+use ca_asking::making::number_to_make;
+use ca_asking::modes::register_fault;
+use ca_asking::operands::operand;
 use ca_term::fault::Fault;
 use ca_term::head::Head;
 use ca_term::place::Place;
@@ -73,10 +73,12 @@ fn at_call(turns: u64, depth: u64, place: Place) -> Stand
 }
 
 // A form whose operands are values.
+#[tactic(auto, using(crate::proofs::OperandLaws::values_by))]
 fn standing_with(turns: u64, depth: u64, operands: &Seq<Term>, place: Place, head: Head) -> Stand
     ensures { result ≡ stand_of (standing_with turns depth (values_of (kernels (list operands.now))) place head) }
 {
     let nil = Value::Nil;
+    let operands = operands.as_slice();
     match head {
         Head::Recur => Stand::Ended,
         Head::Builtin(_) => Stand::Local,

@@ -1,17 +1,37 @@
+//! Texts with values in place of their names: what a call, a go block's task and the next round of a loop begin with.
 ghost use Rattle.std.specs.Prelude.{◌≡◌, IfOk};
 ghost use Rattle.ca_value.specs.Seq.{list};
+ghost use Rattle.ca_value.specs.View.{views};
 ghost use Rattle.ca_term.specs.Kernel.{puts};
+ghost use Rattle.ca_term.specs.Program.{procedure_view};
 ghost use Rattle.ca_term.specs.View.{kernel, kernels, founds};
 ghost use Rattle.ca_meaning.specs.Redex.{values_of};
 ghost use Rattle.ca_meaning.specs.Operands.{values_in};
-ghost use Rattle.ca_meaning.specs.Started.{named, names_of};
+ghost use Rattle.ca_meaning.specs.Started.{named, names_of, started};
 
-use crate::operands::value_or;
+use ca_asking::operands::AsOperand;
+use ca_term::program::Procedure;
 use ca_term::term::{Found, Term};
 use ca_value::memory::OutOfMemory;
 use ca_value::seq::Seq;
-use ca_value::value::Value;
+use ca_value::value::{Items, Value};
 use std::alloc::Global;
+
+/// A copy of the text with the values in place of its parameters; a parameter without a value stays.
+pub fn started(alloc: Global, text: &Procedure, values: &Items) -> Result<Term, OutOfMemory>
+    ensures { IfOk result (λ t. kernel t ≡ started (procedure_view text.now) (views (list values.now))) }
+{
+    let mut now = text.body.copy(alloc)?;
+    let mut place = 0;
+    for name in text.parameters.as_slice() {
+        let Some(value) = values.get(place) else {
+            return Ok(now);
+        };
+        now = now.with(alloc, *name, value)?;
+        place += 1;
+    }
+    Ok(now)
+}
 
 // A copy of the text with the operands' values in place of the names.
 pub(crate) fn text_with(
@@ -29,7 +49,7 @@ pub(crate) fn text_with(
         let Some(operand) = operands.get(place) else {
             return Ok(now);
         };
-        now = now.with(alloc, *name, value_or(operand, &nil))?;
+        now = now.with(alloc, *name, operand.value(&nil))?;
         place += 1;
     }
     Ok(now)

@@ -5,7 +5,7 @@ use Rattle.ca_value.specs.Tree.{Tree, Trees}
 use Rattle.ca_value.specs.View.{view, trees}
 use Rattle.ca_value.specs.declared.value.PortId.{PortId}
 use Rattle.ca_term.specs.declared.head.RegisterName.{RegisterName}
-use Rattle.ca_term.specs.declared.head.SeedKind.{SeedKind}
+use Rattle.ca_term.specs.declared.event.TaskKind.{TaskKind}
 use Rattle.ca_term.specs.declared.event.Side.{Side}
 use Rattle.ca_term.specs.declared.event.Branch.{Branch}
 use Rattle.ca_term.specs.declared.event.Ending.{Ending}
@@ -25,7 +25,7 @@ pub data EventView : Type 0 where
   -- the task, the new port, what is there, and the moment of a timeout's making
   made : ℕ → ℕ → WhatView → Option ℕ → EventView
   -- the task, the new task, its kind, and its result port
-  spawned : ℕ → ℕ → SeedKind → Option ℕ → EventView
+  spawned : ℕ → ℕ → TaskKind → Option ℕ → EventView
   -- the task, the number of the branch, the branch, and the answer
   done : ℕ → ℕ → BranchView → Tree → EventView
   -- the task, the number of its branch, that branch's side and channel, the value that passes, the

@@ -4,6 +4,7 @@ pub mod Closed
 pub mod Fits
 pub mod Source
 pub mod Program
+pub mod Constants
 pub mod Operation
 pub mod Event
 pub mod Cost

@@ -1,8 +1,18 @@
 -- Values as operands. A value that isn't there counts as nil, one that isn't a port as port 0: where
 -- that matters, the operation faults before.
-use Rattle.std.specs.Prelude.{ℕ, suc, List, [], ◌∷◌, Bool, true, false, Option, Some, None}
+use Rattle.std.specs.Prelude.{ℕ, zero, suc, List, [], ◌∷◌, Bool, true, false, Option, Some, None}
 use Rattle.ca_value.specs.Tree.{Tree, Trees, nil, bool, port, none, item}
 use Rattle.ca_term.specs.declared.fault.Fault.{Fault}
+use Rattle.ca_term.specs.Kernel.{Kernel, Kernels, const, none as no_terms, item as term_item}
+
+-- the value of a term that is one
+abbrev pub value_of : Kernel → Tree
+value_of (const v) = v
+value_of t = nil
+
+abbrev pub values_of : Kernels → Trees
+values_of no_terms = none
+values_of (term_item t ts) = item (value_of t) (values_of ts)
 
 -- the first fault of several that are judged in order
 abbrev pub or_else : Option Fault → Option Fault → Option Fault
@@ -30,6 +40,11 @@ first_of (item v vs) = v
 abbrev pub rest_of : Trees → Trees
 rest_of none = none
 rest_of (item v vs) = vs
+
+-- the operand at the place
+abbrev pub operand_at : ℕ → Trees → Tree
+operand_at zero vs = first_of vs
+operand_at (suc n) vs = operand_at n (rest_of vs)
 
 abbrev pub second_of : Trees → Tree
 second_of vs = first_of (rest_of vs)

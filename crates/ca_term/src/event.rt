@@ -1,19 +1,35 @@
 use crate::fault::Fault;
-use crate::head::{RegisterName, SeedKind};
+use crate::head::RegisterName;
 use crate::operation::What;
 use crate::place::Place;
 use ca_value::seq::{Seq, Text};
 use ca_value::value::{Items, PortId, Value};
 
 /// The side of a channel that an operation stands on.
-#[derive(Clone, Copy, PartialEq, Eq, Debug)]
+#[derive(Clone, Copy)]
 pub enum Side {
     Take,
     Put,
 }
 
+/// The kind of a new task, as a journal tells it. Which body it runs, or which function it applies, its seed tells.
+#[derive(Clone, Copy)]
+pub enum TaskKind {
+    Go,
+    Mult,
+    Deliver,
+    Mix,
+    Pub,
+    Pipe,
+    Merge,
+    Onto,
+    Feed,
+    Job,
+    Collect,
+}
+
 /// The number of a wait.
-#[derive(Clone, Copy, PartialEq, Eq, Debug)]
+#[derive(Clone, Copy)]
 pub struct WaitId {
     pub n: u64,
 }
@@ -39,7 +55,7 @@ pub enum Event {
     Spawn {
         task: u64,
         spawned: u64,
-        kind: SeedKind,
+        kind: TaskKind,
         result: Option<PortId>,
     },
     /// A branch of a task's operation is done at once. At a take the answer is the value taken; at a
@@ -113,7 +129,7 @@ pub enum Event {
 }
 
 /// How a task is over.
-#[derive(Clone, Copy, PartialEq, Eq, Debug)]
+#[derive(Clone, Copy)]
 pub enum Ending {
     /// Its body has a value.
     Ended,

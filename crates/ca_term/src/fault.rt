@@ -1,5 +1,5 @@
 /// What a script can do wrong while it runs.
-#[derive(Clone, Copy, PartialEq, Eq, Debug)]
+#[derive(Clone, Copy, PartialEq, Eq)]
 pub enum Fault {
     /// A sum, difference, product, quotient or negation outside 64 bits.
     Overflow,

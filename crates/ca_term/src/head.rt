@@ -2,7 +2,7 @@ use ca_value::builtin::Builtin;
 
 /// What an `Apply` term does once its operands are values: the static part of an operation, a call, a
 /// builtin or a `recur`.
-#[derive(Clone, Copy, PartialEq, Eq, Debug)]
+#[derive(Clone, Copy)]
 pub enum Head {
     /// Goes back to the loop that stands around it, with new values.
     Recur,
@@ -22,7 +22,7 @@ pub enum Head {
 }
 
 /// Which options an alts has, in the order in which they are evaluated after its vector of ports.
-#[derive(Clone, Copy, PartialEq, Eq, Debug)]
+#[derive(Clone, Copy)]
 pub enum AltsOptions {
     None,
     Priority,
@@ -32,7 +32,7 @@ pub enum AltsOptions {
 }
 
 /// What a Make makes of its operands.
-#[derive(Clone, Copy, PartialEq, Eq, Debug)]
+#[derive(Clone, Copy)]
 pub enum MakeKind {
     /// `(chan)`.
     Unbuffered,
@@ -50,7 +50,7 @@ pub enum MakeKind {
 }
 
 /// The kind of a new task: a go block, with the number of its body, or one of the system's tasks.
-#[derive(Clone, Copy, PartialEq, Eq, Debug)]
+#[derive(Clone, Copy)]
 pub enum SeedKind {
     Go(u64),
     System(SystemTask),
@@ -58,7 +58,7 @@ pub enum SeedKind {
 
 /// The kind of a system task. `Pub` and `Job` apply a plain function; where it is a keyword, that
 /// keyword is the last of the task's values.
-#[derive(Clone, Copy, PartialEq, Eq, Debug)]
+#[derive(Clone, Copy, PartialEq, Eq)]
 pub enum SystemTask {
     Mult,
     Deliver,
@@ -73,7 +73,7 @@ pub enum SystemTask {
 }
 
 /// A function without operations, of one argument.
-#[derive(Clone, Copy, PartialEq, Eq, Debug)]
+#[derive(Clone, Copy, PartialEq, Eq)]
 pub enum PlainFunction {
     /// The program's function of that number.
     Defined(u64),
@@ -83,7 +83,7 @@ pub enum PlainFunction {
 }
 
 /// How a pipeline makes outputs of one input.
-#[derive(Clone, Copy, PartialEq, Eq, Debug)]
+#[derive(Clone, Copy, PartialEq, Eq)]
 pub enum Transform {
     Map,
     Filter,
@@ -91,7 +91,7 @@ pub enum Transform {
 }
 
 /// An operation on a mult, a mix or a publication.
-#[derive(Clone, Copy, PartialEq, Eq, Debug)]
+#[derive(Clone, Copy, PartialEq, Eq)]
 pub enum RegisterName {
     Tap,
     Untap,

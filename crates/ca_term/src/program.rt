@@ -53,6 +53,13 @@ impl Program {
         }
     }
 
+    /// It is a checked one, as each program is.
+    pub fn checked(&self)
+        ensures { IsProgram (program_view self.now) }
+    {
+        let _checked = &self.main;
+    }
+
     /// The main text.
     pub fn main(&self) -> &Term
         ensures text { kernel result.now ≡ (program_view self.now).main }
@@ -84,7 +91,8 @@ impl Program {
 
     /// The go body of that number; None exactly past the last.
     pub fn body(&self, number: u64) -> Option<&Procedure>
-        ensures { option_map (λ t. procedure_view t.now) result ≡ slice_get (program_view self.now).bodies number }
+        ensures text { option_map (λ t. procedure_view t.now) result ≡ slice_get (program_view self.now).bodies number }
+        ensures checked { IsProgram (program_view self.now) }
     {
         self.bodies.get(number)
     }

@@ -7,7 +7,7 @@ use Rattle.ca_value.specs.declared.fault.ApplyError.{ApplyError}
 use Rattle.ca_value.specs.Tree.{Trees}
 use Rattle.ca_value.specs.View.{view}
 use Rattle.ca_value.specs.Outcome.{Outcome, IsFault, Gives}
-use Rattle.ca_value.specs.IsValue.{IsValue, AreValues}
+use Rattle.ca_value.specs.IsValue.{Scalars, IsValue, AreValues}
 use Rattle.ca_value.specs.Builtins.{builtin_result}
 use Rattle.ca_value.proofs.SoundBuiltins.{result_is_value}
 
@@ -19,6 +19,6 @@ pub given_fault : (r : Result Value ApplyError) (o : Outcome) → Gives r o → 
 given_fault (Ok v) o h = tt
 given_fault (Err e) o h = h
 
-pub given_sound : (b : Builtin) (ts : Trees) (r : Result Value ApplyError) → Gives r (builtin_result b ts) → AreValues ts → IfOk r (λ v. IsValue (view v))
-given_sound b ts (Ok v) h values = result_is_value b ts (view v) values h
-given_sound b ts (Err e) h values = tt
+pub given_sound : (w : Scalars) (b : Builtin) (ts : Trees) (r : Result Value ApplyError) → Gives r (builtin_result b ts) → AreValues w ts → IfOk r (λ v. IsValue w (view v))
+given_sound w b ts (Ok v) h values = result_is_value w b ts (view v) values h
+given_sound w b ts (Err e) h values = tt

@@ -1,5 +1,5 @@
 -- Open timeouts, in the order in which their channels close.
-use Rattle.std.specs.Prelude.{◌≡◌, ℕ, List, [], ◌∷◌, Bool, false, not, ◌&&◌, ◌||◌, cond, eqb, nat_lt, nat_le, filter, map}
+use Rattle.std.specs.Prelude.{ℕ, List, [], ◌∷◌, Bool, not, ◌&&◌, ◌||◌, cond, eqb, nat_lt, nat_le, filter, map}
 
 -- an open timeout: the moment at which it closes its channel
 pub record Deadline : Type 0 where

@@ -7,6 +7,7 @@ pub mod Measured
 pub mod Code
 pub mod Falls
 pub mod Equality
+pub mod Same
 pub mod Printed
 pub mod IsValue
 pub mod Outcome

@@ -8,9 +8,13 @@ use Rattle.ca_value.specs.Outcome.{Answer, ◌>>=◌}
 abbrev pub lies_within : ℤ → ℤ → ℤ → Bool
 lies_within low high z = int_le low z && int_le z high
 
+-- it lies in 64 bits
+abbrev pub fits_64 : ℤ → Bool
+fits_64 z = lies_within (negsuc 9223372036854775807) (pos 9223372036854775807) z
+
 -- the number, if it lies in 64 bits
 abbrev pub in_range : ℤ → Answer ℤ
-in_range z = if lies_within (negsuc 9223372036854775807) (pos 9223372036854775807) z then Ok z else Err Overflow
+in_range z = if fits_64 z then Ok z else Err Overflow
 
 -- from left to right, each partial result in range
 abbrev pub running : (ℤ → ℤ → ℤ) → ℤ → List ℤ → Answer ℤ

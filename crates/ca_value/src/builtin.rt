@@ -2,7 +2,7 @@ ghost use Rattle.std.specs.Prelude.{◌≡◌, IfOk, IfErr, IsTrue, length};
 ghost use Rattle.ca_value.specs.Seq.{list};
 ghost use Rattle.ca_value.specs.View.{view, views, trees};
 ghost use Rattle.ca_value.specs.Outcome.{outcome, judged, IsFault};
-ghost use Rattle.ca_value.specs.IsValue.{IsValue, AreValues};
+ghost use Rattle.ca_value.specs.IsValue.{Scalars, IsValue, AreValues};
 ghost use Rattle.ca_value.specs.Maps.{contains_of};
 ghost use Rattle.ca_value.specs.Builtins.{answer, builtin_result, admits};
 
@@ -30,7 +30,7 @@ use std::alloc::Global;
 
 /// A builtin function, named as in the Clojure reference. `Part`, `Items` and `WorkerCount` are hidden:
 /// no script can name them.
-#[derive(Clone, Copy, PartialEq, Eq, Debug)]
+#[derive(Clone, Copy, PartialEq, Eq)]
 pub enum Builtin {
     Add,
     Multiply,
@@ -88,7 +88,7 @@ pub fn apply_builtin(alloc: Global, builtin: Builtin, args: Items) -> Result<Val
     requires { IsTrue (admits builtin (length (list args))) }
     ensures value { IfOk result (λ v. builtin_result builtin (trees (list args)) ≡ Ok (view v)) }
     ensures fault { IfErr result (λ e. IsFault e (builtin_result builtin (trees (list args)))) }
-    ensures sound { AreValues (trees (list args)) → IfOk result (λ v. IsValue (view v)) }
+    ensures sound { (w : Scalars) → AreValues w (trees (list args)) → IfOk result (λ v. IsValue w (view v)) }
 {
     match evaluate(alloc, builtin, args) {
         Ok(Ok(value)) => Ok(value),

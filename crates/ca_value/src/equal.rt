@@ -28,9 +28,9 @@ impl Value {
 }
 
 impl Value {
-    /// The same as `equal`, with integers and keywords compared where it is called.
+    /// The same as `equal`, with integers and keywords compared in the caller's own code.
     #[inline(always)]
-    pub(crate) fn is_same(&self, other: &Value) -> bool
+    pub(crate) fn is_equal(&self, other: &Value) -> bool
         ensures { result ≡ equals (view self.now) (view other.now) }
     {
         match (self, other) {

@@ -1,5 +1,5 @@
 /// The faults that a builtin can have.
-#[derive(Clone, Copy, PartialEq, Eq, Debug)]
+#[derive(Clone, Copy)]
 pub enum ValueFault {
     /// A sum, a difference, a product, a negation or a quotient outside 64 bits.
     Overflow,
@@ -16,7 +16,7 @@ pub enum ValueFault {
 }
 
 /// Why a builtin gives no value.
-#[derive(Clone, Copy, PartialEq, Eq, Debug)]
+#[derive(Clone, Copy)]
 pub enum ApplyError {
     /// The arguments are at fault.
     Fault(ValueFault),

@@ -5,8 +5,9 @@
 //! a list and, beside it, the number of items that fit with no growth.
 //!
 //! Stands on std and `itoa` alone. Start with `seq`, then `value`, then a call of your choice: `copy`,
-//! `equal`, `measure` (weight and depth), `print` (the plain and the readable text). `builtin` has the
-//! builtins; their table, a row for each, is the definition `answer` of `specs/Builtins.antt`.
+//! `equal`, `same` (the same tree), `measure` (weight and depth), `print` (the plain and the readable
+//! text). `builtin` has the builtins; their table, a row for each, is the definition `answer` of
+//! `specs/Builtins.antt`.
 #![tactic(auto)]
 
 pub mod builtin;
@@ -17,6 +18,7 @@ pub mod map;
 pub mod measure;
 pub mod memory;
 pub mod print;
+pub mod same;
 pub mod seq;
 pub mod value;
 pub mod vector;

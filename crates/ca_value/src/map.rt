@@ -173,7 +173,7 @@ pub(crate) fn place(pairs: &[Pair], key: &Value) -> Option<u64>
     ensures { result ≡ place_of (pair_views pairs.now) (view key.now) }
 {
     for i in 0..pairs.len() {
-        if key.is_same(&pairs[i].key) {
+        if key.is_equal(&pairs[i].key) {
             return Some(i as u64);
         }
     }

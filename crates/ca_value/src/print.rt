@@ -10,7 +10,7 @@ use crate::value::{Map, Pair, Pairs, Spine, Table, Value, Vector};
 use std::alloc::Global;
 
 /// How texts stand in a printed value: as they are, or readably, in quotes and with their escapes.
-#[derive(Clone, Copy, PartialEq, Eq, Debug)]
+#[derive(Clone, Copy)]
 pub enum Style {
     Plain,
     Readable,

@@ -12,7 +12,7 @@ use std::marker::Model;
 use std::sync::Arc;
 
 /// The number that names a port: a channel, a mult, a mix or a publication.
-#[derive(Clone, Copy, PartialEq, Eq, Debug)]
+#[derive(Clone, Copy)]
 pub struct PortId {
     /// Any number: what it names is not a value's concern.
     pub n: u64,
@@ -150,22 +150,6 @@ impl Pair {
         let Pair { key, value } = self;
         (key, value)
     }
-
-    /// The key alone, with no copy; the value is let go.
-    pub fn into_key(self) -> Value
-        ensures { view result ≡ (pair_view self).0 }
-    {
-        let Pair { key, value: _ } = self;
-        key
-    }
-
-    /// The value alone, with no copy; the key is let go.
-    pub fn into_value(self) -> Value
-        ensures { view result ≡ (pair_view self).1 }
-    {
-        let Pair { key: _, value } = self;
-        value
-    }
 }
 
 impl Pairs {
@@ -225,14 +209,6 @@ impl Pairs {
         ensures { result.now ≡ pairs_list self.now }
     {
         self.pairs.as_slice()
-    }
-
-    /// The pairs as a list, with no copy.
-    pub fn into_seq(self) -> Seq<Pair>
-        ensures { list result ≡ pairs_list self }
-    {
-        let Pairs { pairs } = self;
-        pairs
     }
 
     /// Puts the value at the place of a pair, whose key stays, and gives the one that stood there.

@@ -5,7 +5,7 @@ ghost use Rattle.ca_value.specs.Seq.{list};
 ghost use Rattle.ca_value.specs.Tree.{trees_of};
 ghost use Rattle.ca_value.specs.View.{view, views};
 ghost use Rattle.ca_value.specs.Outcome.{outcome, judged, Outcome, IsFault, Gives};
-ghost use Rattle.ca_value.specs.IsValue.{IsValue, AreValues};
+ghost use Rattle.ca_value.specs.IsValue.{Scalars, IsValue, AreValues};
 ghost use Rattle.ca_value.specs.Vectors.{nth_of, appended};
 ghost use Rattle.ca_value.specs.Maps.{assoc_of};
 ghost use Rattle.ca_value.specs.Builtins.{answer, builtin_result, admits};
@@ -27,7 +27,7 @@ pub fn apply_one(alloc: Global, builtin: Builtin, a: &Value) -> Result<Value, Ap
     requires { IsTrue (admits builtin 1) }
     ensures value { IfOk result (λ v. builtin_result builtin (trees_of (view a.now ∷ [])) ≡ Ok (view v)) }
     ensures fault { IfErr result (λ e. IsFault e (builtin_result builtin (trees_of (view a.now ∷ [])))) }
-    ensures sound { AreValues (trees_of (view a.now ∷ [])) → IfOk result (λ v. IsValue (view v)) }
+    ensures sound { (w : Scalars) → AreValues w (trees_of (view a.now ∷ [])) → IfOk result (λ v. IsValue w (view v)) }
 {
     give_one(alloc, builtin, a)
 }
@@ -38,7 +38,7 @@ pub fn apply_two(alloc: Global, builtin: Builtin, a: &Value, b: &Value) -> Resul
     requires { IsTrue (admits builtin 2) }
     ensures value { IfOk result (λ v. builtin_result builtin (trees_of (view a.now ∷ view b.now ∷ [])) ≡ Ok (view v)) }
     ensures fault { IfErr result (λ e. IsFault e (builtin_result builtin (trees_of (view a.now ∷ view b.now ∷ [])))) }
-    ensures sound { AreValues (trees_of (view a.now ∷ view b.now ∷ [])) → IfOk result (λ v. IsValue (view v)) }
+    ensures sound { (w : Scalars) → AreValues w (trees_of (view a.now ∷ view b.now ∷ [])) → IfOk result (λ v. IsValue w (view v)) }
 {
     give_two(alloc, builtin, a, b)
 }
@@ -48,7 +48,7 @@ pub fn apply_two(alloc: Global, builtin: Builtin, a: &Value, b: &Value) -> Resul
 pub fn conj_one(alloc: Global, collection: Value, value: Value) -> Result<Value, ApplyError>
     ensures value { IfOk result (λ v. builtin_result PureBuiltin.Conj (trees_of (view collection ∷ view value ∷ [])) ≡ Ok (view v)) }
     ensures fault { IfErr result (λ e. IsFault e (builtin_result PureBuiltin.Conj (trees_of (view collection ∷ view value ∷ [])))) }
-    ensures sound { AreValues (trees_of (view collection ∷ view value ∷ [])) → IfOk result (λ v. IsValue (view v)) }
+    ensures sound { (w : Scalars) → AreValues w (trees_of (view collection ∷ view value ∷ [])) → IfOk result (λ v. IsValue w (view v)) }
 {
     give_conj(alloc, collection, value)
 }
@@ -63,7 +63,7 @@ pub fn assoc_one(
 ) -> Result<Value, ApplyError>
     ensures value { IfOk result (λ v. builtin_result PureBuiltin.Assoc (trees_of (view collection ∷ view key ∷ view value ∷ [])) ≡ Ok (view v)) }
     ensures fault { IfErr result (λ e. IsFault e (builtin_result PureBuiltin.Assoc (trees_of (view collection ∷ view key ∷ view value ∷ [])))) }
-    ensures sound { AreValues (trees_of (view collection ∷ view key ∷ view value ∷ [])) → IfOk result (λ v. IsValue (view v)) }
+    ensures sound { (w : Scalars) → AreValues w (trees_of (view collection ∷ view key ∷ view value ∷ [])) → IfOk result (λ v. IsValue w (view v)) }
 {
     give_assoc(alloc, collection, key, value)
 }

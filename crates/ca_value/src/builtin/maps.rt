@@ -32,7 +32,7 @@ fn value_under<'a>(pairs: &'a [Pair], key: &Value) -> Option<&'a Value>
     ensures { option_map (λ v. view v.now) result ≡ value_at (pair_views pairs.now) (view key.now) }
 {
     for pair in pairs {
-        if key.is_same(&pair.key) {
+        if key.is_equal(&pair.key) {
             return Some(&pair.value);
         }
     }
@@ -340,7 +340,7 @@ fn has_key(pairs: &[Pair], key: &Value) -> bool
     ensures { result ≡ is_some (value_at (pair_views pairs.now) (view key.now)) }
 {
     for pair in pairs {
-        if key.is_same(&pair.key) {
+        if key.is_equal(&pair.key) {
             return true;
         }
     }

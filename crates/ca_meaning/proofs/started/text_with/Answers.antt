@@ -19,9 +19,9 @@ loop-name-preserved c =
     let i = c.loop-name.name-index in
     let names = c.as_slice-name-items.result.now in
     let is : slice_get ops i ≡ Some c.in-Some.operand.now = ap (slice_get ops) (sym c.loop-name.invariant.at) ∙ sym c.in-Some.ensures in
-    let e : kernel c.in_ok-now-2.now ≡ put (get_or names i 0) (view c.value_or.result.now) (kernel c.loop-name.now) = c.in_ok-now-2.ensures in
+    let e : kernel c.in_ok-now-2.now ≡ put (get_or names i 0) (view c.value.result.now) (kernel c.loop-name.now) = c.in_ok-now-2.ensures in
     record {
       at = ap (λ n. n + 1) c.loop-name.invariant.at;
-      rest = text-step names ops i c.in-Some.operand.now (kernel c.loop-name.now) (kernel c.in_ok-now-2.now) c.loop-name-test.true is (e ∙ ap (λ v. put (get_or names i 0) v (kernel c.loop-name.now)) c.value_or.ensures) ∙ c.loop-name.invariant.rest;
+      rest = text-step names ops i c.in-Some.operand.now (kernel c.loop-name.now) (kernel c.in_ok-now-2.now) c.loop-name-test.true is (e ∙ ap (λ v. put (get_or names i 0) v (kernel c.loop-name.now)) c.value.ensures) ∙ c.loop-name.invariant.rest;
       no_value = c.loop-name.invariant.no_value;
     }

@@ -22,6 +22,6 @@ returns-in-Ok-Err-clause-fault c =
 pub returns-in-Ok-Ok-clause-sound : goal.returns-in-Ok-Ok-clause-sound
 unfolding builtin_result
 returns-in-Ok-Ok-clause-sound c =
-    λ values. result_is_value c.args.builtin (trees (list c.args.args)) (view c.in-Ok-Ok.value) values
+    λ w values. result_is_value w c.args.builtin (trees (list c.args.args)) (view c.in-Ok-Ok.value) values
     (ap (λ ts. judged (answer c.args.builtin ts)) (items_of_trees_of (views (list c.args.args)))
     ∙ sym c.in-Ok-Ok.ensures ∙ ap outcome c.in-Ok-Ok.field-0-is)
