@@ -1,5 +1,5 @@
 -- The parameters of a function, read one after the other.
-use Rattle.std.proofs.Common.{◌≡◌, ℕ, zero, suc, ◌+◌, List, [], ◌∷◌, ◌++◌, length, map, drop, get_or, ◌<◌, ◌≤◌, refl, sym, ap, ◌∙◌, append_assoc, append-nil, arith, subst, Bool, true, false, cond, Option, Some, None, is_some, nat_lt, ◌||◌, Result, Ok, Err, IfOk, IfErr, OnOk}
+use Rattle.std.proofs.Common.{◌≡◌, ℕ, zero, suc, ◌+◌, List, [], ◌∷◌, ◌++◌, length, map, drop, get_or, ◌<◌, ◌≤◌, refl, sym, ap, ◌∙◌, append_assoc, append-nil, arith, subst, true, false, cond, Option, Some, None, is_some, nat_lt, ◌||◌, Result, Ok, Err, IfOk, IfErr, OnOk}
 use Rattle.std.proofs.lemmas.Bool.{lt-ltb, le-ltb}
 use Rattle.std.proofs.lemmas.List.{length-append, length-map}
 use Rattle.ca_term.specs.declared.place.Place.{Place}
@@ -233,10 +233,6 @@ free_find x fs h = by (find x fs) h where
   by : (o : Option (ℕ × Signature)) → (is_some o || is_some (builtin x) || is_some (special x)) ≡ false → o ≡ None
   by None h = refl
   by (Some r) h = cc
-
-pub sign_is : (fs : List Signature) (name : List ℕ) (a b : ℕ) (h k : List ℕ) (plain : Bool) → a ≡ b → h ≡ k
-    → fs ++ record { name = name; arity = a; hidden = h; plain = plain } ∷ [] ≡ fs ++ record { name = name; arity = b; hidden = k; plain = plain } ∷ []
-sign_is fs name a b h k plain e f = ap (λ n. fs ++ record { name = name; arity = n; hidden = h; plain = plain } ∷ []) e ∙ ap (λ (l : List ℕ). fs ++ record { name = name; arity = b; hidden = l; plain = plain } ∷ []) f
 
 pub if_on_by : {A E : Type 0} (r : Result A E) (P Q : Type 0) → (P → Q) → OnOk r P → OnOk r Q
 if_on_by (Ok a) P Q f h = f h

@@ -179,7 +179,7 @@ ordered_row_if p (a ∷ b ∷ c ∷ d ∷ qs) f = λ env s. tt
 pub ordered_row_if_not : (p : Place) (qs : List Part) → PartsOrdered qs → Ordered (total (blocks_of qs)) (row_if_not p qs)
 ordered_row_if_not p [] f = λ env s. tt
 ordered_row_if_not p (a ∷ []) f = λ env s. tt
-ordered_row_if_not p (a ∷ b ∷ []) f = λ env s. tt
+ordered_row_if_not p (a ∷ b ∷ []) f = ordered_unless (go_blocks_in a.form) (go_blocks_in b.form) [] a.means b.means nothing f.0.means f.1.0.means (ordered_constant nil)
 ordered_row_if_not p (a ∷ b ∷ c ∷ []) f = ordered_unless (go_blocks_in a.form) (go_blocks_in b.form) (go_blocks_in c.form) a.means b.means c.means f.0.means f.1.0.means f.1.1.0.means
 ordered_row_if_not p (a ∷ b ∷ c ∷ d ∷ qs) f = λ env s. tt
 

@@ -7,7 +7,8 @@ use Rattle.ca_term.specs.declared.place.Place.{Place}
 use Rattle.ca_term.specs.declared.head.Head.{Head}
 use Rattle.ca_term.specs.declared.head.Head.TheVariants.{Recur, Builtin, Close, Post}
 use Rattle.ca_term.specs.Kernel.{Kernel, Kernels, Bindings, var, branch, bind, loop, seq, apply, none, item, empty, binding}
-use Rattle.ca_term.specs.Fits.{Known, Suits, Takes, count_terms, count_bindings}
+use Rattle.ca_term.specs.Source.{IsLiteral}
+use Rattle.ca_term.specs.Fits.{Known, Takes, count_terms, count_bindings}
 use Rattle.ca_term.specs.Program.{ProcedureView, IsProcedure}
 use Rattle.ca_term.specs.View.{kernels_of}
 use Rattle.ca_forms.specs.declared.error.CheckErrorKind.{CheckErrorKind}
@@ -15,7 +16,7 @@ use Rattle.ca_forms.specs.Uses.{uses}
 use Rattle.ca_forms.specs.Outcome.{Gathered, Outcome, after, limited}
 use Rattle.ca_forms.specs.Meaning.{Env, Signature, Meaning, Named, size, inner, named, fail, constant, nothing, local, iff, unless, before_others, in_order, operation, block, unnamed, binds, behind, lets, loops, name_as, hide, numbered, joined, hiding}
 use Rattle.ca_forms.specs.Go.{task, in_task, unmade, go}
-use Rattle.ca_check.proofs.Well.{Well, WellTerms, WellInOrder, WellBindings, fits, source, anew, closed, Below, below_more, below_append, uses_only, uses_below, in_left, in_right}
+use Rattle.ca_check.proofs.Well.{Suited, Well, WellTerms, WellInOrder, WellBindings, fits, source, anew, closed, Below, below_more, below_append, uses_only, uses_below, in_left, in_right}
 use Rattle.ca_check.proofs.Grew.{Each, Agrees, agrees_unmade, agrees_at, set_between, IsMade, Grew, stays, gives, behind_it, IfDone, if_after, if_limited}
 
 -- what the program knows, and how many names of the main text the functions may use
@@ -58,8 +59,8 @@ weaken g n m b l f env s st = f env s (omega (arith, l, st.0), st.1, st.2)
 pub weaken_aimed : (g : Ground) (n m j : ℕ) (b : Meaning) → n ≤ m → Aimed g n j b → Aimed g m j b
 weaken_aimed g n m j b l f env s st e = f env s (omega (arith, l, st.0), st.1, st.2) e
 
-pub sound_constant : (g : Ground) (n : ℕ) (v : Tree) → Sound g n (constant v)
-sound_constant g n v env s st = stays g.known s (Unit {0}) tt
+pub sound_constant : (g : Ground) (n : ℕ) (v : Tree) → IsLiteral v → Sound g n (constant v)
+sound_constant g n v l env s st = stays g.known s (IsLiteral v) l
 
 pub sound_local : (g : Ground) (n h : ℕ) → h < n → Sound g n (local h)
 sound_local g n h l env s st = stays g.known s (h < size env) (omega (arith, l, st.0))
@@ -151,14 +152,14 @@ all_none k n (item t none) w = (w, tt)
 all_none k n (item t (item u us)) w = (w.0, all_none k n (item u us) w.1)
 
 pub makes_operation : (g : Ground) (n : ℕ) (h : Head) (ms : List Meaning) (p : Place) (env : Env) (s : Gathered) → Stands g n env → AllSound g n ms
-    → Suits g.known env.target h (length ms) → Makes g env s (operation h ms p env s)
+    → Suited g.known env.target h (length ms) → Makes g env s (operation h ms p env s)
 makes_operation g n h ms p env s st f u =
     if_after (in_order ms (inner env) s) _ _ _ (sound_in_order g n ms f (inner env) s st) (λ ts s2 x.
     makes_limited g env s s2 (apply h ts p) (gives g.known s s2 _ _
-    (λ w. (subst (λ i. Suits g.known env.target h i) (sym x.0) u, all_none g.known (size env) ts w)) x.1))
+    (λ w. (subst (λ i. Suited g.known env.target h i) (sym x.0) u, all_none g.known (size env) ts w)) x.1))
 
 pub sound_operation : (g : Ground) (n : ℕ) (h : Head) (ms : List Meaning) (p : Place) → AllSound g n ms
-    → ((target : Option ℕ) → Suits g.known target h (length ms)) → Sound g n (operation h ms p)
+    → ((target : Option ℕ) → Suited g.known target h (length ms)) → Sound g n (operation h ms p)
 sound_operation g n h ms p f u env s st = makes_operation g n h ms p env s st f (u env.target)
 
 pub aimed_recur : (g : Ground) (n : ℕ) (ms : List Meaning) (p : Place) → AllSound g n ms → Aimed g n (length ms) (operation Recur ms p)
@@ -168,7 +169,7 @@ pub makes_seq : (g : Ground) (env : Env) (s : Gathered) (i : ℕ) (o : Outcome K
 makes_seq g env s i o h = if_after o _ _ _ h (λ ts s2 x. makes_limited g env s s2 (seq ts) x.1)
 
 pub sound_block : (g : Ground) (n : ℕ) (ms : List Meaning) → AllSound g n ms → Sound g n (block ms)
-sound_block g n [] f env s st = sound_constant g n nil env s st
+sound_block g n [] f env s st = sound_constant g n nil tt env s st
 sound_block g n (m ∷ ms) f env s st = makes_seq g env s (suc (length ms)) (in_order (m ∷ ms) env s) (sound_in_order g n (m ∷ ms) f env s st)
 
 pub sound_body : (g : Ground) (n : ℕ) (m : Meaning) → Sound g n m → Sound g n (block (m ∷ []))
@@ -181,7 +182,7 @@ aimed_block g n j (x ∷ xs) m f h env s st e = makes_seq g env s (suc (length (
 -- (when c e ..) as a body
 pub aimed_when : (g : Ground) (n j : ℕ) (c a : Meaning) → Sound g n c → Aimed g n j a → Aimed g n j (block (iff c a nothing ∷ []))
 aimed_when g n j c a gc ga = aimed_block g n j [] (iff c a nothing) tt
-    (λ env s st e. makes_iff g n c a nothing env s st gc (λ s. ga env s st e) (λ s. sound_constant g n nil env s st))
+    (λ env s st e. makes_iff g n c a nothing env s st gc (λ s. ga env s st e) (λ s. sound_constant g n nil tt env s st))
 
 -- bindings in order
 abbrev pub NamedSound : Ground → ℕ → List Named → Type 0
@@ -289,7 +290,7 @@ sound_task g r body p f = sound_name_as g (suc r) [] body (block (
     (sound_block g (suc (suc r)) (iff (operation (Builtin IsNil) (local (suc r) ∷ []) p) nothing (operation Post (local r ∷ local (suc r) ∷ []) p) ∷ operation Close (local r ∷ []) p ∷ []) (
       sound_iff g (suc (suc r)) (operation (Builtin IsNil) (local (suc r) ∷ []) p) nothing (operation Post (local r ∷ local (suc r) ∷ []) p)
           (sound_operation g (suc (suc r)) (Builtin IsNil) (local (suc r) ∷ []) p (sound_local g (suc (suc r)) (suc r) (omega arith), tt) (λ target. refl))
-          (sound_constant g (suc (suc r)) nil)
+          (sound_constant g (suc (suc r)) nil tt)
           (sound_operation g (suc (suc r)) Post (local r ∷ local (suc r) ∷ []) p (sound_local g (suc (suc r)) r (omega arith), (sound_local g (suc (suc r)) (suc r) (omega arith), tt)) (λ target. tt)),
       (sound_operation g (suc (suc r)) Close (local r ∷ []) p (sound_local g (suc (suc r)) r (omega arith), tt) (λ target. tt), tt),
     ))

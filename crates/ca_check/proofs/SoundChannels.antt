@@ -1,5 +1,5 @@
 -- The rows of the forms of core.async make terms that stand well.
-use Rattle.std.proofs.Common.{◌≡◌, ℕ, ◌+◌, ◌<◌, List, [], ◌∷◌, length, refl, sym, subst, arith, Option, Some, None, true}
+use Rattle.std.proofs.Common.{◌≤◌, ◌≡◌, ℕ, ◌+◌, ◌<◌, List, [], ◌∷◌, length, refl, sym, subst, arith, Option, Some, None, true}
 use Rattle.ca_value.specs.Tree.{nil, bool}
 use Rattle.ca_value.specs.declared.builtin.Builtin.TheVariants.{WorkerCount, Vector, IsNil, IsSome, Min, Count}
 use Rattle.ca_term.specs.declared.place.Place.{Place}
@@ -12,7 +12,8 @@ use Rattle.ca_term.specs.declared.head.Transform.{Transform}
 use Rattle.ca_term.specs.declared.head.RegisterName.{RegisterName}
 use Rattle.ca_term.specs.Kernel.{Kernel, const, var, branch, apply}
 use Rattle.ca_term.specs.declared.head.PlainFunction.{PlainFunction}
-use Rattle.ca_term.specs.Fits.{Known, Suits}
+use Rattle.ca_term.specs.Fits.{Known}
+use Rattle.ca_check.proofs.Well.{Suited}
 use Rattle.ca_term.specs.View.{kernels_of}
 use Rattle.ca_reader.specs.Form.{place_of}
 use Rattle.ca_forms.specs.declared.context.Context.{Context}
@@ -31,7 +32,7 @@ use Rattle.ca_check.proofs.SoundNames.{IsGiven, given_sound}
 
 -- a head that takes so many operands, wherever it stands
 abbrev pub SuitsAny : Ground → Head → ℕ → Type 0
-SuitsAny g h k = (target : Option ℕ) → Suits g.known target h k
+SuitsAny g h k = (target : Option ℕ) → Suited g.known target h k
 
 pub sound_row_of_one : (g : Ground) (h : Head) (p : Place) (qs : List Part) → SuitsAny g h 1 → PartsSound g qs → Sound g 0 (row_of_one h p qs)
 sound_row_of_one g h p [] u f = sound_fail g 0 BadForm p
@@ -101,7 +102,7 @@ pub tried_well : (k : Known) (n : ℕ) (ports : List Kernel) (p : Place) → Wel
 tried_well k n ports p w = (tt, ((refl, w), (tt, tt)))
 
 pub unless_default_well : (k : Known) (n : ℕ) (target : Option ℕ) (h : ℕ) (p : Place) → h < n → Well k n target (unless_default h p)
-unless_default_well k n target h p l = ((refl, (nth_well k n None h 1 p l, (tt, tt))), tt, nth_well k n target h 0 p l)
+unless_default_well k n target h p l = ((refl, (nth_well k n None h 1 p l, (omega arith, tt))), tt, nth_well k n target h 0 p l)
 
 pub sound_row_offer : (g : Ground) (p : Place) (qs : List Part) → PartsSound g qs → Sound g 0 (row_offer p qs)
 sound_row_offer g p [] f = sound_fail g 0 BadForm p
@@ -147,13 +148,13 @@ sound_row_mult g p (c ∷ []) f = sound_fixed g 0 1 2 (c.means ∷ []) (λ h. ma
 sound_row_mult g p (a ∷ b ∷ qs) f = sound_fail g 0 BadForm p
 
 pub sound_yes : (g : Ground) → Sound g 0 yes
-sound_yes g = sound_constant g 0 (bool true)
+sound_yes g = sound_constant g 0 (bool true) tt
 
 pub sound_row_tap : (g : Ground) (p : Place) (qs : List Part) → PartsSound g qs → Sound g 0 (row_tap p qs)
 sound_row_tap g p [] f = sound_fail g 0 BadForm p
 sound_row_tap g p (a ∷ []) f = sound_fail g 0 BadForm p
-sound_row_tap g p (m ∷ c ∷ []) f = sound_operation g 0 (Register RegisterName.Tap) (m.means ∷ c.means ∷ yes ∷ []) p (f.0, (f.2.0, (sound_yes g, tt))) (λ target. tt)
-sound_row_tap g p (m ∷ c ∷ z ∷ []) f = sound_operation g 0 (Register RegisterName.Tap) (m.means ∷ c.means ∷ z.means ∷ []) p (f.0, (f.2.0, (f.2.2.0, tt))) (λ target. tt)
+sound_row_tap g p (m ∷ c ∷ []) f = sound_operation g 0 (Register RegisterName.Tap) (m.means ∷ c.means ∷ yes ∷ []) p (f.0, (f.2.0, (sound_yes g, tt))) (λ target. omega arith)
+sound_row_tap g p (m ∷ c ∷ z ∷ []) f = sound_operation g 0 (Register RegisterName.Tap) (m.means ∷ c.means ∷ z.means ∷ []) p (f.0, (f.2.0, (f.2.2.0, tt))) (λ target. omega arith)
 sound_row_tap g p (a ∷ b ∷ c ∷ d ∷ qs) f = sound_fail g 0 BadForm p
 
 pub sound_row_mix : (g : Ground) (p : Place) (qs : List Part) → PartsSound g qs → Sound g 0 (row_mix p qs)
@@ -164,20 +165,20 @@ sound_row_mix g p (o ∷ []) f = sound_fixed g 0 1 2 (o.means ∷ []) (λ h. mad
     (λ h target. ((tt, (omega arith, (omega arith, (omega arith, tt)))), omega arith))
 sound_row_mix g p (a ∷ b ∷ qs) f = sound_fail g 0 BadForm p
 
-pub sound_changing : (g : Ground) (name : RegisterName) (ms : List Meaning) (p : Place) → AllSound g 0 ms → Sound g 0 (changing name ms p)
-sound_changing g name ms p f = sound_fixed g 0 1 0 (operation (Register name) ms p ∷ []) (λ h. [])
-    (λ h. apply Post (kernels_of (var h ∷ const (bool true) ∷ [])) p ∷ const nil ∷ []) (sound_operation g 0 (Register name) ms p f (λ target. tt), tt) refl (λ h. refl)
+pub sound_changing : (g : Ground) (name : RegisterName) (ms : List Meaning) (p : Place) → length ms ≤ 4 → AllSound g 0 ms → Sound g 0 (changing name ms p)
+sound_changing g name ms p few f = sound_fixed g 0 1 0 (operation (Register name) ms p ∷ []) (λ h. [])
+    (λ h. apply Post (kernels_of (var h ∷ const (bool true) ∷ [])) p ∷ const nil ∷ []) (sound_operation g 0 (Register name) ms p f (λ target. few), tt) refl (λ h. refl)
     (λ h. tt) (λ h target. ((tt, (omega arith, (tt, tt))), tt))
 
 pub sound_row_change_of_one : (g : Ground) (name : RegisterName) (p : Place) (qs : List Part) → PartsSound g qs → Sound g 0 (row_change_of_one name p qs)
 sound_row_change_of_one g name p [] f = sound_fail g 0 BadForm p
-sound_row_change_of_one g name p (a ∷ []) f = sound_changing g name (a.means ∷ []) p (f.0, tt)
+sound_row_change_of_one g name p (a ∷ []) f = sound_changing g name (a.means ∷ []) p (omega arith) (f.0, tt)
 sound_row_change_of_one g name p (a ∷ b ∷ qs) f = sound_fail g 0 BadForm p
 
 pub sound_row_change_of_two : (g : Ground) (name : RegisterName) (p : Place) (qs : List Part) → PartsSound g qs → Sound g 0 (row_change_of_two name p qs)
 sound_row_change_of_two g name p [] f = sound_fail g 0 BadForm p
 sound_row_change_of_two g name p (a ∷ []) f = sound_fail g 0 BadForm p
-sound_row_change_of_two g name p (a ∷ b ∷ []) f = sound_changing g name (a.means ∷ b.means ∷ []) p (f.0, (f.2.0, tt))
+sound_row_change_of_two g name p (a ∷ b ∷ []) f = sound_changing g name (a.means ∷ b.means ∷ []) p (omega arith) (f.0, (f.2.0, tt))
 sound_row_change_of_two g name p (a ∷ b ∷ c ∷ qs) f = sound_fail g 0 BadForm p
 
 pub sound_stopping : (g : Ground) (n : ℕ) (ms : List Meaning) (e : CheckErrorKind) (p : Place) → Sound g n (stopping ms e p)
@@ -199,7 +200,7 @@ sound_row_pub g p (a ∷ b ∷ c ∷ qs) f = sound_fail g 0 BadForm p
 -- in a scope of n names, q being the last
 pub placed_well : (k : Known) (hp ht q : ℕ) (p : Place) → hp < q → ht < q → Well k q None (placed hp ht q p)
 placed_well k hp ht q p l m = (
-  (refl, (tt, tt), (refl, (tt, tt), (omega arith, (tt, (omega arith, tt)), (omega arith, (tt, (omega (arith, l), (omega (arith, m), (omega arith, (omega arith, tt))))), tt)))),
+  (refl, (tt, tt), (refl, (tt, tt), (omega arith, (tt, (omega arith, tt)), (omega arith, (omega arith, (omega (arith, l), (omega (arith, m), (omega arith, (omega arith, tt))))), tt)))),
   (((refl, (nth_well k (q + 4) None (q + 3) 0 p (omega arith), (omega arith, tt))), (tt, (omega arith, (omega arith, (omega arith, tt)))), tt), omega arith),
 )
 
@@ -209,10 +210,10 @@ sound_subscribing g ms p e f = sound_fixed g 0 4 2 ms
     ∷ branch (built IsNil (var (n + 4) ∷ []) p) (placed n (n + 1) (n + 5) p) (var (n + 4)) ∷ [])
     (λ n. registered RegisterName.Tap (nth_of (n + 5) 0 p ∷ var (n + 2) ∷ var (n + 3) ∷ []) p ∷ const nil ∷ []) f e (λ h. refl)
     (λ n. (
-      (tt, (omega arith, (omega arith, tt))),
+      (omega arith, (omega arith, (omega arith, tt))),
       (((refl, (omega arith, tt)), subst (λ m. Well g.known m None (placed n (n + 1) (n + 5) p)) (omega arith) (placed_well g.known n (n + 1) (n + 5) p (omega arith) (omega arith)), omega arith), tt),
     ))
-    (λ n target. ((tt, (nth_well g.known (n + 4 + 2) None (n + 5) 0 p (omega arith), (omega arith, (omega arith, tt)))), tt))
+    (λ n target. ((omega arith, (nth_well g.known (n + 4 + 2) None (n + 5) 0 p (omega arith), (omega arith, (omega arith, tt)))), tt))
 
 pub sound_row_sub : (g : Ground) (p : Place) (qs : List Part) → PartsSound g qs → Sound g 0 (row_sub p qs)
 sound_row_sub g p [] f = sound_fail g 0 BadForm p
@@ -230,14 +231,14 @@ sound_row_unsub g p (b ∷ t ∷ c ∷ []) f = sound_fixed g 0 3 1 (b.means ∷ 
     (λ n. registered RegisterName.Find (var n ∷ var (n + 1) ∷ []) p ∷ [])
     (λ n. branch (built IsSome (var (n + 3) ∷ []) p) (registered RegisterName.Untap (nth_of (n + 3) 0 p ∷ var (n + 2) ∷ []) p) (const nil) ∷ const nil ∷ [])
     (f.0, (f.2.0, (f.2.2.0, tt))) refl (λ h. refl)
-    (λ n. ((tt, (omega arith, (omega arith, tt))), tt))
-    (λ n target. (((refl, (omega arith, tt)), (tt, (nth_well g.known (n + 3 + 1) None (n + 3) 0 p (omega arith), (omega arith, tt))), tt), tt))
+    (λ n. ((omega arith, (omega arith, (omega arith, tt))), tt))
+    (λ n target. (((refl, (omega arith, tt)), (omega arith, (nth_well g.known (n + 3 + 1) None (n + 3) 0 p (omega arith), (omega arith, tt))), tt), tt))
 sound_row_unsub g p (a ∷ b ∷ c ∷ d ∷ qs) f = sound_fail g 0 BadForm p
 
 pub sound_row_unsub_all : (g : Ground) (p : Place) (qs : List Part) → PartsSound g qs → Sound g 0 (row_unsub_all p qs)
 sound_row_unsub_all g p [] f = sound_fail g 0 BadForm p
-sound_row_unsub_all g p (a ∷ []) f = sound_operation g 0 (Register RegisterName.Clear) (a.means ∷ []) p (f.0, tt) (λ target. tt)
-sound_row_unsub_all g p (a ∷ b ∷ []) f = sound_operation g 0 (Register RegisterName.Drop) (a.means ∷ b.means ∷ []) p (f.0, (f.2.0, tt)) (λ target. tt)
+sound_row_unsub_all g p (a ∷ []) f = sound_operation g 0 (Register RegisterName.Clear) (a.means ∷ []) p (f.0, tt) (λ target. omega arith)
+sound_row_unsub_all g p (a ∷ b ∷ []) f = sound_operation g 0 (Register RegisterName.Drop) (a.means ∷ b.means ∷ []) p (f.0, (f.2.0, tt)) (λ target. omega arith)
 sound_row_unsub_all g p (a ∷ b ∷ c ∷ qs) f = sound_fail g 0 BadForm p
 
 pub sound_piping : (g : Ground) (ms : List Meaning) (p : Place) → length ms ≡ 3 → AllSound g 0 ms → Sound g 0 (piping ms p)

@@ -1,5 +1,6 @@
 -- Symbols and calls make terms that stand well, and what is given to a system task is a plain function.
-use Rattle.std.proofs.Common.{◌≡◌, ℕ, suc, ◌+◌, ◌<◌, List, [], ◌∷◌, ◌++◌, length, map, refl, sym, ap, ◌∙◌, subst, arith, Option, Some, None, Bool, true, false, cond, ◌&&◌, nat_lt, nat_eq, IsTrue, is_some}
+use Rattle.std.proofs.lemmas.Bool.Decides.{nat_tests}
+use Rattle.std.proofs.Common.{◌≤◌, ◌≡◌, ℕ, suc, ◌+◌, ◌<◌, List, [], ◌∷◌, ◌++◌, length, map, refl, sym, ap, ◌∙◌, subst, arith, Option, Some, None, Bool, true, false, cond, ◌&&◌, nat_lt, nat_eq, IsTrue, is_some}
 use Rattle.std.specs.Str.{bytes_eq}
 use Rattle.std.proofs.lemmas.List.{length-append, length-map}
 use Rattle.std.proofs.lemmas.Bool.{eqb-true, and_parts}
@@ -35,8 +36,11 @@ sound_symbol g s p env st r = by (lookup s env.scope) (λ n e. omega (arith, bel
   by None f = tt
   by (Some n) f = sound_local g (size env) n (f n refl) env st (omega arith, r.1, r.2)
 
-pub sound_written : (g : Ground) (n : ℕ) (s : List ℕ) (p : Place) (m : Meaning) → Sound g n m → Sound g n (written s p m)
-sound_written g n s p m f = sound_cond g n (nat_lt 65535 (length s)) (fail TooMany p) m (sound_fail g n TooMany p) f
+pub sound_written : (g : Ground) (n : ℕ) (s : List ℕ) (p : Place) (m : Meaning) → (length s ≤ 65_535 → Sound g n m) → Sound g n (written s p m)
+sound_written g n s p m f = by (nat_lt 65535 (length s)) refl where
+  by : (b : Bool) → nat_lt 65535 (length s) ≡ b → Sound g n (cond b (fail TooMany p) m)
+  by true e = sound_fail g n TooMany p
+  by false e = f (grind (arith, nat_tests))
 
 pub sound_builtin_call : (g : Ground) (n : ℕ) (b : BuiltinName) (ms : List Meaning) (p : Place) → AllSound g n ms → Sound g n (builtin_call b ms p)
 sound_builtin_call g n b ms p f = by (admits b (length ms)) (λ e. e) where
@@ -86,9 +90,9 @@ sound_row_call g s q ms p f env st r = by (lookup s env.scope) where
 pub sound_keyword : (g : Ground) (k : List ℕ) (q : Place) (ms : List Meaning) (p : Place) → AllSound g 0 ms → Sound g 0 (row_keyword k q ms p)
 sound_keyword g k q [] p f = sound_fail g 0 BadArity p
 sound_keyword g k q (m ∷ []) p f = sound_written g 0 k q (operation (Builtin Get) (m ∷ constant (key k) ∷ []) p)
-    (sound_operation g 0 (Builtin Get) (m ∷ constant (key k) ∷ []) p (f.0, (sound_constant g 0 (key k), tt)) (λ target. refl))
+    (λ l. sound_operation g 0 (Builtin Get) (m ∷ constant (key k) ∷ []) p (f.0, (sound_constant g 0 (key k) l, tt)) (λ target. refl))
 sound_keyword g k q (m ∷ d ∷ []) p f = sound_written g 0 k q (operation (Builtin Get) (m ∷ constant (key k) ∷ d ∷ []) p)
-    (sound_operation g 0 (Builtin Get) (m ∷ constant (key k) ∷ d ∷ []) p (f.0, (sound_constant g 0 (key k), (f.1.0, tt))) (λ target. refl))
+    (λ l. sound_operation g 0 (Builtin Get) (m ∷ constant (key k) ∷ d ∷ []) p (f.0, (sound_constant g 0 (key k) l, (f.1.0, tt))) (λ target. refl))
 sound_keyword g k q (m ∷ d ∷ e ∷ ms) p f = sound_fail g 0 BadArity p
 
 -- a function that a system task can apply, and constants
@@ -120,10 +124,10 @@ given_by_name g None s fs a = given_by_function g (find_function s fs 0) (given_
 
 pub given_by_atom : (g : Ground) (a : Atom) (env : Env) → AreSigned g.known g.base 0 env.functions → IsGiven g (given_atom a env)
 given_by_atom g (symbol s) env h = given_by_name g (lookup s env.scope) s env.functions h
-given_by_atom g (keyword k) env h = by (nat_lt 65535 (length k)) where
-  by : (b : Bool) → IsGiven g (cond b (wrong TooMany) (applied PlainFunction.Keyword (const (key k) ∷ [])))
-  by true = tt
-  by false = (tt, λ n. (tt, tt))
+given_by_atom g (keyword k) env h = by (nat_lt 65535 (length k)) refl where
+  by : (b : Bool) → nat_lt 65535 (length k) ≡ b → IsGiven g (cond b (wrong TooMany) (applied PlainFunction.Keyword (const (key k) ∷ [])))
+  by true e = tt
+  by false e = (tt, λ n. (grind (arith, nat_tests), tt))
 given_by_atom g nil_atom env h = tt
 given_by_atom g (bool_atom b) env h = tt
 given_by_atom g (int_atom z) env h = tt

@@ -60,7 +60,7 @@ bindings_sound g q f bs e = by (is_vector q.form) (bounds_sound g q.within f) e 
 pub items_sound : (g : Ground) (p : Place) (h : ℕ) (xs : List (List ℕ)) (i n : ℕ) → h < n → NamedSound g n (spread_items p h xs i)
 items_sound g p h [] i n l = tt
 items_sound g p h (x ∷ xs) i n l = (
-  sound_operation g n (Builtin PartOf) (local h ∷ constant (int (pos i)) ∷ []) p (sound_local g n h l, (sound_constant g n (int (pos i)), tt)) (λ target. refl),
+  sound_operation g n (Builtin PartOf) (local h ∷ constant (int (pos i)) ∷ []) p (sound_local g n h l, (sound_constant g n (int (pos i)) tt, tt)) (λ target. refl),
   items_sound g p h xs (suc i) (suc n) (omega (arith, l)),
 )
 
@@ -105,41 +105,41 @@ sound_row_let g p (b ∷ qs) f = sound_let_of g (bindings_in b) (block (meanings
 pub sound_row_if : (g : Ground) (p : Place) (qs : List Part) → PartsSound g qs → Sound g 0 (row_if p qs)
 sound_row_if g p [] f = sound_fail g 0 BadForm p
 sound_row_if g p (a ∷ []) f = sound_fail g 0 BadForm p
-sound_row_if g p (a ∷ b ∷ []) f = sound_iff g 0 a.means b.means nothing f.0 f.2.0 (sound_constant g 0 nil)
+sound_row_if g p (a ∷ b ∷ []) f = sound_iff g 0 a.means b.means nothing f.0 f.2.0 (sound_constant g 0 nil tt)
 sound_row_if g p (a ∷ b ∷ c ∷ []) f = sound_iff g 0 a.means b.means c.means f.0 f.2.0 f.2.2.0
 sound_row_if g p (a ∷ b ∷ c ∷ d ∷ qs) f = sound_fail g 0 BadForm p
 
 pub sound_row_if_not : (g : Ground) (p : Place) (qs : List Part) → PartsSound g qs → Sound g 0 (row_if_not p qs)
 sound_row_if_not g p [] f = sound_fail g 0 BadForm p
 sound_row_if_not g p (a ∷ []) f = sound_fail g 0 BadForm p
-sound_row_if_not g p (a ∷ b ∷ []) f = sound_fail g 0 BadForm p
+sound_row_if_not g p (a ∷ b ∷ []) f = sound_unless g 0 a.means b.means nothing f.0 f.2.0 (sound_constant g 0 nil tt)
 sound_row_if_not g p (a ∷ b ∷ c ∷ []) f = sound_unless g 0 a.means b.means c.means f.0 f.2.0 f.2.2.0
 sound_row_if_not g p (a ∷ b ∷ c ∷ d ∷ qs) f = sound_fail g 0 BadForm p
 
 pub sound_row_when : (g : Ground) (p : Place) (qs : List Part) → PartsSound g qs → Sound g 0 (row_when p qs)
 sound_row_when g p [] f = sound_fail g 0 BadForm p
-sound_row_when g p (a ∷ qs) f = sound_iff g 0 a.means (block (meanings qs)) nothing f.0 (block_sound g 0 qs f.2) (sound_constant g 0 nil)
+sound_row_when g p (a ∷ qs) f = sound_iff g 0 a.means (block (meanings qs)) nothing f.0 (block_sound g 0 qs f.2) (sound_constant g 0 nil tt)
 
 pub sound_row_when_not : (g : Ground) (p : Place) (qs : List Part) → PartsSound g qs → Sound g 0 (row_when_not p qs)
 sound_row_when_not g p [] f = sound_fail g 0 BadForm p
-sound_row_when_not g p (a ∷ qs) f = sound_unless g 0 a.means (block (meanings qs)) nothing f.0 (block_sound g 0 qs f.2) (sound_constant g 0 nil)
+sound_row_when_not g p (a ∷ qs) f = sound_unless g 0 a.means (block (meanings qs)) nothing f.0 (block_sound g 0 qs f.2) (sound_constant g 0 nil tt)
 
 pub sound_cond_of : (g : Ground) (n : ℕ) (ms : List Meaning) → AllSound g n ms → Sound g n (cond_of ms)
-sound_cond_of g n [] f = sound_constant g n nil
-sound_cond_of g n (a ∷ []) f = sound_constant g n nil
+sound_cond_of g n [] f = sound_constant g n nil tt
+sound_cond_of g n (a ∷ []) f = sound_constant g n nil tt
 sound_cond_of g n (a ∷ b ∷ ms) f = sound_iff g n a b (cond_of ms) f.0 f.1.0 (sound_cond_of g n ms f.1.1)
 
 pub sound_row_cond : (g : Ground) (p : Place) (qs : List Part) → PartsSound g qs → Sound g 0 (row_cond p qs)
 sound_row_cond g p qs f = sound_cond g 0 (is_even qs) (cond_of (meanings qs)) (fail BadForm p) (sound_cond_of g 0 (meanings qs) (means_sound g qs f)) (sound_fail g 0 BadForm p)
 
 pub sound_and : (g : Ground) (n : ℕ) (ms : List Meaning) → AllSound g n ms → Sound g n (and_of ms)
-sound_and g n [] f = sound_constant g n (bool true)
+sound_and g n [] f = sound_constant g n (bool true) tt
 sound_and g n (a ∷ []) f = f.0
 sound_and g n (a ∷ b ∷ ms) f = sound_hide g n a (λ h. iff (local h) (and_of (b ∷ ms)) (local h)) f.0
     (λ h l. sound_iff g (suc h) (local h) (and_of (b ∷ ms)) (local h) (sound_local g (suc h) h (omega arith)) (weaken g n (suc h) (and_of (b ∷ ms)) (omega (arith, l)) (sound_and g n (b ∷ ms) f.1)) (sound_local g (suc h) h (omega arith)))
 
 pub sound_or : (g : Ground) (n : ℕ) (ms : List Meaning) → AllSound g n ms → Sound g n (or_of ms)
-sound_or g n [] f = sound_constant g n nil
+sound_or g n [] f = sound_constant g n nil tt
 sound_or g n (a ∷ []) f = f.0
 sound_or g n (a ∷ b ∷ ms) f = sound_hide g n a (λ h. iff (local h) (local h) (or_of (b ∷ ms))) f.0
     (λ h l. sound_iff g (suc h) (local h) (local h) (or_of (b ∷ ms)) (sound_local g (suc h) h (omega arith)) (sound_local g (suc h) h (omega arith)) (weaken g n (suc h) (or_of (b ∷ ms)) (omega (arith, l)) (sound_or g n (b ∷ ms) f.1)))
@@ -178,7 +178,7 @@ pub sound_row_if_bound : (g : Ground) (test : Place → ℕ → Meaning) (p : Pl
 sound_row_if_bound g test p [] t f = sound_fail g 0 BadForm p
 sound_row_if_bound g test p (a ∷ []) t f = sound_fail g 0 BadForm p
 sound_row_if_bound g test p (x ∷ a ∷ []) t f = sound_if_bound g test (one_bound (bindings_in x)) (block (a.means ∷ [])) nothing p t
-    (sound_one_bound g (bindings_in x) (bindings_sound g x f.1)) (sound_body g 0 a.means f.2.0) (sound_constant g 0 nil)
+    (sound_one_bound g (bindings_in x) (bindings_sound g x f.1)) (sound_body g 0 a.means f.2.0) (sound_constant g 0 nil tt)
 sound_row_if_bound g test p (x ∷ a ∷ b ∷ []) t f = sound_if_bound g test (one_bound (bindings_in x)) (block (a.means ∷ [])) b.means p t
     (sound_one_bound g (bindings_in x) (bindings_sound g x f.1)) (sound_body g 0 a.means f.2.0) f.2.2.0
 sound_row_if_bound g test p (a ∷ b ∷ c ∷ d ∷ qs) t f = sound_fail g 0 BadForm p
@@ -186,7 +186,7 @@ sound_row_if_bound g test p (a ∷ b ∷ c ∷ d ∷ qs) t f = sound_fail g 0 Ba
 pub sound_row_when_bound : (g : Ground) (test : Place → ℕ → Meaning) (p : Place) (qs : List Part) → TestSound g test → PartsSound g qs → Sound g 0 (row_when_bound test p qs)
 sound_row_when_bound g test p [] t f = sound_fail g 0 BadForm p
 sound_row_when_bound g test p (x ∷ qs) t f = sound_if_bound g test (one_bound (bindings_in x)) (block (meanings qs)) nothing p t
-    (sound_one_bound g (bindings_in x) (bindings_sound g x f.1)) (block_sound g 0 qs f.2) (sound_constant g 0 nil)
+    (sound_one_bound g (bindings_in x) (bindings_sound g x f.1)) (block_sound g 0 qs f.2) (sound_constant g 0 nil tt)
 
 -- loops
 pub again_sound : (g : Ground) (n : ℕ) (bs : List Bound) (m : ℕ) → n + widths bs ≤ m → NamedSound g m (again n bs)
@@ -264,7 +264,7 @@ pub sound_counting : (g : Ground) (m : ℕ) (i : List ℕ) (n : ℕ) (ms : List 
 sound_counting g m i n ms p l f = at_size g m (counting i n ms p) (λ env s l2 st.
     sound_loops g (size env) (record { name = i; means = number 0 } ∷ [])
     (block (iff (operation (Builtin Less) (local (size env) ∷ local n ∷ []) p) (block (ms ++ recur_with_next (size env) p ∷ [])) nothing ∷ []))
-    (sound_constant g (size env) (int (pos 0)), tt)
+    (sound_constant g (size env) (int (pos 0)) tt, tt)
     (aimed_when g (size env + 1) 1 (operation (Builtin Less) (local (size env) ∷ local n ∷ []) p) (block (ms ++ recur_with_next (size env) p ∷ []))
     (sound_operation g (size env + 1) (Builtin Less) (local (size env) ∷ local n ∷ []) p
     (sound_local g (size env + 1) (size env) (omega arith), (sound_local g (size env + 1) n (omega (arith, l, l2)), tt)) (λ target. refl))

@@ -1,5 +1,5 @@
 -- Each form makes a term that stands well.
-use Rattle.std.proofs.Common.{ℕ, List, [], ◌∷◌, length, Option, Some, None, nat_lt, refl}
+use Rattle.std.proofs.Common.{arith, ℕ, List, [], ◌∷◌, length, Option, Some, None, nat_lt, refl}
 use Rattle.ca_value.specs.Tree.{nil, bool, int, text, key}
 use Rattle.ca_value.specs.declared.builtin.Builtin.TheVariants.{Vector, HashMap}
 use Rattle.ca_term.specs.declared.place.Place.{Place}
@@ -61,8 +61,8 @@ sound_row g Special.PromiseChan p qs f = sound_row_promise g p qs f
 sound_row g Special.Timeout p qs f = sound_row_of_one g (Make MakeKind.Timeout) p qs (λ target. tt) f
 sound_row g Special.Mult p qs f = sound_row_mult g p qs f
 sound_row g Special.Tap p qs f = sound_row_tap g p qs f
-sound_row g Special.Untap p qs f = sound_row_of_two g (Register RegisterName.Untap) p qs (λ target. tt) f
-sound_row g Special.UntapAll p qs f = sound_row_of_one g (Register RegisterName.UntapAll) p qs (λ target. tt) f
+sound_row g Special.Untap p qs f = sound_row_of_two g (Register RegisterName.Untap) p qs (λ target. omega arith) f
+sound_row g Special.UntapAll p qs f = sound_row_of_one g (Register RegisterName.UntapAll) p qs (λ target. omega arith) f
 sound_row g Special.Mix p qs f = sound_row_mix g p qs f
 sound_row g Special.Admix p qs f = sound_row_change_of_two g RegisterName.Admix p qs f
 sound_row g Special.Unmix p qs f = sound_row_change_of_two g RegisterName.Unmix p qs f
@@ -103,11 +103,11 @@ sound_row_list g [] p f = sound_fail g 0 BadForm p
 sound_row_list g (h ∷ qs) p f = sound_headed g h.form qs p f.2
 
 pub sound_row_atom : (g : Ground) (a : Atom) (p : Place) → Sound g 0 (row_atom a p)
-sound_row_atom g nil_atom p = sound_constant g 0 nil
-sound_row_atom g (bool_atom b) p = sound_constant g 0 (bool b)
-sound_row_atom g (int_atom z) p = sound_constant g 0 (int z)
-sound_row_atom g (text_atom s) p = sound_written g 0 s p _ (sound_constant g 0 (text s))
-sound_row_atom g (key_atom s) p = sound_written g 0 s p _ (sound_constant g 0 (key s))
+sound_row_atom g nil_atom p = sound_constant g 0 nil tt
+sound_row_atom g (bool_atom b) p = sound_constant g 0 (bool b) tt
+sound_row_atom g (int_atom z) p = sound_constant g 0 (int z) tt
+sound_row_atom g (text_atom s) p = sound_written g 0 s p _ (λ l. sound_constant g 0 (text s) l)
+sound_row_atom g (key_atom s) p = sound_written g 0 s p _ (λ l. sound_constant g 0 (key s) l)
 sound_row_atom g (symbol s) p = sound_symbol g s p
 
 pub sound_row_group : (g : Ground) (b : Bracket) (qs : List Part) (p : Place) → PartsSound g qs → Sound g 0 (row_group b qs p)

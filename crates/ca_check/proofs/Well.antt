@@ -8,12 +8,25 @@ use Rattle.ca_term.specs.declared.head.Head.TheVariants.{Recur, Builtin, Call, T
 use Rattle.ca_term.specs.Kernel.{Kernel, Kernels, Bindings, const, var, branch, bind, loop, seq, frame, turn, apply, none, item, empty, binding}
 use Rattle.ca_term.specs.Closed.{IsIn, IsClosed, AreClosed, AreClosedBindings, behind}
 use Rattle.ca_term.specs.Fits.{Known, Suits, Fits, FitTerms, FitInOrder, FitBindings, count_terms, count_bindings, BindsAnew, TermsAnew, BindingsAnew, IsPlainHead, IsPlain, ArePlain, ArePlainBindings}
-use Rattle.ca_term.specs.Source.{IsSource, AreSource, AreSourceBindings}
+use Rattle.ca_term.specs.Source.{IsLiteral, IsFew, IsSource, AreSource, AreSourceBindings}
 use Rattle.ca_forms.specs.Uses.{is_among, noted, uses, uses_items, uses_bindings, is_plain_head, is_plain, are_plain, are_plain_bindings}
+
+-- the head suits so many operands, and on a registry there are at most four
+abbrev pub Suited : Known → Option ℕ → Head → ℕ → Type 0
+Suited k target (Register name) n = n ≤ 4
+Suited k target h n = Suits k target h n
+
+pub suited_suits : (k : Known) (target : Option ℕ) (h : Head) (n : ℕ) → Suited k target h n → Suits k target h n
+suited_suits k target (Register name) n s = tt
+suited_suits k target h n s = s
+
+pub suited_few : (k : Known) (target : Option ℕ) (h : Head) (n : ℕ) → Suited k target h n → IsFew h n
+suited_few k target (Register name) n s = s
+suited_few k target h n s = tt
 
 abbrev mutual
   pub Well : Known → ℕ → Option ℕ → Kernel → Type 0
-  Well k n target (const v) = Unit {0}
+  Well k n target (const v) = IsLiteral v
   Well k n target (var m) = m < n
   Well k n target (branch c a b) = Well k n None c × Well k n target a × Well k n target b
   Well k n target (bind bs body) = WellBindings k n bs × Well k (n + count_bindings bs) target body
@@ -22,7 +35,7 @@ abbrev mutual
   Well k n target (seq ts) = WellInOrder k n target ts
   Well k n target (frame body) = ⊥
   Well k n target (turn names text now) = ⊥
-  Well k n target (apply h ts p) = Suits k target h (count_terms ts) × WellTerms k n ts
+  Well k n target (apply h ts p) = Suited k target h (count_terms ts) × WellTerms k n ts
 
   pub WellTerms : Known → ℕ → Kernels → Type 0
   WellTerms k n none = Unit {0}
@@ -52,7 +65,7 @@ mutual
   fits k n target (seq ts) w = in_order_fit k n target ts w
   fits k n target (frame body) w = absurd w
   fits k n target (turn names text now) w = absurd w
-  fits k n target (apply h ts p) w = (w.0, terms_fit k n ts w.1)
+  fits k n target (apply h ts p) w = (suited_suits k target h (count_terms ts) w.0, terms_fit k n ts w.1)
 
   pub terms_fit : (k : Known) (n : ℕ) (ts : Kernels) → WellTerms k n ts → FitTerms (Suits k) ts
   terms_fit k n none w = tt
@@ -70,7 +83,7 @@ mutual
 -- nothing in it runs yet
 mutual
   pub source : (k : Known) (n : ℕ) (target : Option ℕ) (t : Kernel) → Well k n target t → IsSource t
-  source k n target (const v) w = tt
+  source k n target (const v) w = w
   source k n target (var m) w = tt
   source k n target (branch c a b) w = (source k n None c w.0, source k n target a w.1, source k n target b w.2)
   source k n target (bind bs body) w = (bindings_source k n bs w.0, source k (n + count_bindings bs) target body w.1)
@@ -79,7 +92,7 @@ mutual
   source k n target (seq ts) w = in_order_source k n target ts w
   source k n target (frame body) w = absurd w
   source k n target (turn names text now) w = absurd w
-  source k n target (apply h ts p) w = terms_source k n ts w.1
+  source k n target (apply h ts p) w = (suited_few k target h (count_terms ts) w.0, terms_source k n ts w.1)
 
   pub terms_source : (k : Known) (n : ℕ) (ts : Kernels) → WellTerms k n ts → AreSource ts
   terms_source k n none w = tt

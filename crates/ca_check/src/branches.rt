@@ -49,9 +49,9 @@ impl Walker {
         }
     }
 
-    /// `(if-not test a b)`: both branches are written.
+    /// `(if-not test a)` and `(if-not test a b)`.
     #[cycle(walk)]
-    #[tactic(auto, using(crate::proofs::Parts::three_parts))]
+    #[tactic(auto, using(crate::proofs::Parts::two_parts, crate::proofs::Parts::three_parts))]
     pub fn if_not_form(
         &mut self,
         alloc: Global,
@@ -66,6 +66,11 @@ impl Walker {
         ensures scope { OnOk result (self.new.scope ≡ self.old.scope) }
     {
         match parts {
+            [_, test, then] => {
+                let test = self.form(alloc, functions, at.inner(), test)?;
+                let then = self.form(alloc, functions, at, then)?;
+                self.gathered.branch(alloc, test, nothing(), then)
+            }
             [_, test, then, otherwise] => {
                 let test = self.form(alloc, functions, at.inner(), test)?;
                 let then = self.form(alloc, functions, at, then)?;

@@ -1,8 +1,9 @@
-ghost use Rattle.std.specs.Prelude.{◌≡◌, ◌≤◌, ◌<◌, ◌+◌, ◌^◌, ℕ, suc, [], ◌∷◌, ◌++◌, length, ◌&&◌, false, IfOk, IfErr, IfSome, IfNone, OnOk};
+ghost use Rattle.std.specs.Prelude.{◌≡◌, ◌≤◌, ◌<◌, ◌+◌, ◌^◌, ℕ, suc, [], ◌∷◌, ◌++◌, length, ◌&&◌, false, None, IfOk, IfErr, IfSome, IfNone, OnOk};
 ghost use Rattle.ca_value.specs.Seq.{list};
 ghost use Rattle.ca_term.specs.View.{kernel};
 ghost use Rattle.ca_reader.specs.View.{form_trees};
 ghost use Rattle.ca_forms.specs.declared.error.CheckError.{CheckError};
+ghost use Rattle.ca_forms.specs.FunctionsView.{find, named_function};
 ghost use Rattle.ca_forms.specs.Names.{is_known};
 ghost use Rattle.ca_forms.specs.Outcome.{done};
 ghost use Rattle.ca_forms.specs.Tops.{names_of, numbers, straight, looped, signature, function_env, settled, add_function, with_function, is_empty, plain_with};
@@ -11,7 +12,7 @@ ghost use Rattle.ca_check.specs.TopsView.{total_binders, written_as, in_function
 ghost use Rattle.ca_forms.specs.WalkView.{gathered, Fails};
 
 use crate::defn::{Defn, Pass};
-use crate::function_body::parameter_numbers;
+use crate::function_body::all_parameters;
 use crate::walk::Walker;
 use ca_forms::error::{CheckError, CheckErrorKind};
 use ca_forms::functions::{Function, Functions};
@@ -58,6 +59,24 @@ fn is_plain_function(functions: &Functions, hidden: &IndexSet<u64>, body: &Term)
     hidden.is_empty() && is_plain(functions, functions.len(), body)
 }
 
+// What calls know of the function, with these hidden parameters.
+fn signature(
+    alloc: Global,
+    defn: &Defn,
+    hidden: &[u64],
+    plain: bool,
+) -> Result<Function, CheckError>
+    ensures ok { IfOk result (λ f. named_function defn.now.name.now f ≡ signature (written_as defn.now) hidden.now plain) }
+    ensures err { IfErr result (λ e. e ≡ CheckError.OutOfMemory) }
+{
+    let numbers = Vec::from_slice(alloc, hidden)?;
+    Ok(Function {
+        arity: defn.parameters.len() as u64,
+        hidden: Seq::from_vec(numbers),
+        plain,
+    })
+}
+
 impl Definitions {
     // The body in that pass, where calls of the function itself pass these hidden parameters.
     fn pass(
@@ -76,11 +95,7 @@ impl Definitions {
         ensures err { IfErr result (λ e. Fails e (body_in pass (written_as defn.now) place (function_env (signature (written_as defn.now) hidden.now false) (tops_of self.old)) (gathered self.old.walker.gathered))) }
         ensures kept { OnOk result (tops_of self.new ≡ tops_of self.old) }
     {
-        let known = Function {
-            arity: defn.parameters.len() as u64,
-            hidden: Seq::from_vec(Vec::from_slice(alloc, hidden)?),
-            plain: false,
-        };
+        let known = signature(alloc, defn, hidden, false)?;
         self.functions.add(alloc, defn.name, known)?;
         let body = self.walker.body(alloc, &self.functions, pass, defn, place)?;
         self.functions.remove_last();
@@ -204,22 +219,37 @@ impl Definitions {
         ensures safe { OnOk result (IsSafe (tops_of self.new)) }
     {
         let Body { made, hidden } = body;
-        let term = made.into_term();
-        let plain = is_plain_function(&self.functions, &hidden, &term);
-        let numbers = parameter_numbers(alloc, self.walker.scope.len(), defn.parameters)?;
-        let mut parameters = Vec::from_slice(alloc, numbers.as_slice())?;
-        parameters.extend_from_slice(hidden.as_slice())?;
-        let known = Function {
-            arity: defn.parameters.len() as u64,
-            hidden: Seq::from_vec(Vec::from_slice(alloc, hidden.as_slice())?),
-            plain,
+        let plain = is_plain_function(&self.functions, &hidden, made.term());
+        let known = signature(alloc, defn, hidden.as_slice(), plain)?;
+        let first = self.walker.scope.len();
+        let parameters = all_parameters(alloc, first, defn.parameters, hidden.as_slice())?;
+        let procedure = Procedure {
+            parameters,
+            body: made.into_term(),
         };
+        self.enter(alloc, defn.name, known, procedure)?;
+        Ok(())
+    }
+
+    // Adds what calls know of a function, under its name, and its text.
+    fn enter(
+        &mut self,
+        alloc: Global,
+        name: &[u8],
+        known: Function,
+        procedure: Procedure,
+    ) -> Result<(), CheckError>
+        requires free { find name.now self.old.functions ≡ None }
+        requires counted { self.old.defined ≤ 4096 }
+        ensures functions { OnOk result (self.new.functions ≡ self.old.functions ++ named_function name.now known ∷ []) }
+        ensures procedures { OnOk result (list self.new.procedures ≡ list self.old.procedures ++ procedure ∷ []) }
+        ensures defined { OnOk result (self.new.defined ≡ self.old.defined + 1) }
+        ensures walker { self.new.walker ≡ self.old.walker }
+        ensures err { IfErr result (λ e. e ≡ CheckError.OutOfMemory) }
+    {
         self.procedures.reserve(1)?;
-        self.functions.add(alloc, defn.name, known)?;
-        self.procedures.push(Procedure {
-            parameters: Seq::from_vec(parameters),
-            body: term,
-        });
+        self.functions.add(alloc, name, known)?;
+        self.procedures.push(procedure);
         self.defined += 1;
         Ok(())
     }

@@ -25,7 +25,7 @@ pub struct Defn<'a> {
 }
 
 /// How the body of a function is walked.
-#[derive(Clone, Copy, PartialEq, Eq, Debug)]
+#[derive(Clone, Copy)]
 pub enum Pass {
     /// To meet each error: a `recur` aims at the function.
     First,

@@ -43,6 +43,23 @@ pub fn parameter_numbers(
     Ok(numbers)
 }
 
+/// The numbers of these parameters, the first one being `first`, and the hidden ones behind them.
+pub fn all_parameters(
+    alloc: Global,
+    first: u64,
+    parameters: &[Form],
+    hidden: &[u64],
+) -> Result<Seq<u64>, CheckError>
+    requires { first + length parameters.now < 2 ^ 64 }
+    ensures ok { IfOk result (λ s. list s ≡ numbers first (names_of (total_binders (form_trees parameters.now))) ++ hidden.now) }
+    ensures err { IfErr result (λ e. e ≡ CheckError.OutOfMemory) }
+{
+    let numbers = parameter_numbers(alloc, first, parameters)?;
+    let mut all = numbers.into_vec();
+    all.extend_from_slice(hidden)?;
+    Ok(Seq::from_vec(all))
+}
+
 // Whether one of the parameters is a pattern.
 fn have_pattern(parameters: &[Form]) -> bool
     ensures { result ≡ list_any is_pattern (total_binders (form_trees parameters.now)) }

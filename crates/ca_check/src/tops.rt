@@ -38,7 +38,7 @@ pub struct Expansion {
 }
 
 /// What stands at top level, by the word at its head.
-#[derive(Clone, Copy, PartialEq, Eq, Debug)]
+#[derive(Clone, Copy)]
 pub enum Kind {
     Definition,
     Function,

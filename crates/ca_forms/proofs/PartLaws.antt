@@ -74,12 +74,12 @@ if_off (f ∷ g ∷ k ∷ []) p e s h = absurd (elim h [ inl a ↦ omega (arith,
 if_off (f ∷ g ∷ k ∷ m ∷ []) p e s h = absurd (elim h [ inl a ↦ omega (arith, a) | inr b ↦ omega (arith, b) ])
 if_off (f ∷ g ∷ k ∷ m ∷ n ∷ fs) p e s h = refl
 
-pub if_not_off : (fs : List Form) (p : Place) (e : Env) (s : Gathered) → (length fs ≡ 4 → ⊥) → row_if_not p (parts_of (drop 1 fs)) e s ≡ refused BadForm p
+pub if_not_off : (fs : List Form) (p : Place) (e : Env) (s : Gathered) → (length fs < 3) ⊎ (4 < length fs) → row_if_not p (parts_of (drop 1 fs)) e s ≡ refused BadForm p
 if_not_off [] p e s h = refl
 if_not_off (f ∷ []) p e s h = refl
 if_not_off (f ∷ g ∷ []) p e s h = refl
-if_not_off (f ∷ g ∷ k ∷ []) p e s h = refl
-if_not_off (f ∷ g ∷ k ∷ m ∷ []) p e s h = absurd (h refl)
+if_not_off (f ∷ g ∷ k ∷ []) p e s h = absurd (elim h [ inl a ↦ omega (arith, a) | inr b ↦ omega (arith, b) ])
+if_not_off (f ∷ g ∷ k ∷ m ∷ []) p e s h = absurd (elim h [ inl a ↦ omega (arith, a) | inr b ↦ omega (arith, b) ])
 if_not_off (f ∷ g ∷ k ∷ m ∷ n ∷ fs) p e s h = refl
 
 -- a block that isn't empty

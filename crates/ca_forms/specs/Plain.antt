@@ -32,8 +32,9 @@ row_if p (c ∷ a ∷ []) = iff c.means a.means nothing
 row_if p (c ∷ a ∷ b ∷ []) = iff c.means a.means b.means
 row_if p ps = fail BadForm p
 
--- (if-not c a b)
+-- (if-not c a), (if-not c a b)
 abbrev pub row_if_not : Place → List Part → Meaning
+row_if_not p (c ∷ a ∷ []) = unless c.means a.means nothing
 row_if_not p (c ∷ a ∷ b ∷ []) = unless c.means a.means b.means
 row_if_not p ps = fail BadForm p
 

@@ -1,4 +1,4 @@
-ghost use Rattle.std.specs.Prelude.{◌≡◌, ◌≤◌, ◌<◌, ◌+◌, ◌^◌, IfOk, IfErr, [], ◌∷◌, length, true};
+ghost use Rattle.std.specs.Prelude.{◌≡◌, ◌≤◌, ◌<◌, ◌+◌, ◌^◌, IfOk, IfErr, [], ◌∷◌, length, map, true};
 ghost use Rattle.ca_value.specs.Seq.{list};
 ghost use Rattle.ca_value.specs.Tree.{nil, bool};
 ghost use Rattle.ca_value.specs.declared.builtin.Builtin.{Builtin};
@@ -97,6 +97,25 @@ fn trying(alloc: Global, port: Made, answer: u64, place: Place) -> Result<Hidden
     Ok(Hidden { more, body })
 }
 
+// The further terms, a system task over names, and the name of that number as the value.
+#[tactic(auto, using(crate::proofs::FixedLaws::vars_depth))]
+fn answered(
+    alloc: Global,
+    more: Seq<Made>,
+    task: SystemTask,
+    numbers: &[u64],
+    answer: u64,
+    place: Place,
+) -> Result<Hidden, CheckError>
+    ensures more { IfOk result (λ r. list r.more ≡ list more) }
+    ensures body { IfOk result (λ r. kernel r.body ≡ seq_of (kernels_of (started task (map var numbers.now) place ∷ var answer ∷ []))) }
+    ensures err { IfErr result (λ e. e ≡ CheckError.OutOfMemory) }
+{
+    let term = started(alloc, task, numbers, place)?;
+    let body = followed(alloc, term, Made::local(answer))?;
+    Ok(Hidden { more, body })
+}
+
 /// `(mult c)`, behind the source.
 pub fn mult(alloc: Global, first: u64, place: Place) -> Result<Hidden, CheckError>
     requires { first + 3 < 2 ^ 64 }
@@ -107,14 +126,14 @@ pub fn mult(alloc: Global, first: u64, place: Place) -> Result<Hidden, CheckErro
     let answers = made(alloc, MakeKind::Unbuffered, &[], place)?;
     let entry = made(alloc, MakeKind::Mult, &[first], place)?;
     let more = pair(alloc, answers, entry)?;
-    let task = started(
+    answered(
         alloc,
+        more,
         SystemTask::Mult,
         &[first + 2, first, first + 1],
+        first + 2,
         place,
-    )?;
-    let body = followed(alloc, task, Made::local(first + 2))?;
-    Ok(Hidden { more, body })
+    )
 }
 
 /// `(mix o)`, behind the output.
@@ -127,14 +146,14 @@ pub fn mix(alloc: Global, first: u64, place: Place) -> Result<Hidden, CheckError
     let changes = made_of_one(alloc, MakeKind::Sliding, place)?;
     let entry = made(alloc, MakeKind::Mix, &[first, first + 1], place)?;
     let more = pair(alloc, changes, entry)?;
-    let task = started(
+    answered(
         alloc,
+        more,
         SystemTask::Mix,
         &[first + 2, first, first + 1],
+        first + 2,
         place,
-    )?;
-    let body = followed(alloc, task, Made::local(first + 2))?;
-    Ok(Hidden { more, body })
+    )
 }
 
 /// A change of a mix, behind the Register, whose value is the port that the mix hears of changes on.
@@ -161,13 +180,22 @@ pub fn unsub(alloc: Global, first: u64, place: Place) -> Result<Hidden, CheckErr
 {
     let found = registered(alloc, RegisterName::Find, &[first, first + 1], place)?;
     let more = single(alloc, found)?;
-    let test = over(alloc, Head::Builtin(Builtin::IsSome), &[first + 3], place)?;
+    let untap = untapped(alloc, first, place)?;
+    let body = followed(alloc, untap, nothing())?;
+    Ok(Hidden { more, body })
+}
+
+// The port is taken from the topic's mult, where the topic has an entry.
+fn untapped(alloc: Global, first: u64, place: Place) -> Result<Made, CheckError>
+    requires { first + 4 < 2 ^ 64 }
+    ensures ok { IfOk result (λ t. kernel t ≡ branch_of (built Builtin.IsSome (var (first + 3) ∷ []) place) (registered RegisterName.Untap (nth_of (first + 3) 0 place ∷ var (first + 2) ∷ []) place) (const nil)) }
+    ensures err { IfErr result (λ e. e ≡ CheckError.OutOfMemory) }
+{
     let entry = nth_of(alloc, first + 3, 0, place)?;
     let operands = pair(alloc, entry, Made::local(first + 2))?;
     let untap = apply(alloc, Head::Register(RegisterName::Untap), operands, place)?;
-    let untap = branch(alloc, test, untap, nothing())?;
-    let body = followed(alloc, untap, nothing())?;
-    Ok(Hidden { more, body })
+    let test = over(alloc, Head::Builtin(Builtin::IsSome), &[first + 3], place)?;
+    branch(alloc, test, untap, nothing())
 }
 
 /// `(pipe f t z)`, behind the source, the target and whether to close.
@@ -177,17 +205,14 @@ pub fn pipe(alloc: Global, first: u64, place: Place) -> Result<Hidden, CheckErro
     ensures body { IfOk result (λ r. kernel r.body ≡ seq_of (kernels_of (started SystemTask.Pipe (var first ∷ var (first + 1) ∷ var (first + 2) ∷ []) place ∷ var (first + 1) ∷ []))) }
     ensures err { IfErr result (λ e. e ≡ CheckError.OutOfMemory) }
 {
-    let task = started(
+    answered(
         alloc,
+        Seq::new(alloc),
         SystemTask::Pipe,
         &[first, first + 1, first + 2],
+        first + 1,
         place,
-    )?;
-    let body = followed(alloc, task, Made::local(first + 1))?;
-    Ok(Hidden {
-        more: Seq::new(alloc),
-        body,
-    })
+    )
 }
 
 /// `(merge v b)`, behind the vector of sources and the output.
@@ -197,12 +222,14 @@ pub fn merge(alloc: Global, first: u64, place: Place) -> Result<Hidden, CheckErr
     ensures body { IfOk result (λ r. kernel r.body ≡ seq_of (kernels_of (started SystemTask.Merge (var first ∷ var (first + 1) ∷ []) place ∷ var (first + 1) ∷ []))) }
     ensures err { IfErr result (λ e. e ≡ CheckError.OutOfMemory) }
 {
-    let task = started(alloc, SystemTask::Merge, &[first, first + 1], place)?;
-    let body = followed(alloc, task, Made::local(first + 1))?;
-    Ok(Hidden {
-        more: Seq::new(alloc),
-        body,
-    })
+    answered(
+        alloc,
+        Seq::new(alloc),
+        SystemTask::Merge,
+        &[first, first + 1],
+        first + 1,
+        place,
+    )
 }
 
 /// `(onto-chan! c v z)`, behind the port, the values and whether to close.
@@ -214,14 +241,14 @@ pub fn onto(alloc: Global, first: u64, place: Place) -> Result<Hidden, CheckErro
 {
     let answer = made_of_one(alloc, MakeKind::Fixed, place)?;
     let more = single(alloc, answer)?;
-    let task = started(
+    answered(
         alloc,
+        more,
         SystemTask::Onto,
         &[first, first + 1, first + 2, first + 3],
+        first + 3,
         place,
-    )?;
-    let body = followed(alloc, task, Made::local(first + 3))?;
-    Ok(Hidden { more, body })
+    )
 }
 
 /// `(to-chan! v)`, behind the values.
@@ -234,17 +261,26 @@ pub fn to(alloc: Global, first: u64, place: Place) -> Result<Hidden, CheckError>
     let port = sized_for(alloc, first, place)?;
     let answer = made_of_one(alloc, MakeKind::Fixed, place)?;
     let more = pair(alloc, port, answer)?;
-    let operands = pair(alloc, Made::local(first + 1), Made::local(first))?;
+    let task = putting(alloc, first, place)?;
+    let body = followed(alloc, task, Made::local(first + 1))?;
+    Ok(Hidden { more, body })
+}
+
+// The task that puts the values onto the port behind them, and closes it.
+fn putting(alloc: Global, values: u64, place: Place) -> Result<Made, CheckError>
+    requires { values + 3 < 2 ^ 64 }
+    ensures ok { IfOk result (λ t. kernel t ≡ started SystemTask.Onto (var (values + 1) ∷ var values ∷ const (bool true) ∷ var (values + 2) ∷ []) place) }
+    ensures err { IfErr result (λ e. e ≡ CheckError.OutOfMemory) }
+{
+    let operands = pair(alloc, Made::local(values + 1), Made::local(values))?;
     let operands = with_last(operands, yes())?;
-    let operands = with_last(operands, Made::local(first + 2))?;
-    let task = apply(
+    let operands = with_last(operands, Made::local(values + 2))?;
+    apply(
         alloc,
         Head::Spawn(SeedKind::System(SystemTask::Onto)),
         operands,
         place,
-    )?;
-    let body = followed(alloc, task, Made::local(first + 1))?;
-    Ok(Hidden { more, body })
+    )
 }
 
 // A channel with room for the values of the name, and for 100 at most.

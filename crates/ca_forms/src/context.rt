@@ -3,7 +3,7 @@ ghost use Rattle.ca_forms.specs.declared.context.Context.{Context};
 
 /// Which text a form stands in: the main text outside all go blocks, the body of a go block, or that of
 /// a function. It decides which takes, puts and alts may stand there.
-#[derive(Clone, Copy, PartialEq, Eq, Debug)]
+#[derive(Clone, Copy)]
 pub enum Context {
     Main,
     Go,
@@ -11,7 +11,7 @@ pub enum Context {
 }
 
 /// Where a form stands: how many values a `recur` there takes, if one may stand there, and in which text.
-#[derive(Clone, Copy, PartialEq, Eq, Debug)]
+#[derive(Clone, Copy)]
 pub struct At {
     pub target: Option<u64>,
     pub context: Context,

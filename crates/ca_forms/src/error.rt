@@ -6,7 +6,7 @@ use ca_value::memory::OutOfMemory as NoMemory;
 use std::alloc::{AllocError, AllocFailed};
 
 /// What can be wrong with a script, each at one of its forms.
-#[derive(Clone, Copy, PartialEq, Eq, Debug)]
+#[derive(Clone, Copy)]
 pub enum CheckErrorKind {
     /// A symbol that is no local, no earlier `def`, function or builtin, and no form.
     UnknownName,
@@ -48,7 +48,7 @@ impl CheckErrorKind {
 }
 
 /// Why a script has no program: the first error in it with its place, or want of memory.
-#[derive(Clone, Copy, PartialEq, Eq, Debug)]
+#[derive(Clone, Copy)]
 pub enum CheckError {
     Fault(CheckErrorKind, Place),
     OutOfMemory,

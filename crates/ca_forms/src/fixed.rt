@@ -1,9 +1,10 @@
-ghost use Rattle.std.specs.Prelude.{◌≡◌, ◌≤◌, ◌<◌, ◌+◌, ◌^◌, IfOk, IfErr, None, [], ◌∷◌, ◌++◌, length, map, true};
+ghost use Rattle.std.specs.Prelude.{◌≡◌, ◌≤◌, ◌<◌, ◌+◌, ◌^◌, IfOk, IfErr, None, [], ◌∷◌, ◌++◌, length, map, true, codes};
 ghost use Rattle.ca_value.specs.Seq.{list};
-ghost use Rattle.ca_value.specs.Tree.{nil, bool};
+ghost use Rattle.ca_value.specs.Tree.{nil, bool, key};
+ghost use Rattle.ca_value.specs.declared.builtin.Builtin.{Builtin};
 ghost use Rattle.ca_term.specs.Kernel.{const, var, branch as branch_of, bind as bind_of, loop as loop_of, seq as seq_of, apply as apply_of};
 ghost use Rattle.ca_term.specs.View.{kernel, kernels, kernels_of};
-ghost use Rattle.ca_forms.specs.Channels.{made, started, registered, whole, nth_of, tried, unless_default};
+ghost use Rattle.ca_forms.specs.Channels.{built, made, started, registered, whole, nth_of, tried, unless_default};
 ghost use Rattle.ca_forms.specs.Depth.{depth_of, depth_of_items};
 ghost use Rattle.ca_forms.specs.Meaning.{numbered};
 ghost use Rattle.ca_forms.specs.WalkView.{terms_of};
@@ -226,15 +227,23 @@ pub fn tried(alloc: Global, port: Made, place: Place) -> Result<Made, CheckError
     apply(alloc, Head::Alts(AltsOptions::Default), operands, place)
 }
 
+// Whether the answer of an alts is the default.
+fn is_default(alloc: Global, answer: u64, place: Place) -> Result<Made, CheckError>
+    ensures ok { IfOk result (λ t. kernel t ≡ built Builtin.Equal (nth_of answer 1 place ∷ const (key (codes "default")) ∷ []) place) }
+    ensures err { IfErr result (λ e. e ≡ CheckError.OutOfMemory) }
+{
+    let word = Value::key(alloc, Text::from_bytes(alloc, b"default")?)?;
+    let port = nth_of(alloc, answer, 1, place)?;
+    let sides = pair(alloc, port, Made::constant(word))?;
+    apply(alloc, Head::Builtin(Builtin::Equal), sides, place)
+}
+
 /// The value that the answer of an alts holds, nil for the default.
 pub fn unless_default(alloc: Global, answer: u64, place: Place) -> Result<Made, CheckError>
     ensures ok { IfOk result (λ t. kernel t ≡ unless_default answer place) }
     ensures err { IfErr result (λ e. e ≡ CheckError.OutOfMemory) }
 {
-    let port = nth_of(alloc, answer, 1, place)?;
-    let default = Made::constant(Value::key(alloc, Text::from_bytes(alloc, b"default")?)?);
-    let sides = pair(alloc, port, default)?;
-    let test = apply(alloc, Head::Builtin(Builtin::Equal), sides, place)?;
+    let test = is_default(alloc, answer, place)?;
     let value = nth_of(alloc, answer, 0, place)?;
     branch(alloc, test, nothing(), value)
 }

@@ -1,8 +1,8 @@
-ghost use Rattle.std.specs.Prelude.{◌≡◌, ◌≤◌, ◌+◌, ◌<◌, ◌^◌, IfOk, IfErr, [], length, take};
+ghost use Rattle.std.specs.Prelude.{◌≡◌, ◌≤◌, ◌+◌, ◌<◌, ◌^◌, IfOk, IfErr, [], ◌∷◌, cond, length, take};
 ghost use Rattle.ca_value.specs.Seq.{list};
 ghost use Rattle.ca_value.specs.View.{view};
 ghost use Rattle.ca_term.specs.Kernel.{const, var, branch as branch_of, bind as bind_of, loop as loop_of, seq as seq_of, apply as apply_of};
-ghost use Rattle.ca_term.specs.View.{kernel, kernels, bindings};
+ghost use Rattle.ca_term.specs.View.{kernel, kernels, kernels_of, bindings};
 ghost use Rattle.ca_forms.specs.declared.error.CheckError.{CheckError};
 ghost use Rattle.ca_forms.specs.Depth.{depth_of, depth_of_items};
 ghost use Rattle.ca_forms.specs.Judged.{part_term, chained, chain_of};
@@ -23,10 +23,19 @@ use std::alloc::Global;
 use std::marker::Model;
 
 /// A term that is at most 400 deep. It knows its depth.
-#[derive(Drop)]
 pub struct Made {
     term: Term,
     depth: u64,
+}
+
+// By hand, so that a function which holds one where it ends early calls this, and does not spell out each kind of term.
+impl Drop for Made {
+    fn drop(self) {
+        let Made {
+            term: _term,
+            depth: _,
+        } = self;
+    }
 }
 
 impl Model for Made {
@@ -220,6 +229,15 @@ impl Bodies {
         Ok(self.limit(Term::Do(terms), depth))
     }
 
+    /// The Do of one term.
+    pub fn alone(&mut self, alloc: Global, term: Made) -> Result<Made, CheckError>
+        ensures ok { IfOk result (λ t. limited (seq_of (kernels_of (kernel term ∷ []))) (gathered self.old) ≡ done (kernel t) (gathered self.new)) }
+        ensures err { IfErr result (λ e. e ≡ CheckError.OutOfMemory) }
+    {
+        let terms = single(alloc, term)?;
+        self.seq(alloc, terms)
+    }
+
     /// A Let of these values, from number `first` on.
     pub fn bind(
         &mut self,
@@ -256,6 +274,25 @@ impl Bodies {
         Ok(self.limit(Term::Loop(Seq::new(alloc), rest, body), depth))
     }
 
+    // `(if n rest n)` where `both`, else `(if n n rest)`, n being the name of that number.
+    fn chosen(
+        &mut self,
+        alloc: Global,
+        both: bool,
+        number: u64,
+        rest: Made,
+    ) -> Result<Made, CheckError>
+        ensures ok { IfOk result (λ t. limited (cond both (branch_of (var number) (kernel rest) (var number)) (branch_of (var number) (var number) (kernel rest))) (gathered self.old) ≡ done (kernel t) (gathered self.new)) }
+        ensures err { IfErr result (λ e. e ≡ CheckError.OutOfMemory) }
+    {
+        let name = Made::local(number);
+        if both {
+            self.branch(alloc, name, rest, Made::local(number))
+        } else {
+            self.branch(alloc, name, Made::local(number), rest)
+        }
+    }
+
     // `(let [n value] (if n rest n))` where `both`, else `(let [n value] (if n n rest))`.
     fn chained(
         &mut self,
@@ -269,13 +306,10 @@ impl Bodies {
         ensures ok { IfOk result (λ t. chained both number (kernel value) (kernel rest) (gathered self.old) ≡ done (kernel t) (gathered self.new)) }
         ensures err { IfErr result (λ e. e ≡ CheckError.OutOfMemory) }
     {
-        let choice = if both {
-            self.branch(alloc, Made::local(number), rest, Made::local(number))?
-        } else {
-            self.branch(alloc, Made::local(number), Made::local(number), rest)?
-        };
-        let body = self.seq(alloc, single(alloc, choice)?)?;
-        self.bind(alloc, number, single(alloc, value)?, body)
+        let values = single(alloc, value)?;
+        let choice = self.chosen(alloc, both, number, rest)?;
+        let body = self.alone(alloc, choice)?;
+        self.bind(alloc, number, values, body)
     }
 
     /// An `and`, or an `or`, of these values under the hidden names from `first` on, and a last operand.

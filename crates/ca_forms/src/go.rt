@@ -1,10 +1,13 @@
 ghost use Rattle.std.specs.Prelude.{◌≡◌, ◌≤◌, ◌<◌, ◌+◌, ◌^◌, IfOk, IfErr, OnOk, ℕ, suc, [], ◌∷◌, ◌++◌, map, length, slice_set};
 ghost use Rattle.ca_value.specs.Seq.{list};
-ghost use Rattle.ca_term.specs.Kernel.{var, apply as apply_of, bind as bind_of, binding, empty};
+ghost use Rattle.ca_value.specs.Tree.{nil};
+ghost use Rattle.ca_value.specs.declared.builtin.Builtin.{Builtin};
+ghost use Rattle.ca_term.specs.Kernel.{const, var, branch as branch_of, apply as apply_of, bind as bind_of, binding, empty};
 ghost use Rattle.ca_term.specs.Program.{procedure_view};
 ghost use Rattle.ca_term.specs.View.{kernel, kernels_of};
 ghost use Rattle.ca_term.specs.declared.head.Head.{Head};
 ghost use Rattle.ca_term.specs.declared.head.SeedKind.{SeedKind};
+ghost use Rattle.ca_forms.specs.Channels.{built};
 ghost use Rattle.ca_forms.specs.Depth.{depth_of};
 ghost use Rattle.ca_forms.specs.Go.{spawned};
 ghost use Rattle.ca_forms.specs.GoView.{ending, opened, finished};
@@ -26,6 +29,17 @@ use ca_value::seq::Seq;
 use ca_value::value::Value;
 use std::alloc::Global;
 
+// The value, whose number is the one behind that of the port, is put there unless it is nil.
+fn put_unless_nil(alloc: Global, port: u64, place: Place) -> Result<Made, CheckError>
+    requires { port + 1 < 2 ^ 64 }
+    ensures ok { IfOk result (λ t. kernel t ≡ branch_of (built Builtin.IsNil (var (port + 1) ∷ []) place) (const nil) (apply_of Head.Post (kernels_of (var port ∷ var (port + 1) ∷ [])) place)) }
+    ensures err { IfErr result (λ e. e ≡ CheckError.OutOfMemory) }
+{
+    let test = over(alloc, Head::Builtin(Builtin::IsNil), &[port + 1], place)?;
+    let put = over(alloc, Head::Post, &[port, port + 1], place)?;
+    branch(alloc, test, nothing(), put)
+}
+
 // What stands behind the body of a go block: its value, which has the number behind that of the result port,
 // is put there unless it is nil, and the port is closed.
 fn ending(alloc: Global, port: u64, place: Place) -> Result<Made, CheckError>
@@ -33,9 +47,7 @@ fn ending(alloc: Global, port: u64, place: Place) -> Result<Made, CheckError>
     ensures ok { IfOk result (λ t. kernel t ≡ ending port place) }
     ensures err { IfErr result (λ e. e ≡ CheckError.OutOfMemory) }
 {
-    let test = over(alloc, Head::Builtin(Builtin::IsNil), &[port + 1], place)?;
-    let put = over(alloc, Head::Post, &[port, port + 1], place)?;
-    let put = branch(alloc, test, nothing(), put)?;
+    let put = put_unless_nil(alloc, port, place)?;
     let close = over(alloc, Head::Close, &[port], place)?;
     followed(alloc, put, close)
 }
@@ -52,8 +64,8 @@ fn task(
     ensures ok { IfOk result (λ t. limited (bind_of (binding (suc port) (kernel body) empty) (ending port place)) (gathered bodies.old) ≡ done (kernel t) (gathered bodies.new)) }
     ensures err { IfErr result (λ e. e ≡ CheckError.OutOfMemory) }
 {
-    let end = ending(alloc, port, place)?;
     let values = single(alloc, body)?;
+    let end = ending(alloc, port, place)?;
     let text = bodies.bind(alloc, port + 1, values, end)?;
     Ok(text)
 }
@@ -96,6 +108,19 @@ fn spawned(
     bind(alloc, port, values, body)
 }
 
+// The text of a go body, over the names that it uses and the result port.
+fn over_port(mut captured: Seq<u64>, port: u64, body: Made) -> Result<Procedure, CheckError>
+    ensures ok { IfOk result (λ q. procedure_view q ≡ record { parameters = list captured ++ port ∷ []; body = kernel body }) }
+    ensures err { IfErr result (λ e. e ≡ CheckError.OutOfMemory) }
+{
+    captured.reserve(1)?;
+    captured.push(port);
+    Ok(Procedure {
+        parameters: captured,
+        body: body.into_term(),
+    })
+}
+
 impl Bodies {
     /// Holds a number for a go body that is made later.
     pub fn open(&mut self, alloc: Global) -> Result<u64, CheckError>
@@ -134,18 +159,11 @@ impl Bodies {
         ensures ok { IfOk result (λ t. finished (kernel body) number port place (gathered self.old) ≡ done (kernel t) (gathered self.new)) }
         ensures err { IfErr result (λ e. e ≡ CheckError.OutOfMemory) }
     {
-        let text = task(alloc, self, body, port, place)?.into_term();
-        let mut captured = uses(alloc, port, &text)?;
+        let text = task(alloc, self, body, port, place)?;
+        let captured = uses(alloc, port, text.term())?;
         let made = spawned(alloc, number, port, captured.as_slice(), place)?;
-        captured.reserve(1)?;
-        captured.push(port);
-        self.fill(
-            number,
-            Procedure {
-                parameters: captured,
-                body: text,
-            },
-        );
+        let text = over_port(captured, port, text)?;
+        self.fill(number, text);
         Ok(made)
     }
 }

@@ -1,12 +1,15 @@
 ghost use Rattle.std.specs.Prelude.{◌≡◌, ◌≤◌, ◌<◌, ◌+◌, ◌^◌, IfOk, IfErr, [], ◌∷◌, ◌++◌, map};
 ghost use Rattle.ca_value.specs.Seq.{list};
-ghost use Rattle.ca_term.specs.Kernel.{var, seq as seq_of};
+ghost use Rattle.ca_value.specs.Tree.{nil};
+ghost use Rattle.ca_value.specs.declared.builtin.Builtin.{Builtin};
+ghost use Rattle.ca_term.specs.Kernel.{const, var, branch as branch_of, seq as seq_of};
 ghost use Rattle.ca_term.specs.View.{kernel, kernels_of};
 ghost use Rattle.ca_term.specs.declared.head.MakeKind.{MakeKind};
 ghost use Rattle.ca_term.specs.declared.head.SystemTask.{SystemTask};
-ghost use Rattle.ca_forms.specs.Channels.{made, started, whole, repeated};
+ghost use Rattle.ca_forms.specs.Channels.{built, made, started, whole, repeated};
 ghost use Rattle.ca_forms.specs.Depth.{depth_of};
 ghost use Rattle.ca_forms.specs.GivenView.{keyword_terms};
+ghost use Rattle.ca_forms.specs.Rounds.{recur_term, next_term};
 ghost use Rattle.ca_forms.specs.WalkView.{terms_of};
 ghost use Rattle.ca_forms.specs.declared.error.CheckError.{CheckError};
 
@@ -19,6 +22,7 @@ use crate::fixed::{
 use crate::gathered::Made;
 use crate::given::Applied;
 use crate::operands::single;
+use crate::rounds::recur_with_next;
 use ca_term::head::{Head, MakeKind, SeedKind, SystemTask, Transform};
 use ca_term::place::Place;
 use ca_value::builtin::Builtin;
@@ -59,6 +63,18 @@ pub fn applying(
     apply(alloc, Head::Spawn(SeedKind::System(task)), operands, place)
 }
 
+// What is done while the index is below the count: the job, and then the next round.
+fn round(alloc: Global, count: u64, index: u64, job: Made, place: Place) -> Result<Made, CheckError>
+    requires { depth_of (kernel job) ≤ 2 }
+    ensures ok { IfOk result (λ t. kernel t ≡ branch_of (built Builtin.Less (var index ∷ var count ∷ []) place) (seq_of (kernels_of (kernel job ∷ recur_term (next_term index place ∷ []) place ∷ []))) (const nil)) }
+    ensures err { IfErr result (λ e. e ≡ CheckError.OutOfMemory) }
+{
+    let again = recur_with_next(alloc, index, place)?;
+    let turn = followed(alloc, job, again)?;
+    let test = over(alloc, Head::Builtin(Builtin::Less), &[index, count], place)?;
+    branch(alloc, test, turn, nothing())
+}
+
 // What is done as often as the name `count` says, `index` being the next number.
 fn repeated(
     alloc: Global,
@@ -72,15 +88,10 @@ fn repeated(
     ensures ok { IfOk result (λ t. kernel t ≡ repeated count index (kernel job) place) }
     ensures err { IfErr result (λ e. e ≡ CheckError.OutOfMemory) }
 {
-    let test = over(alloc, Head::Builtin(Builtin::Less), &[index, count], place)?;
-    let next = over(alloc, Head::Builtin(Builtin::Inc), &[index], place)?;
-    let next = single(alloc, next)?;
-    let again = apply(alloc, Head::Recur, next, place)?;
-    let turn = followed(alloc, job, again)?;
-    let turn = branch(alloc, test, turn, nothing())?;
+    let turn = round(alloc, count, index, job, place)?;
     let turns = single(alloc, turn)?;
-    let body = seq(alloc, turns)?;
     let start = single(alloc, whole(0))?;
+    let body = seq(alloc, turns)?;
     repeat(alloc, index, start, body)
 }
 

@@ -14,7 +14,7 @@ use ca_reader::form::{Form, Shape};
 use ca_term::head::{AltsOptions, Head, MakeKind, RegisterName, Transform};
 
 /// A form that binds its operands to hidden names, by what stands behind them.
-#[derive(Clone, Copy, PartialEq, Eq, Debug)]
+#[derive(Clone, Copy)]
 pub enum HiddenForm {
     Offer,
     Poll,
@@ -28,7 +28,7 @@ pub enum HiddenForm {
 }
 
 /// What a form of core.async is, once its shape and its place are judged.
-#[derive(Clone, Copy, PartialEq, Eq, Debug)]
+#[derive(Clone, Copy)]
 pub enum Planned {
     /// The form's own error.
     Wrong(CheckErrorKind),

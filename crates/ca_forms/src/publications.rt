@@ -62,12 +62,21 @@ pub fn sub(alloc: Global, first: u64, place: Place) -> Result<Hidden, CheckError
     ensures err { IfErr result (λ e. e ≡ CheckError.OutOfMemory) }
 {
     let found = registered(alloc, RegisterName::Find, &[first, first + 1], place)?;
-    let test = over(alloc, Head::Builtin(Builtin::IsNil), &[first + 4], place)?;
-    let new = placed(alloc, first, first + 1, first + 5, place)?;
-    let entry = branch(alloc, test, new, Made::local(first + 4))?;
+    let entry = entered(alloc, first, place)?;
     let more = pair(alloc, found, entry)?;
     let body = tapped(alloc, first, place)?;
     Ok(Hidden { more, body })
+}
+
+// The topic's entry: the one that was found, else a new one.
+fn entered(alloc: Global, first: u64, place: Place) -> Result<Made, CheckError>
+    requires { first + 9 < 2 ^ 64 }
+    ensures ok { IfOk result (λ t. kernel t ≡ branch_of (built Builtin.IsNil (var (first + 4) ∷ []) place) (placed first (first + 1) (first + 5) place) (var (first + 4))) }
+    ensures err { IfErr result (λ e. e ≡ CheckError.OutOfMemory) }
+{
+    let test = over(alloc, Head::Builtin(Builtin::IsNil), &[first + 4], place)?;
+    let new = placed(alloc, first, first + 1, first + 5, place)?;
+    branch(alloc, test, new, Made::local(first + 4))
 }
 
 // A tap of the topic's mult, and nil.
@@ -96,9 +105,7 @@ fn placed(
     ensures err { IfErr result (λ e. e ≡ CheckError.OutOfMemory) }
 {
     let values = placing(alloc, publication, topic, first, place)?;
-    let found = nth_of(alloc, first + 3, 0, place)?;
-    let sides = pair(alloc, found, Made::local(first + 2))?;
-    let test = apply(alloc, Head::Builtin(Builtin::Equal), sides, place)?;
+    let test = is_placed(alloc, first, place)?;
     let task = started(
         alloc,
         SystemTask::Mult,
@@ -108,6 +115,17 @@ fn placed(
     let task = branch(alloc, test, task, nothing())?;
     let body = followed(alloc, task, Made::local(first + 3))?;
     bind(alloc, first, values, body)
+}
+
+// Whether the topic's entry holds the mult, the numbers being those from `first` on.
+fn is_placed(alloc: Global, first: u64, place: Place) -> Result<Made, CheckError>
+    requires { first + 4 < 2 ^ 64 }
+    ensures ok { IfOk result (λ t. kernel t ≡ built Builtin.Equal (nth_of (first + 3) 0 place ∷ var (first + 2) ∷ []) place) }
+    ensures err { IfErr result (λ e. e ≡ CheckError.OutOfMemory) }
+{
+    let found = nth_of(alloc, first + 3, 0, place)?;
+    let sides = pair(alloc, found, Made::local(first + 2))?;
+    apply(alloc, Head::Builtin(Builtin::Equal), sides, place)
 }
 
 // A new mult, and the entry of the topic once the mult is placed there.

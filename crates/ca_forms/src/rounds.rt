@@ -24,8 +24,8 @@ pub fn recur(alloc: Global, place: Place) -> Result<Made, CheckError>
     apply(alloc, Head::Recur, Seq::new(alloc), place)
 }
 
-// `(recur (inc i))`, i being the name of that number.
-fn recur_with_next(alloc: Global, number: u64, place: Place) -> Result<Made, CheckError>
+/// `(recur (inc i))`, i being the name of that number.
+pub fn recur_with_next(alloc: Global, number: u64, place: Place) -> Result<Made, CheckError>
     ensures ok { IfOk result (λ t. kernel t ≡ recur_term (next_term number place ∷ []) place) }
     ensures err { IfErr result (λ e. e ≡ CheckError.OutOfMemory) }
 {
@@ -50,7 +50,7 @@ impl Bodies {
         let terms = with_last(terms, next)?;
         let body = self.seq(alloc, terms)?;
         let choice = self.branch(alloc, test, body, nothing())?;
-        self.seq(alloc, single(alloc, choice)?)
+        self.alone(alloc, choice)
     }
 
     /// The loop over these values, from number `first` on, that goes round while the test holds.
@@ -102,7 +102,7 @@ impl Bodies {
         ensures ok { IfOk result (λ t. under first (terms_of (list values)) (kernel body) (gathered self.old) ≡ done (kernel t) (gathered self.new)) }
         ensures err { IfErr result (λ e. e ≡ CheckError.OutOfMemory) }
     {
-        let body = self.seq(alloc, single(alloc, body)?)?;
+        let body = self.alone(alloc, body)?;
         self.bind(alloc, first, values, body)
     }
 }

@@ -1,5 +1,5 @@
 /// The words that a script can't define: the forms, and six words that stand inside one of them alone.
-#[derive(Clone, Copy, PartialEq, Eq, Debug)]
+#[derive(Clone, Copy)]
 pub enum Special {
     Def,
     Defn,

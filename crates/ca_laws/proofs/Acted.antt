@@ -226,5 +226,5 @@ module _ (program : ProgramView) (s s2 : State) (t : ℕ) (x : Task) (there : s.
   acts (registered u name args v) k = alone program s s2 (registered u name args v) t x there u k.0 (runs k.0.result k.5.0) (did_register name args v) refl k.3.0 (goes (registering name args) (did_register name args v) v k.5.0 refl k.3.2 (enrols refl) k.5.1 refl) (tasks_of k.6 ∙ k.5.2)
   acts (printed u line) k = alone program s s2 (printed u line) t x there u k.0 (runs k.0.result k.3.0) (did_print line) refl k.2.0 (goes (printing line) (did_print line) nil k.3.0 refl k.2.2 (prints refl refl) k.3.1 refl) (tasks_of k.4 ∙ k.3.2)
   acts (ticked m ports) k = (x, ap (λ (z : Tasks). z t) (tasks_of k.4) ∙ there, idles refl refl)
-  acts (is_over u Ended) k = alone program s s2 (is_over u Ended) t x there u k.0 (record k.0 { mode = over }) (did_end Ended) refl k.2.0 (stops Ended refl k.2.1 refl) (tasks_of k.4)
-  acts (is_over u (Faulted fault place result)) k = alone program s s2 (is_over u (Faulted fault place result)) t x there u k.0 (record k.0 { mode = over }) (did_end (Faulted fault place result)) refl k.1.0 (stops (Faulted fault place result) refl k.1.1 refl) (tasks_of k.4)
+  acts (is_over u Ended) k = alone program s s2 (is_over u Ended) t x there u k.0 (record k.0 { mode = over }) (did_end Ended) refl k.2.0 (stops Ended refl k.2.1 (λ i. (k.1, k.3)) refl) (tasks_of k.4)
+  acts (is_over u (Faulted fault place result)) k = alone program s s2 (is_over u (Faulted fault place result)) t x there u k.0 (record k.0 { mode = over }) (did_end (Faulted fault place result)) refl k.1.0 (stops (Faulted fault place result) refl k.1.1 (λ i. cc) refl) (tasks_of k.4)

@@ -3,15 +3,17 @@ use Rattle.std.specs.Prelude.{◌≡◌, ◌⊎◌, ℕ, List, slice_get, Option
 use Rattle.ca_value.specs.Tree.{Tree, Trees, nil, bool, port}
 use Rattle.ca_term.specs.declared.head.RegisterName.{RegisterName}
 use Rattle.ca_term.specs.declared.event.Ending.{Ending}
+use Rattle.ca_term.specs.declared.event.Ending.TheVariants.{Ended}
 use Rattle.ca_term.specs.Operation.{OpView, taking, putting, choosing, making, spawning, closing, registering, printing, posting, WhatView, SeedView}
 use Rattle.ca_term.specs.Program.{ProgramView}
 use Rattle.ca_term.specs.Event.{take_of, put_of}
+use Rattle.ca_meaning.specs.Body.{ended}
 use Rattle.ca_meaning.specs.Operands.{port_number}
 use Rattle.ca_meaning.specs.ChannelSteps.{with_default}
 use Rattle.ca_meaning.specs.TaskSteps.{kind_of, result_of}
 use Rattle.ca_meaning.specs.Choice.{branches_of, parks as may_park}
 use Rattle.ca_meaning.specs.Asks.{pair_of}
-use Rattle.ca_meaning.specs.Task.{TaskBody, body_fill, BodyRest}
+use Rattle.ca_meaning.specs.Task.{TaskBody, body_at, body_fill, BodyRest}
 use Rattle.ca_meaning.specs.State.{Task, Mode, running, waiting, over, runs}
 use Rattle.ca_meaning.specs.Going.{IsAtOp}
 use Rattle.ca_laws.specs.Deeds.{Deed, did_take, did_put, did_wait, did_post, did_default, did_make, did_spawn, did_close, did_register, did_print, did_end}
@@ -44,5 +46,6 @@ pub data Replies : OpView → Deed → Tree → Type 0 where
 pub data Acts (program : ProgramView) (x y : Task) (d : Option Deed) : Type 0 where
   idles : d ≡ None → y ≡ x → Acts program x y d
   parks : (op : OpView) (w : ℕ) → d ≡ Some (did_wait w (branches_of op)) → may_park op ≡ true → IsAtOp x.body op → x.mode ≡ running → y ≡ record x { mode = waiting w } → Acts program x y d
-  stops : (how : Ending) → d ≡ Some (did_end how) → x.mode ≡ running → y ≡ record x { mode = over } → Acts program x y d
+  -- it ends where its body has a value
+  stops : (how : Ending) → d ≡ Some (did_end how) → x.mode ≡ running → (how ≡ Ended → (v : Tree) × (body_at x.body ≡ ended v)) → y ≡ record x { mode = over } → Acts program x y d
   goes : (op : OpView) (c : Deed) (a : Tree) (b : TaskBody) → d ≡ Some c → IsAtOp x.body op → Replies op c a → BodyRest program (body_fill a x.body) b → y ≡ runs x.result b → Acts program x y d

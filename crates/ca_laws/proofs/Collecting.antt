@@ -146,6 +146,6 @@ module _ (program : ProgramView) (c : CollectPorts) (place : Place) where
   }
 
 pub collects_keep_to : (program : ProgramView) (journal : List EventView) (s : State) → Reaches program journal s → CollectsKeepTo program journal s
-collects_keep_to program = all_keep_to program SystemTask.Collect (λ values place. CollectRule (collect_ports values))
+collects_keep_to program = all_keep_to program SystemTask.Collect refl (λ values place. CollectRule (collect_ports values))
     (λ values place. collect_body program (collect_ports values) place) (λ values place. collect_op program (collect_ports values) place) (λ values place. CollectAt (collect_ports values))
     (λ values place. collect_keeps program (collect_ports values) place) (λ values place c r. (to collect_takes, r, (refl, refl)))

@@ -4,7 +4,7 @@ use Rattle.std.specs.Map.{update}
 use Rattle.std.proofs.lemmas.Map.{update_here, update_apart}
 use Rattle.ca_value.specs.Tree.{Tree}
 use Rattle.ca_term.specs.declared.event.Ending.TheVariants.{Ended, Faulted}
-use Rattle.ca_term.specs.declared.head.SeedKind.{SeedKind}
+use Rattle.ca_term.specs.declared.event.TaskKind.{TaskKind}
 use Rattle.ca_term.specs.Program.{ProgramView}
 use Rattle.ca_term.specs.Event.{EventView, made, spawned, done, met, parked, posted, settled, defaulted, closed, registered, printed, ticked, over as is_over}
 use Rattle.ca_meaning.specs.Wait.{owner_of}
@@ -147,7 +147,7 @@ module _ (program : ProgramView) (s s2 : State) (t : ℕ) (absent : s.tasks t �
 
   -- it comes by a Spawn alone
   abbrev Comes : EventView → Type 0
-  Comes e = (s2.tasks t ≡ None) ⊎ ((u : ℕ) × (kind : SeedKind) × (result : Option ℕ) × (b : TaskBody) × (e ≡ spawned u t kind result) × (s2.tasks t ≡ Some (runs result b)))
+  Comes e = (s2.tasks t ≡ None) ⊎ ((u : ℕ) × (kind : TaskKind) × (result : Option ℕ) × (b : TaskBody) × (e ≡ spawned u t kind result) × (s2.tasks t ≡ Some (runs result b)))
 
   set_away : (u : ℕ) (x y : Task) (f : Tasks) → s.tasks u ≡ Some x → f ≡ update eqb s.tasks u (Some y) → f t ≡ None
   set_away u x y f at is = ap (λ (z : Tasks). z t) is ∙ update_apart s.tasks u (Some y) t (away u x at) ∙ absent
@@ -193,7 +193,7 @@ journaled_step program journal s s2 e sound x k = record {
       let same : told.0 ≡ y = (let q : Some told.0 ≡ Some y = sym told.1 ∙ at in cc) in
       wait_more t None journal e ∙ ap (wait_after t e) (k.waits t z there) ∙ sym (told_wait program t z told.0 e z.mode refl told.2) ∙ ap (λ (q : Task). wait_of q.mode) same
   waits t y at None there = wait_more t None journal e ∙ ap (wait_after t e) (k.absent t there).0 ∙ (no_deed program s s2 t there e x).1 ∙ new (comes program s s2 t there e x) where
-    new : (s2.tasks t ≡ None) ⊎ ((u : ℕ) × (kind : SeedKind) × (result : Option ℕ) × (b : TaskBody) × (e ≡ spawned u t kind result) × (s2.tasks t ≡ Some (runs result b))) → None ≡ wait_of y.mode
+    new : (s2.tasks t ≡ None) ⊎ ((u : ℕ) × (kind : TaskKind) × (result : Option ℕ) × (b : TaskBody) × (e ≡ spawned u t kind result) × (s2.tasks t ≡ Some (runs result b))) → None ≡ wait_of y.mode
     new (inl z) = absurd (let q : None ≡ Some y = sym z ∙ at in cc)
     new (inr z) = let q : Some (runs z.2 z.3) ≡ Some y = sym z.5 ∙ at in let same : runs z.2 z.3 ≡ y = cc in ap (λ (q : Task). wait_of q.mode) same
 

@@ -82,6 +82,6 @@ module _ (program : ProgramView) (x : Delivery) (place : Place) where
   }
 
 pub deliveries_keep_to : (program : ProgramView) (journal : List EventView) (s : State) → Reaches program journal s → DeliveriesKeepTo program journal s
-deliveries_keep_to program = all_keep_to program SystemTask.Deliver (λ values place. DeliverRule (delivery_of values))
+deliveries_keep_to program = all_keep_to program SystemTask.Deliver refl (λ values place. DeliverRule (delivery_of values))
     (λ values place. deliver_body program (delivery_of values) place) (λ values place. deliver_op program (delivery_of values) place) (λ values place. DeliverAt program (delivery_of values) place)
     (λ values place. deliver_keeps program (delivery_of values) place) (λ values place c r. (to deliver_puts, r, refl))

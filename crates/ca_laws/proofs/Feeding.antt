@@ -164,6 +164,6 @@ module _ (program : ProgramView) (f : FeedPorts) (place : Place) where
   }
 
 pub feeds_keep_to : (program : ProgramView) (journal : List EventView) (s : State) → Reaches program journal s → FeedsKeepTo program journal s
-feeds_keep_to program = all_keep_to program SystemTask.Feed (λ values place. FeedRule (feed_ports values))
+feeds_keep_to program = all_keep_to program SystemTask.Feed refl (λ values place. FeedRule (feed_ports values))
     (λ values place. feed_body program (feed_ports values) place) (λ values place. feed_op program (feed_ports values) place) (λ values place. FeedAt (feed_ports values))
     (λ values place. feed_keeps program (feed_ports values) place) (λ values place c r. (to feed_takes, r, (refl, refl)))

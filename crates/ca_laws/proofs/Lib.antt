@@ -4,6 +4,7 @@ pub mod Acted
 pub mod Deeding
 pub mod More
 pub mod Spawned
+pub mod Keeping
 pub mod Tables
 pub mod Mixing
 pub mod Multing

@@ -105,6 +105,6 @@ module _ (program : ProgramView) (inputs : Trees) (output : ℕ) (place : Place)
   }
 
 pub merges_keep_to : (program : ProgramView) (journal : List EventView) (s : State) → Reaches program journal s → MergesKeepTo program journal s
-merges_keep_to program = all_keep_to program SystemTask.Merge (λ values place. MergeRule (trees_in (first_of values)) (port_number (second_of values)))
+merges_keep_to program = all_keep_to program SystemTask.Merge refl (λ values place. MergeRule (trees_in (first_of values)) (port_number (second_of values)))
     (λ values place. merge_body program (trees_in (first_of values)) (port_number (second_of values)) place) (λ values place. merge_op program (trees_in (first_of values)) (port_number (second_of values)) place) (λ values place. MergeAt program (trees_in (first_of values)) (port_number (second_of values)) place)
     (λ values place. merge_keeps program (trees_in (first_of values)) (port_number (second_of values)) place) (λ values place c r. (inputs_left (trees_in (first_of values)), r, left program (trees_in (first_of values)) (port_number (second_of values)) place (trees_in (first_of values)) (trees_in (first_of values)) refl))

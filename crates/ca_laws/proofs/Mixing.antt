@@ -126,6 +126,6 @@ module _ (program : ProgramView) (x : MixPorts) (place : Place) where
   }
 
 pub mix_law : (program : ProgramView) (journal : List EventView) (s : State) → Reaches program journal s → MixLaw program journal s
-mix_law program = all_keep_to program SystemTask.Mix (λ values place. MixRule (mix_ports values))
+mix_law program = all_keep_to program SystemTask.Mix refl (λ values place. MixRule (mix_ports values))
     (λ values place. mix_body program (mix_ports values) place) (λ values place. mix_op program (mix_ports values) place) (λ values place. MixAt (mix_ports values))
     (λ values place. mix_keeps program (mix_ports values) place) (λ values place c r. (to mix_reads, r, tt))

@@ -137,6 +137,6 @@ module _ (program : ProgramView) (x : MultPorts) (place : Place) where
   }
 
 pub mults_keep_to : (program : ProgramView) (journal : List EventView) (s : State) → Reaches program journal s → MultsKeepTo program journal s
-mults_keep_to program = all_keep_to program SystemTask.Mult (λ values place. MultRule (mult_ports values) place)
+mults_keep_to program = all_keep_to program SystemTask.Mult refl (λ values place. MultRule (mult_ports values) place)
     (λ values place. mult_body program (mult_ports values) place) (λ values place. mult_op program (mult_ports values) place) (λ values place. MultAt (mult_ports values))
     (λ values place. mult_keeps program (mult_ports values) place) (λ values place c r. (to mult_takes, r, (refl, refl)))

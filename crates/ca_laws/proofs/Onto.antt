@@ -90,6 +90,6 @@ module _ (program : ProgramView) (x : OntoPorts) (items : List Tree) (place : Pl
   }
 
 pub ontos_keep_to : (program : ProgramView) (journal : List EventView) (s : State) → Reaches program journal s → OntosKeepTo program journal s
-ontos_keep_to program = all_keep_to program SystemTask.Onto (λ values place. OntoRule (onto_ports values) (onto_items values))
+ontos_keep_to program = all_keep_to program SystemTask.Onto refl (λ values place. OntoRule (onto_ports values) (onto_items values))
     (λ values place. onto_body program (onto_ports values) (onto_items values) place) (λ values place. onto_op program (onto_ports values) (onto_items values) place) (λ values place. OntoAt program (onto_ports values) (onto_items values) place)
     (λ values place. onto_keeps program (onto_ports values) (onto_items values) place) (λ values place c r. (items_left (onto_ports values) (trees_in (second_of values)), r, left program (onto_ports values) (onto_items values) place (trees_in (second_of values)) [] refl))

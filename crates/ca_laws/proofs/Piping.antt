@@ -93,6 +93,6 @@ module _ (program : ProgramView) (x : PipePorts) (place : Place) where
   }
 
 pub pipes_keep_to : (program : ProgramView) (journal : List EventView) (s : State) → Reaches program journal s → PipesKeepTo program journal s
-pipes_keep_to program = all_keep_to program SystemTask.Pipe (λ values place. PipeRule (pipe_ports values))
+pipes_keep_to program = all_keep_to program SystemTask.Pipe refl (λ values place. PipeRule (pipe_ports values))
     (λ values place. pipe_body program (pipe_ports values) place) (λ values place. pipe_op program (pipe_ports values) place) (λ values place. PipeAt program (pipe_ports values) place)
     (λ values place. pipe_keeps program (pipe_ports values) place) (λ values place c r. (to pipe_takes, r, refl))

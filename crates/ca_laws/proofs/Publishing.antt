@@ -25,7 +25,8 @@ use Rattle.ca_laws.specs.Taken.{answer_after, last_answer, since_after, is_close
 use Rattle.ca_laws.specs.PubRules.{found_after, found_from, last_found, PubRule, pub_ports, PubsKeepTo}
 use Rattle.ca_laws.proofs.Acts.{Replies, got, gave, shuts, enrols}
 use Rattle.ca_laws.proofs.More.{next_item, one_longer, answer_more, since_more}
-use Rattle.ca_laws.proofs.Tables.{asked, Keeps, all_keep_to}
+use Rattle.ca_laws.proofs.Tables.{asked, Keeps, keeps_from, spawned_at, pub_seed}
+use Rattle.ca_term.specs.declared.event.TaskKind.{TaskKind}
 
 found_more : (o : Option Tree) (ds : List Deed) (d : Deed) → found_from o (ds ++ d ∷ []) ≡ found_after d (found_from o ds)
 found_more o [] d = refl
@@ -150,6 +151,11 @@ module _ (program : ProgramView) (x : PubPorts) (place : Place) where
   }
 
 pub pubs_keep_to : (program : ProgramView) (journal : List EventView) (s : State) → Reaches program journal s → PubsKeepTo program journal s
-pubs_keep_to program journal s r f = all_keep_to program (SystemTask.Pub f) (λ values place. PubRule program (pub_ports f values) place)
+pubs_keep_to program journal s r early late u t result is =
+    let m = spawned_at program journal s r early late u t TaskKind.Pub result is in
+    let w = pub_seed m.2.1.1 m.2.1.6 in
+    let f = w.0 in
+    let k = keeps_from program (SystemTask.Pub f) (λ values place. PubRule program (pub_ports f values) place)
     (λ values place. pub_body program (pub_ports f values) place) (λ values place. pub_op program (pub_ports f values) place) (λ values place. PubAt program (pub_ports f values) place)
-    (λ values place. pub_keeps program (pub_ports f values) place) (λ values place c e. (to takes, e, inl refl)) journal s r
+    (λ values place. pub_keeps program (pub_ports f values) place) (λ values place c e. (to takes, e, inl refl)) journal s r early late u t result is m w.1 w.2 w.3 in
+    (w.0, w.1, w.2, k.0, k.1)

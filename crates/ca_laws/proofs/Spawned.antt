@@ -1,11 +1,10 @@
 -- Each task is spawned once.
-use Rattle.std.proofs.Common.{◌≡◌, ℕ, List, [], ◌∷◌, ◌++◌, refl, sym, ap, ◌∙◌, subst, Option, Some, None}
+use Rattle.std.proofs.Common.{◌≡◌, ℕ, List, [], ◌∷◌, ◌++◌, sym, ap, ◌∙◌, Some, None}
 use Rattle.std.proofs.lemmas.Map.{update_here}
-use Rattle.ca_term.specs.declared.head.SeedKind.{SeedKind}
 use Rattle.ca_term.specs.Program.{ProgramView}
 use Rattle.ca_term.specs.Event.{EventView, spawned}
 use Rattle.ca_meaning.specs.State.{State, Task, Tasks, runs}
-use Rattle.ca_meaning.specs.Steps.{Step, Steps}
+use Rattle.ca_meaning.specs.Steps.{Steps}
 use Rattle.ca_meaning.specs.Legal.{Reaches}
 use Rattle.ca_meaning.specs.Sound.{Sound}
 use Rattle.ca_meaning.proofs.ChannelLaws.{steps_split, known_before}

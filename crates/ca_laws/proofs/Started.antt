@@ -2,7 +2,7 @@
 use Rattle.std.proofs.Common.{◌≡◌, List, ◌∷◌, ◌++◌, refl, sym, ap, ◌∙◌, subst, Some, append_assoc}
 use Rattle.ca_value.specs.Tree.{Trees, port, item}
 use Rattle.ca_term.specs.declared.place.Place.{Place}
-use Rattle.ca_term.specs.declared.head.SeedKind.TheVariants.{System}
+use Rattle.ca_term.specs.declared.event.TaskKind.{TaskKind}
 use Rattle.ca_term.specs.declared.head.SystemTask.TheVariants.{Mult, Deliver}
 use Rattle.ca_term.specs.Operation.{system, spawning}
 use Rattle.ca_term.specs.Program.{ProgramView}
@@ -34,18 +34,18 @@ started_keep_to program journal s reaches first middle last w t u r q is = (
   subst (λ z. KeepsTo (DeliverRule (delivery_of z)) u journal s) values delivery.3,
 ) where
   early : List EventView
-  early = first ++ spawned w t (System Mult) r ∷ middle
+  early = first ++ spawned w t TaskKind.Mult r ∷ middle
 
-  whole : journal ≡ early ++ spawned t u (System Deliver) q ∷ last
-  whole = is ∙ sym (append_assoc first (spawned w t (System Mult) r ∷ middle) (spawned t u (System Deliver) q ∷ last))
+  whole : journal ≡ early ++ spawned t u TaskKind.Deliver q ∷ last
+  whole = is ∙ sym (append_assoc first (spawned w t TaskKind.Mult r ∷ middle) (spawned t u TaskKind.Deliver q ∷ last))
 
-  split : (mid : State) × Steps program reaches.opening early mid × Steps program mid (spawned t u (System Deliver) q ∷ last) s
-  split = steps_split program early (spawned t u (System Deliver) q ∷ last) reaches.opening s (subst (λ j. Steps program reaches.opening j s) whole reaches.steps)
+  split : (mid : State) × Steps program reaches.opening early mid × Steps program mid (spawned t u TaskKind.Deliver q ∷ last) s
+  split = steps_split program early (spawned t u TaskKind.Deliver q ∷ last) reaches.opening s (subst (λ j. Steps program reaches.opening j s) whole reaches.steps)
 
   here : Reaches program early split.0
   here = record { opening = reaches.opening; opens = reaches.opens; steps = split.1 }
 
-  step : Step program split.0 (spawned t u (System Deliver) q) split.2.0
+  step : Step program split.0 (spawned t u TaskKind.Deliver q) split.2.0
   step = split.2.1
 
   mult : (values : Trees) × (place : Place) × SpawnsFrom program first w (system Mult values place) × KeepsTo (MultRule (mult_ports values) place) t early split.0

@@ -1,33 +1,31 @@
 -- A kind of system task keeps to a rule in every journal, where each row of its table does.
-use Rattle.std.proofs.Common.{◌≡◌, inl, inr, ℕ, List, [], ◌∷◌, ◌++◌, refl, sym, ap, ◌∙◌, subst, true, Option, Some, None, append_assoc, append-nil}
-use Rattle.std.proofs.lemmas.Map.{update_here}
+use Rattle.std.proofs.Common.{Bool, true, false, ◌≡◌, inl, inr, ℕ, List, [], ◌∷◌, ◌++◌, refl, sym, ap, ◌∙◌, subst, true, Option, Some, None, append_assoc, append-nil}
 use Rattle.ca_value.specs.Tree.{Tree, Trees, nil}
 use Rattle.ca_term.specs.declared.place.Place.{Place}
 use Rattle.ca_term.specs.declared.fault.Fault.{Fault}
 use Rattle.ca_term.specs.declared.event.Ending.{Ending}
-use Rattle.ca_term.specs.declared.head.SeedKind.{SeedKind}
-use Rattle.ca_term.specs.declared.head.SeedKind.TheVariants.{System}
+use Rattle.ca_term.specs.declared.event.TaskKind.{TaskKind}
+use Rattle.ca_term.specs.declared.head.PlainFunction.{PlainFunction}
+use Rattle.ca_term.specs.declared.head.Transform.{Transform}
 use Rattle.ca_term.specs.declared.head.SystemTask.{SystemTask}
 use Rattle.ca_term.specs.Operation.{OpView, WantView, taking, putting, choosing, posting, making, spawning, closing, registering, printing, SeedView, go, system}
 use Rattle.ca_term.specs.Program.{ProgramView}
 use Rattle.ca_term.specs.Event.{EventView, spawned}
 use Rattle.ca_meaning.specs.Body.{At, at_op, faulted, ended, asking}
-use Rattle.ca_meaning.specs.TaskSteps.{kind_of}
+use Rattle.ca_meaning.specs.TaskSteps.{kind_of, kind_of_system}
 use Rattle.ca_meaning.specs.Choice.{branches_of, parks as may_park}
 use Rattle.ca_meaning.specs.Asks.{Ask, Next, to, stop, fail, stands_at}
 use Rattle.ca_meaning.specs.System.{SystemBody, new_system, system_fill, SystemRest}
-use Rattle.ca_meaning.specs.Task.{system_task, body_fill, BodyRest, new_task}
-use Rattle.ca_meaning.specs.State.{State, Task, Tasks, runs}
+use Rattle.ca_meaning.specs.Task.{TaskBody, system_task, body_fill, BodyRest}
+use Rattle.ca_meaning.specs.State.{State}
 use Rattle.ca_meaning.specs.Going.{IsAtOp, Stands}
-use Rattle.ca_meaning.specs.Steps.{Step, Steps}
+use Rattle.ca_meaning.specs.Steps.{Steps}
 use Rattle.ca_meaning.specs.Legal.{Reaches}
 use Rattle.ca_meaning.proofs.ChannelLaws.{steps_split}
-use Rattle.ca_meaning.proofs.Tasks.{tasks_of}
-use Rattle.ca_laws.specs.Deeds.{Deed, did_wait, did_end, deed, deeds, IsDeedOf}
-use Rattle.ca_laws.specs.Rules.{IsAllowed, KeepsTo, AllKeepTo}
-use Rattle.ca_laws.proofs.Acts.{wait_of, Replies, got, gave, chose, chose_put, chose_default, posts, posts_late, creates, starts, shuts, enrols, prints, Acts, idles, parks, stops, goes}
-use Rattle.ca_laws.proofs.Acted.{acts}
-use Rattle.ca_laws.proofs.Deeding.{and_deed, deeds_more, no_deed, Traced, traced_step, traced_steps, opening_traced}
+use Rattle.ca_laws.specs.Deeds.{Deed, did_wait, did_end, deeds, IsDeedOf}
+use Rattle.ca_laws.specs.Rules.{IsAllowed, KeepsTo, AllKeepTo, SpawnsFrom}
+use Rattle.ca_laws.proofs.Acts.{Replies, got, gave, chose, chose_put, chose_default, posts, posts_late, creates, starts, shuts, enrols, prints}
+use Rattle.ca_laws.proofs.Keeping.{KeepsStages, InStage, stays_in}
 
 -- each of the deeds is allowed after those before it
 abbrev AllAllowed : (List Deed → OpView → Type 0) → List Deed → List Deed → Type 0
@@ -76,110 +74,135 @@ pub record Keeps (program : ProgramView) {S : Type 0} (body : Next S → SystemB
   pub ends : (n : Next S) (ds : List Deed) (how : Ending) → At n ds → At n (ds ++ did_end how ∷ [])
   pub answered : (x : S) (ds : List Deed) (d : Deed) (a : Tree) (c : SystemBody) → At (to x) ds → Replies (op_of x) d a → SystemRest program (system_fill a (body (to x))) c → (n : Next S) × (c ≡ body n) × At n (ds ++ d ∷ [])
 
--- task t stands in the table, after deeds that were allowed
-pub record Keeping {S : Type 0} (body : Next S → SystemBody) (At : Next S → List Deed → Type 0) (Rule : List Deed → OpView → Type 0) (t : ℕ) (journal : List EventView) (s : State) : Type 0 where
-  pub now : Next S
-  pub task : Task
-  pub there : s.tasks t ≡ Some task
-  pub body_is : task.body ≡ system_task (body now)
-  pub stands : At now (deeds t journal)
-  pub all : AllAllowed Rule [] (deeds t journal)
+-- the body stands in the table there
+abbrev InRow : {S : Type 0} → (Next S → SystemBody) → Next S → TaskBody → Type 0
+InRow body n b = b ≡ system_task (body n)
 
-module _ (program : ProgramView) {S : Type 0} (body : Next S → SystemBody) (op_of : S → OpView) (At : Next S → List Deed → Type 0) (Rule : List Deed → OpView → Type 0) (keeps : Keeps program body op_of At Rule) (t : ℕ) where
-  -- the state of the table at whose operation the task stands
-  state_at : (journal : List EventView) (s : State) (k : Keeping body At Rule t journal s) (op : OpView) → IsAtOp k.task.body op → (x : S) × (k.now ≡ to x) × (op ≡ op_of x) × At (to x) (deeds t journal)
-  state_at journal s k op at = let o = keeps.only k.now op (subst (λ b. IsAtOp b op) k.body_is at) in (o.0, o.1, o.2, subst (λ n. At n (deeds t journal)) o.1 k.stands)
+-- and these deeds, each of which was allowed, are its
+abbrev WasAllowed : {S : Type 0} → (Next S → List Deed → Type 0) → (List Deed → OpView → Type 0) → Next S → List Deed → Type 0
+WasAllowed At Rule n ds = At n ds × AllAllowed Rule [] ds
 
-  keeping_step : (journal : List EventView) (s s2 : State) (e : EventView) → Traced journal s → Step program s e s2 → Keeping body At Rule t journal s → Keeping body At Rule t (journal ++ e ∷ []) s2
-  keeping_step journal s s2 e traced x k = by seen.2 where
-    seen : (y : Task) × (s2.tasks t ≡ Some y) × Acts program k.task y (deed t (wait_of k.task.mode) e)
-    seen = acts program s s2 t k.task k.there traced.stood traced.known.sound.waited e x
+module _ (program : ProgramView) {S : Type 0} (body : Next S → SystemBody) (op_of : S → OpView) (At : Next S → List Deed → Type 0) (Rule : List Deed → OpView → Type 0) (keeps : Keeps program body op_of At Rule) where
+  -- the state of the table at whose operation a body stands
+  state_at : (n : Next S) (b : TaskBody) (op : OpView) (ds : List Deed) → InRow body n b → IsAtOp b op → At n ds → (x : S) × (n ≡ to x) × (op ≡ op_of x) × At (to x) ds
+  state_at n b op ds is at k = let o = keeps.only n op (subst (λ c. IsAtOp c op) is at) in (o.0, o.1, o.2, subst (λ m. At m ds) o.1 k)
 
-    after : (o : Option Deed) → deed t (wait_of k.task.mode) e ≡ o → deeds t (journal ++ e ∷ []) ≡ and_deed (deeds t journal) o
-    after o is = deeds_more t None journal e ∙ ap (λ w. and_deed (deeds t journal) (deed t w e)) (traced.told.waits t k.task k.there) ∙ ap (and_deed (deeds t journal)) is
+  allows : (x : S) (op : OpView) (ds : List Deed) → op ≡ op_of x → At (to x) ds → Rule ds op
+  allows x op ds same k = subst (Rule ds) (sym same) (keeps.allowed x ds k)
 
-    with_one : (n : Next S) (c : Deed) → deed t (wait_of k.task.mode) e ≡ Some c → seen.0.body ≡ system_task (body n) → At n (deeds t journal ++ c ∷ []) → IsAllowed Rule (deeds t journal) c → Keeping body At Rule t (journal ++ e ∷ []) s2
-    with_one n c is b at d = record { now = n; task = seen.0; there = seen.1; body_is = b; stands = subst (At n) (sym (after (Some c) is)) at; all = subst (AllAllowed Rule []) (sym (after (Some c) is)) (allowed_more Rule [] (deeds t journal) c k.all d) }
-
-    allows : (op : OpView) (x : S) → op ≡ op_of x → At (to x) (deeds t journal) → Rule (deeds t journal) op
-    allows op x same at = subst (Rule (deeds t journal)) (sym same) (keeps.allowed x (deeds t journal) at)
-
-    by : Acts program k.task seen.0 (deed t (wait_of k.task.mode) e) → Keeping body At Rule t (journal ++ e ∷ []) s2
-    by (idles is ye) =
-        let same : deeds t (journal ++ e ∷ []) ≡ deeds t journal = after None is ∙ append-nil (deeds t journal) in
-        record { now = k.now; task = seen.0; there = seen.1; body_is = ap (λ (q : Task). q.body) ye ∙ k.body_is; stands = subst (At k.now) (sym same) k.stands; all = subst (AllAllowed Rule []) (sym same) k.all }
-    by (parks op w is may at r ye) =
-        let o = state_at journal s k op at in
-        let waits = keeps.waits o.0 (deeds t journal) w o.3 (ap may_park (sym o.2) ∙ may) in
-        with_one (to o.0) (did_wait w (branches_of op)) is (ap (λ (q : Task). q.body) ye ∙ k.body_is ∙ ap (λ n. system_task (body n)) o.1)
-        (subst (λ z. At (to o.0) (deeds t journal ++ did_wait w (branches_of z) ∷ [])) (sym o.2) waits) (inl (op, allows op o.0 o.2 o.3, refl))
-    by (stops how is r ye) = with_one k.now (did_end how) is (ap (λ (q : Task). q.body) ye ∙ k.body_is) (keeps.ends k.now (deeds t journal) how k.stands) (inr (how, refl))
-    by (goes op c a b is at ans r ye) =
-        let o = state_at journal s k op at in
-        let rest : BodyRest program (system_task (system_fill a (body (to o.0)))) b = subst (λ z. BodyRest program (body_fill a z) b) (k.body_is ∙ ap (λ n. system_task (body n)) o.1) r in
-        let n = keeps.answered o.0 (deeds t journal) c a rest.0 o.3 (subst (λ z. Replies z c a) o.2 ans) rest.1 in
-        with_one n.0 c is (ap (λ (q : Task). q.body) ye ∙ rest.2 ∙ ap system_task n.1) n.2 (inl (op, allows op o.0 o.2 o.3, replied op c a ans))
-
-  -- along the events
-  keeping_steps : (es journal : List EventView) (s s2 : State) → Traced journal s → Steps program s es s2 → Keeping body At Rule t journal s → Keeping body At Rule t (journal ++ es) s2
-  keeping_steps [] journal s s2 traced x k = subst (λ j. Keeping body At Rule t j s2) (sym (append-nil journal)) (subst (λ z. Keeping body At Rule t journal z) (sym x) k)
-  keeping_steps (e ∷ es) journal s s2 traced x k =
-      subst (λ j. Keeping body At Rule t j s2) (append_assoc journal (e ∷ []) es)
-      (keeping_steps es (journal ++ e ∷ []) x.0 s2 (traced_step program journal s x.0 e x.1 traced) x.2 (keeping_step journal s x.0 e traced x.1 k))
-
-  -- at its Spawn
-  keeping_begins : (journal : List EventView) (s s2 : State) (u : ℕ) (kind : SystemTask) (result : Option ℕ) (x : Step program s (spawned u t (System kind) result) s2) (values : Trees) (place : Place) → x.1 ≡ system kind values place
-      → ((c : SystemBody) → SystemRest program (new_system kind values place) c → (n : Next S) × (c ≡ body n) × At n []) → Traced journal s → Keeping body At Rule t (journal ++ spawned u t (System kind) result ∷ []) s2
-  keeping_begins journal s s2 u kind result x values place seed begins traced = record {
-    now = n.0;
-    task = runs result x.3;
-    there = ap (λ (z : Tasks). z t) (tasks_of x.10) ∙ update_here x.2 t (Some (runs result x.3));
-    body_is = fresh.2 ∙ ap system_task n.1;
-    stands = subst (At n.0) (sym none) n.2;
-    all = subst (AllAllowed Rule []) (sym none) tt;
-  } where
-    fresh : BodyRest program (system_task (new_system kind values place)) x.3
-    fresh = subst (λ z. BodyRest program (new_task program z) x.3) seed x.9
-
-    n : (n : Next S) × (fresh.0 ≡ body n) × At n []
-    n = begins fresh.0 fresh.1
-
-    none : deeds t (journal ++ spawned u t (System kind) result ∷ []) ≡ []
-    none =
-        let a = traced.told.absent t x.5 in
-        let d = no_deed program s s2 t x.5 (spawned u t (System kind) result) x in
-        deeds_more t None journal (spawned u t (System kind) result) ∙ ap (λ w. and_deed (deeds t journal) (deed t w (spawned u t (System kind) result))) a.0 ∙ ap (and_deed (deeds t journal)) d.0 ∙ ap (λ z. z ++ []) a.1
-
-  keeping_keeps : (journal : List EventView) (s : State) → Keeping body At Rule t journal s → KeepsTo Rule t journal s
-  keeping_keeps journal s k = record {
-    did = λ before after d is. allowed_at Rule [] before after d (subst (AllAllowed Rule []) is k.all);
-    task = k.task;
-    there = k.there;
-    asks = λ op at. let o = state_at journal s k op at in subst (Rule (deeds t journal)) (sym o.2) (keeps.allowed o.0 (deeds t journal) o.3);
+  stages : KeepsStages program (InRow body) (WasAllowed At Rule)
+  stages = record {
+    waits = λ n b op ds w is at may k.
+        let o = state_at n b op ds is at k.0 in
+        let did = subst (λ z. At (to o.0) (ds ++ did_wait w (branches_of z) ∷ [])) (sym o.2) (keeps.waits o.0 ds w o.3 (ap may_park (sym o.2) ∙ may)) in
+        (subst (λ m. At m (ds ++ did_wait w (branches_of op) ∷ [])) (sym o.1) did, allowed_more Rule [] ds (did_wait w (branches_of op)) k.1 (inl (op, allows o.0 op ds o.2 o.3, refl)));
+    ends = λ n b ds how is v k. (keeps.ends n ds how k.0, allowed_more Rule [] ds (did_end how) k.1 (inr (how, refl)));
+    answered = λ n b c op ds d a is at k ans r.
+        let o = state_at n b op ds is at k.0 in
+        let rest : BodyRest program (system_task (system_fill a (body (to o.0)))) c = subst (λ z. BodyRest program (body_fill a z) c) (is ∙ ap (λ m. system_task (body m)) o.1) r in
+        let m = keeps.answered o.0 ds d a rest.0 o.3 (subst (λ z. Replies z d a) o.2 ans) rest.1 in
+        (m.0, rest.2 ∙ ap system_task m.1, (m.2, allowed_more Rule [] ds d k.1 (inl (op, allows o.0 op ds o.2 o.3, replied op d a ans))));
   }
 
--- the seed of a system task
-seed_of : (seed : SeedView) (kind : SystemTask) → kind_of seed ≡ System kind → (values : Trees) × (place : Place) × (seed ≡ system kind values place)
-seed_of (go n values result place) kind e = absurd (let k : SeedKind.Go n ≡ System kind = e in cc)
-seed_of (system other values place) kind e = (values, place, ap (λ z. system z values place) (let k : other ≡ kind = cc in k))
+  keeping_keeps : (t : ℕ) (journal : List EventView) (s : State) → InStage (InRow body) (WasAllowed At Rule) t journal s → KeepsTo Rule t journal s
+  keeping_keeps t journal s k = record {
+    did = λ before after d is. allowed_at Rule [] before after d (subst (AllAllowed Rule []) is k.stands.1);
+    task = k.task;
+    there = k.there;
+    asks = λ op at. let o = state_at k.now k.task.body op (deeds t journal) k.is at k.stands.0 in allows o.0 op (deeds t journal) o.2 o.3;
+  }
 
--- all tasks of a kind keep to the rule of their values
-pub all_keep_to : (program : ProgramView) (kind : SystemTask) (Rule : Trees → Place → List Deed → OpView → Type 0) {S : Type 0} (body : Trees → Place → Next S → SystemBody) (op_of : Trees → Place → S → OpView) (At : Trees → Place → Next S → List Deed → Type 0)
+-- the kind that a word tells; for a publication and a job it is no more than one of several
+abbrev told_kind : TaskKind → SystemTask
+told_kind TaskKind.Go = SystemTask.Mult
+told_kind TaskKind.Mult = SystemTask.Mult
+told_kind TaskKind.Deliver = SystemTask.Deliver
+told_kind TaskKind.Mix = SystemTask.Mix
+told_kind TaskKind.Pub = SystemTask.Mult
+told_kind TaskKind.Pipe = SystemTask.Pipe
+told_kind TaskKind.Merge = SystemTask.Merge
+told_kind TaskKind.Onto = SystemTask.Onto
+told_kind TaskKind.Feed = SystemTask.Feed
+told_kind TaskKind.Job = SystemTask.Mult
+told_kind TaskKind.Collect = SystemTask.Collect
+
+abbrev pub is_told : TaskKind → Bool
+is_told TaskKind.Pub = false
+is_told TaskKind.Job = false
+is_told TaskKind.Go = false
+is_told kind = true
+
+told_is : (kind : SystemTask) → is_told (kind_of_system kind) ≡ true → told_kind (kind_of_system kind) ≡ kind
+told_is SystemTask.Mult h = refl
+told_is SystemTask.Deliver h = refl
+told_is SystemTask.Mix h = refl
+told_is (SystemTask.Pub f) h = cc
+told_is SystemTask.Pipe h = refl
+told_is SystemTask.Merge h = refl
+told_is SystemTask.Onto h = refl
+told_is SystemTask.Feed h = refl
+told_is (SystemTask.Job x f) h = cc
+told_is SystemTask.Collect h = refl
+
+-- the seed of a system task
+seed_of : (seed : SeedView) (kind : SystemTask) → is_told (kind_of_system kind) ≡ true → kind_of seed ≡ kind_of_system kind → (values : Trees) × (place : Place) × (seed ≡ system kind values place)
+seed_of (go n values result place) kind t e = absurd (let k : false ≡ true = ap is_told e ∙ t in cc)
+seed_of (system other values place) kind t e = (values, place, ap (λ z. system z values place) (sym (told_is other (ap is_told e ∙ t)) ∙ ap told_kind e ∙ told_is kind t))
+
+-- a task of the kind that is spawned from these values keeps to their rule
+pub keeps_from : (program : ProgramView) (kind : SystemTask) (Rule : Trees → Place → List Deed → OpView → Type 0) {S : Type 0} (body : Trees → Place → Next S → SystemBody) (op_of : Trees → Place → S → OpView) (At : Trees → Place → Next S → List Deed → Type 0)
+    → ((values : Trees) (place : Place) → Keeps program (body values place) (op_of values place) (At values place) (Rule values place))
+    → ((values : Trees) (place : Place) (c : SystemBody) → SystemRest program (new_system kind values place) c → (n : Next S) × (c ≡ body values place n) × At values place n [])
+    → (journal : List EventView) (s : State) (r : Reaches program journal s) (early late : List EventView) (u t : ℕ) (result : Option ℕ) → journal ≡ early ++ spawned u t (kind_of_system kind) result ∷ late
+    → (m : (mid : State) × Steps program r.opening early mid × Steps program mid (spawned u t (kind_of_system kind) result ∷ late) s) (v : Trees) (l : Place) → m.2.1.1 ≡ system kind v l
+    → SpawnsFrom program early u (system kind v l) × KeepsTo (Rule v l) t journal s
+keeps_from program kind Rule body op_of At keeps begins journal s r early late u t result is m v l seed =
+    let k = m.2 in
+    let from : SpawnsFrom program early u (system kind v l) = record { before = m.0; reaches = record { opening = r.opening; opens = r.opens; steps = m.1 }; spawner = k.1.0; stands = subst (λ z. Stands m.0 u (spawning z) k.1.0) seed k.1.4 } in (
+      from,
+      keeping_keeps program (body v l) (op_of v l) (At v l) (Rule v l) (keeps v l) t journal s
+          (stays_in program (InRow (body v l)) (WasAllowed (At v l) (Rule v l)) (stages program (body v l) (op_of v l) (At v l) (Rule v l) (keeps v l)) journal early late s u t (kind_of_system kind) result (system kind v l) r is from
+          (λ c q. let n = begins v l q.0 q.1 in (n.0, q.2 ∙ ap system_task n.1, (n.2, tt)))),
+    )
+
+pub spawned_at : (program : ProgramView) (journal : List EventView) (s : State) (r : Reaches program journal s) (early late : List EventView) (u t : ℕ) (word : TaskKind) (result : Option ℕ) → journal ≡ early ++ spawned u t word result ∷ late
+    → (mid : State) × Steps program r.opening early mid × Steps program mid (spawned u t word result ∷ late) s
+spawned_at program journal s r early late u t word result is = steps_split program early (spawned u t word result ∷ late) r.opening s (subst (λ j. Steps program r.opening j s) is r.steps)
+
+-- all tasks of a kind that its word tells keep to the rule of their values
+pub all_keep_to : (program : ProgramView) (kind : SystemTask) → is_told (kind_of_system kind) ≡ true → (Rule : Trees → Place → List Deed → OpView → Type 0) {S : Type 0} (body : Trees → Place → Next S → SystemBody) (op_of : Trees → Place → S → OpView) (At : Trees → Place → Next S → List Deed → Type 0)
     → ((values : Trees) (place : Place) → Keeps program (body values place) (op_of values place) (At values place) (Rule values place))
     → ((values : Trees) (place : Place) (c : SystemBody) → SystemRest program (new_system kind values place) c → (n : Next S) × (c ≡ body values place n) × At values place n [])
     → (journal : List EventView) (s : State) → Reaches program journal s → AllKeepTo kind Rule program journal s
-all_keep_to program kind Rule body op_of At keeps begins journal s r early late u t result is =
-    let m = steps_split program early (spawned u t (System kind) result ∷ late) r.opening s (subst (λ j. Steps program r.opening j s) is r.steps) in
-    let k = m.2 in
-    let seed = seed_of k.1.1 kind k.1.6 in
-    let v = seed.0 in
-    let l = seed.1 in
-    let traced = traced_steps program early [] r.opening m.0 m.1 (opening_traced program r.opening r.opens) in
-    let event = spawned u t (System kind) result in
-    let begun = keeping_begins program (body v l) (op_of v l) (At v l) (Rule v l) (keeps v l) t early m.0 k.0 u kind result k.1 v l seed.2 (begins v l) traced in
-    let all = keeping_steps program (body v l) (op_of v l) (At v l) (Rule v l) (keeps v l) t late (early ++ event ∷ []) k.0 s (traced_step program early m.0 k.0 event k.1 traced) k.2 begun in (
-      v,
-      l,
-      record { before = m.0; reaches = record { opening = r.opening; opens = r.opens; steps = m.1 }; spawner = k.1.0; stands = subst (λ z. Stands m.0 u (spawning z) k.1.0) seed.2 k.1.4 },
-      keeping_keeps program (body v l) (op_of v l) (At v l) (Rule v l) (keeps v l) t journal s (subst (λ j. Keeping (body v l) (At v l) (Rule v l) t j s) (append_assoc early (event ∷ []) late ∙ sym is) all),
-    )
+all_keep_to program kind told Rule body op_of At keeps begins journal s r early late u t result is =
+    let m = spawned_at program journal s r early late u t (kind_of_system kind) result is in
+    let seed = seed_of m.2.1.1 kind told m.2.1.6 in
+    let k = keeps_from program kind Rule body op_of At keeps begins journal s r early late u t result is m seed.0 seed.1 seed.2 in
+    (seed.0, seed.1, k.0, k.1)
+
+-- the seeds of a publication and of a job
+pub pub_seed : (seed : SeedView) → kind_of seed ≡ TaskKind.Pub → (f : PlainFunction) × (values : Trees) × (place : Place) × (seed ≡ system (SystemTask.Pub f) values place)
+pub_seed (system (SystemTask.Pub f) values place) e = (f, values, place, refl)
+pub_seed (go n values result place) e = cc
+pub_seed (system SystemTask.Mult values place) e = cc
+pub_seed (system SystemTask.Deliver values place) e = cc
+pub_seed (system SystemTask.Mix values place) e = cc
+pub_seed (system SystemTask.Pipe values place) e = cc
+pub_seed (system SystemTask.Merge values place) e = cc
+pub_seed (system SystemTask.Onto values place) e = cc
+pub_seed (system SystemTask.Feed values place) e = cc
+pub_seed (system (SystemTask.Job x f) values place) e = cc
+pub_seed (system SystemTask.Collect values place) e = cc
+
+pub job_seed : (seed : SeedView) → kind_of seed ≡ TaskKind.Job → (x : Transform × PlainFunction) × (values : Trees) × (place : Place) × (seed ≡ system (SystemTask.Job x.0 x.1) values place)
+job_seed (system (SystemTask.Job x f) values place) e = ((x, f), values, place, refl)
+job_seed (go n values result place) e = cc
+job_seed (system SystemTask.Mult values place) e = cc
+job_seed (system SystemTask.Deliver values place) e = cc
+job_seed (system SystemTask.Mix values place) e = cc
+job_seed (system SystemTask.Pipe values place) e = cc
+job_seed (system SystemTask.Merge values place) e = cc
+job_seed (system SystemTask.Onto values place) e = cc
+job_seed (system SystemTask.Feed values place) e = cc
+job_seed (system (SystemTask.Pub f) values place) e = cc
+job_seed (system SystemTask.Collect values place) e = cc

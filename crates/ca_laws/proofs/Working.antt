@@ -22,7 +22,8 @@ use Rattle.ca_laws.specs.Taken.{answer_after, last_answer}
 use Rattle.ca_laws.specs.PipelineRules.{JobRule, job_work, JobsKeepTo}
 use Rattle.ca_laws.proofs.Acts.{Replies, got, gave}
 use Rattle.ca_laws.proofs.More.{answer_more}
-use Rattle.ca_laws.proofs.Tables.{asked, Keeps, all_keep_to}
+use Rattle.ca_laws.proofs.Tables.{asked, Keeps, keeps_from, spawned_at, job_seed}
+use Rattle.ca_term.specs.declared.event.TaskKind.{TaskKind}
 
 -- a job at rest: it takes, or puts its outputs on the reply port
 data Rests : Type 0 where
@@ -92,6 +93,12 @@ module _ (program : ProgramView) (j : ℕ) (w : Work) where
   }
 
 pub jobs_keep_to : (program : ProgramView) (journal : List EventView) (s : State) → Reaches program journal s → JobsKeepTo program journal s
-jobs_keep_to program journal s r x f = all_keep_to program (SystemTask.Job x f) (λ values place. JobRule program (port_number (first_of values)) (job_work x f values place))
+jobs_keep_to program journal s r early late u t result is =
+    let m = spawned_at program journal s r early late u t TaskKind.Job result is in
+    let w = job_seed m.2.1.1 m.2.1.6 in
+    let x = w.0.0 in
+    let f = w.0.1 in
+    let k = keeps_from program (SystemTask.Job x f) (λ values place. JobRule program (port_number (first_of values)) (job_work x f values place))
     (λ values place. job_body program (port_number (first_of values)) (job_work x f values place)) (λ values place. job_op program (port_number (first_of values)) (job_work x f values place)) (λ values place. JobAt program (port_number (first_of values)) (job_work x f values place))
-    (λ values place. job_keeps program (port_number (first_of values)) (job_work x f values place)) (λ values place c r. (to takes, r, refl)) journal s r
+    (λ values place. job_keeps program (port_number (first_of values)) (job_work x f values place)) (λ values place c r. (to takes, r, refl)) journal s r early late u t result is m w.1 w.2 w.3 in
+    (w.0, w.1, w.2, k.0, k.1)

@@ -3,7 +3,7 @@
 use Rattle.std.specs.Prelude.{◌≡◌, ℕ, List, [], ◌∷◌, slice_get, Option, Some, None, Bool, true, false, cond, eqb}
 use Rattle.ca_value.specs.Tree.{Tree, Trees, bool}
 use Rattle.ca_term.specs.declared.head.RegisterName.{RegisterName}
-use Rattle.ca_term.specs.declared.head.SeedKind.{SeedKind}
+use Rattle.ca_term.specs.declared.event.TaskKind.{TaskKind}
 use Rattle.ca_term.specs.declared.event.Side.{Side}
 use Rattle.ca_term.specs.declared.event.Side.TheVariants.{Take, Put}
 use Rattle.ca_term.specs.declared.event.Ending.{Ending}
@@ -25,7 +25,7 @@ pub data Deed : Type 0 where
   did_post : ℕ → ℕ → Tree → Deed
   did_default : Tree → Deed
   did_make : ℕ → WhatView → Option ℕ → Deed
-  did_spawn : ℕ → SeedKind → Option ℕ → Deed
+  did_spawn : ℕ → TaskKind → Option ℕ → Deed
   did_close : ℕ → Deed
   did_register : RegisterName → Trees → Tree → Deed
   did_print : List ℕ → Deed

@@ -3,7 +3,7 @@ use Rattle.std.specs.Prelude.{◌≡◌, ℕ, suc, ◌<◌, List, [], ◌∷◌,
 use Rattle.ca_value.specs.Tree.{Tree, Trees, bool, port, item}
 use Rattle.ca_term.specs.declared.place.Place.{Place}
 use Rattle.ca_term.specs.declared.head.RegisterName.TheVariants.{Taps, Untap}
-use Rattle.ca_term.specs.declared.head.SeedKind.TheVariants.{System}
+use Rattle.ca_term.specs.declared.event.TaskKind.{TaskKind}
 use Rattle.ca_term.specs.declared.head.SystemTask.TheVariants.{Mult, Deliver}
 use Rattle.ca_term.specs.Program.{ProgramView}
 use Rattle.ca_term.specs.Operation.{OpView, taking, putting, choosing, making, spawning, closing, registering, printing, posting, system}
@@ -92,6 +92,6 @@ IsNextDelivery x before v tap = (last_answer before ≡ Some (x.source, v)) × (
 -- each delivery that a mult starts keeps to the rule for the value that the mult took, and the next tap that it read
 abbrev pub StartedKeepTo : ProgramView → List EventView → State → Type 0
 StartedKeepTo program journal s =
-    (first middle last : List EventView) (w t u : ℕ) (r q : Option ℕ) → journal ≡ first ++ spawned w t (System Mult) r ∷ (middle ++ spawned t u (System Deliver) q ∷ last)
+    (first middle last : List EventView) (w t u : ℕ) (r q : Option ℕ) → journal ≡ first ++ spawned w t TaskKind.Mult r ∷ (middle ++ spawned t u TaskKind.Deliver q ∷ last)
     → (values : Trees) × (place : Place) × (v : Tree) × (tap : TapView) × SpawnsFrom program first w (system Mult values place)
-    × IsNextDelivery (mult_ports values) (deeds t (first ++ spawned w t (System Mult) r ∷ middle)) v tap × KeepsTo (DeliverRule (delivery_to (mult_ports values) tap v)) u journal s
+    × IsNextDelivery (mult_ports values) (deeds t (first ++ spawned w t TaskKind.Mult r ∷ middle)) v tap × KeepsTo (DeliverRule (delivery_to (mult_ports values) tap v)) u journal s

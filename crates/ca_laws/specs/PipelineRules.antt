@@ -17,7 +17,8 @@ use Rattle.ca_meaning.specs.System.{fourth_of}
 use Rattle.ca_meaning.specs.State.{State}
 use Rattle.ca_laws.specs.Deeds.{Deed, did_take}
 use Rattle.ca_laws.specs.Taken.{taken, put_in, sent, made_in, last_answer, FoundEnd, Begins}
-use Rattle.ca_laws.specs.Rules.{AllKeepTo}
+use Rattle.ca_laws.specs.Rules.{AllKeepTo, AllKeepToOf}
+use Rattle.ca_term.specs.declared.event.TaskKind.{TaskKind}
 
 -- A feed: what it puts for the values that it took and the reply ports that it made. Each value goes with its reply
 -- port to the jobs, and then that port into the queue.
@@ -117,7 +118,7 @@ abbrev pub FeedsKeepTo : ProgramView → List EventView → State → Type 0
 FeedsKeepTo program journal s = AllKeepTo Feed (λ values place. FeedRule (feed_ports values)) program journal s
 
 abbrev pub JobsKeepTo : ProgramView → List EventView → State → Type 0
-JobsKeepTo program journal s = (x : Transform) (f : PlainFunction) → AllKeepTo (Job x f) (λ values place. JobRule program (port_number (first_of values)) (job_work x f values place)) program journal s
+JobsKeepTo program journal s = AllKeepToOf (λ (x : Transform × PlainFunction). Job x.0 x.1) (λ x values place. JobRule program (port_number (first_of values)) (job_work x.0 x.1 values place)) TaskKind.Job program journal s
 
 abbrev pub CollectsKeepTo : ProgramView → List EventView → State → Type 0
 CollectsKeepTo program journal s = AllKeepTo Collect (λ values place. CollectRule (collect_ports values)) program journal s

@@ -16,7 +16,8 @@ use Rattle.ca_meaning.specs.PubTable.{PubPorts, channel_of_pair}
 use Rattle.ca_meaning.specs.State.{State}
 use Rattle.ca_laws.specs.Deeds.{Deed, did_take, did_register}
 use Rattle.ca_laws.specs.Taken.{last_answer, FoundEnd, closes_since}
-use Rattle.ca_laws.specs.Rules.{AllKeepTo}
+use Rattle.ca_laws.specs.Rules.{AllKeepToOf}
+use Rattle.ca_term.specs.declared.event.TaskKind.{TaskKind}
 
 -- the answer of its registry, until it takes again
 abbrev pub found_after : Deed → Option Tree → Option Tree
@@ -55,4 +56,4 @@ pub_ports f values = record { publication = port_number (first_of values); sourc
 
 -- each publication keeps to its rule
 abbrev pub PubsKeepTo : ProgramView → List EventView → State → Type 0
-PubsKeepTo program journal s = (f : PlainFunction) → AllKeepTo (Pub f) (λ values place. PubRule program (pub_ports f values) place) program journal s
+PubsKeepTo program journal s = AllKeepToOf (λ f. Pub f) (λ f values place. PubRule program (pub_ports f values) place) TaskKind.Pub program journal s

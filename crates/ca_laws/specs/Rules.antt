@@ -1,7 +1,7 @@
 -- A rule of a task says which operations it may ask for, after all that it did.
 use Rattle.std.specs.Prelude.{◌≡◌, ℕ, List, ◌∷◌, ◌++◌, ◌⊎◌, Option, Some}
 use Rattle.ca_value.specs.Tree.{Trees}
-use Rattle.ca_term.specs.declared.head.SeedKind.TheVariants.{System}
+use Rattle.ca_term.specs.declared.event.TaskKind.{TaskKind}
 use Rattle.ca_term.specs.declared.head.SystemTask.{SystemTask}
 use Rattle.ca_term.specs.declared.event.Ending.{Ending}
 use Rattle.ca_term.specs.declared.place.Place.{Place}
@@ -9,6 +9,7 @@ use Rattle.ca_term.specs.Operation.{OpView, SeedView, system, spawning}
 use Rattle.ca_term.specs.Program.{ProgramView}
 use Rattle.ca_term.specs.Event.{EventView, spawned}
 use Rattle.ca_meaning.specs.State.{State, Task}
+use Rattle.ca_meaning.specs.TaskSteps.{kind_of_system}
 use Rattle.ca_meaning.specs.Going.{IsAtOp, Stands}
 use Rattle.ca_meaning.specs.Legal.{Reaches}
 use Rattle.ca_laws.specs.Deeds.{Deed, did_end, deeds, IsDeedOf}
@@ -34,5 +35,11 @@ pub record SpawnsFrom (program : ProgramView) (early : List EventView) (u : ℕ)
 -- each task of the kind that is spawned in the journal keeps to the rule for the values and the place of its Spawn
 abbrev pub AllKeepTo : SystemTask → (Trees → Place → List Deed → OpView → Type 0) → ProgramView → List EventView → State → Type 0
 AllKeepTo kind Rule program journal s =
-    (early late : List EventView) (u t : ℕ) (result : Option ℕ) → journal ≡ early ++ spawned u t (System kind) result ∷ late
+    (early late : List EventView) (u t : ℕ) (result : Option ℕ) → journal ≡ early ++ spawned u t (kind_of_system kind) result ∷ late
     → (values : Trees) × (place : Place) × SpawnsFrom program early u (system kind values place) × KeepsTo (Rule values place) t journal s
+
+-- the same of a kind that has more to it than its word, as a publication's function, which its seed tells
+abbrev pub AllKeepToOf : {F : Type 0} → (F → SystemTask) → (F → Trees → Place → List Deed → OpView → Type 0) → TaskKind → ProgramView → List EventView → State → Type 0
+AllKeepToOf {F} kind Rule word program journal s =
+    (early late : List EventView) (u t : ℕ) (result : Option ℕ) → journal ≡ early ++ spawned u t word result ∷ late
+    → (f : F) × (values : Trees) × (place : Place) × SpawnsFrom program early u (system (kind f) values place) × KeepsTo (Rule f values place) t journal s

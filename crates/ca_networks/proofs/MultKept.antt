@@ -4,7 +4,7 @@ use Rattle.std.proofs.lemmas.Grind.{flat_map-append}
 use Rattle.ca_value.specs.Tree.{Tree, Trees, port, item}
 use Rattle.ca_term.specs.declared.place.Place.{Place}
 use Rattle.ca_term.specs.declared.head.RegisterName.TheVariants.{Taps}
-use Rattle.ca_term.specs.declared.head.SeedKind.TheVariants.{System}
+use Rattle.ca_term.specs.declared.event.TaskKind.{TaskKind}
 use Rattle.ca_term.specs.declared.head.SystemTask.TheVariants.{Mult, Deliver}
 use Rattle.ca_term.specs.Operation.{taking, registering, spawning, closing, system}
 use Rattle.ca_term.specs.Program.{ProgramView}
@@ -127,30 +127,30 @@ module _ (program : ProgramView) (x : MultPorts) (place : Place) (t : ℕ) (jour
   mult_law_of = record { reads = reads; delivers = delivers }
 
 -- at its Spawn
-module _ (program : ProgramView) (values : Trees) (place : Place) (t u : ℕ) (result : Option ℕ) (early late : List EventView) (more : Roles) (last : State) (from : SpawnsFrom program early u (system Mult values place)) (cut : Cut program early (spawned u t (System Mult) result) late more last) where
+module _ (program : ProgramView) (values : Trees) (place : Place) (t u : ℕ) (result : Option ℕ) (early late : List EventView) (more : Roles) (last : State) (from : SpawnsFrom program early u (system Mult values place)) (cut : Cut program early (spawned u t TaskKind.Mult result) late more last) where
   mult_now : (y : Standing (mult_body (mult_ports values) place) t cut.state2) × (y.now ≡ to mult_takes) × (y.task.mode ≡ running)
   mult_now = fresh_standing program early cut.state cut.state2 u t Mult result values place from cut.reaches cut.step (mult_body (mult_ports values) place) (to mult_takes) (λ c r. r)
 
-  none : deeds t (early ++ spawned u t (System Mult) result ∷ []) ≡ []
+  none : deeds t (early ++ spawned u t TaskKind.Mult result ∷ []) ≡ []
   none = fresh_deeds program early cut.state cut.state2 u t Mult result values place from cut.reaches cut.step cut.traced
 
-  pub mult_begins : Multing program (mult_ports values) place t (early ++ spawned u t (System Mult) result ∷ []) cut.state2
+  pub mult_begins : Multing program (mult_ports values) place t (early ++ spawned u t TaskKind.Mult result ∷ []) cut.state2
   mult_begins = record {
     at = mult_now.0;
     pending = [];
-    stands = subst (λ n. MultAt (λ v. EachFor (For program (mult_ports values) place (started (deeds t (early ++ spawned u t (System Mult) result ∷ []))) (early ++ spawned u t (System Mult) result ∷ []) v)) n (round (mult_ports values) (deeds t (early ++ spawned u t (System Mult) result ∷ []))) []) (sym mult_now.1)
-        (subst (λ z. MultAt (λ v. EachFor (For program (mult_ports values) place (started z) (early ++ spawned u t (System Mult) result ∷ []) v)) (to mult_takes) (round (mult_ports values) z) []) (sym none) (refl, tt));
-    members = subst (λ z. Each (Member program (mult_ports values) place (early ++ spawned u t (System Mult) result ∷ []) []) (started z)) (sym none) tt;
+    stands = subst (λ n. MultAt (λ v. EachFor (For program (mult_ports values) place (started (deeds t (early ++ spawned u t TaskKind.Mult result ∷ []))) (early ++ spawned u t TaskKind.Mult result ∷ []) v)) n (round (mult_ports values) (deeds t (early ++ spawned u t TaskKind.Mult result ∷ []))) []) (sym mult_now.1)
+        (subst (λ z. MultAt (λ v. EachFor (For program (mult_ports values) place (started z) (early ++ spawned u t TaskKind.Mult result ∷ []) v)) (to mult_takes) (round (mult_ports values) z) []) (sym none) (refl, tt));
+    members = subst (λ z. Each (Member program (mult_ports values) place (early ++ spawned u t TaskKind.Mult result ∷ []) []) (started z)) (sym none) tt;
     read = subst (AllRead (mult_ports values) []) (sym none) tt;
     there = subst (λ z. Each (IsThere cut.state2) (started z)) (sym none) tt;
     all_new = subst (λ z. AllNew (started z)) (sym none) tt;
-    is_mult = mult_stays program cut.state cut.state2 (mult_ports values).mult (spawned u t (System Mult) result) cut.step (mult_there cut.state values place (not_refused program early cut.state cut.state2 u t Mult result values place from cut.reaches cut.step));
+    is_mult = mult_stays program cut.state cut.state2 (mult_ports values).mult (spawned u t TaskKind.Mult result) cut.step (mult_there cut.state values place (not_refused program early cut.state cut.state2 u t Mult result values place from cut.reaches cut.step));
   }
 
 pub mult_law : (program : ProgramView) (journal : List EventView) (last : State) → IsGuarded program journal last → MultLaw program journal last
 mult_law program journal last guarded values place t is =
     let x = mult_ports values in
-    let e = spawned is.spawner t (System Mult) is.result in
+    let e = spawned is.spawner t TaskKind.Mult is.result in
     let g : Guarded program nobody guarded.opening (is.early ++ e ∷ is.late) guarded.roles last = subst (λ j. Guarded program nobody guarded.opening j guarded.roles last) is.told guarded.guarded in
     let cut = first_cut program is.early is.late e guarded.roles guarded.opening last guarded.opens g in
     let begun = cut.1 (λ j r s. AllStarted j s) (starting_keeps program cut.0.state) (none_started program guarded.opening guarded.opens) in

@@ -3,7 +3,7 @@ use Rattle.std.proofs.Common.{◌≡◌, ◌≢◌, ◌⊎◌, inl, inr, ℕ, su
 use Rattle.std.proofs.lemmas.Map.{update_here}
 use Rattle.ca_value.specs.Tree.{Tree, Trees, port}
 use Rattle.ca_term.specs.declared.place.Place.{Place}
-use Rattle.ca_term.specs.declared.head.SeedKind.TheVariants.{System}
+use Rattle.ca_term.specs.declared.event.TaskKind.{TaskKind}
 use Rattle.ca_term.specs.declared.head.SystemTask.TheVariants.{Deliver}
 use Rattle.ca_term.specs.declared.head.RegisterName.TheVariants.{Taps}
 use Rattle.ca_term.specs.Operation.{registering, spawning, system}
@@ -71,7 +71,7 @@ pub record Multing (program : ProgramView) (x : MultPorts) (place : Place) (t : 
   pub is_mult : is_the_mult (s.registries x.mult) ≡ true
 
 spawned_later : (program : ProgramView) (journal : List EventView) (values : Trees) (place : Place) (u : ℕ) (e : EventView) → IsSpawned program journal Deliver values place u → IsSpawned program (journal ++ e ∷ []) Deliver values place u
-spawned_later program journal values place u e k = record { early = k.early; late = k.late ++ e ∷ []; spawner = k.spawner; result = k.result; told = ap (λ z. z ++ e ∷ []) k.told ∙ append_assoc k.early (spawned k.spawner u (System Deliver) k.result ∷ k.late) (e ∷ []); from = k.from }
+spawned_later program journal values place u e k = record { early = k.early; late = k.late ++ e ∷ []; spawner = k.spawner; result = k.result; told = ap (λ z. z ++ e ∷ []) k.told ∙ append_assoc k.early (spawned k.spawner u TaskKind.Deliver k.result ∷ k.late) (e ∷ []); from = k.from }
 
 not_there : (s : State) (us : List ℕ) (u : ℕ) → s.tasks u ≡ None → Each (IsThere s) us → Each (λ w. eqb w u ≡ false) us
 not_there s [] u absent a = tt
@@ -216,10 +216,10 @@ module _ (program : ProgramView) (x : MultPorts) (place : Place) (t : ℕ) (jour
         k1 = at_is (to (mult_spawns v tap taps j)) mn
 
         -- the event is its Spawn
-        event : e ≡ spawned t u (System Deliver) None
-        event = spawned_event t (wait_of m.at.task.mode) e u (System Deliver) None (is ∙ ap (λ z. Some z) ce)
+        event : e ≡ spawned t u TaskKind.Deliver None
+        event = spawned_event t (wait_of m.at.task.mode) e u TaskKind.Deliver None (is ∙ ap (λ z. Some z) ce)
 
-        k2 : Step program s (spawned t u (System Deliver) None) s2
+        k2 : Step program s (spawned t u TaskKind.Deliver None) s2
         k2 = subst (λ i. Step program s i s2) event k
 
         absent : s.tasks u ≡ None

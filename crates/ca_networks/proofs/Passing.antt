@@ -4,7 +4,7 @@ use Rattle.ca_value.specs.Tree.{Tree, nil, bool}
 use Rattle.ca_term.specs.declared.event.Side.{Side}
 use Rattle.ca_term.specs.declared.event.Side.TheVariants.{Take, Put}
 use Rattle.ca_term.specs.Event.{BranchView, take_of, put_of, EventView, made, spawned, done, met, parked, posted, settled, defaulted, closed, registered, printed, ticked, over as is_over}
-use Rattle.ca_term.specs.declared.head.SeedKind.{SeedKind}
+use Rattle.ca_term.specs.declared.event.TaskKind.{TaskKind}
 use Rattle.ca_meaning.specs.Operands.{is_nil}
 use Rattle.ca_meaning.specs.ChannelSteps.{other_side}
 use Rattle.ca_meaning.specs.History.{Mark, accept, give, give_none, pass, no_mark, mark_on, mark_of_take, mark_of_put, mark_of_settled}
@@ -113,7 +113,7 @@ take_leaves t o (ticked m ports) k p a is = absurd (let q : None ≡ Some (did_t
 take_leaves t o (is_over u how) k p a is = no_deed (eqb u t) (did_end how) (did_take k p a) (λ q. cc) is
 
 -- the event of a Spawn
-pub spawned_event : (t : ℕ) (o : Option ℕ) (e : EventView) (u : ℕ) (kind : SeedKind) (r : Option ℕ) → deed t o e ≡ Some (did_spawn u kind r) → e ≡ spawned t u kind r
+pub spawned_event : (t : ℕ) (o : Option ℕ) (e : EventView) (u : ℕ) (kind : TaskKind) (r : Option ℕ) → deed t o e ≡ Some (did_spawn u kind r) → e ≡ spawned t u kind r
 spawned_event t o (spawned v n k q) u kind r is =
     let d = one_deed (eqb v t) (did_spawn n k q) (did_spawn u kind r) is in
     let i : did_spawn n k q ≡ did_spawn u kind r = d.1 in

@@ -4,7 +4,7 @@ use Rattle.ca_value.specs.Tree.{Trees}
 use Rattle.ca_term.specs.declared.place.Place.{Place}
 use Rattle.ca_term.specs.declared.head.PlainFunction.{PlainFunction}
 use Rattle.ca_term.specs.declared.head.Transform.{Transform}
-use Rattle.ca_term.specs.declared.head.SeedKind.TheVariants.{System}
+use Rattle.ca_term.specs.declared.event.TaskKind.{TaskKind}
 use Rattle.ca_term.specs.declared.head.SystemTask.TheVariants.{Feed, Job, Collect}
 use Rattle.ca_term.specs.Operation.{system}
 use Rattle.ca_term.specs.Program.{ProgramView}
@@ -41,21 +41,21 @@ module _ (program : ProgramView) (journal : List EventView) (last : State) (guar
 
   -- the channel of a job is one for its work
   job_role : (x : Transform) (f : PlainFunction) (values : Trees) (place : Place) (t : ℕ) → IsSpawned program journal (Job x f) values place t → (m : ℕ) × (guarded.roles (port_number (first_of values)) ≡ Some (hidden m (jobs (job_work x f values place))))
-  job_role x f values place t is = (typed.0, last_part program is.early is.late (spawned is.spawner t (System (Job x f)) is.result) guarded.roles last cut.0 (λ j r s. r (port_number (first_of values)) ≡ Some (hidden typed.0 (jobs (job_work x f values place)))) (role_keeps program last (port_number (first_of values)) (hidden typed.0 (jobs (job_work x f values place)))) typed.1) where
-    cut : (cut : Cut program is.early (spawned is.spawner t (System (Job x f)) is.result) is.late guarded.roles last) × ((P : List EventView → Roles → State → Type 0) → Keeps program cut.state P → P [] nobody guarded.opening → P is.early cut.roles cut.state)
-    cut = first_cut program is.early is.late (spawned is.spawner t (System (Job x f)) is.result) guarded.roles guarded.opening last guarded.opens (guarded_as (is.early ++ spawned is.spawner t (System (Job x f)) is.result ∷ is.late) is.told)
+  job_role x f values place t is = (typed.0, last_part program is.early is.late (spawned is.spawner t TaskKind.Job is.result) guarded.roles last cut.0 (λ j r s. r (port_number (first_of values)) ≡ Some (hidden typed.0 (jobs (job_work x f values place)))) (role_keeps program last (port_number (first_of values)) (hidden typed.0 (jobs (job_work x f values place)))) typed.1) where
+    cut : (cut : Cut program is.early (spawned is.spawner t TaskKind.Job is.result) is.late guarded.roles last) × ((P : List EventView → Roles → State → Type 0) → Keeps program cut.state P → P [] nobody guarded.opening → P is.early cut.roles cut.state)
+    cut = first_cut program is.early is.late (spawned is.spawner t TaskKind.Job is.result) guarded.roles guarded.opening last guarded.opens (guarded_as (is.early ++ spawned is.spawner t TaskKind.Job is.result ∷ is.late) is.told)
 
     job : (y : Standing (λ n. a_job (port_number (first_of values)) (job_work x f values place) n) t cut.0.state2) × (y.now ≡ to job_takes) × (y.task.mode ≡ running)
     job = fresh_standing program is.early cut.0.state cut.0.state2 is.spawner t (Job x f) is.result values place is.from cut.0.reaches cut.0.step (λ n. a_job (port_number (first_of values)) (job_work x f values place) n) (to job_takes) (λ b r. r)
 
     guard2 : Guard program cut.0.next cut.0.state2
-    guard2 = guard_after program is.early (spawned is.spawner t (System (Job x f)) is.result) is.late guarded.roles last cut.0
+    guard2 = guard_after program is.early (spawned is.spawner t TaskKind.Job is.result) is.late guarded.roles last cut.0
 
     typed : (m : ℕ) × (cut.0.next (port_number (first_of values)) ≡ Some (hidden m (jobs (job_work x f values place))))
     typed = let b : TypedSystem program cut.0.next (a_job (port_number (first_of values)) (job_work x f values place) job.0.now) = subst (TypedBody program t cut.0.next) job.0.body_is (guard2.typed.tasks t job.0.task job.0.there).body in (b.0, b.1)
 
   pub pipeline_law : PipelineLaw program journal
-  pipeline_law fv cv pf pc tf tc isf isc cq = by (which_first isf.early isf.late isc.early isc.late (spawned isf.spawner tf (System Feed) isf.result) (spawned isc.spawner tc (System Collect) isc.result) (sym isf.told ∙ isc.told)) where
+  pipeline_law fv cv pf pc tf tc isf isc cq = by (which_first isf.early isf.late isc.early isc.late (spawned isf.spawner tf TaskKind.Feed isf.result) (spawned isc.spawner tc TaskKind.Collect isc.result) (sym isf.told ∙ isc.told)) where
     -- at the end
     ends : (whole : List EventView) (xs ms vs : List EventView) → whole ≡ journal → Ends program last guarded.roles isf.spawner tf isc.spawner tc isf.result isc.result fv cv pf pc cq xs ms vs whole → (w : Work) × JobsDo program journal (feed_ports fv).jobs w × BeginsOutputs program w (taken (deeds tf journal)) (offered tc journal)
     ends whole xs ms vs is k = (
@@ -68,23 +68,23 @@ module _ (program : ProgramView) (journal : List EventView) (last : State) (guar
           (outputs_begin program k.1 guarded.roles k.2.1.fed.at.now k.2.1.collected.at.now k.2.1.collected.at.task.mode k.2.1.queued k.2.1.opened k.2.1.between (taken (deeds tf whole)) (offered tc whole) k.2.1.fed.feeds k.2.1.collected.collects k.2.1.split),
     )
 
-    by : ((ms : List EventView) × (isc.early ≡ isf.early ++ spawned isf.spawner tf (System Feed) isf.result ∷ ms) × (isf.late ≡ ms ++ spawned isc.spawner tc (System Collect) isc.result ∷ isc.late))
-        ⊎ (((ms : List EventView) × (isf.early ≡ isc.early ++ spawned isc.spawner tc (System Collect) isc.result ∷ ms) × (isc.late ≡ ms ++ spawned isf.spawner tf (System Feed) isf.result ∷ isf.late)) ⊎ ((isf.early ≡ isc.early) × (spawned isf.spawner tf (System Feed) isf.result ≡ spawned isc.spawner tc (System Collect) isc.result)))
+    by : ((ms : List EventView) × (isc.early ≡ isf.early ++ spawned isf.spawner tf TaskKind.Feed isf.result ∷ ms) × (isf.late ≡ ms ++ spawned isc.spawner tc TaskKind.Collect isc.result ∷ isc.late))
+        ⊎ (((ms : List EventView) × (isf.early ≡ isc.early ++ spawned isc.spawner tc TaskKind.Collect isc.result ∷ ms) × (isc.late ≡ ms ++ spawned isf.spawner tf TaskKind.Feed isf.result ∷ isf.late)) ⊎ ((isf.early ≡ isc.early) × (spawned isf.spawner tf TaskKind.Feed isf.result ≡ spawned isc.spawner tc TaskKind.Collect isc.result)))
         → (w : Work) × JobsDo program journal (feed_ports fv).jobs w × BeginsOutputs program w (taken (deeds tf journal)) (offered tc journal)
     by (inl k) =
-        let F = spawned isf.spawner tf (System Feed) isf.result in
-        let C = spawned isc.spawner tc (System Collect) isc.result in
+        let F = spawned isf.spawner tf TaskKind.Feed isf.result in
+        let C = spawned isc.spawner tc TaskKind.Collect isc.result in
         let is : journal ≡ isf.early ++ F ∷ (k.0 ++ C ∷ isc.late) = isf.told ∙ ap (λ z. isf.early ++ F ∷ z) k.2 in
         let cut = first_cut program isf.early (k.0 ++ C ∷ isc.late) F guarded.roles guarded.opening last guarded.opens (guarded_as (isf.early ++ F ∷ (k.0 ++ C ∷ isc.late)) is) in
         let empty = cut.1 (λ j r s. AllEmpty r s) (empty_keeps program cut.0.state) (none_empty guarded.opening) in
         ends ((isf.early ++ F ∷ k.0) ++ C ∷ isc.late) isf.early k.0 isc.late (append_assoc isf.early (F ∷ k.0) (C ∷ isc.late) ∙ sym is)
         (feed_first program last guarded.roles isf.spawner tf isc.spawner tc isf.result isc.result fv cv pf pc cq isf.early k.0 isc.late cut.0 empty isf.from (subst (λ j. SpawnsFrom program j isc.spawner (system Collect cv pc)) k.1 isc.from))
     by (inr (inl k)) =
-        let F = spawned isf.spawner tf (System Feed) isf.result in
-        let C = spawned isc.spawner tc (System Collect) isc.result in
+        let F = spawned isf.spawner tf TaskKind.Feed isf.result in
+        let C = spawned isc.spawner tc TaskKind.Collect isc.result in
         let is : journal ≡ isc.early ++ C ∷ (k.0 ++ F ∷ isf.late) = isc.told ∙ ap (λ z. isc.early ++ C ∷ z) k.2 in
         let cut = first_cut program isc.early (k.0 ++ F ∷ isf.late) C guarded.roles guarded.opening last guarded.opens (guarded_as (isc.early ++ C ∷ (k.0 ++ F ∷ isf.late)) is) in
         let empty = cut.1 (λ j r s. AllEmpty r s) (empty_keeps program cut.0.state) (none_empty guarded.opening) in
         ends ((isc.early ++ C ∷ k.0) ++ F ∷ isf.late) isc.early k.0 isf.late (append_assoc isc.early (C ∷ k.0) (F ∷ isf.late) ∙ sym is)
         (collect_first program last guarded.roles isf.spawner tf isc.spawner tc isf.result isc.result fv cv pf pc cq isc.early k.0 isf.late cut.0 empty isc.from (subst (λ j. SpawnsFrom program j isf.spawner (system Feed fv pf)) k.1 isf.from))
-    by (inr (inr k)) = absurd (let i : spawned isf.spawner tf (System Feed) isf.result ≡ spawned isc.spawner tc (System Collect) isc.result = k.1 in cc)
+    by (inr (inr k)) = absurd (let i : spawned isf.spawner tf TaskKind.Feed isf.result ≡ spawned isc.spawner tc TaskKind.Collect isc.result = k.1 in cc)

@@ -2,8 +2,7 @@
 use Rattle.std.proofs.Common.{◌≡◌, ℕ, List, [], ◌∷◌, ◌++◌, refl, sym, ap, ◌∙◌, subst, Option, Some}
 use Rattle.ca_value.specs.Tree.{Trees}
 use Rattle.ca_term.specs.declared.place.Place.{Place}
-use Rattle.ca_term.specs.declared.head.SeedKind.{SeedKind}
-use Rattle.ca_term.specs.declared.head.SeedKind.TheVariants.{System}
+use Rattle.ca_term.specs.declared.event.TaskKind.{TaskKind}
 use Rattle.ca_term.specs.declared.head.SystemTask.TheVariants.{Feed, Collect}
 use Rattle.ca_term.specs.Operation.{system}
 use Rattle.ca_term.specs.Program.{ProgramView}
@@ -44,7 +43,7 @@ collect_roles : (program : ProgramView) (roles : Roles) (s : State) (c : Collect
 collect_roles program roles s c place t g y = let b : TypedSystem program roles (a_collect c place y.now) = subst (TypedBody program t roles) y.body_is (g.typed.tasks t y.task y.there).body in (b.0, b.1, b.4)
 
 -- what a queue holds at a Spawn
-module _ (program : ProgramView) (roles more : Roles) (s s2 : State) (u t : ℕ) (kind : SeedKind) (result : Option ℕ) (g : Guard program roles s) (g2 : Guard program more s2) (turn : Turn program roles more s (spawned u t kind result)) (k : Step program s (spawned u t kind result) s2) where
+module _ (program : ProgramView) (roles more : Roles) (s s2 : State) (u t : ℕ) (kind : TaskKind) (result : Option ℕ) (g : Guard program roles s) (g2 : Guard program more s2) (turn : Turn program roles more s (spawned u t kind result)) (k : Step program s (spawned u t kind result) s2) where
   pub empty_at_spawn : AllEmpty roles s → (q m : ℕ) (w : Work) → more q ≡ Some (hidden m (replies w)) → NoFeed s q → Lined more w q s2 []
   empty_at_spawn empty q m w role none = record { line = c.0; there = c.1; holds = subst (λ i. Carry more w i []) (sym held) refl } where
     c : (c : Channel) × (s2.channels q ≡ Some c)
@@ -61,10 +60,10 @@ module _ (program : ProgramView) (roles more : Roles) (s s2 : State) (u t : ℕ)
 
 module _ (program : ProgramView) (last : State) (more : Roles) (uf tf uc tc : ℕ) (rf rc : Option ℕ) (fv cv : Trees) (pf pc : Place) (cq : (collect_ports cv).replies ≡ (feed_ports fv).replies) (xs ms vs : List EventView) where
   abbrev F : EventView
-  F = spawned uf tf (System Feed) rf
+  F = spawned uf tf TaskKind.Feed rf
 
   abbrev C : EventView
-  C = spawned uc tc (System Collect) rc
+  C = spawned uc tc TaskKind.Collect rc
 
   abbrev f : FeedPorts
   f = feed_ports fv
@@ -92,7 +91,7 @@ module _ (program : ProgramView) (last : State) (more : Roles) (uf tf uc tc : �
       record {
         queued = [];
         fed = record { at = feed.0; feeds = subst (λ n. FeedAt one.next has.1 n [] (taken (deeds tf (xs ++ F ∷ [])))) (sym feed.1) (ap taken (fresh_deeds program xs one.state one.state2 uf tf Feed rf fv pf from_f one.reaches one.step one.traced)) };
-        line = empty_at_spawn program one.roles one.next one.state one.state2 uf tf (System Feed) rf one.guard guard2 one.turn one.step empty f.replies has.0 has.1 has.2.1 (no_feed program f pf tf xs one.state one.state2 F one.next one.traced one.step guard2 feed.0 one.step.5 [] xs one.state one.traced refl);
+        line = empty_at_spawn program one.roles one.next one.state one.state2 uf tf TaskKind.Feed rf one.guard guard2 one.turn one.step empty f.replies has.0 has.1 has.2.1 (no_feed program f pf tf xs one.state one.state2 F one.next one.traced one.step guard2 feed.0 one.step.5 [] xs one.state one.traced refl);
       },
     )
 
@@ -192,7 +191,7 @@ module _ (program : ProgramView) (last : State) (more : Roles) (uf tf uc tc : �
         between = [];
         fed = record { at = feeds.0; feeds = subst (λ n. FeedAt then.0.next role.1 n [] (taken (deeds tf ((xs ++ C ∷ ms) ++ F ∷ [])))) (sym feeds.1) (ap taken (fresh_deeds program (xs ++ C ∷ ms) then.0.state then.0.state2 uf tf Feed rf fv pf from_f then.0.reaches then.0.step then.0.traced)) };
         collected = collected_f;
-        line = empty_at_spawn program then.0.roles then.0.next then.0.state then.0.state2 uf tf (System Feed) rf then.0.guard guard_f then.0.turn then.0.step waiting_c.1 f.replies role.0 role.1 has_f.1 none_now;
+        line = empty_at_spawn program then.0.roles then.0.next then.0.state then.0.state2 uf tf TaskKind.Feed rf then.0.guard guard_f then.0.turn then.0.step waiting_c.1 f.replies role.0 role.1 has_f.1 none_now;
         split = refl;
       },
     )

@@ -1,9 +1,9 @@
 -- The task that a Spawn of the journal starts.
-use Rattle.std.proofs.Common.{◌≡◌, ◌⊎◌, inl, inr, ℕ, List, [], ◌∷◌, ◌++◌, refl, sym, ap, ◌∙◌, subst, Option, Some, None}
+use Rattle.std.proofs.Common.{◌≡◌, ◌⊎◌, inl, inr, ℕ, List, [], ◌∷◌, ◌++◌, refl, sym, ap, ◌∙◌, subst, Option, Some, None, ◌≢◌}
 use Rattle.std.proofs.lemmas.Map.{update_here}
 use Rattle.ca_value.specs.Tree.{Tree, Trees}
 use Rattle.ca_term.specs.declared.place.Place.{Place}
-use Rattle.ca_term.specs.declared.head.SeedKind.TheVariants.{Go, System}
+use Rattle.ca_term.specs.declared.event.TaskKind.{TaskKind}
 use Rattle.ca_term.specs.declared.head.SystemTask.{SystemTask}
 use Rattle.ca_term.specs.Operation.{OpView, SeedView, go, system, spawning}
 use Rattle.ca_term.specs.Program.{ProgramView}
@@ -15,7 +15,7 @@ use Rattle.ca_meaning.specs.State.{State, Task, Tasks, running, runs}
 use Rattle.ca_meaning.specs.Going.{Stands}
 use Rattle.ca_meaning.specs.Refusal.{refusal}
 use Rattle.ca_meaning.specs.Steps.{Step, Steps}
-use Rattle.ca_meaning.specs.TaskSteps.{kind_of}
+use Rattle.ca_meaning.specs.TaskSteps.{kind_of, kind_of_system}
 use Rattle.ca_meaning.specs.Legal.{Reaches}
 use Rattle.ca_meaning.proofs.Single.{same_task, same_op, same_seed, reached_once}
 use Rattle.ca_meaning.proofs.ChannelLaws.{steps_split}
@@ -26,7 +26,7 @@ use Rattle.ca_laws.proofs.Deeding.{and_deed, deeds_more, no_deed, Traced, traced
 use Rattle.ca_networks.specs.Networks.{AllSpawned}
 use Rattle.ca_networks.proofs.Standing.{Standing, Table, moved}
 
-module _ (program : ProgramView) (early : List EventView) (s s2 : State) (u t : ℕ) (kind : SystemTask) (result : Option ℕ) (values : Trees) (place : Place) (from : SpawnsFrom program early u (system kind values place)) (reaches : Reaches program early s) (k : Step program s (spawned u t (System kind) result) s2) where
+module _ (program : ProgramView) (early : List EventView) (s s2 : State) (u t : ℕ) (kind : SystemTask) (result : Option ℕ) (values : Trees) (place : Place) (from : SpawnsFrom program early u (system kind values place)) (reaches : Reaches program early s) (k : Step program s (spawned u t (kind_of_system kind) result) s2) where
   same_state : from.before ≡ s
   same_state = reached_once program early from.before s from.reaches reaches
 
@@ -49,11 +49,11 @@ module _ (program : ProgramView) (early : List EventView) (s s2 : State) (u t : 
   pub fresh_standing : {S : Type 0} (body : Next S → SystemBody) (n : Next S) → ((c : SystemBody) → SystemRest program (new_system kind values place) c → c ≡ body n) → (y : Standing body t s2) × (y.now ≡ n) × (y.task.mode ≡ running)
   fresh_standing body n first = (record { now = n; task = runs result k.3; there = fresh_there; body_is = fresh_body.2 ∙ ap system_task (first fresh_body.0 fresh_body.1) }, refl, refl)
 
-  pub fresh_deeds : Traced early s → deeds t (early ++ spawned u t (System kind) result ∷ []) ≡ []
+  pub fresh_deeds : Traced early s → deeds t (early ++ spawned u t (kind_of_system kind) result ∷ []) ≡ []
   fresh_deeds traced =
       let a = traced.told.absent t k.5 in
-      let d = no_deed program s s2 t k.5 (spawned u t (System kind) result) k in
-      deeds_more t None early (spawned u t (System kind) result) ∙ ap (λ w. and_deed (deeds t early) (deed t w (spawned u t (System kind) result))) a.0 ∙ ap (and_deed (deeds t early)) d.0 ∙ ap (λ z. z ++ []) a.1
+      let d = no_deed program s s2 t k.5 (spawned u t (kind_of_system kind) result) k in
+      deeds_more t None early (spawned u t (kind_of_system kind) result) ∙ ap (λ w. and_deed (deeds t early) (deed t w (spawned u t (kind_of_system kind) result))) a.0 ∙ ap (and_deed (deeds t early)) d.0 ∙ ap (λ z. z ++ []) a.1
 
 -- a task of a table stays one
 pub stays_standing : (program : ProgramView) {S : Type 0} (body : Next S → SystemBody) (op_of : S → OpView) (next : Tree → S → Next S) → Table program body op_of next → (t : ℕ) (es journal : List EventView) (s last : State) → Traced journal s → Steps program s es last → Standing body t s → Standing body t last
@@ -77,23 +77,25 @@ which_first {A} (x ∷ xs) ys (u ∷ us) vs a b e = by (which_first xs ys us vs 
   by (inr (inr k)) = inr (inr (ap (λ z. z ∷ xs) xu ∙ ap (λ z. u ∷ z) k.0, k.1))
 
 -- the seed of a system task
-system_seed : (seed : SeedView) (kind : SystemTask) → kind_of seed ≡ System kind → (values : Trees) × (place : Place) × (seed ≡ system kind values place)
-system_seed (go n values result place) kind e = absurd (let k : Go n ≡ System kind = e in cc)
-system_seed (system other values place) kind e = (values, place, ap (λ z. system z values place) (let k : other ≡ kind = cc in k))
+system_seed : (seed : SeedView) (word : TaskKind) → kind_of seed ≡ word → word ≢ TaskKind.Go → (kind : SystemTask) × (values : Trees) × (place : Place) × (kind_of_system kind ≡ word) × (seed ≡ system kind values place)
+system_seed (go n values result place) word e apart = absurd (apart (sym e))
+system_seed (system other values place) word e n = (other, values, place, e, refl)
 
 pub all_spawned : (program : ProgramView) (journal : List EventView) (s : State) → Reaches program journal s → AllSpawned program journal
-all_spawned program journal s r early late u t kind result is =
-    let m = steps_split program early (spawned u t (System kind) result ∷ late) r.opening s (subst (λ j. Steps program r.opening j s) is r.steps) in
+all_spawned program journal s r early late u t word result is n =
+    let m = steps_split program early (spawned u t word result ∷ late) r.opening s (subst (λ j. Steps program r.opening j s) is r.steps) in
     let k = m.2 in
-    let seed = system_seed k.1.1 kind k.1.6 in (
+    let seed = system_seed k.1.1 word k.1.6 n in (
       seed.0,
+      seed.3,
       seed.1,
+      seed.2,
       record {
         early = early;
         late = late;
         spawner = u;
         result = result;
-        told = is;
-        from = record { before = m.0; reaches = record { opening = r.opening; opens = r.opens; steps = m.1 }; spawner = k.1.0; stands = subst (λ z. Stands m.0 u (spawning z) k.1.0) seed.2 k.1.4 };
+        told = is ∙ ap (λ z. early ++ spawned u t z result ∷ late) (sym seed.3);
+        from = record { before = m.0; reaches = record { opening = r.opening; opens = r.opens; steps = m.1 }; spawner = k.1.0; stands = subst (λ z. Stands m.0 u (spawning z) k.1.0) seed.4 k.1.4 };
       },
     )

@@ -59,7 +59,7 @@ module _ (program : ProgramView) {S : Type 0} (body : Next S → SystemBody) (op
     by (parks op w is may at r ye) =
         let o = at_state op at in
         (same (ap (λ (q : Task). q.body) ye), waits o.0 w o.1 (is ∙ ap (λ z. Some (did_wait w (branches_of z))) o.2) (ap may_park (sym o.2) ∙ may) r refl (ap (λ (q : Task). q.mode) ye))
-    by (stops how is r ye) = (same (ap (λ (q : Task). q.body) ye), ends how is r refl (ap (λ (q : Task). q.mode) ye))
+    by (stops how is r v ye) = (same (ap (λ (q : Task). q.body) ye), ends how is r refl (ap (λ (q : Task). q.mode) ye))
     by (goes op c a b is at ans r ye) =
         let o = at_state op at in
         let rest : BodyRest program (system_task (system_fill a (body (to o.0)))) b = subst (λ z. BodyRest program (body_fill a z) b) (x.body_is ∙ ap (λ n. system_task (body n)) o.1) r in (

@@ -3,7 +3,7 @@ use Rattle.std.proofs.Common.{◌≡◌, ◌⊎◌, inl, inr, ℕ, List, [], ◌
 use Rattle.std.proofs.lemmas.Map.{update_here}
 use Rattle.ca_value.specs.Tree.{Trees, port, none, item}
 use Rattle.ca_term.specs.declared.place.Place.{Place}
-use Rattle.ca_term.specs.declared.head.SeedKind.{SeedKind}
+use Rattle.ca_term.specs.declared.event.TaskKind.{TaskKind}
 use Rattle.ca_term.specs.declared.head.SystemTask.TheVariants.{Deliver}
 use Rattle.ca_term.specs.Operation.{spawning, system}
 use Rattle.ca_term.specs.Program.{ProgramView}
@@ -72,13 +72,13 @@ starting_keeps program last journal rest roles more s mid e traced g k turn g2 s
     old : Acts program z seen.0 (deed u (wait_of z.mode) e) → IsStarted (journal ++ e ∷ []) mid d.acks u
     old (idles i ye) = stays (all u z d l n there (ap (λ (q : Task). q.body) (sym ye) ∙ body))
     old (parks op w i may here m ye) = stays (all u z d l n there (ap (λ (q : Task). q.body) (sym ye) ∙ body))
-    old (stops how i m ye) = stays (all u z d l n there (ap (λ (q : Task). q.body) (sym ye) ∙ body))
+    old (stops how i m v ye) = stays (all u z d l n there (ap (λ (q : Task). q.body) (sym ye) ∙ body))
     old (goes op c v b2 i here ans r ye) =
         let before = was_delivery program v z.body d l n (subst (BodyRest program (body_fill v z.body)) (sym (ap (λ (q : Task). q.body) ye) ∙ body) r) in
         stays (all u z d l before.0 there before.1)
 
   -- it is new
-  new : s.tasks u ≡ None → (v : ℕ) (kind : SeedKind) (result : Option ℕ) → e ≡ spawned v u kind result → IsStarted (journal ++ e ∷ []) mid d.acks u
+  new : s.tasks u ≡ None → (v : ℕ) (kind : TaskKind) (result : Option ℕ) → e ≡ spawned v u kind result → IsStarted (journal ++ e ∷ []) mid d.acks u
   new absent v kind result ev = by_task p.0.body refl where
     p : Step program s (spawned v u kind result) mid
     p = subst (λ i. Step program s i mid) ev k
@@ -117,6 +117,6 @@ starting_keeps program last journal rest roles more s mid e traced g k turn g2 s
   by : (o : Option Task) → s.tasks u ≡ o → IsStarted (journal ++ e ∷ []) mid d.acks u
   by (Some z) there = was z there
   by None absent = at_comes (comes program s mid u absent e k) where
-    at_comes : (mid.tasks u ≡ None) ⊎ ((v : ℕ) × (kind : SeedKind) × (result : Option ℕ) × (b : TaskBody) × (e ≡ spawned v u kind result) × (mid.tasks u ≡ Some (runs result b))) → IsStarted (journal ++ e ∷ []) mid d.acks u
+    at_comes : (mid.tasks u ≡ None) ⊎ ((v : ℕ) × (kind : TaskKind) × (result : Option ℕ) × (b : TaskBody) × (e ≡ spawned v u kind result) × (mid.tasks u ≡ Some (runs result b))) → IsStarted (journal ++ e ∷ []) mid d.acks u
     at_comes (inl gone) = absurd (let f : None ≡ Some y = sym gone ∙ at in cc)
     at_comes (inr z) = new absent z.0 z.1 z.2 z.4

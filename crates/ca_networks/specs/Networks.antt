@@ -1,9 +1,10 @@
 -- The tasks of a network, and what they did.
-use Rattle.std.specs.Prelude.{◌≡◌, ℕ, List, [], ◌∷◌, ◌++◌, Option, false, cond, eqb, flat_map}
+use Rattle.std.specs.Prelude.{◌≡◌, ◌≢◌, ℕ, List, [], ◌∷◌, ◌++◌, Option, false, cond, eqb, flat_map}
 use Rattle.ca_value.specs.Tree.{Tree, Trees}
 use Rattle.ca_term.specs.declared.place.Place.{Place}
 use Rattle.ca_term.specs.declared.event.Side.TheVariants.{Put}
-use Rattle.ca_term.specs.declared.head.SeedKind.TheVariants.{System}
+use Rattle.ca_term.specs.declared.event.TaskKind.{TaskKind}
+use Rattle.ca_meaning.specs.TaskSteps.{kind_of_system}
 use Rattle.ca_term.specs.declared.head.SystemTask.{SystemTask}
 use Rattle.ca_term.specs.Operation.{system}
 use Rattle.ca_term.specs.Program.{ProgramView}
@@ -18,13 +19,14 @@ pub record IsSpawned (program : ProgramView) (journal : List EventView) (kind : 
   pub late : List EventView
   pub spawner : ℕ
   pub result : Option ℕ
-  pub told : journal ≡ early ++ spawned spawner t (System kind) result ∷ late
+  pub told : journal ≡ early ++ spawned spawner t (kind_of_system kind) result ∷ late
   pub from : SpawnsFrom program early spawner (system kind values place)
 
 -- each system task of the journal was spawned from some values
 abbrev pub AllSpawned : ProgramView → List EventView → Type 0
 AllSpawned program journal =
-    (early late : List EventView) (u t : ℕ) (kind : SystemTask) (result : Option ℕ) → journal ≡ early ++ spawned u t (System kind) result ∷ late → (values : Trees) × (place : Place) × IsSpawned program journal kind values place t
+    (early late : List EventView) (u t : ℕ) (word : TaskKind) (result : Option ℕ) → journal ≡ early ++ spawned u t word result ∷ late → word ≢ TaskKind.Go
+    → (kind : SystemTask) × (kind_of_system kind ≡ word) × (values : Trees) × (place : Place) × IsSpawned program journal kind values place t
 
 -- the value of an operation that only puts
 abbrev pub put_value : List BranchView → List Tree

@@ -8,3 +8,4 @@ pub mod Spelling
 pub mod Stack
 pub mod Table
 pub mod TextSpelling
+pub mod WrittenLaws

@@ -10,3 +10,4 @@ pub mod Steps
 pub mod Texts
 pub mod Tokens
 pub mod View
+pub mod Written

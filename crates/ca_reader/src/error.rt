@@ -6,7 +6,7 @@ use ca_value::memory::OutOfMemory as NoMemory;
 use std::alloc::{AllocError, AllocFailed};
 
 /// What can be wrong with a text, each at one of its bytes.
-#[derive(Clone, Copy, PartialEq, Eq, Debug)]
+#[derive(Clone, Copy, Debug)]
 pub enum ReadErrorKind {
     /// A byte that has no place where it stands.
     BadByte,
@@ -45,7 +45,7 @@ impl ReadErrorKind {
 }
 
 /// Why a text has no forms: the first fault in it with its place, or want of memory.
-#[derive(Clone, Copy, PartialEq, Eq, Debug)]
+#[derive(Clone, Copy, Debug)]
 pub enum ReadError {
     Fault(ReadErrorKind, Place),
     OutOfMemory,

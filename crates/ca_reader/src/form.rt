@@ -35,7 +35,7 @@ pub enum Shape {
 }
 
 /// The three kinds of brackets: round ones make lists, square ones vectors, curly ones maps.
-#[derive(Clone, Copy, PartialEq, Eq, Debug)]
+#[derive(Clone, Copy)]
 pub enum Bracket {
     Round,
     Square,

@@ -6,7 +6,7 @@ use crate::bytes::byte_at;
 use crate::error::ReadErrorKind;
 
 /// What comes next in a text between quotes.
-#[derive(Clone, Copy, Debug)]
+#[derive(Clone, Copy)]
 pub enum Letter {
     /// A character of so many bytes.
     Character(usize),

@@ -16,10 +16,6 @@ mod lines;
 mod nest;
 mod piece;
 pub mod print;
-#[cfg(test)]
-mod print_tests;
 pub mod read;
-#[cfg(test)]
-mod tests;
 mod text;
 mod token;

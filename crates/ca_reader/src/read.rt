@@ -8,6 +8,8 @@ ghost use Rattle.ca_reader.specs.Texts.{letter, text_step, text_cut};
 ghost use Rattle.ca_reader.specs.Pieces.{first, pieces_step, pieces_from};
 ghost use Rattle.ca_reader.specs.Reads.{Reads, ReadFault, IsFaultOf};
 ghost use Rattle.ca_reader.specs.Printed.{ReadsAside};
+ghost use Rattle.ca_reader.specs.Written.{AreWritten, HaveScalars};
+ghost use Rattle.ca_value.specs.IsValue.{written};
 
 use crate::cut::next_piece;
 use crate::error::ReadError;
@@ -64,4 +66,10 @@ pub fn one_reading()
 pub fn cuts_go_on()
     ensures text { (bytes : List ℕ) → text_cut bytes ≡ text_step text_cut bytes (letter bytes) }
     ensures pieces { (p : Place) (bytes : List ℕ) → pieces_from p bytes ≡ pieces_step pieces_from p bytes (first bytes) }
+{}
+
+/// The forms of a text have in them what a text can write: integers of 64 bits, keywords, and symbols of token bytes.
+pub fn read_forms_are_written()
+    ensures written { (bytes : List ℕ) (fs : FormTrees) → Reads bytes fs → AreWritten fs }
+    ensures scalars { (fs : FormTrees) → AreWritten fs → HaveScalars written fs }
 {}

@@ -100,7 +100,7 @@ module _ (program : ProgramView) (roles more : Roles) (s s2 : State) (e : EventV
   feed_ends : (p : ℕ) (f : FeedPorts) (l : Place) (u : ℕ) (y : Task) (d : Option Deed) → y.body ≡ system_task (a_feed f l (to feed_closes_replies)) → f.replies ≡ p → d ≡ Some (did_close p) → (z : Task) × (s2.tasks u ≡ Some z) × Acts program y z d → IsFeedOver s2 p
   feed_ends p f l u y d is at told (z, there, idles none ze) = absurd (let k : None ≡ Some (did_close p) = sym none ∙ told in cc)
   feed_ends p f l u y d is at told (z, there, parks op w told2 may at_op r ze) = absurd (let k : Some (did_wait w (branches_of op)) ≡ Some (did_close p) = sym told2 ∙ told in cc)
-  feed_ends p f l u y d is at told (z, there, stops how told2 r ze) = absurd (let k : Some (did_end how) ≡ Some (did_close p) = sym told2 ∙ told in cc)
+  feed_ends p f l u y d is at told (z, there, stops how told2 r v ze) = absurd (let k : Some (did_end how) ≡ Some (did_close p) = sym told2 ∙ told in cc)
   feed_ends p f l u y d is at told (z, there, goes op c a b told2 at_op r rest ze) =
       let k : BodyRest program (system_task (a_feed f l stop)) b = subst (λ q. BodyRest program (body_fill a q) b) is rest in
       (u, z, f, l, there, ap (λ (q : Task). q.body) ze ∙ k.2 ∙ ap system_task k.1, at)

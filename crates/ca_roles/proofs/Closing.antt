@@ -109,5 +109,5 @@ over_stays program s s2 e p sound stood x (u, y, f, l, there, is, at) = by (acts
   by : (z : Task) × (s2.tasks u ≡ Some z) × Acts program y z (deed u (wait_of y.mode) e) → IsFeedOver s2 p
   by (z, there2, idles no_deed ye) = same z there2 (ap (λ (q : Task). q.body) ye)
   by (z, there2, parks op w d may at_op2 r ye) = same z there2 (ap (λ (q : Task). q.body) ye)
-  by (z, there2, stops how d r ye) = same z there2 (ap (λ (q : Task). q.body) ye)
+  by (z, there2, stops how d r v ye) = same z there2 (ap (λ (q : Task). q.body) ye)
   by (z, there2, goes op c a b d at_op2 r rest ye) = feed_stopped f l y.body op is at_op2

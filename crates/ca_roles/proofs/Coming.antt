@@ -2,7 +2,7 @@
 use Rattle.std.proofs.Common.{◌≡◌, ℕ, suc, ◌+◌, ◌≤◌, [], ◌∷◌, ◌++◌, refl, sym, ap, ◌∙◌, subst, arith, Option, Some, None}
 use Rattle.std.proofs.lemmas.Map.{update_here, update_apart}
 use Rattle.ca_value.specs.Tree.{nil, port}
-use Rattle.ca_term.specs.declared.head.SeedKind.{SeedKind}
+use Rattle.ca_term.specs.declared.event.TaskKind.{TaskKind}
 use Rattle.ca_term.specs.Operation.{SeedView, go, system, spawning}
 use Rattle.ca_term.specs.Program.{ProgramView, IsProgram, known_in}
 use Rattle.ca_meaning.specs.Operands.{values_in}
@@ -31,7 +31,7 @@ use Rattle.ca_roles.proofs.Spending.{own_none, spends}
 apart_from : (m : ℕ) → m ≡ suc m → ⊥
 apart_from m e = absurd (omega (arith, e))
 
-module _ (program : ProgramView) (checked : IsProgram program) (sealed : IsSealed program) (starts : StartsOnce program) (roles : Roles) (s s2 : State) (typed : Typed program roles s) (bodies : AllBodies (IsOf (known_in checked.plain program)) s.tasks) (t n : ℕ) (kind : SeedKind) (result : Option ℕ) (x : SpawnStep program s t n kind result s2) where
+module _ (program : ProgramView) (checked : IsProgram program) (sealed : IsSealed program) (starts : StartsOnce program) (roles : Roles) (s s2 : State) (typed : Typed program roles s) (bodies : AllBodies (IsOf (known_in checked.plain program)) s.tasks) (t n : ℕ) (kind : TaskKind) (result : Option ℕ) (x : SpawnStep program s t n kind result s2) where
   is_checked : (b : TaskBody) → IsOf (known_in checked.plain program) b → IsChecked (known_in checked.plain program) b
   is_checked (script b) k = k
   is_checked (system_task b) k = tt

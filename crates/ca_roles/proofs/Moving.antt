@@ -74,7 +74,7 @@ module _ (program : ProgramView) (roles : Roles) (s s2 : State) (e : EventView) 
   pub was_script : (t : ℕ) (x y : Task) (d : BodyView) → s.tasks t ≡ Some x → Acts program x y (deed t (wait_of x.mode) e) → y.body ≡ script d → Was x d
   was_script t x y d there (idles o i) now = (d, ap (λ (z : Task). z.body) (sym i) ∙ now, idle refl)
   was_script t x y d there (parks op w o m at r i) now = (d, ap (λ (z : Task). z.body) (sym i) ∙ now, idle refl)
-  was_script t x y d there (stops how o r i) now = (d, ap (λ (z : Task). z.body) (sym i) ∙ now, idle refl)
+  was_script t x y d there (stops how o r v i) now = (d, ap (λ (z : Task). z.body) (sym i) ∙ now, idle refl)
   was_script t x y d there (goes op c a after o at r rest i) now = by x.body refl rest where
     after_is : after ≡ script d
     after_is = ap (λ (z : Task). z.body) (sym i) ∙ now

@@ -2,7 +2,7 @@
 use Rattle.std.proofs.Common.{◌≡◌, refl, sym, subst, Bool, true, false, cond}
 use Rattle.std.specs.Prelude.{Ok, Err}
 use Rattle.ca_value.specs.declared.builtin.Builtin.{Builtin}
-use Rattle.ca_value.specs.Tree.{Tree, Trees, none as no_trees}
+use Rattle.ca_value.specs.Tree.{Tree, Trees, vector, none as no_trees}
 use Rattle.ca_value.specs.Outcome.{Outcome}
 use Rattle.ca_value.specs.Builtins.{builtin_result}
 use Rattle.ca_term.specs.declared.place.Place.{Place}
@@ -14,11 +14,10 @@ use Rattle.ca_term.specs.declared.head.Transform.TheVariants.{Map, Filter, Mapca
 use Rattle.ca_term.specs.Program.{ProgramView}
 use Rattle.ca_meaning.specs.Operands.{truth}
 use Rattle.ca_meaning.specs.Body.{BodyView, At, local, at_op, ended, faulted, nowhere, at, value_in}
-use Rattle.ca_meaning.specs.Asks.{one_of, two_of, trees_in}
+use Rattle.ca_meaning.specs.Asks.{one_of, two_of}
 use Rattle.ca_meaning.specs.Applied.{Returned, returned, of_builtin, Applied, Work, Outputs, outputs, no_outputs, has_nil, without_nil, items_output, outputs_of, outputs_by, Outs}
 use Rattle.ca_roles.specs.Roles.{Roles, IsPublic, ArePublic}
 use Rattle.ca_roles.specs.Sealed.{IsSealed}
-use Rattle.ca_roles.proofs.Ports.{items_in_public}
 use Rattle.ca_roles.proofs.Clean.{builtins_make_no_ports}
 use Rattle.ca_roles.proofs.PublicTerms.{PublicTerm}
 use Rattle.ca_roles.proofs.PublicSteps.{steps_public, ended_public}
@@ -51,16 +50,17 @@ module _ (roles : Roles) where
     by true = tt
     by false = h
 
+  items_public : (w : Tree) → IsPublic roles w → OutsPublic (items_output w)
+  items_public (vector ys) h = no_nil_public ys h
+  items_public w h = tt
+
   outputs_public : (x : Transform) (v w : Tree) → IsPublic roles v → IsPublic roles w → OutsPublic (outputs_of x v w)
   outputs_public Map v w hv hw = no_nil_public (one_of w) (hw, tt)
   outputs_public Filter v w hv hw = no_nil_public (cond (truth w) (one_of v) no_trees) (by (truth w)) where
     by : (b : Bool) → ArePublic roles (cond b (one_of v) no_trees)
     by true = (hv, tt)
     by false = tt
-  outputs_public Mapcat v w hv hw = by (builtin_result Builtin.Items (one_of w)) (builtins_make_no_ports roles Builtin.Items (one_of w) (hw, tt)) where
-    by : (o : Outcome) → IsPublic roles (value_in o) → OutsPublic (items_output o)
-    by (Ok ys) h = no_nil_public (trees_in ys) (items_in_public roles ys h)
-    by (Err f) h = tt
+  outputs_public Mapcat v w hv hw = items_public w hw
 
 module _ (program : ProgramView) (sealed : IsSealed program) (roles : Roles) where
   pub applied_public : (f : PlainFunction) (k : Tree) (p : Place) (v : Tree) (r : Returned) → IsPublic roles v → IsPublic roles k → Applied program f k p v r → ReturnsPublic roles r

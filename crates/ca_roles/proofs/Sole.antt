@@ -48,7 +48,7 @@ same_task x y e = cc
 pub acts_own : (program : ProgramView) (x y : Task) (o : Option Deed) → Acts program x y o → own_of y.body ≡ own_of x.body
 acts_own program x y o (idles d i) = ap (λ (z : Task). own_of z.body) i
 acts_own program x y o (parks op w d m at r i) = ap (λ (z : Task). own_of z.body) i
-acts_own program x y o (stops how d r i) = ap (λ (z : Task). own_of z.body) i
+acts_own program x y o (stops how d r v i) = ap (λ (z : Task). own_of z.body) i
 acts_own program x y o (goes op c a b d at r rest i) = ap (λ (z : Task). own_of z.body) i ∙ gone_owns program a x.body b rest
 
 -- Where a task stands at the Spawn of a user of a port, there is none yet, and the task has made the port.

@@ -1,7 +1,7 @@
 -- Each event leaves the users of ports sole.
 use Rattle.std.proofs.Common.{◌≡◌, ◌⊎◌, inl, inr, ℕ, ◌≤◌, refl, sym, ap, ◌∙◌, subst, arith, Bool, true, false, Option, Some, None, eqb, eqb-true, eq-eqb}
 use Rattle.std.proofs.lemmas.Map.{update_here}
-use Rattle.ca_term.specs.declared.head.SeedKind.{SeedKind}
+use Rattle.ca_term.specs.declared.event.TaskKind.{TaskKind}
 use Rattle.ca_term.specs.Program.{ProgramView, IsProgram, known_in}
 use Rattle.ca_term.specs.Event.{EventView, spawned}
 use Rattle.ca_meaning.specs.Body.{BodyView}
@@ -36,11 +36,11 @@ module _ (program : ProgramView) (checked : IsProgram program) (sealed : IsSeale
 
   -- a new one
   abbrev New : ℕ → Task → Type 0
-  New t y = (u : ℕ) × (kind : SeedKind) × (result : Option ℕ) × (e ≡ spawned u t kind result) × (x : SpawnStep program s u t kind result s2) × (y.body ≡ x.3)
+  New t y = (u : ℕ) × (kind : TaskKind) × (result : Option ℕ) × (e ≡ spawned u t kind result) × (x : SpawnStep program s u t kind result s2) × (y.body ≡ x.3)
 
   new : (t : ℕ) (y : Task) → s.tasks t ≡ None → s2.tasks t ≡ Some y → New t y
   new t y absent now = by (comes program s s2 t absent e step) where
-    by : (s2.tasks t ≡ None) ⊎ ((u : ℕ) × (kind : SeedKind) × (result : Option ℕ) × (b : TaskBody) × (e ≡ spawned u t kind result) × (s2.tasks t ≡ Some (runs result b))) → New t y
+    by : (s2.tasks t ≡ None) ⊎ ((u : ℕ) × (kind : TaskKind) × (result : Option ℕ) × (b : TaskBody) × (e ≡ spawned u t kind result) × (s2.tasks t ≡ Some (runs result b))) → New t y
     by (inl z) = absurd (let j : None ≡ Some y = sym z ∙ now in cc)
     by (inr z) =
         let x = subst (λ i. Step program s i s2) z.4 step in

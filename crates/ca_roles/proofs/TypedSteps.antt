@@ -2,7 +2,7 @@
 use Rattle.std.proofs.Common.{◌≡◌, ◌⊎◌, inl, inr, ℕ, refl, sym, ap, ◌∙◌, subst, Bool, true, false, cond, Option, Some, None, eqb}
 use Rattle.std.proofs.lemmas.Map.{update_here}
 use Rattle.ca_value.specs.Tree.{Tree, Trees, port}
-use Rattle.ca_term.specs.declared.head.SeedKind.{SeedKind}
+use Rattle.ca_term.specs.declared.event.TaskKind.{TaskKind}
 use Rattle.ca_term.specs.declared.head.RegisterName.{RegisterName}
 use Rattle.ca_term.specs.Operation.{OpView, WhatView, spawning}
 use Rattle.ca_term.specs.Fits.{Known}
@@ -160,7 +160,7 @@ module _ (program : ProgramView) (checked : IsProgram program) (sealed : IsSeale
       subst (TypedTask program more t) same kept
 
   -- a task that the event starts
-  starts : (t u : ℕ) (kind : SeedKind) (result : Option ℕ) → Step program s (spawned u t kind result) s2 → (z : Task) → s2.tasks t ≡ Some z → TypedTask program roles t z
+  starts : (t u : ℕ) (kind : TaskKind) (result : Option ℕ) → Step program s (spawned u t kind result) s2 → (z : Task) → s2.tasks t ≡ Some z → TypedTask program roles t z
   starts t u kind result k z there =
       let may = asks u (spawning k.1) k.0 k.4 in
       let body = rest_typed program checked sealed t roles _ k.3 k.9 (start_checked program checked sealed k.0.body k.1 (bodies u k.0 k.4.0) k.4.2) (may.0 t) in
@@ -174,7 +174,7 @@ module _ (program : ProgramView) (checked : IsProgram program) (sealed : IsSeale
 
   pub tasks_after : (t : ℕ) (z : Task) → s2.tasks t ≡ Some z → TypedTask program more t z
   tasks_after t z there = by (s.tasks t) refl where
-    new : (s2.tasks t ≡ None) ⊎ ((u : ℕ) × (kind : SeedKind) × (result : Option ℕ) × (b : TaskBody) × (e ≡ spawned u t kind result) × (s2.tasks t ≡ Some (runs result b))) → TypedTask program more t z
+    new : (s2.tasks t ≡ None) ⊎ ((u : ℕ) × (kind : TaskKind) × (result : Option ℕ) × (b : TaskBody) × (e ≡ spawned u t kind result) × (s2.tasks t ≡ Some (runs result b))) → TypedTask program more t z
     new (inl none) = absurd (let k : None ≡ Some z = sym none ∙ there in cc)
     new (inr c) = task_more program roles more g t z (starts t c.0 c.1 c.2 (subst (λ f. Step program s f s2) c.4 x) z there)
 

@@ -159,7 +159,7 @@ module _ (program : ProgramView) (checked : IsProgram program) (sealed : IsSeale
       result = result_more program roles more g x.result typed.result;
       waits = λ v o m st. subst (MayAsk program more x.body) (same_op x.body x.body op o refl at st) (ask_more program roles more g x.body op (may_ask op (did_wait w (branches_of op)) d at (λ how k. let j : did_wait w (branches_of op) ≡ did_end how = k in cc)));
     })
-    task_kept (stops how d m is) = subst (TypedTask program more t) (sym is) (record {
+    task_kept (stops how d m v is) = subst (TypedTask program more t) (sym is) (record {
       body = body_more program roles more g t x.body typed.body;
       result = result_more program roles more g x.result typed.result;
       waits = λ w op k st. no_more w k;

@@ -96,7 +96,7 @@ tidy_row_if g p (a ∷ b ∷ c ∷ d ∷ qs) f = tidy_fail g 0 BadForm p
 pub tidy_row_if_not : (g : ℕ) (p : Place) (qs : List Part) → PartsKeep g qs → Keeps g 0 (row_if_not p qs)
 tidy_row_if_not g p [] f = tidy_fail g 0 BadForm p
 tidy_row_if_not g p (a ∷ []) f = tidy_fail g 0 BadForm p
-tidy_row_if_not g p (a ∷ b ∷ []) f = tidy_fail g 0 BadForm p
+tidy_row_if_not g p (a ∷ b ∷ []) f = tidy_unless g 0 a.means b.means nothing f.0 f.2.0 (tidy_nothing g 0)
 tidy_row_if_not g p (a ∷ b ∷ c ∷ []) f = tidy_unless g 0 a.means b.means c.means f.0 f.2.0 f.2.2.0
 tidy_row_if_not g p (a ∷ b ∷ c ∷ d ∷ qs) f = tidy_fail g 0 BadForm p
 

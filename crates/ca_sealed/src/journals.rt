@@ -10,7 +10,8 @@ use crate::networks::{
     mults_of_scripts_deliver_before_they_go_on, pipelines_of_scripts_put_in_order,
 };
 
-/// Each legal journal of an accepted script keeps the laws of channels, waits, mixes, mults and pipelines.
+/// Each legal journal of an accepted script keeps the laws of channels, waits, mixes, mults, pipelines, and of the takes,
+/// reduces and splits that the derived forms start.
 pub fn journals_of_scripts_keep_the_laws()
     ensures { (forms : FormTrees) (program : ProgramView) → expansion_of forms ≡ Ok program → (journal : List EventView) → Legal program journal → KeepsLaws program journal }
 {

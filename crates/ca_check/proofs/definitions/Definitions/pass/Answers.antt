@@ -3,7 +3,7 @@ use Rattle.ca_forms.specs.Meaning.{Signature}
 use Rattle.ca_forms.specs.Tops.{signature, function_env}
 use Rattle.ca_check.specs.TopsView.{tops_of, written_as, body_in, in_function}
 use Rattle.ca_forms.specs.WalkView.{gathered, Fails}
-use Rattle.ca_check.proofs.DefnLaws.{free_find, sign_is, binders_length, fails_same}
+use Rattle.ca_check.proofs.DefnLaws.{free_find, fails_same}
 use Rattle.ca_check.proofs.definitions.Definitions.pass.Goals as goal
 
 pub add-requires : goal.add-requires
@@ -14,7 +14,7 @@ returns-in_err-body-clause-err c =
     let w = written_as c.args.defn.now in
     let s = gathered c.args.self.now.walker.gathered in
     let signed : c.add.new.self ≡ c.args.self.now.functions ++ signature w c.args.hidden.now false ∷ []
-    = c.in_ok-add.ensures.ok ∙ sign_is c.args.self.now.functions w.name _ _ _ _ false (sym (binders_length c.args.defn.now.parameters.now)) (c.from_vec.ensures ∙ c.in_ok-from_slice.ensures.items) in
+    = c.in_ok-add.ensures.ok ∙ ap (λ (f : Signature). c.args.self.now.functions ++ f ∷ []) c.in_ok-known.ensures.ok in
     let h : Fails c.in_err-body.field-0.0 (body_in c.args.pass w c.args.place (function_env (signature w c.args.hidden.now false) (tops_of c.args.self.now)) s)
     = fails_same c.in_err-body.field-0.0 _ _ (ap (λ (fs : List Signature). body_in c.args.pass w c.args.place (in_function c.args.self.now.walker.scope fs) s) signed) c.in_err-body.ensures.err in
     search rules
@@ -24,5 +24,5 @@ returns-clause-ok c =
     let w = written_as c.args.defn.now in
     let s = gathered c.args.self.now.walker.gathered in
     let signed : c.add.new.self ≡ c.args.self.now.functions ++ signature w c.args.hidden.now false ∷ []
-    = c.in_ok-add.ensures.ok ∙ sign_is c.args.self.now.functions w.name _ _ _ _ false (sym (binders_length c.args.defn.now.parameters.now)) (c.from_vec.ensures ∙ c.in_ok-from_slice.ensures.items) in
+    = c.in_ok-add.ensures.ok ∙ ap (λ (f : Signature). c.args.self.now.functions ++ f ∷ []) c.in_ok-known.ensures.ok in
     ap (λ (fs : List Signature). body_in c.args.pass w c.args.place (in_function c.args.self.now.walker.scope fs) s) (sym signed) ∙ c.in_ok-body.ensures.ok

@@ -26,7 +26,7 @@ use Rattle.std.proofs.lemmas.List.{length-map}
 use Rattle.ca_forms.specs.Judged.{total_bounds, total_binder, over_long, let_parts, more_of, chain_of, bound_names, binder_names, binder_parts, total_name}
 use Rattle.ca_forms.proofs.BindLaws.{bound_step2, names_step2, bound_over, names_over, bound_fails, one_fails, one_names, bound_longer, hidden_over, one_long, hidden_step, hidden_names, terms_append}
 use Rattle.ca_forms.proofs.ShapeLaws.{row_let_right, row_let_wrong, tree_is, tree_text, tree_key, tree_symbol}
-use Rattle.ca_check.proofs.walk.Walker.+walk.Goals.{if_form-in_default-via-then-parts-lt3, if_form-in_default-via-else-parts-lt3+else-parts-lt4+else-parts-lt5}
+use Rattle.ca_check.proofs.walk.Walker.+walk.Goals.{if_form-in_default-via-then-parts-lt3, if_form-in_default-via-else-parts-lt3+else-parts-lt4+else-parts-lt5, if_not_form-in_default-via-then-parts-lt3, if_not_form-in_default-via-else-parts-lt3+else-parts-lt4+else-parts-lt5}
 use Rattle.ca_check.specs.Choices.{tested, first_in, only_means, row_bound, bound_body, bound_other}
 use Rattle.ca_check.specs.declared.choices.Choice.{Choice}
 use Rattle.ca_check.proofs.ChoiceLaws.{cond_fits, cond_off, tested_step, tested_over, test_fails}
@@ -122,7 +122,7 @@ pub if_form-returns-in_default-clause-err : goal.if_form-returns-in_default-clau
 if_form-returns-in_default-clause-err t c = if_off c.args.parts.now c.args.place _ _ (elim c.in_default.branch [ if_form-in_default-via-then-parts-lt3 w ↦ inl (search rules) | if_form-in_default-via-else-parts-lt3+else-parts-lt4+else-parts-lt5 w ↦ inr (search rules) ])
 
 pub if_not_form-returns-in_default-clause-err : goal.if_not_form-returns-in_default-clause-err
-if_not_form-returns-in_default-clause-err t c = if_not_off c.args.parts.now c.args.place _ _ (search rules)
+if_not_form-returns-in_default-clause-err t c = if_not_off c.args.parts.now c.args.place _ _ (elim c.in_default.branch [ if_not_form-in_default-via-then-parts-lt3 w ↦ inl (search rules) | if_not_form-in_default-via-else-parts-lt3+else-parts-lt4+else-parts-lt5 w ↦ inr (search rules) ])
 
 pub recur_form-returns-then-parts-arity-clause-ok : goal.recur_form-returns-then-parts-arity-clause-ok
 recur_form-returns-then-parts-arity-clause-ok t c =
@@ -306,9 +306,9 @@ pub if_not_form-returns-in_err-then-in-len4-clause-err : goal.if_not_form-return
 if_not_form-returns-in_err-then-in-len4-clause-err t c =
     let at : Env = env c.args.self.now.scope c.args.functions.now c.args.at in
     let e : Fails c.in_err-then-in-len4.field-0.0 (row_if_not c.args.place (parts_of (drop 1 c.args.parts.now)) at (gathered c.args.self.now.gathered))
-    = rw (three_parts c.args.parts.now c.test-item.result c.then-item.result c.otherwise-item.result (omega arith) c.test-item.is c.then-item.is c.otherwise-item.is)
-    (second_of_three c.in_err-then-in-len4.field-0.0 (walk (form_tree c.test-item.result)) (walk (form_tree c.then-item.result)) (walk (form_tree c.otherwise-item.result)) (λ x y z. branch x z y) at (gathered c.args.self.now.gathered) _ _
-    (rw c.inner.ensures at c.in_ok-test-in-len4.ensures.ok) (search rules)) in
+    = rw (three_parts c.args.parts.now c.test-item-then-parts-lt5.result c.then-item-then-parts-lt5.result c.otherwise-item.result (omega arith) c.test-item-then-parts-lt5.is c.then-item-then-parts-lt5.is c.otherwise-item.is)
+    (second_of_three c.in_err-then-in-len4.field-0.0 (walk (form_tree c.test-item-then-parts-lt5.result)) (walk (form_tree c.then-item-then-parts-lt5.result)) (walk (form_tree c.otherwise-item.result)) (λ x y z. branch x z y) at (gathered c.args.self.now.gathered) _ _
+    (rw c.inner-in-len4.ensures at c.in_ok-test-in-len4.ensures.ok) (search rules)) in
     search rules
 
 pub cond_form-returns-in_err-choices-clause-err : goal.cond_form-returns-in_err-choices-clause-err

@@ -1,0 +1,9 @@
+pub mod FillLaws
+pub mod RowLaws
+pub mod Walked
+pub mod ScalarRows
+pub mod HiddenLaws
+pub mod HiddenChoice
+pub mod HiddenWalk
+pub mod ListLaws
+pub mod ChoiceLaws

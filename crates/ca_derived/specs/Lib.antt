@@ -1,0 +1,13 @@
+pub mod Kind
+pub mod Words
+pub mod Outcome
+pub mod Forms
+pub mod Rows
+pub mod Choice
+pub mod Shapes
+pub mod Expand
+pub mod Hidden
+pub mod Templates
+pub mod ShapeView
+pub mod DraftView
+pub mod ChoiceView

@@ -1,0 +1,10 @@
+pub mod Resting
+pub mod Numbers
+pub mod TakeSteps
+pub mod Taking
+pub mod ReduceSteps
+pub mod Reducing
+pub mod Calls
+pub mod PlainCalling
+pub mod SplitSteps
+pub mod Splitting
