@@ -29,7 +29,7 @@ pub struct Outcome {
 }
 
 /// Where an agent paused: at an operation, at the end, or by a fault at a place.
-#[derive(Clone, Copy, PartialEq, Eq, Debug)]
+#[derive(Clone, Copy, PartialEq, Eq)]
 pub enum Pause {
     AtOp,
     Ended,

@@ -14,8 +14,8 @@ ghost use Rattle.ca_applying.specs.Returned.{returned_view};
 
 use crate::call::call;
 use crate::returned::Returned;
+use ca_asking::judging::task_fault;
 use ca_states::runner::Start;
-use ca_states::stop::task_fault;
 use ca_states::valid_code::ValidCode;
 use ca_term::head::PlainFunction;
 use ca_value::builtin::Builtin;

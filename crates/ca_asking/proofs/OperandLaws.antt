@@ -1,37 +1,51 @@
 -- Operands by their places.
-use Rattle.std.proofs.Common.{◌≡◌, ◌≢◌, ℕ, zero, suc, ◌-◌, List, [], ◌∷◌, ◌++◌, ◌<◌, length, get_or, slice_get, refl, sym, ap, ◌∙◌, arith, false, Some, Result, Ok, Err, IfOk, IfErr, pos, negsuc, ◌≤◌, cond, ne_eqb}
+use Rattle.std.proofs.Common.{◌≡◌, ◌≢◌, ℕ, zero, suc, ◌-◌, List, [], ◌∷◌, ◌++◌, ◌<◌, length, get_or, slice_get, refl, sym, ap, ◌∙◌, arith, false, Some, None, Result, Ok, Err, IfOk, IfErr, pos, negsuc, ◌≤◌, cond, ne_eqb}
 use Rattle.ca_value.specs.Tree.{Tree, nil, bool, int, text, key, vector, map as map_of, port, item}
 use Rattle.ca_value.specs.View.{view, trees}
 use Rattle.ca_value.specs.declared.value.Value.{Value}
 use Rattle.ca_term.specs.declared.fault.Fault.{Fault}
 use Rattle.ca_term.specs.Operation.{WhatView, unbuffered, fixed}
-use Rattle.ca_term.specs.Operands.{last_of, without_last, is_pair}
+use Rattle.ca_term.specs.Operands.{operand_at, last_of, without_last, is_pair}
 use Rattle.ca_term.specs.Asking.{ranged, sized}
-use Rattle.ca_asking.specs.Asked.{operand_at, sized_with, is_unbuffered}
+use Rattle.ca_asking.specs.Asked.{trees_by, sized_with, is_unbuffered}
 
-pub operand_within : (vs : List Value) (n : ℕ) (v : Value) → n < length vs → v ≡ get_or vs n v → view v ≡ operand_at n (trees vs)
-operand_within [] n v lt e = absurd (omega (arith, lt))
-operand_within (u ∷ vs) zero v lt e = ap view e
-operand_within (u ∷ vs) (suc n) v lt e = operand_within vs n v (omega (arith, lt)) e
+-- an operand stands for a tree
+module _ {A : Type 0} (tree : A → Tree) where
+  pub operand_within : (xs : List A) (n : ℕ) (x : A) → n < length xs → x ≡ get_or xs n x → tree x ≡ operand_at n (trees_by tree xs)
+  operand_within [] n x lt e = absurd (omega (arith, lt))
+  operand_within (y ∷ xs) zero x lt e = ap tree e
+  operand_within (y ∷ xs) (suc n) x lt e = operand_within xs n x (omega (arith, lt)) e
 
-pub operand_past : (vs : List Value) (n : ℕ) → length vs ≤ n → operand_at n (trees vs) ≡ nil
-operand_past [] zero le = refl
-operand_past [] (suc n) le = operand_past [] n (omega arith)
-operand_past (v ∷ vs) zero le = absurd (omega (arith, le))
-operand_past (v ∷ vs) (suc n) le = operand_past vs n (omega (arith, le))
+  pub operand_past : (xs : List A) (n : ℕ) → length xs ≤ n → operand_at n (trees_by tree xs) ≡ nil
+  operand_past [] zero le = refl
+  operand_past [] (suc n) le = operand_past [] n (omega arith)
+  operand_past (x ∷ xs) zero le = absurd (omega (arith, le))
+  operand_past (x ∷ xs) (suc n) le = operand_past xs n (omega (arith, le))
 
-pub last-some : (vs : List Value) (v : Value) → slice_get vs (length vs - 1) ≡ Some v → last_of (trees vs) ≡ view v
-last-some [] v h = absurd cc
-last-some (u ∷ []) v h = ap view (let e : u ≡ v = cc in e)
-last-some (u ∷ w ∷ vs) v h =
-    let e : suc (suc (length vs)) - 1 ≡ suc (length vs) = omega arith in
-    let d : suc (length vs) - 1 ≡ length vs = omega arith in
-    last-some (w ∷ vs) v (ap (slice_get (w ∷ vs)) d ∙ sym (ap (slice_get (u ∷ w ∷ vs)) e) ∙ h)
+  pub last-some : (xs : List A) (x : A) → slice_get xs (length xs - 1) ≡ Some x → last_of (trees_by tree xs) ≡ tree x
+  last-some [] x h = absurd cc
+  last-some (y ∷ []) x h = ap tree (let e : y ≡ x = cc in e)
+  last-some (y ∷ z ∷ xs) x h =
+      let e : suc (suc (length xs)) - 1 ≡ suc (length xs) = omega arith in
+      let d : suc (length xs) - 1 ≡ length xs = omega arith in
+      last-some (z ∷ xs) x (ap (slice_get (z ∷ xs)) d ∙ sym (ap (slice_get (y ∷ z ∷ xs)) e) ∙ h)
 
-pub without_last-trees : (vs : List Value) (v : Value) → without_last (trees (vs ++ v ∷ [])) ≡ trees vs
-without_last-trees [] v = refl
-without_last-trees (u ∷ []) v = refl
-without_last-trees (u ∷ w ∷ vs) v = ap (item (view u)) (without_last-trees (w ∷ vs) v)
+  pub without_last-trees : (xs : List A) (x : A) → without_last (trees_by tree (xs ++ x ∷ [])) ≡ trees_by tree xs
+  without_last-trees [] x = refl
+  without_last-trees (y ∷ []) x = refl
+  without_last-trees (y ∷ z ∷ xs) x = ap (item (tree y)) (without_last-trees (z ∷ xs) x)
+
+pub value_none : (vs : List Value) (n : ℕ) → slice_get vs n ≡ None → operand_at n (trees vs) ≡ nil
+value_none [] zero h = refl
+value_none [] (suc n) h = value_none [] n refl
+value_none (v ∷ vs) zero h = absurd cc
+value_none (v ∷ vs) (suc n) h = value_none vs n h
+
+pub value_some : (vs : List Value) (n : ℕ) (v : Value) → slice_get vs n ≡ Some v → operand_at n (trees vs) ≡ view v
+value_some [] zero v h = absurd cc
+value_some [] (suc n) v h = absurd cc
+value_some (u ∷ vs) zero v h = ap view (let e : u ≡ v = cc in e)
+value_some (u ∷ vs) (suc n) v h = value_some vs n v h
 
 pub not-pair : (vs : List Value) → length vs ≢ 2 → is_pair (trees vs) ≡ false
 not-pair [] h = refl

@@ -1,21 +1,20 @@
 -- What the code's answers stand for, and the parts that the code makes.
-use Rattle.std.specs.Prelude.{ℕ, zero, suc, pos, Bool, true, false, cond, ◌==◌, Result, Ok, Err}
-use Rattle.ca_value.specs.Tree.{Tree, Trees, nil, int}
+use Rattle.std.specs.Prelude.{ℕ, zero, pos, List, map, Bool, true, false, cond, ◌==◌, Result, Ok, Err}
+use Rattle.ca_value.specs.Tree.{Tree, Trees, nil, int, trees_of}
 use Rattle.ca_term.specs.declared.fault.Fault.{Fault}
 use Rattle.ca_term.specs.declared.head.MakeKind.{MakeKind}
 use Rattle.ca_term.specs.declared.operation.Op.{Op}
 use Rattle.ca_term.specs.Operation.{OpView, op_view, WhatView, unbuffered, fixed, dropping, sliding, promise, timeout, mult, mix, publication}
-use Rattle.ca_term.specs.Operands.{first_of, second_of, rest_of}
+use Rattle.ca_term.specs.Operands.{first_of, second_of}
 
 -- the operation, or the fault, that the code answers
 abbrev pub asked_view : Result Op Fault → Result OpView Fault
 asked_view (Ok op) = Ok (op_view op)
 asked_view (Err f) = Err f
 
--- the operand at the place
-abbrev pub operand_at : ℕ → Trees → Tree
-operand_at zero vs = first_of vs
-operand_at (suc n) vs = operand_at n (rest_of vs)
+-- the trees of operands, each by its view
+abbrev pub trees_by : {A : Type 0} → (A → Tree) → List A → Trees
+trees_by tree xs = trees_of (map tree xs)
 
 -- nil and 0 are no buffer
 abbrev pub is_unbuffered : Tree → Bool

@@ -1,17 +1,16 @@
 ghost use Rattle.std.specs.Prelude.{◌≡◌, IfOk};
 ghost use Rattle.ca_value.specs.Tree.{text, trees_of};
-ghost use Rattle.ca_value.specs.View.{view, trees, vector_trees};
+ghost use Rattle.ca_value.specs.View.{view, vector_trees};
 ghost use Rattle.ca_term.specs.Operation.{op_view, seed_view, putting, posting, spawning, registering, printing};
 ghost use Rattle.ca_term.specs.Operands.{first_of, second_of};
 ghost use Rattle.ca_term.specs.Asking.{asked, asked_to_make, unless_faulted, too_large, bad_alts, alts_of, made_of, ports_in, bad_operands, seed_of, bad_arguments, line_of};
-ghost use Rattle.ca_asking.specs.Asked.{asked_view};
+ghost use Rattle.ca_asking.specs.Asked.{asked_view, trees_by};
 
 use crate::judging::{alts_fault, default_operand, size_fault, spawn_fault};
 use crate::line::{line, line_fault};
 use crate::making::{number_to_make, what_of};
 use crate::modes::register_fault;
-use crate::operands::{all_but_last, is_true, last_port, operand};
-use ca_term::copy::copy_values;
+use crate::operands::{AsOperand, all_but_last, copies, is_true, last_port, operand};
 use ca_term::fault::Fault;
 use ca_term::head::{AltsOptions, Head, MakeKind, RegisterName, SeedKind};
 use ca_term::operation::{GoSeed, Op, Seed, SystemSeed};
@@ -22,13 +21,13 @@ use std::alloc::Global;
 
 /// The operation of the head over these values, or the fault of one of them; the head's form stands at the
 /// place. A head that is no operation asks for nothing: its fault is WrongKind.
-pub fn ask(
+pub fn ask<O: AsOperand>(
     alloc: Global,
     head: Head,
-    values: &[Value],
+    values: &[O],
     place: Place,
 ) -> Result<Result<Op, Fault>, OutOfMemory>
-    ensures { IfOk result (λ r. asked_view r ≡ asked head (trees values.now) place) }
+    ensures { IfOk result (λ r. asked_view r ≡ asked head (trees_by O.tree values.now) place) }
 {
     let nil = Value::Nil;
     let first = operand(values, 0, &nil);
@@ -46,8 +45,8 @@ pub fn ask(
     }
 }
 
-fn ask_put(alloc: Global, values: &[Value]) -> Result<Result<Op, Fault>, OutOfMemory>
-    ensures { IfOk result (λ r. asked_view r ≡ unless_faulted (too_large (second_of (trees values.now))) (putting (first_of (trees values.now)) (second_of (trees values.now)))) }
+fn ask_put<O: AsOperand>(alloc: Global, values: &[O]) -> Result<Result<Op, Fault>, OutOfMemory>
+    ensures { let vs = trees_by O.tree values.now in IfOk result (λ r. asked_view r ≡ unless_faulted (too_large (second_of vs)) (putting (first_of vs) (second_of vs))) }
 {
     let nil = Value::Nil;
     let value = operand(values, 1, &nil);
@@ -57,8 +56,8 @@ fn ask_put(alloc: Global, values: &[Value]) -> Result<Result<Op, Fault>, OutOfMe
     }
 }
 
-fn ask_post(alloc: Global, values: &[Value]) -> Result<Result<Op, Fault>, OutOfMemory>
-    ensures { IfOk result (λ r. asked_view r ≡ unless_faulted (too_large (second_of (trees values.now))) (posting (first_of (trees values.now)) (second_of (trees values.now)))) }
+fn ask_post<O: AsOperand>(alloc: Global, values: &[O]) -> Result<Result<Op, Fault>, OutOfMemory>
+    ensures { let vs = trees_by O.tree values.now in IfOk result (λ r. asked_view r ≡ unless_faulted (too_large (second_of vs)) (posting (first_of vs) (second_of vs))) }
 {
     let nil = Value::Nil;
     let value = operand(values, 1, &nil);
@@ -68,12 +67,12 @@ fn ask_post(alloc: Global, values: &[Value]) -> Result<Result<Op, Fault>, OutOfM
     }
 }
 
-fn ask_choice(
+fn ask_choice<O: AsOperand>(
     alloc: Global,
     options: AltsOptions,
-    values: &[Value],
+    values: &[O],
 ) -> Result<Result<Op, Fault>, OutOfMemory>
-    ensures { IfOk result (λ r. asked_view r ≡ unless_faulted (bad_alts options (trees values.now)) (alts_of options (trees values.now))) }
+    ensures { IfOk result (λ r. asked_view r ≡ unless_faulted (bad_alts options (trees_by O.tree values.now)) (alts_of options (trees_by O.tree values.now))) }
 {
     match alts_fault(options, values) {
         Some(fault) => Ok(Err(fault)),
@@ -82,8 +81,12 @@ fn ask_choice(
 }
 
 // The ports of an alts, and its options.
-fn choice(alloc: Global, options: AltsOptions, values: &[Value]) -> Result<Op, OutOfMemory>
-    ensures { IfOk result (λ op. op_view op ≡ alts_of options (trees values.now)) }
+fn choice<O: AsOperand>(
+    alloc: Global,
+    options: AltsOptions,
+    values: &[O],
+) -> Result<Op, OutOfMemory>
+    ensures { IfOk result (λ op. op_view op ≡ alts_of options (trees_by O.tree values.now)) }
 {
     let nil = Value::Nil;
     let default = match default_operand(options, values, &nil) {
@@ -114,12 +117,12 @@ fn ports(alloc: Global, value: &Value) -> Result<Vector, OutOfMemory>
     }
 }
 
-fn ask_making(
+fn ask_making<O: AsOperand>(
     alloc: Global,
     kind: MakeKind,
-    values: &[Value],
+    values: &[O],
 ) -> Result<Result<Op, Fault>, OutOfMemory>
-    ensures { IfOk result (λ r. asked_view r ≡ asked_to_make (made_of kind (trees values.now))) }
+    ensures { IfOk result (λ r. asked_view r ≡ asked_to_make (made_of kind (trees_by O.tree values.now))) }
 {
     match number_to_make(kind, values) {
         Err(fault) => Ok(Err(fault)),
@@ -127,13 +130,13 @@ fn ask_making(
     }
 }
 
-fn ask_spawning(
+fn ask_spawning<O: AsOperand>(
     alloc: Global,
     kind: SeedKind,
-    values: &[Value],
+    values: &[O],
     place: Place,
 ) -> Result<Result<Op, Fault>, OutOfMemory>
-    ensures { IfOk result (λ r. asked_view r ≡ unless_faulted (bad_operands kind (trees values.now)) (spawning (seed_of kind (trees values.now) place))) }
+    ensures { IfOk result (λ r. asked_view r ≡ unless_faulted (bad_operands kind (trees_by O.tree values.now)) (spawning (seed_of kind (trees_by O.tree values.now) place))) }
 {
     match spawn_fault(kind, values) {
         Some(fault) => Ok(Err(fault)),
@@ -142,8 +145,13 @@ fn ask_spawning(
 }
 
 // What a Spawn starts: a go block's last operand is its result port.
-fn seed(alloc: Global, kind: SeedKind, values: &[Value], place: Place) -> Result<Seed, OutOfMemory>
-    ensures { IfOk result (λ s. seed_view s ≡ seed_of kind (trees values.now) place) }
+fn seed<O: AsOperand>(
+    alloc: Global,
+    kind: SeedKind,
+    values: &[O],
+    place: Place,
+) -> Result<Seed, OutOfMemory>
+    ensures { IfOk result (λ s. seed_view s ≡ seed_of kind (trees_by O.tree values.now) place) }
 {
     match kind {
         SeedKind::Go(body) => Ok(Seed::Go(GoSeed {
@@ -154,27 +162,27 @@ fn seed(alloc: Global, kind: SeedKind, values: &[Value], place: Place) -> Result
         })),
         SeedKind::System(kind) => Ok(Seed::System(SystemSeed {
             kind,
-            values: copy_values(alloc, values)?,
+            values: copies(alloc, values)?,
             place,
         })),
     }
 }
 
-fn ask_register(
+fn ask_register<O: AsOperand>(
     alloc: Global,
     name: RegisterName,
-    values: &[Value],
+    values: &[O],
 ) -> Result<Result<Op, Fault>, OutOfMemory>
-    ensures { IfOk result (λ r. asked_view r ≡ unless_faulted (bad_arguments name (trees values.now)) (registering name (trees values.now))) }
+    ensures { IfOk result (λ r. asked_view r ≡ unless_faulted (bad_arguments name (trees_by O.tree values.now)) (registering name (trees_by O.tree values.now))) }
 {
     match register_fault(name, values) {
         Some(fault) => Ok(Err(fault)),
-        None => Ok(Ok(Op::Register(name, copy_values(alloc, values)?))),
+        None => Ok(Ok(Op::Register(name, copies(alloc, values)?))),
     }
 }
 
-fn ask_line(alloc: Global, values: &[Value]) -> Result<Result<Op, Fault>, OutOfMemory>
-    ensures { IfOk result (λ r. asked_view r ≡ unless_faulted (too_large (text (line_of (trees values.now)))) (printing (line_of (trees values.now)))) }
+fn ask_line<O: AsOperand>(alloc: Global, values: &[O]) -> Result<Result<Op, Fault>, OutOfMemory>
+    ensures { IfOk result (λ r. asked_view r ≡ unless_faulted (too_large (text (line_of (trees_by O.tree values.now)))) (printing (line_of (trees_by O.tree values.now)))) }
 {
     match line_fault(values) {
         Some(fault) => Ok(Err(fault)),

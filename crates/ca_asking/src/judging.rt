@@ -2,20 +2,36 @@ ghost use Rattle.std.specs.Prelude.{◌≡◌, None, cond, option_map};
 ghost use Rattle.ca_value.specs.Tree.{nil as nil_tree};
 ghost use Rattle.ca_value.specs.View.{view, trees};
 ghost use Rattle.ca_term.specs.Operands.{is_pair, second_of};
-ghost use Rattle.ca_term.specs.Asking.{too_large, too_large_branch, too_large_branches, bad_branches, default_in, bad_alts, not_a_vector, not_a_port, bad_operands, bad_collection};
+ghost use Rattle.ca_asking.specs.Asked.{trees_by};
+ghost use Rattle.ca_term.specs.Asking.{task_fault, too_large, too_large_branch, too_large_branches, bad_branches, default_in, bad_alts, not_a_vector, not_a_port, bad_operands, bad_collection};
 
-use crate::operands::{last_operand, operand};
+use crate::operands::{AsOperand, last_operand, operand};
 use ca_term::fault::Fault;
 use ca_term::head::{AltsOptions, SeedKind, SystemTask};
+use ca_value::fault::ValueFault;
 use ca_value::value::Value;
+
+/// A builtin's fault, as a task's.
+pub fn task_fault(fault: ValueFault) -> Fault
+    ensures { result ≡ task_fault fault }
+{
+    match fault {
+        ValueFault::Overflow => Fault::Overflow,
+        ValueFault::ZeroDivisor => Fault::ZeroDivisor,
+        ValueFault::WrongKind => Fault::WrongKind,
+        ValueFault::OutOfRange => Fault::OutOfRange,
+        ValueFault::TooHeavy => Fault::TooHeavy,
+        ValueFault::TooNested => Fault::TooNested,
+    }
+}
 
 // What a value that a script puts, posts or prints weighs at most, and how deep it is.
 const GREATEST_WEIGHT: u64 = 65_536;
 
 const GREATEST_DEPTH: u64 = 64;
 
-// The fault of a value that is too heavy or too nested; the weight is tested first.
-pub(crate) fn size_fault(value: &Value) -> Option<Fault>
+/// The fault of a value that is too heavy or too nested; the weight is tested first.
+pub fn size_fault(value: &Value) -> Option<Fault>
     ensures { result ≡ too_large (view value.now) }
 {
     if value.room_after(GREATEST_WEIGHT).is_none() {
@@ -27,9 +43,9 @@ pub(crate) fn size_fault(value: &Value) -> Option<Fault>
     None
 }
 
-// The first fault of an alts: its vector of ports, the values that its branches put, its default.
-pub(crate) fn alts_fault(options: AltsOptions, values: &[Value]) -> Option<Fault>
-    ensures { result ≡ bad_alts options (trees values.now) }
+/// The first fault of an alts: its vector of ports, the values that its branches put, its default.
+pub fn alts_fault<O: AsOperand>(options: AltsOptions, values: &[O]) -> Option<Fault>
+    ensures { result ≡ bad_alts options (trees_by O.tree values.now) }
 {
     let nil = Value::Nil;
     if let Some(fault) = branches_fault(operand(values, 0, &nil)) {
@@ -42,13 +58,13 @@ pub(crate) fn alts_fault(options: AltsOptions, values: &[Value]) -> Option<Fault
 }
 
 // The value of an alts for where nothing is ready, if it has one.
-pub(crate) fn default_operand<'a>(
+pub(crate) fn default_operand<'a, O: AsOperand>(
     options: AltsOptions,
-    values: &'a [Value],
+    values: &'a [O],
     nil: &'a Value,
 ) -> Option<&'a Value>
     requires { view nil.now ≡ nil_tree }
-    ensures { option_map (λ v. view v.now) result ≡ default_in options (trees values.now) }
+    ensures { option_map (λ v. view v.now) result ≡ default_in options (trees_by O.tree values.now) }
 {
     match options {
         AltsOptions::None | AltsOptions::Priority => None,
@@ -57,7 +73,8 @@ pub(crate) fn default_operand<'a>(
     }
 }
 
-fn branches_fault(ports: &Value) -> Option<Fault>
+/// The first fault of the ports and puts that an alts chooses from.
+pub fn branches_fault(ports: &Value) -> Option<Fault>
     ensures { result ≡ bad_branches (view ports.now) }
 {
     match ports {
@@ -98,9 +115,9 @@ fn pair_fault(items: &[Value]) -> Option<Fault>
     }
 }
 
-// The fault of a Spawn's operands: a go block's result port is a port, a system task's collection a vector.
-pub(crate) fn spawn_fault(kind: SeedKind, values: &[Value]) -> Option<Fault>
-    ensures { result ≡ bad_operands kind (trees values.now) }
+/// The fault of a Spawn's operands: a go block's result port is a port, a system task's collection a vector.
+pub fn spawn_fault<O: AsOperand>(kind: SeedKind, values: &[O]) -> Option<Fault>
+    ensures { result ≡ bad_operands kind (trees_by O.tree values.now) }
 {
     let nil = Value::Nil;
     match kind {
@@ -109,8 +126,8 @@ pub(crate) fn spawn_fault(kind: SeedKind, values: &[Value]) -> Option<Fault>
     }
 }
 
-fn collection_fault(task: SystemTask, values: &[Value]) -> Option<Fault>
-    ensures { result ≡ bad_collection task (trees values.now) }
+fn collection_fault<O: AsOperand>(task: SystemTask, values: &[O]) -> Option<Fault>
+    ensures { result ≡ bad_collection task (trees_by O.tree values.now) }
 {
     let nil = Value::Nil;
     match task {

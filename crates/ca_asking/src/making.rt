@@ -1,10 +1,10 @@
 ghost use Rattle.std.specs.Prelude.{◌≡◌, ◌≤◌, ℕ, IfOk, IfErr, Ok, Err};
-ghost use Rattle.ca_value.specs.View.{view, trees};
+ghost use Rattle.ca_value.specs.View.{view};
 ghost use Rattle.ca_term.specs.Operation.{WhatView, what_view};
 ghost use Rattle.ca_term.specs.Asking.{ranged, sized as sized_of, made_of};
-ghost use Rattle.ca_asking.specs.Asked.{made_with, sized_with, is_unbuffered};
+ghost use Rattle.ca_asking.specs.Asked.{trees_by, made_with, sized_with, is_unbuffered};
 
-use crate::operands::operand;
+use crate::operands::{AsOperand, operand};
 use ca_term::fault::Fault;
 use ca_term::head::MakeKind;
 use ca_term::operation::What;
@@ -12,10 +12,10 @@ use ca_value::memory::OutOfMemory;
 use ca_value::value::Value;
 use std::alloc::Global;
 
-// The number that a Make takes, 0 where it takes none, or its operand's fault.
-pub(crate) fn number_to_make(kind: MakeKind, values: &[Value]) -> Result<u64, Fault>
-    ensures ok { IfOk result (λ n. made_of kind (trees values.now) ≡ Ok (made_with kind n (trees values.now))) }
-    ensures err { IfErr result (λ f. made_of kind (trees values.now) ≡ Err f) }
+/// The number that a Make takes, 0 where it takes none, or its operand's fault.
+pub fn number_to_make<O: AsOperand>(kind: MakeKind, values: &[O]) -> Result<u64, Fault>
+    ensures ok { IfOk result (λ n. made_of kind (trees_by O.tree values.now) ≡ Ok (made_with kind n (trees_by O.tree values.now))) }
+    ensures err { IfErr result (λ f. made_of kind (trees_by O.tree values.now) ≡ Err f) }
 {
     let nil = Value::Nil;
     let value = operand(values, 0, &nil);
@@ -50,8 +50,8 @@ fn is_unbuffered(value: &Value) -> bool
     }
 }
 
-// The whole number from the low to the high, or the fault of a value that is none.
-fn whole(low: u64, high: u64, value: &Value) -> Result<u64, Fault>
+/// The whole number from the low to the high, or the fault of a value that is none.
+pub fn whole(low: u64, high: u64, value: &Value) -> Result<u64, Fault>
     ensures ok { IfOk result (λ n. (make : ℕ → WhatView) → ranged low high make (view value.now) ≡ Ok (make n)) }
     ensures err { IfErr result (λ f. (make : ℕ → WhatView) → ranged low high make (view value.now) ≡ Err f) }
     ensures least { IfOk result (λ n. low ≤ n) }
@@ -73,13 +73,13 @@ fn whole(low: u64, high: u64, value: &Value) -> Result<u64, Fault>
 }
 
 // What is made with that number.
-pub(crate) fn what_of(
+pub(crate) fn what_of<O: AsOperand>(
     alloc: Global,
     kind: MakeKind,
     number: u64,
-    values: &[Value],
+    values: &[O],
 ) -> Result<What, OutOfMemory>
-    ensures { IfOk result (λ w. what_view w ≡ made_with kind number (trees values.now)) }
+    ensures { IfOk result (λ w. what_view w ≡ made_with kind number (trees_by O.tree values.now)) }
 {
     let nil = Value::Nil;
     let first = operand(values, 0, &nil);

@@ -1,15 +1,16 @@
 ghost use Rattle.std.specs.Prelude.{◌≡◌, ◌&&◌};
-ghost use Rattle.ca_value.specs.View.{view, trees, pair_view, tree_pairs};
+ghost use Rattle.ca_value.specs.View.{view, pair_view, tree_pairs};
 ghost use Rattle.ca_term.specs.Asking.{is_named, is_solo_mode, is_mode, is_bool, are_modes, is_modes, all_modes, is_toggling, bad_arguments, unless_kind};
+ghost use Rattle.ca_asking.specs.Asked.{trees_by};
 
-use crate::operands::operand;
+use crate::operands::{AsOperand, operand};
 use ca_term::fault::Fault;
 use ca_term::head::RegisterName;
 use ca_value::value::{Pair, Value};
 
-// The fault of a registry operation's arguments: a mix's modes, or its solo mode.
-pub(crate) fn register_fault(name: RegisterName, values: &[Value]) -> Option<Fault>
-    ensures { result ≡ bad_arguments name (trees values.now) }
+/// The fault of a registry operation's arguments: a mix's modes, or its solo mode.
+pub fn register_fault<O: AsOperand>(name: RegisterName, values: &[O]) -> Option<Fault>
+    ensures { result ≡ bad_arguments name (trees_by O.tree values.now) }
 {
     let nil = Value::Nil;
     let value = operand(values, 1, &nil);

@@ -2,12 +2,29 @@ ghost use Rattle.std.specs.Prelude.{◌≡◌, ◌+◌, ◌-◌, ◌≤◌, leng
 ghost use Rattle.ca_value.specs.View.{view, trees, tree_pairs, pair_view};
 ghost use Rattle.ca_value.specs.Printed.{plain_text, plain_items, printed, printed_pairs};
 ghost use Rattle.ca_value.specs.declared.print.Style.TheVariants.{Plain};
+ghost use Rattle.ca_asking.specs.Asked.{trees_by};
 
+use crate::operands::AsOperand;
 use ca_value::value::{Pair, Value};
+
+// What the operands, joined by a space, leave of the room, or None if they are longer.
+pub(crate) fn room_after_operands<O: AsOperand>(operands: &[O], room: u64) -> Option<u64>
+    ensures { let n = length (plain_items (trees_by O.tree operands.now)) in SomeIff result (n ≤ room) (room - n) }
+{
+    let Some((first, rest)) = operands.split_first() else {
+        return Some(room);
+    };
+    let nil = Value::Nil;
+    let mut room = room_after(first.value(&nil), room)?;
+    for operand in rest {
+        room = room_after(operand.value(&nil), room.checked_sub(1)?)?;
+    }
+    Some(room)
+}
 
 // What the value's plain text leaves of the room, or None if it is longer.
 #[cycle(room)]
-pub(crate) fn room_after(value: &Value, room: u64) -> Option<u64>
+fn room_after(value: &Value, room: u64) -> Option<u64>
     ensures { let n = length (plain_text (view value.now)) in SomeIff result (n ≤ room) (room - n) }
 {
     match value {
@@ -27,7 +44,7 @@ pub(crate) fn room_after(value: &Value, room: u64) -> Option<u64>
 
 // The items, joined by a space.
 #[cycle(room)]
-pub(crate) fn room_after_items(items: &[Value], room: u64) -> Option<u64>
+fn room_after_items(items: &[Value], room: u64) -> Option<u64>
     ensures { let n = length (plain_items (trees items.now)) in SomeIff result (n ≤ room) (room - n) }
 {
     let Some((first, rest)) = items.split_first() else {

@@ -9,8 +9,8 @@ use Rattle.ca_term.proofs.place.Place.TheSendSync as place
 use Rattle.ca_value.proofs.builtin.Builtin.TheSendSync as builtin
 use Rattle.ca_term.proofs.head.PlainFunction.TheSendSync as function
 use Rattle.ca_term.proofs.head.Transform.TheSendSync as transform
-use Rattle.ca_system.proofs.Sending.{next_send}
-use Rattle.ca_jobs.specs.contracts.job.Job as Job
+use Rattle.ca_system.proofs.Sending.{running_send}
+use Rattle.ca_system.specs.contracts.running.Running as Running
 use Rattle.ca_jobs.specs.contracts.job.State as State
 use Rattle.ca_jobs.specs.contracts.job.Work as Work
 
@@ -22,5 +22,5 @@ state_send = variants_send State.enum (search sends depth 20)
 work_send : IsSend Work.the_row
 work_send = declared_send Work.the_type (search sends depth 20)
 
-pub job_send : IsSend Job.the_row
-job_send = declared_send Job.the_type (search (sends, work_send, state_send, next_send) depth 20)
+pub job_send : IsSend (Running.the_row Work.the_row State.the_row)
+job_send = running_send Work.the_row State.the_row work_send state_send

@@ -3,23 +3,18 @@ ghost use Rattle.std.specs.Prelude.{◌≡◌, cond, IfOk, IsTrue};
 ghost use Rattle.ca_value.specs.Seq.{list};
 ghost use Rattle.ca_value.specs.Tree.{none};
 ghost use Rattle.ca_value.specs.View.{view, views, vector_trees, trees};
-ghost use Rattle.ca_value.specs.Builtins.{builtin_result};
 ghost use Rattle.ca_value.specs.Tree.{trees_of};
-ghost use Rattle.ca_value.specs.declared.builtin.Builtin.TheVariants.{Items as items_of};
 ghost use Rattle.ca_meaning.specs.Applied.{has_nil, items_output, outputs_by, outputs_of, without_nil};
-ghost use Rattle.ca_meaning.specs.Asks.{one_of, trees_in};
+ghost use Rattle.ca_meaning.specs.Asks.{one_of};
 ghost use Rattle.ca_meaning.specs.Operands.{truth};
 ghost use Rattle.ca_applying.specs.Returned.{returned_view};
 ghost use Rattle.ca_jobs.specs.Outputs.{outputs_view};
 
 use ca_applying::returned::Returned;
-use ca_states::stop::task_fault;
-use ca_system::operand::{is_nil, is_true};
+use ca_asking::operands::is_true;
+use ca_system::operand::is_nil;
 use ca_term::fault::Fault;
 use ca_term::head::Transform;
-use ca_value::builtin::Builtin;
-use ca_value::builtin::direct::apply_one;
-use ca_value::fault::ApplyError;
 use ca_value::memory::OutOfMemory;
 use ca_value::seq::Seq;
 use ca_value::value::{Items, Value, Vector};
@@ -81,24 +76,14 @@ fn kept(alloc: Global, value: &Value, test: &Value) -> Result<Vector, OutOfMemor
     }
 }
 
-// The items of a vector; of another value none.
-fn vector_in(alloc: Global, value: Value) -> Result<Vector, OutOfMemory>
-    ensures { IfOk result (λ v. trees_of (vector_trees v) ≡ trees_in (view value)) }
-{
-    match value {
-        Value::Vector(items) => Ok(items),
-        _ => nothing(alloc),
-    }
-}
-
 // The items of what the function gave.
-fn joined(alloc: Global, given: &Value) -> Result<Outputs, OutOfMemory>
-    ensures { IfOk result (λ o. outputs_view o ≡ items_output (builtin_result items_of (one_of (view given.now)))) }
+fn joined(alloc: Global, given: Value) -> Result<Outputs, OutOfMemory>
+    ensures { IfOk result (λ o. outputs_view o ≡ items_output (view given)) }
 {
-    match apply_one(alloc, Builtin::Items, given) {
-        Ok(items) => Ok(without_nil(vector_in(alloc, items)?)),
-        Err(ApplyError::Fault(fault)) => Ok(Outputs::None(task_fault(fault))),
-        Err(ApplyError::OutOfMemory) => Err(OutOfMemory),
+    match given {
+        Value::Vector(items) => Ok(without_nil(items)),
+        Value::Nil => Ok(Outputs::All(nothing(alloc)?)),
+        _ => Ok(Outputs::None(Fault::WrongKind)),
     }
 }
 
@@ -114,7 +99,7 @@ fn outputs_of(
     match transform {
         Transform::Map => Ok(without_nil(one(alloc, given)?)),
         Transform::Filter => Ok(without_nil(kept(alloc, value, &given)?)),
-        Transform::Mapcat => joined(alloc, &given),
+        Transform::Mapcat => joined(alloc, given),
     }
 }
 

@@ -11,7 +11,7 @@ use Rattle.ca_states.specs.Code.{CodeView}
 use Rattle.ca_states.specs.Machine.{Frame, State, Move, goes, ends, faults, waits, runs, move, resumed}
 use Rattle.ca_lower.specs.Lowered.{After, AreAlike}
 use Rattle.ca_lower.specs.Implements.{Position, position, start_of}
-use Rattle.ca_lower.proofs.Contexts.{Context}
+use Rattle.ca_meaning.proofs.Contexts.{Context}
 
 abbrev pub body : Kernel → ℕ → ℕ → BodyView
 body t turns depth = record { term = t; turns = turns; depth = depth; fault = None }

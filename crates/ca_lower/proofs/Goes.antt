@@ -19,7 +19,7 @@ use Rattle.ca_states.specs.Machine.{Frame, Move, goes, faults, read, write, read
 use Rattle.ca_lower.specs.Implements.{Position, position, start_of, before, Scope, slot_of, in_slots, names_bound, Target, moves, operand_slot, next_slot, Operand, Implements, ImplementsBindings, ImplementsAll}
 use Rattle.ca_lower.specs.Lowered.{After, AreAlike}
 use Rattle.ca_lower.proofs.Puts.{puts_items, puts_bindings, puts-const, puts-branch, puts-bind, puts_items-none, puts_items-item, puts_bindings-empty, puts_bindings-binding, puts-append, puts_bindings-append, consts}
-use Rattle.ca_lower.proofs.Contexts.{Context, InnerAll, inside, in_branch, in_bind, in_first, in_rest}
+use Rattle.ca_meaning.proofs.Contexts.{Context, InnerAll, inside, in_branch, in_bind, in_first, in_rest}
 use Rattle.ca_lower.proofs.Slots.{Same, same_trans, same_write, same_then_write, same_taken, Holds, holds_same, holds_append, holds_one, holds_range, holds_below, puts_var, founds_at, length-bound, read-write_same, moved, move_slots}
 use Rattle.ca_lower.proofs.Alike.{body, state, run_from, AlikeAt, alike_back, alike_next, after_back, fire}
 

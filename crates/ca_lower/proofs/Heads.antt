@@ -28,11 +28,12 @@ use Rattle.ca_states.specs.Machine.{Frame, goes, faults, read, write, reads, tak
 use Rattle.ca_lower.specs.Implements.{Position, position, start_of, before, Scope, moves, operand_slot, next_slot, integer_of, paired, Operand, Second, LeadsByCut, Implements, ImplementsAll}
 use Rattle.ca_lower.specs.Lowered.{After, AreAlike}
 use Rattle.ca_lower.proofs.Puts.{puts_items, puts_one, puts_two, puts_three, puts-apply, puts-const, consts, values-consts, operands-consts}
-use Rattle.ca_lower.proofs.Contexts.{Context, inside, in_frame, in_apply, in_first, in_rest}
+use Rattle.ca_meaning.proofs.Contexts.{Context, inside, in_frame, in_apply, in_first, in_rest}
 use Rattle.ca_lower.proofs.Slots.{Same, same_trans, same_less, same_then_write, same_taken, same_taken_all, Holds, holds_same, length-reads, read-write_same, move_slots, same_moves, reads_moved}
 use Rattle.ca_lower.proofs.Alike.{body, state, AlikeAt, alike_back, alike_next, fire, stands, filled}
 use Rattle.ca_lower.proofs.Goes.{went_by, run_moves, many_move, Calls, Then, Gen, GenAll, calls_less, at_back, gen_none, gen_item, gen_operand, slot_before, from_next}
-use Rattle.ca_lower.proofs.Leaves.{IsOperation, not_ready, at_asked, asks_at, apply_redex, apply_replace}
+use Rattle.ca_meaning.proofs.Asked.{IsOperation, at_asked}
+use Rattle.ca_lower.proofs.Leaves.{not_ready, asks_at, apply_redex, apply_replace}
 
 integer_is : (u : Kernel) (z : ℤ) → integer_of u ≡ Some z → u ≡ const (int z)
 integer_is (const (int y)) z e = let g : y ≡ z = cc in ap (λ k. const (int k)) g

@@ -340,14 +340,14 @@ module _ (C : CodeView) (w : ℕ) where
       lays lp target ns names h (apply (Builtin b) (item t none) p) B more x src bound fit cov ins ends =
           let B1 = operand t (emit w None names h t B) B in
           let i = one b h (operand_slot names h t) p in
-          let it = lays_operand ns names h t B (i ∷ more) x bound.0 cov (λ e. lays None None ns names h t B (i ∷ more) x src.0 bound.0 fit.1.0 cov tt e) (ends_add C w B1 (i ∷ []) more x ends) in
+          let it = lays_operand ns names h t B (i ∷ more) x bound.0 cov (λ e. lays None None ns names h t B (i ∷ more) x src.1.0 bound.0 fit.1.0 cov tt e) (ends_add C w B1 (i ∷ []) more x ends) in
           (it.0, it.1, it.2, (position (at_work B1) (i ∷ more) x, it.3, behind_add B1 i more x))
       lays lp target ns names h (apply (Builtin Conj) (item t (item u none)) p) B more x src bound fit cov ins ends =
           let B1 = emit w None names h t B in
           let B2 = operand u (emit w None names (suc h) u B1) B1 in
           let i = pushing h h (operand_slot names (suc h) u) p in
-          let iu = lays_operand ns names (suc h) u B1 (i ∷ more) x bound.1.0 cov (λ e. lays None None ns names (suc h) u B1 (i ∷ more) x src.1.0 bound.1.0 fit.1.1.0 cov tt e) (ends_add C w B2 (i ∷ []) more x ends) in
-          let it = lays None None ns names h t B iu.0 iu.1 src.0 bound.0 fit.1.0 cov tt iu.2 in
+          let iu = lays_operand ns names (suc h) u B1 (i ∷ more) x bound.1.0 cov (λ e. lays None None ns names (suc h) u B1 (i ∷ more) x src.1.1.0 bound.1.0 fit.1.1.0 cov tt e) (ends_add C w B2 (i ∷ []) more x ends) in
+          let it = lays None None ns names h t B iu.0 iu.1 src.1.0 bound.0 fit.1.0 cov tt iu.2 in
           (it.0, it.1, it.2, (position (at_work B1) iu.0 iu.1, position (at_work B2) (i ∷ more) x, it.3, iu.3, behind_add B2 i more x))
       lays lp target ns names h (apply (Builtin b) (item t (item u none)) p) B more x src bound fit cov ins ends =
           let m = next_slot h t in
@@ -355,8 +355,8 @@ module _ (C : CodeView) (w : ℕ) where
           let B2 = second (integer_of u) (operand u (emit w None names m u B1) B1) B1 in
           let i = paired b h (operand_slot names h t) (integer_of u) (operand_slot names m u) p in
           let iu = lays_second (integer_of u) names m u B1 (i ∷ more) x
-          (λ d. lays_operand ns names m u B1 (i ∷ more) x bound.1.0 cov (λ e. lays None None ns names m u B1 (i ∷ more) x src.1.0 bound.1.0 fit.1.1.0 cov tt e) d) (ends_add C w B2 (i ∷ []) more x ends) in
-          let it = lays_operand ns names h t B iu.0 iu.1 bound.0 cov (λ e. lays None None ns names h t B iu.0 iu.1 src.0 bound.0 fit.1.0 cov tt e) iu.2 in
+          (λ d. lays_operand ns names m u B1 (i ∷ more) x bound.1.0 cov (λ e. lays None None ns names m u B1 (i ∷ more) x src.1.1.0 bound.1.0 fit.1.1.0 cov tt e) d) (ends_add C w B2 (i ∷ []) more x ends) in
+          let it = lays_operand ns names h t B iu.0 iu.1 bound.0 cov (λ e. lays None None ns names h t B iu.0 iu.1 src.1.0 bound.0 fit.1.0 cov tt e) iu.2 in
           (it.0, it.1, it.2, (position (at_work B1) iu.0 iu.1, position (at_work B2) (i ∷ more) x, it.3, iu.3, behind_add B2 i more x))
       lays lp target ns names h (apply (Builtin Assoc) (item t (item u (item v none))) p) B more x src bound fit cov ins ends =
           let m = next_slot (suc h) u in
@@ -364,14 +364,14 @@ module _ (C : CodeView) (w : ℕ) where
           let B2 = operand u (emit w None names (suc h) u B1) B1 in
           let B3 = operand v (emit w None names m v B2) B2 in
           let i = putting h h (operand_slot names (suc h) u) (operand_slot names m v) p in
-          let iv = lays_operand ns names m v B2 (i ∷ more) x bound.1.1.0 cov (λ e. lays None None ns names m v B2 (i ∷ more) x src.1.1.0 bound.1.1.0 fit.1.1.1.0 cov tt e) (ends_add C w B3 (i ∷ []) more x ends) in
-          let iu = lays_operand ns names (suc h) u B1 iv.0 iv.1 bound.1.0 cov (λ e. lays None None ns names (suc h) u B1 iv.0 iv.1 src.1.0 bound.1.0 fit.1.1.0 cov tt e) iv.2 in
-          let it = lays None None ns names h t B iu.0 iu.1 src.0 bound.0 fit.1.0 cov tt iu.2 in
+          let iv = lays_operand ns names m v B2 (i ∷ more) x bound.1.1.0 cov (λ e. lays None None ns names m v B2 (i ∷ more) x src.1.1.1.0 bound.1.1.0 fit.1.1.1.0 cov tt e) (ends_add C w B3 (i ∷ []) more x ends) in
+          let iu = lays_operand ns names (suc h) u B1 iv.0 iv.1 bound.1.0 cov (λ e. lays None None ns names (suc h) u B1 iv.0 iv.1 src.1.1.0 bound.1.0 fit.1.1.0 cov tt e) iv.2 in
+          let it = lays None None ns names h t B iu.0 iu.1 src.1.0 bound.0 fit.1.0 cov tt iu.2 in
           (it.0, it.1, it.2, (position (at_work B1) iu.0 iu.1, position (at_work B2) iv.0 iv.1, position (at_work B3) (i ∷ more) x, it.3, iu.3, iv.3, behind_add B3 i more x))
       lays lp target ns names h (apply f ts p) B more x src bound fit cov ins ends =
           let B1 = emit_all w names h ts B in
           let l = leads f lp target h (count_terms ts) p B1 more x fit.0 (inside_more lp target (at_work B) (at_work B1) (omega (arith, emit_all_at w names h ts B)) ins) ends in
-          let its = lays_all ns names h ts B l.0 l.1 src bound fit.1 cov l.2 in
+          let its = lays_all ns names h ts B l.0 l.1 src.1 bound fit.1 cov l.2 in
           (its.0, its.1, its.2, (position (at_work B1) l.0 l.1, its.3, l.3))
 
       pub lays_order : (lp : Option Target) (target : Option ℕ) (ns : List ℕ) (names : Scope) (h : ℕ) (ts : Kernels) (B : Builder) (more : List Instruction) (x : Exit)

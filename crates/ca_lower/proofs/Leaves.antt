@@ -1,16 +1,14 @@
 -- Heads whose operands are values.
-use Rattle.std.proofs.Common.{◌≡◌, ℕ, List, [], ◌∷◌, None, Some, Option, false, refl, ap, ◌∙◌, cond}
-use Rattle.std.specs.Prelude.{Result, Ok, Err}
-use Rattle.ca_value.specs.Tree.{Tree, Trees, trees_of}
+use Rattle.std.proofs.Common.{◌≡◌, ℕ, List, [], ◌∷◌, false, refl, ap, ◌∙◌, cond}
+use Rattle.ca_value.specs.Tree.{Tree, trees_of}
 use Rattle.ca_term.specs.declared.place.Place.{Place}
-use Rattle.ca_term.specs.declared.fault.Fault.{Fault}
 use Rattle.ca_term.specs.declared.head.Head.{Head}
 use Rattle.ca_term.specs.declared.head.Head.TheVariants.{Recur, Builtin, Call, Take, Put, Alts, Make, Spawn, Close, Register, Print, Post}
 use Rattle.ca_term.specs.Kernel.{Kernel, Kernels, apply, turn}
-use Rattle.ca_term.specs.Operation.{OpView, WhatView}
-use Rattle.ca_term.specs.Asking.{asked, asked_to_make, unless_faulted, made_of}
+use Rattle.ca_term.specs.Asking.{asked}
 use Rattle.ca_meaning.specs.Redex.{redex, redex_items, replace, replace_items, is_ready_recur}
-use Rattle.ca_meaning.specs.Body.{At, at_op, faulted, asking, asking_to_make, standing, standing_with}
+use Rattle.ca_meaning.specs.Body.{standing, standing_with}
+use Rattle.ca_meaning.proofs.Asked.{IsOperation, at_asked, asked_with}
 use Rattle.ca_lower.proofs.Puts.{consts, all-consts, values-consts}
 
 items_consts : (vs : List Tree) (here : Kernel) → redex_items (consts vs) here ≡ here
@@ -29,21 +27,6 @@ turn_redex ns text vs p = ap (λ o. cond o (turn ns text (apply Recur (consts vs
 pub turn_replace : (u : Kernel) (ns : List ℕ) (text : Kernel) (vs : List Tree) (p : Place) → replace u (turn ns text (apply Recur (consts vs) p)) ≡ u
 turn_replace u ns text vs p = ap (λ o. cond o u (turn ns text (replace u (apply Recur (consts vs) p)))) (all-consts vs)
 
--- a head that asks for an event
-abbrev pub IsOperation : Head → Type 0
-IsOperation Recur = ⊥
-IsOperation (Builtin b) = ⊥
-IsOperation (Call n) = ⊥
-IsOperation Take = Unit {0}
-IsOperation Put = Unit {0}
-IsOperation (Alts options) = Unit {0}
-IsOperation (Make kind) = Unit {0}
-IsOperation (Spawn kind) = Unit {0}
-IsOperation Close = Unit {0}
-IsOperation (Register name) = Unit {0}
-IsOperation Print = Unit {0}
-IsOperation Post = Unit {0}
-
 pub not_ready : (h : Head) (ts : Kernels) (p : Place) → IsOperation h → is_ready_recur (apply h ts p) ≡ false
 not_ready Recur ts p o = absurd o
 not_ready (Builtin b) ts p o = absurd o
@@ -57,33 +40,6 @@ not_ready Close ts p o = refl
 not_ready (Register name) ts p o = refl
 not_ready Print ts p o = refl
 not_ready Post ts p o = refl
-
--- where a body stands that asks for this
-abbrev pub at_asked : Place → Result OpView Fault → At
-at_asked p (Ok op) = at_op (record { op = op; place = p })
-at_asked p (Err f) = faulted f p
-
-asks : (p : Place) (f : Option Fault) (op : OpView) → asking p f op ≡ at_asked p (unless_faulted f op)
-asks p None op = refl
-asks p (Some f) op = refl
-
-asks_to_make : (p : Place) (r : Result WhatView Fault) → asking_to_make p r ≡ at_asked p (asked_to_make r)
-asks_to_make p (Ok what) = refl
-asks_to_make p (Err f) = refl
-
-asked_with : (h : Head) (vs : Trees) (p : Place) (turns depth : ℕ) → IsOperation h → standing_with turns depth vs p h ≡ at_asked p (asked h vs p)
-asked_with Recur vs p turns depth o = absurd o
-asked_with (Builtin b) vs p turns depth o = absurd o
-asked_with (Call n) vs p turns depth o = absurd o
-asked_with Take vs p turns depth o = refl
-asked_with Put vs p turns depth o = asks p _ _
-asked_with (Alts options) vs p turns depth o = asks p _ _
-asked_with (Make kind) vs p turns depth o = asks_to_make p (made_of kind vs)
-asked_with (Spawn kind) vs p turns depth o = asks p _ _
-asked_with Close vs p turns depth o = refl
-asked_with (Register name) vs p turns depth o = asks p _ _
-asked_with Print vs p turns depth o = asks p _ _
-asked_with Post vs p turns depth o = asks p _ _
 
 pub asks_at : (h : Head) (vs : List Tree) (p : Place) (turns depth : ℕ) → IsOperation h → standing turns depth (apply h (consts vs) p) ≡ at_asked p (asked h (trees_of vs) p)
 asks_at h vs p turns depth o = ap (λ ts. standing_with turns depth ts p h) (values-consts vs) ∙ asked_with h (trees_of vs) p turns depth o

@@ -1,6 +1,5 @@
 pub mod Alike
 pub mod BuilderLaws
-pub mod Contexts
 pub mod Goes
 pub mod Gos
 pub mod GreaterLaws

@@ -17,7 +17,7 @@ use Rattle.ca_states.specs.Machine.{Frame, goes, faults, read, reads, slots_from
 use Rattle.ca_lower.specs.Implements.{Position, position, start_of, before, Scope, in_slots, names_bound, Target, Implements, ImplementsInOrder, ImplementsBindings}
 use Rattle.ca_lower.specs.Lowered.{After, AreAlike}
 use Rattle.ca_lower.proofs.Puts.{puts_items, puts_bindings, puts-const, puts-loop, puts-seq, puts_items-none, puts_items-item, puts_bindings-empty, puts_bindings-binding, puts-append, puts_bindings-append, consts, all-consts, operands-consts}
-use Rattle.ca_lower.proofs.Contexts.{Context, inside, in_loop, in_seq, in_turn}
+use Rattle.ca_meaning.proofs.Contexts.{Context, inside, in_loop, in_seq, in_turn}
 use Rattle.ca_lower.proofs.Slots.{Same, same_trans, Holds, holds_same, holds_append, holds_one, holds_range, founds_at, founds_named, length-bound}
 use Rattle.ca_lower.proofs.Alike.{body, state, AlikeAt, alike_back, fire, stands}
 use Rattle.ca_lower.proofs.Goes.{Under, Calls, Then, Again, Gen, GenBindings, calls_less, again_from, at_back, moved_down, gen_const, gen_var, bindings_empty, bindings_more, gen_bind, gen_branch}

@@ -21,7 +21,7 @@ use Rattle.ca_states.specs.Standing.{IsStart}
 use Rattle.ca_lower.specs.Implements.{position, start_of, in_slots, ImplementsText, ImplementsProgram}
 use Rattle.ca_lower.specs.Lowered.{After, AreAlike, StandsFor, Lowered}
 use Rattle.ca_lower.proofs.Slots.{Holds, holds_begun}
-use Rattle.ca_lower.proofs.Contexts.{Context, whole}
+use Rattle.ca_meaning.proofs.Contexts.{Context, whole}
 use Rattle.ca_lower.proofs.Alike.{body, AlikeAt}
 use Rattle.ca_lower.proofs.Heads.{called_at}
 use Rattle.ca_lower.proofs.Goes.{Calls}

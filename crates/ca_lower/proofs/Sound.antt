@@ -380,7 +380,7 @@ module _ (C : CodeView) where
             let up_to = up_to_next h t in
             let si = sound_add g (suc h) i B1 more x ends
             (λ n go2 K up. valid_reading C w n h g (a ∷ []) i K more x refl refl refl fit.0 lh (from_next h t) (omega (arith, up_to, lh)) (below_operand ns names h t bel cov bound.0, tt) up go2) go in
-            let st = sound_operand names h t B si.0 si.1 (sound None None ns names h t B si.0 si.1 src.0 bound.0 fit.1.0 cov tt bel tt tt f.0) si.2 si.3 in
+            let st = sound_operand names h t B si.0 si.1 (sound None None ns names h t B si.0 si.1 src.1.0 bound.0 fit.1.0 cov tt bel tt tt f.0) si.2 si.3 in
             (st.0, st.1, st.2, st.3, between (at_work B) (at_work B1) (at_work (add (i ∷ []) B1)) st.4 si.4)
         sound lp target ns names h (apply (Builtin Conj) (item t (item u none)) p) B more x src bound fit cov ins bel und head fits ends = λ go.
             let B1 = emit w None names h t B in
@@ -398,8 +398,8 @@ module _ (C : CodeView) where
             let bel2 = below_more names h h2 (omega arith) bel in
             let si = sound_add g (suc h) i B2 more x ends
             (λ n go2 K up. valid_taking C w n h g (h ∷ c ∷ []) i K more x refl refl refl refl f0.0 (omega (arith, from)) (omega (arith, up_to, wide2)) (omega (arith, from), (below_operand ns names h2 u bel2 cov bound.1.0, tt)) up go2) go in
-            let su = sound_operand names h2 u B1 si.0 si.1 (sound None None ns names h2 u B1 si.0 si.1 src.1.0 bound.1.0 fit.1.1.0 cov tt bel2 tt tt f2.0) si.2 si.3 in
-            let st = sound None None ns names h t B su.0 su.1 src.0 bound.0 fit.1.0 cov tt bel tt tt f.0 su.2 su.3 in
+            let su = sound_operand names h2 u B1 si.0 si.1 (sound None None ns names h2 u B1 si.0 si.1 src.1.1.0 bound.1.0 fit.1.1.0 cov tt bel2 tt tt f2.0) si.2 si.3 in
+            let st = sound None None ns names h t B su.0 su.1 src.1.0 bound.0 fit.1.0 cov tt bel tt tt f.0 su.2 su.3 in
             (st.0, st.1, st.2, st.3, between (at_work B) (at_work B1) (at_work (add (i ∷ []) B2)) st.4 (between (at_work B1) (at_work B2) (at_work (add (i ∷ []) B2)) su.4 si.4))
         sound lp target ns names h (apply (Builtin b) (item t (item u none)) p) B more x src bound fit cov ins bel und head fits ends = λ go.
             let B1 = operand t (emit w None names h t B) B in
@@ -423,8 +423,8 @@ module _ (C : CodeView) where
             let si = sound_add (second_next o h2 g) (suc h) i B2 more x ends
             (λ n go2 K up. valid_pair o C w n h a h2 c g b p K more x fit.0 f0.0 from1 from2 (omega (arith, up1, up2, wide2)) first (below_operand ns names h2 u bel2 cov bound.1.0) up go2) go in
             let su = sound_second o names h2 u B1 si.0 si.1
-            (λ e. sound_operand names h2 u B1 si.0 si.1 (sound None None ns names h2 u B1 si.0 si.1 src.1.0 bound.1.0 fit.1.1.0 cov tt bel2 tt tt (earlier h w t u f2.0)) e) si.2 si.3 in
-            let st = sound_operand names h t B su.0 su.1 (sound None None ns names h t B su.0 su.1 src.0 bound.0 fit.1.0 cov tt bel tt tt f.0) su.2 su.3 in
+            (λ e. sound_operand names h2 u B1 si.0 si.1 (sound None None ns names h2 u B1 si.0 si.1 src.1.1.0 bound.1.0 fit.1.1.0 cov tt bel2 tt tt (earlier h w t u f2.0)) e) si.2 si.3 in
+            let st = sound_operand names h t B su.0 su.1 (sound None None ns names h t B su.0 su.1 src.1.0 bound.0 fit.1.0 cov tt bel tt tt f.0) su.2 su.3 in
             (st.0, st.1, st.2, st.3, between (at_work B) (at_work B1) (at_work (add (i ∷ []) B2)) st.4 (between (at_work B1) (at_work B2) (at_work (add (i ∷ []) B2)) su.4 si.4))
         sound lp target ns names h (apply (Builtin Assoc) (item t (item u (item v none))) p) B more x src bound fit cov ins bel und head fits ends = λ go.
             let h2 = suc h in
@@ -451,9 +451,9 @@ module _ (C : CodeView) where
             let si = sound_add g (suc h) i B3 more x ends
             (λ n go2 K up. valid_taking C w n h g (h ∷ c ∷ d ∷ []) i K more x refl refl refl refl f0.0 (omega (arith, from2, from3)) (omega (arith, up2, up3, wide3))
             (omega (arith, from2, from3), (omega (arith, key, from3), (below_operand ns names h3 v bel3 cov bound.1.1.0, tt))) up go2) go in
-            let sv = sound_operand names h3 v B2 si.0 si.1 (sound None None ns names h3 v B2 si.0 si.1 src.1.1.0 bound.1.1.0 fit.1.1.1.0 cov tt bel3 tt tt (earlier h2 w u v f3.0)) si.2 si.3 in
-            let su = sound_operand names h2 u B1 sv.0 sv.1 (sound None None ns names h2 u B1 sv.0 sv.1 src.1.0 bound.1.0 fit.1.1.0 cov tt bel2 tt tt f2.0) sv.2 sv.3 in
-            let st = sound None None ns names h t B su.0 su.1 src.0 bound.0 fit.1.0 cov tt bel tt tt f.0 su.2 su.3 in
+            let sv = sound_operand names h3 v B2 si.0 si.1 (sound None None ns names h3 v B2 si.0 si.1 src.1.1.1.0 bound.1.1.0 fit.1.1.1.0 cov tt bel3 tt tt (earlier h2 w u v f3.0)) si.2 si.3 in
+            let su = sound_operand names h2 u B1 sv.0 sv.1 (sound None None ns names h2 u B1 sv.0 sv.1 src.1.1.0 bound.1.0 fit.1.1.0 cov tt bel2 tt tt f2.0) sv.2 sv.3 in
+            let st = sound None None ns names h t B su.0 su.1 src.1.0 bound.0 fit.1.0 cov tt bel tt tt f.0 su.2 su.3 in
             let last = at_work (add (i ∷ []) B3) in
             (st.0, st.1, st.2, st.3, between (at_work B) (at_work B1) last st.4 (between (at_work B1) (at_work B2) last su.4 (between (at_work B2) (at_work B3) last sv.4 si.4)))
         sound lp target ns names h (apply f ts p) B more x src bound fit cov ins bel und head fits ends = λ go.
@@ -463,7 +463,7 @@ module _ (C : CodeView) where
             let few = operands_slots h ts in
             let fa = f1.1 in
             let sf = sound_by f lp target h k p B1 more x fit.0 (inside_more lp target (at_work B) (at_work B1) (omega (arith, emit_all_at w names h ts B)) ins) und head f1.0 (omega (arith, few, fa)) ends go in
-            let ss = sound_all ns names h ts B sf.0 sf.1 src bound fit.1 cov bel f1.1 sf.2 sf.3 in
+            let ss = sound_all ns names h ts B sf.0 sf.1 src.1 bound fit.1 cov bel f1.1 sf.2 sf.3 in
             (ss.0, ss.1, ss.2, ss.3, between (at_work B) (at_work B1) (at_work (finish w lp f h k p B1)) ss.4 sf.4)
 
         pub sound_order : (lp : Option Target) (target : Option ℕ) (ns : List ℕ) (names : Scope) (h : ℕ) (ts : Kernels) (B : Builder) (more : List Instruction) (x : Exit)

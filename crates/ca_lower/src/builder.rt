@@ -27,7 +27,7 @@ pub(crate) struct Builder {
 }
 
 /// A loop that a recur goes back to: its first slot, how many values it takes, and its first block.
-#[derive(Clone, Copy, PartialEq, Eq, Debug)]
+#[derive(Clone, Copy)]
 pub(crate) struct Loop {
     pub(crate) first: u64,
     pub(crate) count: u64,
@@ -35,7 +35,7 @@ pub(crate) struct Loop {
 }
 
 /// A name in scope, and its slot.
-#[derive(Clone, Copy, PartialEq, Eq, Debug)]
+#[derive(Clone, Copy)]
 pub(crate) struct Name {
     pub(crate) name: u64,
     pub(crate) slot: u64,

@@ -18,7 +18,7 @@ use ca_value::seq::Seq;
 use std::alloc::Global;
 
 // The functions of a program, or its go bodies.
-#[derive(Clone, Copy, PartialEq, Eq, Debug)]
+#[derive(Clone, Copy)]
 enum Texts {
     Functions,
     Bodies,

@@ -111,7 +111,7 @@ fn emit_apply(
 }
 
 // Where an operand's value is read, and the next free slot.
-#[derive(Clone, Copy, PartialEq, Eq, Debug)]
+#[derive(Clone, Copy)]
 struct Operand {
     slot: u64,
     next: u64,
@@ -151,7 +151,7 @@ fn emit_operand(
 }
 
 // A builtin's second operand: an integer of the text, or what is read in a slot.
-#[derive(Clone, Copy, PartialEq, Eq, Debug)]
+#[derive(Clone, Copy)]
 struct Second {
     integer: Option<i64>,
     slot: u64,
@@ -388,7 +388,7 @@ fn emit_put(
 
 // How a builtin's operands come to it: one or two where they are, a collection that grows taken out of its slot and
 // the rest where it is, or a row of slots.
-#[derive(Clone, Copy, PartialEq, Eq, Debug)]
+#[derive(Clone, Copy)]
 pub(crate) enum Layout {
     One,
     Two,

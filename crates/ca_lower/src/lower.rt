@@ -19,8 +19,7 @@ pub fn lower(alloc: Global, program: &Program) -> Result<ValidCode, OutOfMemory>
     ensures lowered { IfOk result (λ c. Lowered (program_view program.now) (valid_code c)) }
     ensures gos { IfOk result (λ c. SameGos (program_view program.now) (valid_code c)) }
 {
-    // Its clause says that the program is a checked one.
-    let _main = program.main();
+    program.checked();
     match validate(code_for(alloc, program)?) {
         Ok(code) => Ok(code),
         Err(_) => unreachable!(),

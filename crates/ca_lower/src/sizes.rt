@@ -13,7 +13,7 @@ use ca_value::seq::Seq;
 use std::alloc::Global;
 
 /// How many blocks the sides of a branch finish.
-#[derive(Clone, Copy, PartialEq, Eq, Debug)]
+#[derive(Clone, Copy)]
 pub(crate) struct Split {
     pub(crate) then: u64,
     pub(crate) otherwise: u64,

@@ -7,7 +7,7 @@ use Rattle.ca_machine.specs.contracts.machine.Machine as Machine
 use Rattle.ca_machine.specs.contracts.stage.Stage as Stage
 
 stage_send : IsSend Stage.the_row
-stage_send = variants_send Stage.enum (search (sendable, halt_send) depth 20)
+stage_send = variants_send Stage.enum (search sendable depth 20)
 
 pub machine_send : IsSend Machine.the_row
-machine_send = declared_send Machine.the_type (search (sendable, crosses, runner_send, stage_send, valid_code_send, valid_code_sync) depth 20)
+machine_send = declared_send Machine.the_type (search (sendable, crosses, runner_send, stage_send, halt_send, valid_code_send, valid_code_sync) depth 20)

@@ -41,7 +41,7 @@ WaitsAt-prop C (Cut w) r = Waits-prop C r
 WaitsAt-prop C (Ended v) r = Unit-prop
 WaitsAt-prop C (Faulted f p) r = Unit-prop
 
-pub IsReady-prop : (C : CodeView) (r : Runner) (s : Stage) → IsProp (IsReady C r s)
-IsReady-prop C r Going = Stands-prop C (state_view r)
-IsReady-prop C r (Halted h) = WaitsAt-prop C h r
-IsReady-prop C r Spent = Unit-prop
+pub IsReady-prop : (C : CodeView) (r : Runner) (s : Stage) (h : Halt) → IsProp (IsReady C r s h)
+IsReady-prop C r Going h = Stands-prop C (state_view r)
+IsReady-prop C r Halted h = WaitsAt-prop C h r
+IsReady-prop C r Spent h = Unit-prop

@@ -16,13 +16,13 @@ halted_at (Ended v) = ended (view v)
 halted_at (Faulted f p) = faulted f p
 
 -- where it is paused; a machine that goes on is at a local step
-abbrev pub place_of : Stage → At
-place_of Going = local
-place_of (Halted h) = halted_at h
-place_of Spent = nowhere
+abbrev pub place_of : Stage → Halt → At
+place_of Going h = local
+place_of Halted h = halted_at h
+place_of Spent h = nowhere
 
 -- over that code the runner can go on, or be answered
-abbrev pub IsReady : CodeView → Runner → Stage → Type 0
-IsReady C r Going = Stands C (state_view r)
-IsReady C r (Halted h) = WaitsAt C h r
-IsReady C r Spent = Unit {0}
+abbrev pub IsReady : CodeView → Runner → Stage → Halt → Type 0
+IsReady C r Going h = Stands C (state_view r)
+IsReady C r Halted h = WaitsAt C h r
+IsReady C r Spent h = Unit {0}

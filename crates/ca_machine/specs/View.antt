@@ -6,4 +6,4 @@ use Rattle.ca_machine.specs.Machines.{MachineView}
 use Rattle.ca_machine.specs.Stages.{place_of}
 
 abbrev pub machine_view : Machine → MachineView
-machine_view m = record { code = valid_code m.code.value; state = state_view m.runner; answer = waiting_slot m.runner; place = place_of m.stage }
+machine_view m = record { code = valid_code m.code.value; state = state_view m.runner; answer = waiting_slot m.runner; place = place_of m.stage m.halt }

@@ -36,14 +36,13 @@ impl Machine {
         ensures runs { OnOk result (Runs (machine_view self.old) (machine_view self.new)) }
         ensures pauses { IfOk result (λ p. PausesAt p (machine_view self.new).place) }
     {
-        match self.runner.run(alloc, code) {
-            Ok(halt) => {
-                let pause = pause_of(&halt);
-                self.stage.put(Stage::Halted(halt));
-                Ok(pause)
+        match self.runner.run_to(alloc, code, &mut self.halt) {
+            Ok(()) => {
+                self.stage = Stage::Halted;
+                Ok(pause_of(&self.halt))
             }
             Err(OutOfMemory) => {
-                self.stage.put(Stage::Spent);
+                self.stage = Stage::Spent;
                 Err(OutOfMemory)
             }
         }
@@ -63,9 +62,11 @@ impl Agent for Machine {
 
     ghost starts = { λ program seed m. Starts program seed (machine_view m) };
 
+    #[inline(always)]
+    #[tactic(auto, using(crate::proofs::Halting::at_a_halt))]
     fn want(&self) -> &Want {
-        match &self.stage {
-            Stage::Halted(Halt::Cut(want)) => want,
+        match &self.halt {
+            Halt::Cut(want) => want,
             _ => unreachable!(),
         }
     }
@@ -73,12 +74,13 @@ impl Agent for Machine {
     fn give(&mut self, outcome: Outcome) {
         let Outcome { value, branch: _ } = outcome;
         self.runner.answer(value);
-        self.stage.put(Stage::Going);
+        self.halt.clear();
+        self.stage = Stage::Going;
     }
 
     fn advance(&mut self, alloc: Global, code: &ValidCode) -> Result<Pause, OutOfMemory> {
-        match &self.stage {
-            Stage::Halted(halt) => Ok(pause_of(halt)),
+        match self.stage {
+            Stage::Halted => Ok(pause_of(&self.halt)),
             Stage::Going => self.run(alloc, code),
             Stage::Spent => unreachable!(),
         }

@@ -3,15 +3,17 @@ ghost use Rattle.ca_machine.specs.Stages.{IsReady};
 ghost use Rattle.ca_machine.specs.Props.{IsReady-prop};
 
 use crate::stage::Stage;
-use ca_states::runner::Runner;
+use ca_states::runner::{Halt, Runner};
 use ca_states::valid_code::ValidCode;
 use std::snapshot::Snapshot;
 
-/// A compiled body as it runs: its runner, where it stands, and, with no bytes, the code that it was made over.
+/// A compiled body as it runs: its runner, where it stands, what its runner halted as where it did, and, with no bytes,
+/// the code that it was made over.
 #[derive(Drop)]
 pub struct Machine {
     pub(crate) runner: Runner,
     pub(crate) stage: Stage,
+    pub(crate) halt: Halt,
     pub(crate) code: Snapshot<ValidCode>,
-    ghost ready: { IsReady (valid_code code.value) runner stage } by { IsReady-prop (valid_code code.value) runner stage },
+    ghost ready: { IsReady (valid_code code.value) runner stage halt } by { IsReady-prop (valid_code code.value) runner stage halt },
 }

@@ -17,7 +17,7 @@ ghost use Rattle.ca_machine.specs.View.{machine_view};
 
 use crate::machine::Machine;
 use crate::stage::Stage;
-use ca_states::runner::{Runner, Start};
+use ca_states::runner::{Halt, Runner, Start};
 use ca_states::valid_code::ValidCode;
 use ca_term::operation::GoSeed;
 use ca_value::memory::OutOfMemory;
@@ -41,6 +41,7 @@ impl Machine {
         Ok(Machine {
             runner,
             stage: Stage::Going,
+            halt: Halt::none(),
             code: Snapshot::of(code),
         })
     }

@@ -1,9 +1,11 @@
 -- The task of a mix as a body of its table.
 use Rattle.ca_value.specs.View.{view}
+use Rattle.ca_term.specs.declared.place.Place.{Place}
 use Rattle.ca_meaning.specs.MixTable.{MixPorts, MixState, mix_reads, mix_chooses, mix_drops, mix_puts}
 use Rattle.ca_meaning.specs.System.{SystemBody, a_mix}
 use Rattle.ca_system.specs.Stands.{next_view}
-use Rattle.ca_mix.specs.declared.mix.Mix.{Mix}
+use Rattle.ca_system.specs.declared.running.Running.{Running}
+use Rattle.ca_system.specs.declared.stand.Next.{Next}
 use Rattle.ca_mix.specs.declared.mix.Ports.{Ports}
 use Rattle.ca_mix.specs.declared.mix.State.{State}
 use Rattle.ca_mix.specs.declared.mix.State.TheVariants.{Reads, Chooses, Drops, Puts}
@@ -18,5 +20,8 @@ state_view (Chooses r) = mix_chooses (reading_view r).0 (reading_view r).1
 state_view (Drops c) = mix_drops c.n
 state_view (Puts r v) = mix_puts (reading_view r).0 (reading_view r).1 (view v)
 
-abbrev pub mix_view : Mix → SystemBody
-mix_view m = a_mix (ports_view m.ports) m.place (next_view state_view m.state)
+abbrev pub mix_body : Ports → Place → Next State → SystemBody
+mix_body k p x = a_mix (ports_view k) p (next_view state_view x)
+
+abbrev pub mix_view : Running Ports State → SystemBody
+mix_view r = mix_body r.kind r.place r.state

@@ -1,5 +1,6 @@
 //! The task of a mix: what is heard of its sources goes to the output.
-ghost use Rattle.std.specs.Prelude.{◌≡◌, ◌∷◌, ◌++◌, [], cond, eqb, map, IfOk, OnOk};
+ghost use Rattle.std.proofs.Common.{refl};
+ghost use Rattle.std.specs.Prelude.{◌≡◌, ◌∷◌, ◌++◌, [], cond, eqb, map, IfOk};
 ghost use Rattle.ca_value.specs.Seq.{list};
 ghost use Rattle.ca_value.specs.View.{view, trees};
 ghost use Rattle.ca_term.specs.declared.head.SystemTask.TheVariants.{Mix as mix_task};
@@ -9,14 +10,15 @@ ghost use Rattle.ca_meaning.specs.Operands.{truth};
 ghost use Rattle.ca_meaning.specs.System.{new_system};
 ghost use Rattle.ca_system.specs.Stands.{stand_at, next_view};
 ghost use Rattle.ca_mix.specs.Readings.{reading_view};
-ghost use Rattle.ca_mix.specs.Mixes.{mix_view, ports_view, state_view};
+ghost use Rattle.ca_mix.specs.Mixes.{mix_body, mix_view, ports_view, state_view};
 
 use crate::modes::{Reading, modes_in};
+use ca_asking::operands::{is_true, port_at};
 use ca_states::valid_code::ValidCode;
 use ca_system::asks::{asks, one, puts, registers, two};
-use ca_system::operand::{is_nil, is_true, port_at, value_and_port};
+use ca_system::operand::{is_nil, value_and_port};
+use ca_system::running::{Kind, Running};
 use ca_system::stand::{Next, Stand};
-use ca_system::table::Table;
 use ca_term::fault::Fault;
 use ca_term::head::RegisterName;
 use ca_term::operation::Op;
@@ -24,106 +26,82 @@ use ca_term::place::Place;
 use ca_value::memory::OutOfMemory;
 use ca_value::value::{Items, PortId, Value, Vector};
 use std::alloc::Global;
-use std::mem;
 
 /// The task of a mix.
-#[derive(Drop)]
-pub struct Mix {
-    ports: Ports,
-    place: Place,
-    state: Next<State>,
-}
+pub type Mix = Running<Ports>;
 
-// The mix, its output, and where its changes are told.
+/// The mix, its output, and where its changes are told.
 #[derive(Clone, Copy, Drop)]
-struct Ports {
-    mix: PortId,
-    out: PortId,
-    changes: PortId,
+pub struct Ports {
+    pub(crate) mix: PortId,
+    pub(crate) out: PortId,
+    pub(crate) changes: PortId,
 }
 
+/// Where a mix is in its table.
 #[derive(Drop)]
-enum State {
-    // It reads the modes.
+pub enum State {
+    /// It reads the modes.
     Reads,
-    // It waits for a value of what it reads, or for a change.
+    /// It waits for a value of what it reads, or for a change.
     Chooses(Reading),
-    // This source is closed: it takes it off.
+    /// This source is closed: it takes it off.
     Drops(PortId),
-    // It puts a value that is heard.
+    /// It puts a value that is heard.
     Puts(Reading, Value),
 }
 
-impl Mix {
-    /// The task with these values: the mix, its output, and its change channel.
-    pub fn new(values: Items, place: Place) -> Mix
-        ensures { mix_view result ≡ new_system mix_task (trees (list values)) place }
-    {
-        let values = values.as_slice();
-        Mix {
-            ports: Ports {
-                mix: port_at(values, 0),
-                out: port_at(values, 1),
-                changes: port_at(values, 2),
-            },
-            place,
-            state: Next::To(State::Reads),
-        }
-    }
+/// The task with these values: the mix, its output, and its change channel.
+pub fn new_mix(values: Items, place: Place) -> Mix
+    ensures { mix_view result ≡ new_system mix_task (trees (list values)) place }
+{
+    let values = values.as_slice();
+    let ports = Ports {
+        mix: port_at(values, 0),
+        out: port_at(values, 1),
+        changes: port_at(values, 2),
+    };
+    Running::new(ports, place, Next::To(State::Reads))
 }
 
-impl Table for Mix {
-    ghost body = { mix_view };
+impl Kind for Ports {
+    type State = State;
 
-    ghost over = { λ code m. Unit {0} };
+    ghost body = { mix_body };
 
-    fn stand(&self, alloc: Global) -> Result<Stand, OutOfMemory> {
-        match &self.state {
-            Next::To(state) => state.asks(alloc, &self.ports, self.place),
-            Next::Stop => Ok(Stand::Ended),
-            Next::Fail(fault) => Ok(Stand::Faulted(*fault, self.place)),
+    ghost over = { λ code k. Unit {0} };
+
+    fn ask(&self, alloc: Global, place: Place, state: &State) -> Result<Stand, OutOfMemory> {
+        match state {
+            State::Reads => self.modes(alloc, place),
+            State::Chooses(reading) => self.choice(alloc, reading.reads.as_slice(), place),
+            State::Drops(channel) => self.unmix(alloc, *channel, place),
+            State::Puts(_, value) => Ok(puts(self.out, value.copy(alloc)?, place)),
         }
     }
 
-    fn follow(
-        &mut self,
+    fn next(
+        &self,
         alloc: Global,
         _code: &ValidCode,
+        state: State,
         answer: Value,
-    ) -> Result<(), OutOfMemory> {
-        let was = mem::replace(&mut self.state, Next::Stop);
-        self.state = match was {
-            Next::To(state) => state.next(alloc, &self.ports, &answer)?,
-            over => over,
-        };
-        Ok(())
-    }
-}
-
-impl State {
-    // What it asks for.
-    fn asks(&self, alloc: Global, ports: &Ports, place: Place) -> Result<Stand, OutOfMemory>
-        ensures { IfOk result (λ s. stand_at s ≡ mix_asks (ports_view ports.now) (state_view self.now) place) }
-    {
-        match self {
-            State::Reads => ports.modes(alloc, place),
-            State::Chooses(reading) => ports.choice(alloc, reading.reads.as_slice(), place),
-            State::Drops(channel) => ports.unmix(alloc, *channel, place),
-            State::Puts(_, value) => Ok(puts(ports.out, value.copy(alloc)?, place)),
-        }
-    }
-
-    // What follows on the answer.
-    fn next(self, alloc: Global, ports: &Ports, answer: &Value) -> Result<Next<State>, OutOfMemory>
-        ensures { IfOk result (λ n. next_view state_view n ≡ mix_next (ports_view ports.now) (view answer.now) (state_view self)) }
-    {
-        match self {
-            State::Reads => after_modes(alloc, answer),
-            State::Chooses(reading) => ports.after_choice(alloc, reading, answer),
+    ) -> Result<Next<State>, OutOfMemory> {
+        match state {
+            State::Reads => after_modes(alloc, &answer),
+            State::Chooses(reading) => self.after_choice(alloc, reading, &answer),
             State::Drops(_) => Ok(Next::To(State::Reads)),
-            State::Puts(reading, _) => Ok(after_put(reading, answer)),
+            State::Puts(reading, _) => Ok(after_put(reading, &answer)),
         }
     }
+
+    ghost ends = { λ k p. refl };
+
+    ghost faults = { λ k p f. refl };
+
+    ghost stays = { λ program k p v. refl };
+
+    ghost stays_faulted = { λ program k p f v. refl };
 }
 
 impl Ports {

@@ -31,7 +31,7 @@ pub(crate) struct Source {
 
 // The channels that it reads, and those that are heard, both in the order of the sources.
 #[derive(Drop)]
-pub(crate) struct Reading {
+pub struct Reading {
     pub(crate) reads: Vec<PortId>,
     pub(crate) heard: Vec<PortId>,
 }

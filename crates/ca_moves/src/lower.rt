@@ -22,8 +22,7 @@ fn laid_out(alloc: Global, program: &Program) -> Result<Code, OutOfMemory>
     ensures lowered { IfOk result (λ c. Lowered (program_view program.now) (code_view c)) }
     ensures gos { IfOk result (λ c. SameGos (program_view program.now) (code_view c)) }
 {
-    // Its clause says that the program is a checked one.
-    let _main = program.main();
+    program.checked();
     code_for(alloc, program)
 }
 

@@ -1,130 +1,107 @@
 //! The delivery of a value to a tap.
-ghost use Rattle.std.specs.Prelude.{◌≡◌, IfOk, OnOk};
+ghost use Rattle.std.proofs.Common.{refl};
+ghost use Rattle.std.specs.Prelude.{◌≡◌, IfOk};
 ghost use Rattle.ca_value.specs.Seq.{list};
 ghost use Rattle.ca_value.specs.View.{view, trees};
 ghost use Rattle.ca_term.specs.declared.head.SystemTask.TheVariants.{Deliver as deliver_task};
 ghost use Rattle.ca_meaning.specs.MultTable.{deliver_asks, deliver_next, deliver_untaps, deliver_puts};
 ghost use Rattle.ca_meaning.specs.System.{new_system};
 ghost use Rattle.ca_system.specs.Stands.{stand_at, next_view};
-ghost use Rattle.ca_mult.specs.Deliveries.{deliver_view, delivery_view, step_view};
+ghost use Rattle.ca_mult.specs.Deliveries.{deliver_body, deliver_view, delivery_view, step_view};
 
+use ca_asking::operands::{is_true, port_at, value_at};
 use ca_states::valid_code::ValidCode;
 use ca_system::asks::{puts, registers, two};
-use ca_system::operand::{is_true, port_at, value_at};
+use ca_system::running::{Kind, Running};
 use ca_system::stand::{Next, Stand};
-use ca_system::table::Table;
 use ca_term::head::RegisterName;
 use ca_term::place::Place;
 use ca_value::memory::OutOfMemory;
 use ca_value::value::{Items, PortId, Value};
 use std::alloc::Global;
-use std::mem;
 
 /// The task that delivers a value to a tap.
+pub type Deliver = Running<Delivery>;
+
+/// The mult, its tapped channel, the value, and where the task answers.
 #[derive(Drop)]
-pub struct Deliver {
-    delivery: Delivery,
-    place: Place,
-    step: Next<Step>,
+pub struct Delivery {
+    pub(crate) mult: PortId,
+    pub(crate) channel: PortId,
+    pub(crate) value: Value,
+    pub(crate) acks: PortId,
 }
 
-// The mult, its tapped channel, the value, and where the task answers.
-#[derive(Drop)]
-struct Delivery {
-    mult: PortId,
-    channel: PortId,
-    value: Value,
-    acks: PortId,
-}
-
+/// Where a delivery is in its table.
 #[derive(Clone, Copy, Drop)]
-enum Step {
+pub enum Step {
     Puts,
-    // The channel is closed: it takes the tap off.
+    /// The channel is closed: it takes the tap off.
     Untaps,
     Answers,
 }
 
-impl Deliver {
-    /// The task with these values: the mult, the tapped channel, the value, and the channel of the answers.
-    pub fn new(values: Items, place: Place) -> Deliver
-        ensures { deliver_view result ≡ new_system deliver_task (trees (list values)) place }
-    {
-        let mult = port_at(values.as_slice(), 0);
-        let channel = port_at(values.as_slice(), 1);
-        let acks = port_at(values.as_slice(), 3);
-        Deliver {
-            delivery: Delivery {
-                mult,
-                channel,
-                value: value_at(values, 2),
-                acks,
-            },
-            place,
-            step: Next::To(Step::Puts),
-        }
-    }
+/// The task with these values: the mult, the tapped channel, the value, and the channel of the answers.
+pub fn new_deliver(values: Items, place: Place) -> Deliver
+    ensures { deliver_view result ≡ new_system deliver_task (trees (list values)) place }
+{
+    let mult = port_at(values.as_slice(), 0);
+    let channel = port_at(values.as_slice(), 1);
+    let acks = port_at(values.as_slice(), 3);
+    let delivery = Delivery {
+        mult,
+        channel,
+        value: value_at(values, 2),
+        acks,
+    };
+    Running::new(delivery, place, Next::To(Step::Puts))
 }
 
-impl Table for Deliver {
-    ghost body = { deliver_view };
+impl Kind for Delivery {
+    type State = Step;
 
-    ghost over = { λ code d. Unit {0} };
+    ghost body = { deliver_body };
 
-    fn stand(&self, alloc: Global) -> Result<Stand, OutOfMemory> {
-        match self.step {
-            Next::To(step) => self.delivery.asks(alloc, step, self.place),
-            Next::Stop => Ok(Stand::Ended),
-            Next::Fail(fault) => Ok(Stand::Faulted(fault, self.place)),
-        }
-    }
+    ghost over = { λ code k. Unit {0} };
 
-    fn follow(
-        &mut self,
-        _alloc: Global,
-        _code: &ValidCode,
-        answer: Value,
-    ) -> Result<(), OutOfMemory> {
-        let was = mem::replace(&mut self.step, Next::Stop);
-        self.step = match was {
-            Next::To(step) => step.next(&answer),
-            over => over,
-        };
-        Ok(())
-    }
-}
-
-impl Delivery {
-    // What it asks for at the step.
-    fn asks(&self, alloc: Global, step: Step, place: Place) -> Result<Stand, OutOfMemory>
-        ensures { IfOk result (λ s. stand_at s ≡ deliver_asks (delivery_view self.now) (step_view step) place) }
-    {
-        match step {
+    fn ask(&self, alloc: Global, place: Place, state: &Step) -> Result<Stand, OutOfMemory> {
+        match state {
             Step::Puts => Ok(puts(self.channel, self.value.copy(alloc)?, place)),
             Step::Untaps => self.untap(alloc, place),
             Step::Answers => Ok(puts(self.acks, Value::Bool(true), place)),
         }
     }
 
+    fn next(
+        &self,
+        _alloc: Global,
+        _code: &ValidCode,
+        state: Step,
+        answer: Value,
+    ) -> Result<Next<Step>, OutOfMemory> {
+        match state {
+            Step::Puts => Ok(after_put(&answer)),
+            Step::Untaps => Ok(Next::To(Step::Answers)),
+            Step::Answers => Ok(Next::Stop),
+        }
+    }
+
+    ghost ends = { λ k p. refl };
+
+    ghost faults = { λ k p f. refl };
+
+    ghost stays = { λ program k p v. refl };
+
+    ghost stays_faulted = { λ program k p f v. refl };
+}
+
+impl Delivery {
     // It takes the tap off.
     fn untap(&self, alloc: Global, place: Place) -> Result<Stand, OutOfMemory>
         ensures { IfOk result (λ s. stand_at s ≡ deliver_asks (delivery_view self.now) deliver_untaps place) }
     {
         let values = two(alloc, Value::Port(self.mult), Value::Port(self.channel))?;
         Ok(registers(RegisterName::Untap, values, place))
-    }
-}
-
-impl Step {
-    // What follows on the answer.
-    fn next(self, answer: &Value) -> Next<Step>
-        ensures { next_view step_view result ≡ deliver_next (view answer.now) (step_view self) }
-    {
-        match self {
-            Step::Puts => after_put(answer),
-            Step::Untaps => Next::To(Step::Answers),
-            Step::Answers => Next::Stop,
-        }
     }
 }
 

@@ -1,5 +1,6 @@
 //! The task of a mult: each value that it takes from the source goes to all taps.
-ghost use Rattle.std.specs.Prelude.{◌≡◌, ◌+◌, ◌^◌, ◌<◌, map, IfOk, OnOk};
+ghost use Rattle.std.proofs.Common.{refl};
+ghost use Rattle.std.specs.Prelude.{◌≡◌, ◌+◌, ◌^◌, ◌<◌, map, IfOk};
 ghost use Rattle.std.specs.Vec.Iter.{into_iter_items, into_iter_len};
 ghost use Rattle.ca_value.specs.Seq.{list};
 ghost use Rattle.ca_value.specs.Tree.{item, port};
@@ -10,124 +11,93 @@ ghost use Rattle.ca_meaning.specs.MultTable.{mult_asks, mult_next, mult_takes, m
 ghost use Rattle.ca_meaning.specs.System.{new_system};
 ghost use Rattle.ca_system.specs.Stands.{stand_at, next_view};
 ghost use Rattle.ca_mult.specs.Taps.{tap_view};
-ghost use Rattle.ca_mult.specs.Mults.{mult_view, ports_view, state_view};
+ghost use Rattle.ca_mult.specs.Mults.{mult_body, mult_view, ports_view, state_view};
 
 use crate::taps::{Tap, Walk, closing_of, taps_in};
+use ca_asking::operands::port_at;
 use ca_states::valid_code::ValidCode;
 use ca_system::asks::{closes, four, one, registers, spawns, takes};
-use ca_system::operand::{is_nil, port_at};
+use ca_system::operand::is_nil;
+use ca_system::running::{Kind, Running};
 use ca_system::stand::{Next, Stand};
-use ca_system::table::Table;
 use ca_term::fault::Fault;
 use ca_term::head::{RegisterName, SystemTask};
 use ca_term::place::Place;
 use ca_value::memory::OutOfMemory;
 use ca_value::value::{Items, PortId, Value};
 use std::alloc::Global;
-use std::mem;
 use std::vec::IntoIter;
 
 /// The task of a mult.
-#[derive(Drop)]
-pub struct Mult {
-    ports: Ports,
-    place: Place,
-    state: Next<State>,
-}
+pub type Mult = Running<Ports>;
 
-// The mult, its source, and where its deliveries answer.
+/// The mult, its source, and where its deliveries answer.
 #[derive(Clone, Copy, Drop)]
-struct Ports {
-    mult: PortId,
-    source: PortId,
-    acks: PortId,
+pub struct Ports {
+    pub(crate) mult: PortId,
+    pub(crate) source: PortId,
+    pub(crate) acks: PortId,
 }
 
+/// Where a mult is in its table.
 #[derive(Drop)]
-enum State {
-    // It takes the next value.
+pub enum State {
+    /// It takes the next value.
     Takes,
-    // It reads the taps, which this value goes to.
+    /// It reads the taps, which this value goes to.
     Reads(Value),
-    // It starts the delivery of this value to the tap where the walk stands.
+    /// It starts the delivery of this value to the tap where the walk stands.
     Spawns(Value, Walk),
-    // It waits for so many answers.
+    /// It waits for so many answers.
     Waits(u64),
-    // The source is closed: it reads the taps once more.
+    /// The source is closed: it reads the taps once more.
     ReadsLast,
-    // It closes this channel, and then those that are left.
+    /// It closes this channel, and then those that are left.
     Closes {
         channel: PortId,
         left: IntoIter<PortId, Global>,
     },
 }
 
-impl Mult {
-    /// The task with these values: the mult, its source, and the channel of its deliveries' answers.
-    pub fn new(values: Items, place: Place) -> Mult
-        ensures { mult_view result ≡ new_system mult_task (trees (list values)) place }
-    {
-        let values = values.as_slice();
-        Mult {
-            ports: Ports {
-                mult: port_at(values, 0),
-                source: port_at(values, 1),
-                acks: port_at(values, 2),
-            },
-            place,
-            state: Next::To(State::Takes),
-        }
-    }
+/// The task with these values: the mult, its source, and the channel of its deliveries' answers.
+pub fn new_mult(values: Items, place: Place) -> Mult
+    ensures { mult_view result ≡ new_system mult_task (trees (list values)) place }
+{
+    let values = values.as_slice();
+    let ports = Ports {
+        mult: port_at(values, 0),
+        source: port_at(values, 1),
+        acks: port_at(values, 2),
+    };
+    Running::new(ports, place, Next::To(State::Takes))
 }
 
-impl Table for Mult {
-    ghost body = { mult_view };
+impl Kind for Ports {
+    type State = State;
 
-    ghost over = { λ code m. Unit {0} };
+    ghost body = { mult_body };
 
-    fn stand(&self, alloc: Global) -> Result<Stand, OutOfMemory> {
-        match &self.state {
-            Next::To(state) => state.asks(alloc, &self.ports, self.place),
-            Next::Stop => Ok(Stand::Ended),
-            Next::Fail(fault) => Ok(Stand::Faulted(*fault, self.place)),
-        }
-    }
+    ghost over = { λ code k. Unit {0} };
 
-    fn follow(
-        &mut self,
-        alloc: Global,
-        _code: &ValidCode,
-        answer: Value,
-    ) -> Result<(), OutOfMemory> {
-        let was = mem::replace(&mut self.state, Next::Stop);
-        self.state = match was {
-            Next::To(state) => state.next(alloc, answer)?,
-            over => over,
-        };
-        Ok(())
-    }
-}
-
-impl State {
-    // What it asks for.
-    fn asks(&self, alloc: Global, ports: &Ports, place: Place) -> Result<Stand, OutOfMemory>
-        ensures { IfOk result (λ s. stand_at s ≡ mult_asks (ports_view ports.now) (state_view self.now) place) }
-    {
-        match self {
-            State::Takes => Ok(takes(ports.source, place)),
-            State::Reads(_) => ports.taps(alloc, place),
-            State::Spawns(value, walk) => ports.delivery(alloc, value, walk.tap.channel, place),
-            State::Waits(_) => Ok(takes(ports.acks, place)),
-            State::ReadsLast => ports.taps(alloc, place),
+    fn ask(&self, alloc: Global, place: Place, state: &State) -> Result<Stand, OutOfMemory> {
+        match state {
+            State::Takes => Ok(takes(self.source, place)),
+            State::Reads(_) => self.taps(alloc, place),
+            State::Spawns(value, walk) => self.delivery(alloc, value, walk.tap.channel, place),
+            State::Waits(_) => Ok(takes(self.acks, place)),
+            State::ReadsLast => self.taps(alloc, place),
             State::Closes { channel, .. } => Ok(closes(*channel, place)),
         }
     }
 
-    // What follows on the answer.
-    fn next(self, alloc: Global, answer: Value) -> Result<Next<State>, OutOfMemory>
-        ensures { IfOk result (λ n. next_view state_view n ≡ mult_next (view answer) (state_view self)) }
-    {
-        match self {
+    fn next(
+        &self,
+        alloc: Global,
+        _code: &ValidCode,
+        state: State,
+        answer: Value,
+    ) -> Result<Next<State>, OutOfMemory> {
+        match state {
             State::Takes => Ok(taken(answer)),
             State::Reads(value) => deliveries(alloc, value, &answer),
             State::Spawns(value, walk) => Ok(next_delivery(value, walk)),
@@ -136,6 +106,14 @@ impl State {
             State::Closes { left, .. } => Ok(closes_due(left)),
         }
     }
+
+    ghost ends = { λ k p. refl };
+
+    ghost faults = { λ k p f. refl };
+
+    ghost stays = { λ program k p v. refl };
+
+    ghost stays_faulted = { λ program k p f v. refl };
 }
 
 impl Ports {

@@ -16,14 +16,14 @@ use std::vec::IntoIter;
 
 // A tapped channel, and whether it closes with the source.
 #[derive(Clone, Copy, Drop)]
-pub(crate) struct Tap {
+pub struct Tap {
     pub(crate) channel: PortId,
     pub(crate) closes: bool,
 }
 
 // A walk over taps: the one that it stands at, those after it, and how many stand before it.
 #[derive(Drop)]
-pub(crate) struct Walk {
+pub struct Walk {
     pub(crate) tap: Tap,
     pub(crate) left: IntoIter<Tap, Global>,
     pub(crate) before: u64,

@@ -4,8 +4,7 @@ use Rattle.std.proofs.lemmas.Bool.{leb-true, leb-false}
 use Rattle.ca_value.specs.Tree.{Trees, none, item}
 use Rattle.ca_value.specs.View.{view, trees}
 use Rattle.ca_value.specs.declared.value.Value.{Value}
-use Rattle.ca_meaning.specs.Operands.{first_of, rest_of}
-use Rattle.ca_meaning.specs.Parts.{operand_at}
+use Rattle.ca_meaning.specs.Operands.{operand_at, first_of, rest_of}
 use Rattle.ca_pipes.specs.Walks.{skipped, is_none}
 
 first_skipped : (n : ℕ) (vs : Trees) → operand_at n vs ≡ first_of (skipped n vs)

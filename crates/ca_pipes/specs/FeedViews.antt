@@ -1,9 +1,11 @@
 -- Which body of the meaning a `Feed` is.
 use Rattle.ca_value.specs.View.{view}
+use Rattle.ca_term.specs.declared.place.Place.{Place}
 use Rattle.ca_meaning.specs.PipelineTable.{FeedPorts, FeedState, feed_takes, feed_makes, feed_puts, feed_queues, feed_closes_jobs, feed_closes_replies}
 use Rattle.ca_meaning.specs.System.{SystemBody, a_feed}
 use Rattle.ca_system.specs.Stands.{next_view}
-use Rattle.ca_pipes.specs.declared.feed.Feed.{Feed}
+use Rattle.ca_system.specs.declared.running.Running.{Running}
+use Rattle.ca_system.specs.declared.stand.Next.{Next}
 use Rattle.ca_pipes.specs.declared.feed.Ports.{Ports}
 use Rattle.ca_pipes.specs.declared.feed.State.{State}
 use Rattle.ca_pipes.specs.declared.feed.State.TheVariants.{Takes, Makes, Puts, Queues, ClosesJobs, ClosesReplies}
@@ -19,5 +21,8 @@ feed_state (Queues p) = feed_queues p.n
 feed_state ClosesJobs = feed_closes_jobs
 feed_state ClosesReplies = feed_closes_replies
 
-abbrev pub feed_view : Feed → SystemBody
-feed_view f = a_feed (feed_ports f.ports) f.place (next_view feed_state f.state)
+abbrev pub feed_body : Ports → Place → Next State → SystemBody
+feed_body k p x = a_feed (feed_ports k) p (next_view feed_state x)
+
+abbrev pub feed_view : Running Ports State → SystemBody
+feed_view r = feed_body r.kind r.place r.state

@@ -1,10 +1,12 @@
 -- Which body of the meaning an `Onto` is.
+use Rattle.ca_term.specs.declared.place.Place.{Place}
 use Rattle.ca_meaning.specs.Operands.{first_of, rest_of}
 use Rattle.ca_meaning.specs.PipeTable.{OntoPorts, OntoState, onto_puts, onto_closes, onto_ends}
 use Rattle.ca_meaning.specs.System.{SystemBody, an_onto}
 use Rattle.ca_system.specs.Stands.{next_view}
+use Rattle.ca_system.specs.declared.running.Running.{Running}
+use Rattle.ca_system.specs.declared.stand.Next.{Next}
 use Rattle.ca_pipes.specs.Walks.{left}
-use Rattle.ca_pipes.specs.declared.onto.Onto.{Onto}
 use Rattle.ca_pipes.specs.declared.onto.Ports.{Ports}
 use Rattle.ca_pipes.specs.declared.onto.State.{State}
 use Rattle.ca_pipes.specs.declared.onto.State.TheVariants.{Puts, Closes, Ends}
@@ -17,5 +19,8 @@ onto_state (Puts w) = onto_puts (first_of (left w)) (rest_of (left w))
 onto_state Closes = onto_closes
 onto_state Ends = onto_ends
 
-abbrev pub onto_view : Onto → SystemBody
-onto_view o = an_onto (onto_ports o.ports) o.place (next_view onto_state o.state)
+abbrev pub onto_body : Ports → Place → Next State → SystemBody
+onto_body k p x = an_onto (onto_ports k) p (next_view onto_state x)
+
+abbrev pub onto_view : Running Ports State → SystemBody
+onto_view r = onto_body r.kind r.place r.state

@@ -1,3 +1,4 @@
+ghost use Rattle.std.proofs.Common.{refl};
 ghost use Rattle.std.specs.Prelude.{◌≡◌, IfOk, option_map};
 ghost use Rattle.ca_value.specs.Seq.{list};
 ghost use Rattle.ca_value.specs.Tree.{trees_of, vector};
@@ -7,59 +8,83 @@ ghost use Rattle.ca_meaning.specs.Asks.{follows, needing, value_and_port, pair_o
 ghost use Rattle.ca_meaning.specs.PipeTable.{merge_asks, merge_next, inputs_left, is_port as is_port_tree, without_port};
 ghost use Rattle.ca_meaning.specs.System.{new_system};
 ghost use Rattle.ca_system.specs.Stands.{stand_at};
-ghost use Rattle.ca_pipes.specs.MergeViews.{merge_view, merge_state, merge_at, chosen_view, after_choice_of};
+ghost use Rattle.ca_pipes.specs.MergeViews.{merge_body, merge_view, merge_at, chosen_view, after_choice_of};
 
+use ca_asking::operands::{port_at, value_at};
 use ca_states::valid_code::ValidCode;
 use ca_system::asks::{chooses, closes, puts};
-use ca_system::operand::{is_nil, items_of, port_at, value_and_port, value_at};
+use ca_system::operand::{is_nil, items_of, value_and_port};
+use ca_system::running::{Kind, Running};
 use ca_system::stand::{Next, Stand};
-use ca_system::table::Table;
 use ca_term::fault::Fault;
 use ca_term::place::Place;
 use ca_value::memory::OutOfMemory;
 use ca_value::seq::Seq;
 use ca_value::value::{Items, PortId, Value, Vector};
 use std::alloc::Global;
-use std::mem;
 
 /// The task of `merge`: what any of its inputs has it puts into one channel. An input that ended leaves.
-#[derive(Drop)]
-pub struct Merge {
-    pub(crate) out: PortId,
-    pub(crate) place: Place,
-    pub(crate) state: Next<State>,
+pub type Merge = Running<Output>;
+
+/// The channel that a merge puts into.
+#[derive(Clone, Copy, Drop)]
+pub struct Output {
+    pub(crate) port: PortId,
 }
 
+/// Where a merge is in its table.
 #[derive(Drop)]
-pub(crate) enum State {
+pub enum State {
     // One of the inputs that are left, in a vector; where none is left it closes the output.
     Chooses(Value),
     // The inputs that are left, and this value.
     Puts(Value, Value),
 }
 
-impl Merge {
-    /// A new task: its values are the vector of its inputs, and the output.
-    pub fn new(values: Items, place: Place) -> Merge
-        ensures { merge_view result ≡ new_system SystemTask.Merge (trees (list values)) place }
-    {
-        let out = port_at(values.as_slice(), 1);
-        Merge {
-            out,
-            place,
-            state: Next::To(State::Chooses(value_at(values, 0))),
-        }
-    }
+/// A new task: its values are the vector of its inputs, and the output.
+pub fn new_merge(values: Items, place: Place) -> Merge
+    ensures { merge_view result ≡ new_system SystemTask.Merge (trees (list values)) place }
+{
+    let output = Output {
+        port: port_at(values.as_slice(), 1),
+    };
+    Running::new(output, place, Next::To(State::Chooses(value_at(values, 0))))
 }
 
-// What the state asks for.
-fn asked(alloc: Global, out: PortId, place: Place, state: &State) -> Result<Stand, OutOfMemory>
-    ensures { IfOk result (λ s. stand_at s ≡ stands_at place (merge_asks out.n) (merge_state state.now)) }
-{
-    match state {
-        State::Chooses(inputs) => before_choice(alloc, out, place, inputs),
-        State::Puts(_, value) => Ok(puts(out, value.copy(alloc)?, place)),
+impl Kind for Output {
+    type State = State;
+
+    ghost body = { merge_body };
+
+    ghost over = { λ code k. Unit {0} };
+
+    fn ask(&self, alloc: Global, place: Place, state: &State) -> Result<Stand, OutOfMemory> {
+        match state {
+            State::Chooses(inputs) => before_choice(alloc, self.port, place, inputs),
+            State::Puts(_, value) => Ok(puts(self.port, value.copy(alloc)?, place)),
+        }
     }
+
+    fn next(
+        &self,
+        alloc: Global,
+        _code: &ValidCode,
+        state: State,
+        answer: Value,
+    ) -> Result<Next<State>, OutOfMemory> {
+        match state {
+            State::Chooses(inputs) => after_alts(alloc, &answer, inputs),
+            State::Puts(inputs, _) => Ok(Next::To(State::Chooses(inputs))),
+        }
+    }
+
+    ghost ends = { λ k p. refl };
+
+    ghost faults = { λ k p f. refl };
+
+    ghost stays = { λ program k p v. refl };
+
+    ghost stays_faulted = { λ program k p f v. refl };
 }
 
 // Where it stands before a choice.
@@ -155,48 +180,4 @@ fn after_alts(alloc: Global, answer: &Value, inputs: Value) -> Result<Next<State
     }
     let chosen = value_and_port(alloc, answer)?;
     after_chosen(alloc, chosen, inputs)
-}
-
-fn next(alloc: Global, answer: &Value, state: State) -> Result<Next<State>, OutOfMemory>
-    ensures { IfOk result (λ s. merge_at s ≡ follows (merge_next (view answer.now)) (merge_state state)) }
-{
-    match state {
-        State::Chooses(inputs) => after_alts(alloc, answer, inputs),
-        State::Puts(inputs, _) => Ok(Next::To(State::Chooses(inputs))),
-    }
-}
-
-fn followed(alloc: Global, answer: &Value, state: Next<State>) -> Result<Next<State>, OutOfMemory>
-    ensures { IfOk result (λ s. merge_at s ≡ follows (merge_next (view answer.now)) (merge_at state)) }
-{
-    match state {
-        Next::To(state) => next(alloc, answer, state),
-        Next::Stop => Ok(Next::Stop),
-        Next::Fail(fault) => Ok(Next::Fail(fault)),
-    }
-}
-
-impl Table for Merge {
-    ghost body = { merge_view };
-
-    ghost over = { λ code m. Unit {0} };
-
-    fn stand(&self, alloc: Global) -> Result<Stand, OutOfMemory> {
-        match &self.state {
-            Next::To(state) => asked(alloc, self.out, self.place, state),
-            Next::Stop => Ok(Stand::Ended),
-            Next::Fail(fault) => Ok(Stand::Faulted(*fault, self.place)),
-        }
-    }
-
-    fn follow(
-        &mut self,
-        alloc: Global,
-        _code: &ValidCode,
-        answer: Value,
-    ) -> Result<(), OutOfMemory> {
-        let state = mem::replace(&mut self.state, Next::Stop);
-        self.state = followed(alloc, &answer, state)?;
-        Ok(())
-    }
 }

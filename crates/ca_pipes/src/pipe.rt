@@ -1,71 +1,66 @@
-ghost use Rattle.std.specs.Prelude.{◌≡◌, IfOk};
+ghost use Rattle.std.proofs.Common.{refl};
+ghost use Rattle.std.specs.Prelude.{◌≡◌};
 ghost use Rattle.ca_value.specs.Seq.{list};
 ghost use Rattle.ca_value.specs.View.{view, trees};
 ghost use Rattle.ca_term.specs.declared.head.SystemTask.{SystemTask};
-ghost use Rattle.ca_meaning.specs.Asks.{follows};
-ghost use Rattle.ca_meaning.specs.PipeTable.{pipe_asks, pipe_next, pipe_takes};
+ghost use Rattle.ca_meaning.specs.PipeTable.{pipe_next, pipe_takes};
 ghost use Rattle.ca_meaning.specs.System.{new_system};
-ghost use Rattle.ca_system.specs.Stands.{stand_at, next_view};
-ghost use Rattle.ca_pipes.specs.PipeViews.{pipe_view, pipe_ports, pipe_state};
+ghost use Rattle.ca_system.specs.Stands.{next_view};
+ghost use Rattle.ca_pipes.specs.PipeViews.{pipe_body, pipe_view, pipe_ports, pipe_state};
 
+use ca_asking::operands::{is_true, port_at, truth_at};
 use ca_states::valid_code::ValidCode;
 use ca_system::asks::{closes, puts, takes};
-use ca_system::operand::{is_nil, is_true, port_at, truth_at};
+use ca_system::operand::is_nil;
+use ca_system::running::{Kind, Running};
 use ca_system::stand::{Next, Stand};
-use ca_system::table::Table;
 use ca_term::place::Place;
 use ca_value::memory::OutOfMemory;
 use ca_value::value::{Items, PortId, Value};
 use std::alloc::Global;
-use std::mem;
 
 /// The task of `pipe`: what it takes from one channel it puts into another.
-#[derive(Drop)]
-pub struct Pipe {
-    pub(crate) ports: Ports,
-    pub(crate) place: Place,
-    pub(crate) state: Next<State>,
-}
+pub type Pipe = Running<Ports>;
 
-#[derive(Clone, Copy)]
-pub(crate) struct Ports {
+/// The channels of a pipe.
+#[derive(Clone, Copy, Drop)]
+pub struct Ports {
     pub(crate) source: PortId,
     pub(crate) target: PortId,
     // Whether the end of the source closes the target.
     pub(crate) closes: bool,
 }
 
+/// Where a pipe is in its table.
 #[derive(Drop)]
-pub(crate) enum State {
+pub enum State {
     Takes,
-    // This value.
+    /// This value.
     Puts(Value),
     Closes,
 }
 
-impl Pipe {
-    /// A new task: its values are the source, the target, and whether the target closes at the end of the source.
-    pub fn new(values: Items, place: Place) -> Pipe
-        ensures { pipe_view result ≡ new_system SystemTask.Pipe (trees (list values)) place }
-    {
-        let values = values.as_slice();
-        Pipe {
-            ports: Ports {
-                source: port_at(values, 0),
-                target: port_at(values, 1),
-                closes: truth_at(values, 2),
-            },
-            place,
-            state: Next::To(State::Takes),
-        }
-    }
+/// A new task: its values are the source, the target, and whether the target closes at the end of the source.
+pub fn new_pipe(values: Items, place: Place) -> Pipe
+    ensures { pipe_view result ≡ new_system SystemTask.Pipe (trees (list values)) place }
+{
+    let values = values.as_slice();
+    let ports = Ports {
+        source: port_at(values, 0),
+        target: port_at(values, 1),
+        closes: truth_at(values, 2),
+    };
+    Running::new(ports, place, Next::To(State::Takes))
 }
 
-impl Ports {
-    // What the state asks for.
-    fn ask(self, alloc: Global, place: Place, state: &State) -> Result<Stand, OutOfMemory>
-        ensures { IfOk result (λ s. stand_at s ≡ pipe_asks (pipe_ports self) (pipe_state state.now) place) }
-    {
+impl Kind for Ports {
+    type State = State;
+
+    ghost body = { pipe_body };
+
+    ghost over = { λ code k. Unit {0} };
+
+    fn ask(&self, alloc: Global, place: Place, state: &State) -> Result<Stand, OutOfMemory> {
         match state {
             State::Takes => Ok(takes(self.source, place)),
             State::Puts(value) => Ok(puts(self.target, value.copy(alloc)?, place)),
@@ -73,9 +68,39 @@ impl Ports {
         }
     }
 
+    fn next(
+        &self,
+        _alloc: Global,
+        _code: &ValidCode,
+        state: State,
+        answer: Value,
+    ) -> Result<Next<State>, OutOfMemory> {
+        match state {
+            State::Takes => Ok(self.after_take(answer)),
+            State::Puts(_) => {
+                if is_true(&answer) {
+                    Ok(Next::To(State::Takes))
+                } else {
+                    Ok(Next::Stop)
+                }
+            }
+            State::Closes => Ok(Next::Stop),
+        }
+    }
+
+    ghost ends = { λ k p. refl };
+
+    ghost faults = { λ k p f. refl };
+
+    ghost stays = { λ program k p v. refl };
+
+    ghost stays_faulted = { λ program k p f v. refl };
+}
+
+impl Ports {
     // What follows on a value, or on nil at the end of the source.
-    fn after_take(self, answer: Value) -> Next<State>
-        ensures { next_view pipe_state result ≡ pipe_next (pipe_ports self) (view answer) pipe_takes }
+    fn after_take(&self, answer: Value) -> Next<State>
+        ensures { next_view pipe_state result ≡ pipe_next (pipe_ports self.now) (view answer) pipe_takes }
     {
         if !is_nil(&answer) {
             return Next::To(State::Puts(answer));
@@ -85,56 +110,5 @@ impl Ports {
         } else {
             Next::Stop
         }
-    }
-
-    fn next(self, answer: Value, state: State) -> Next<State>
-        ensures { next_view pipe_state result ≡ pipe_next (pipe_ports self) (view answer) (pipe_state state) }
-    {
-        match state {
-            State::Takes => self.after_take(answer),
-            State::Puts(_) => {
-                if is_true(&answer) {
-                    Next::To(State::Takes)
-                } else {
-                    Next::Stop
-                }
-            }
-            State::Closes => Next::Stop,
-        }
-    }
-
-    fn follow(self, answer: Value, state: Next<State>) -> Next<State>
-        ensures { next_view pipe_state result ≡ follows (pipe_next (pipe_ports self) (view answer)) (next_view pipe_state state) }
-    {
-        match state {
-            Next::To(state) => self.next(answer, state),
-            Next::Stop => Next::Stop,
-            Next::Fail(fault) => Next::Fail(fault),
-        }
-    }
-}
-
-impl Table for Pipe {
-    ghost body = { pipe_view };
-
-    ghost over = { λ code p. Unit {0} };
-
-    fn stand(&self, alloc: Global) -> Result<Stand, OutOfMemory> {
-        match &self.state {
-            Next::To(state) => self.ports.ask(alloc, self.place, state),
-            Next::Stop => Ok(Stand::Ended),
-            Next::Fail(fault) => Ok(Stand::Faulted(*fault, self.place)),
-        }
-    }
-
-    fn follow(
-        &mut self,
-        _alloc: Global,
-        _code: &ValidCode,
-        answer: Value,
-    ) -> Result<(), OutOfMemory> {
-        let state = mem::replace(&mut self.state, Next::Stop);
-        self.state = self.ports.follow(answer, state);
-        Ok(())
     }
 }

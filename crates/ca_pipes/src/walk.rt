@@ -11,7 +11,7 @@ use std::alloc::Global;
 
 // A vector's items one after the other: those that are left, from a place on.
 #[derive(Drop)]
-pub(crate) struct Walk {
+pub struct Walk {
     vector: Value,
     place: u64,
 }

@@ -1,64 +1,18 @@
--- A text is started by putting one value in after another; the texts of a program, started, are bodies of it.
-use Rattle.std.proofs.Common.{◌≡◌, ℕ, zero, suc, ◌+◌, ◌<◌, ◌≤◌, List, [], ◌∷◌, ◌++◌, length, drop, drop-cons, get_or, slice_get, Some, None, refl, sym, ap, ◌∙◌, subst, arith}
-use Rattle.ca_value.specs.Tree.{Tree, nil}
+-- What a go block's task begins with: the values of its seed, and last the port of its result.
+use Rattle.std.proofs.Common.{◌≡◌, ℕ, ◌+◌, ◌∷◌, ◌++◌, [], List, length, sym, ap, ◌∙◌}
+use Rattle.std.proofs.lemmas.List.{length-map}
 use Rattle.ca_value.specs.View.{view, views, trees}
 use Rattle.ca_value.specs.declared.value.Value.{Value}
-use Rattle.ca_term.specs.Kernel.{Kernel, const, put, puts}
-use Rattle.ca_term.specs.Fits.{Suits}
-use Rattle.ca_term.specs.Program.{ProgramView, ProcedureView, IsProgram, arity, known_in}
-use Rattle.ca_meaning.specs.IsBody.{IsBodyBy, IsBodyOf}
+use Rattle.ca_term.specs.Program.{ProgramView, arity}
+use Rattle.ca_meaning.specs.Body.{BodyView, new_body}
 use Rattle.ca_meaning.specs.Operands.{values_in}
-use Rattle.ca_meaning.specs.Started.{named, procedure_at, started}
+use Rattle.ca_meaning.specs.Started.{procedure_at, started}
 use Rattle.ca_agent.specs.Seeds.{HasGo}
 use Rattle.ca_agent.proofs.SeedLaws.{values_pushed, count_pushed}
-use Rattle.ca_meaning.proofs.OperandLaws.{drop-none, drop-some}
-use Rattle.ca_meaning.proofs.Closed.{named-closed}
-use Rattle.ca_meaning.proofs.PutFits.{puts-fits}
 
--- one more value in place of its name
-pub text_step : (names : List ℕ) (vs : List Value) (i : ℕ) (v : Value) (now next : Kernel) → i < length names → slice_get vs i ≡ Some v → next ≡ put (get_or names i 0) (view v) now → puts (named (drop (i + 1) names) (views (drop (i + 1) vs))) next ≡ puts (named (drop i names) (views (drop i vs))) now
-text_step names vs i v now next lt is e =
-    let one : i + 1 ≡ suc i = omega arith in
-    ap (λ k. puts (named (drop k names) (views (drop k vs))) next) one
-    ∙ ap (puts (named (drop (suc i) names) (views (drop (suc i) vs)))) e
-    ∙ sym (ap (λ ns. puts (named ns (views (drop i vs))) now) (drop-cons names i 0 lt) ∙ ap (λ (us : List Value). puts (named (get_or names i 0 ∷ drop (suc i) names) (views us)) now) (drop-some vs i v is))
+-- as many as the go block takes
+pub go_count : (P : ProgramView) (n : ℕ) (xs ys zs : List Value) (v : Value) → zs ≡ ys ++ v ∷ [] → ys ≡ xs → HasGo P n (length xs + 1) → length zs ≡ arity (procedure_at P.bodies n)
+go_count P n xs ys zs v e f has = sym (length-map zs view) ∙ count_pushed xs ys zs v e f ∙ has.1
 
-named_none : (names : List ℕ) → named names [] ≡ []
-named_none [] = refl
-named_none (n ∷ ns) = refl
-
--- no value is left
-pub text_done : (names : List ℕ) (vs : List Value) (i : ℕ) (now : Kernel) → slice_get vs i ≡ None → now ≡ puts (named names (views (drop i vs))) now
-text_done names vs i now is = sym (ap (λ (us : List Value). puts (named names (views us)) now) (drop-none vs i is) ∙ ap (λ fs. puts fs now) (named_none names))
-
-pub main_of_program : (P : ProgramView) → IsProgram P → IsBodyOf P P.main
-main_of_program P checked = record { checked = checked; plain = checked.plain; suits = record { bound = checked.main_fits.bound; fits = checked.main_fits.fits } }
-
-go_of_program : (P : ProgramView) → IsProgram P → (n : ℕ) (vs : List Tree) → n < length P.bodies → length vs ≡ arity (procedure_at P.bodies n) → IsBodyOf P (started (procedure_at P.bodies n) vs)
-go_of_program P checked n vs lt len =
-    let t = procedure_at P.bodies n in
-    let fit = checked.bodies_fit n (record { parameters = []; body = const nil }) lt in
-    let known = known_in checked.plain P in
-    record {
-      checked = checked;
-      plain = checked.plain;
-      suits = record { bound = named-closed t.parameters vs t.body (omega (arith, len)) fit.bound; fits = puts-fits (Suits known) (named t.parameters vs) None t.body fit.fits };
-    }
-
-found : {A : Type 0} (xs : List A) (n : ℕ) (x d : A) → Some x ≡ slice_get xs n → get_or xs n d ≡ x
-found [] n x d e = absurd (let f : Some x ≡ None = e in cc)
-found (y ∷ xs) zero x d e = let f : x ≡ y = cc in sym f
-found (y ∷ xs) (suc n) x d e = found xs n x d e
-
--- a go body that was found, started with the values and one more
-pub go_started : (P : ProgramView) (n : ℕ) (xs ys zs : List Value) (v : Value) (t : ProcedureView) (k : Kernel) → Some t ≡ slice_get P.bodies n → zs ≡ ys ++ v ∷ [] → ys ≡ xs → k ≡ started t (views zs) → k ≡ started (procedure_at P.bodies n) (values_in (trees xs) ++ view v ∷ [])
-go_started P n xs ys zs v t k is e f made =
-    made ∙ ap (λ u. started u (views zs)) (sym (found P.bodies n t (record { parameters = []; body = const nil }) is)) ∙ ap (started (procedure_at P.bodies n)) (values_pushed xs ys zs v e f)
-
-go_count : (P : ProgramView) (n : ℕ) (xs ys zs : List Value) (v : Value) → zs ≡ ys ++ v ∷ [] → ys ≡ xs → HasGo P n (length xs + 1) → length (values_in (trees xs) ++ view v ∷ []) ≡ arity (procedure_at P.bodies n)
-go_count P n xs ys zs v e f has = ap length (sym (values_pushed xs ys zs v e f)) ∙ count_pushed xs ys zs v e f ∙ has.1
-
--- and that is a body of the program
-pub go_known : (P : ProgramView) → IsProgram P → (n : ℕ) (xs ys zs : List Value) (v : Value) (t : ProcedureView) (k : Kernel) → HasGo P n (length xs + 1) → Some t ≡ slice_get P.bodies n → zs ≡ ys ++ v ∷ [] → ys ≡ xs → k ≡ started t (views zs) → IsBodyOf P k
-go_known P checked n xs ys zs v t k has is e f made =
-    subst (IsBodyOf P) (sym (go_started P n xs ys zs v t k is e f made)) (go_of_program P checked n (values_in (trees xs) ++ view v ∷ []) has.0 (go_count P n xs ys zs v e f has))
+pub go_begins : (P : ProgramView) (n : ℕ) (xs ys zs : List Value) (v : Value) (b : BodyView) → zs ≡ ys ++ v ∷ [] → ys ≡ xs → b ≡ new_body (started (procedure_at P.bodies n) (views zs)) → b ≡ new_body (started (procedure_at P.bodies n) (values_in (trees xs) ++ view v ∷ []))
+go_begins P n xs ys zs v b e f made = made ∙ ap (λ us. new_body (started (procedure_at P.bodies n) us)) (values_pushed xs ys zs v e f)

@@ -73,7 +73,7 @@ impl<'p> PlainTask<'p> {
         ensures gives { Gives (plain_view self.old) (view value) (plain_view self.new) }
         ensures known { IsBodyOf (program_view self.old.program.now) (kernel self.old.body.term) → IsBodyOf (program_view self.new.program.now) (kernel self.new.body.term) }
     {
-        if self.body.at() == Stand::AtOp {
+        if matches!(self.body.at(), Stand::AtOp) {
             self.body.fill(value);
         }
         put(&mut self.asked, None);

@@ -1,13 +1,12 @@
 //! New plain tasks: of the main text, and of a go block.
-ghost use Rattle.std.specs.Prelude.{◌≡◌, ◌+◌, length, IfOk};
+ghost use Rattle.std.specs.Prelude.{◌+◌, length, IfOk};
 ghost use Rattle.ca_value.specs.Seq.{list};
-ghost use Rattle.ca_value.specs.View.{trees, views};
+ghost use Rattle.ca_value.specs.View.{trees};
 ghost use Rattle.ca_term.specs.Operation.{go};
-ghost use Rattle.ca_term.specs.Program.{procedure_view, program_view};
+ghost use Rattle.ca_term.specs.Program.{program_view};
 ghost use Rattle.ca_term.specs.View.{kernel};
 ghost use Rattle.ca_meaning.specs.Body.{new_body};
 ghost use Rattle.ca_meaning.specs.IsBody.{IsBodyOf};
-ghost use Rattle.ca_meaning.specs.Started.{started};
 ghost use Rattle.ca_meaning.specs.Task.{TaskBody, BodyRest, script};
 ghost use Rattle.ca_agent.specs.Seeds.{HasGo};
 ghost use Rattle.ca_plain.specs.Bodies.{Begins, StandsAs, Starts};
@@ -16,27 +15,10 @@ ghost use Rattle.ca_plain.specs.View.{plain_view};
 use crate::task::PlainTask;
 use ca_meaning::body::Body;
 use ca_term::operation::GoSeed;
-use ca_term::program::{Procedure, Program};
-use ca_term::term::Term;
+use ca_term::program::Program;
 use ca_value::memory::OutOfMemory;
-use ca_value::value::{Items, Value};
+use ca_value::value::Value;
 use std::alloc::Global;
-
-// The text with the values in place of its parameters.
-fn started(alloc: Global, text: &Procedure, values: &Items) -> Result<Term, OutOfMemory>
-    ensures { IfOk result (λ t. kernel t ≡ started (procedure_view text.now) (views (list values.now))) }
-{
-    let mut now = text.body.copy(alloc)?;
-    let mut place = 0;
-    for name in text.parameters.as_slice() {
-        let Some(value) = values.get(place) else {
-            return Ok(now);
-        };
-        now = now.with(alloc, *name, value)?;
-        place += 1;
-    }
-    Ok(now)
-}
 
 impl<'p> PlainTask<'p> {
     /// A new task of the main text.
@@ -47,7 +29,7 @@ impl<'p> PlainTask<'p> {
     {
         Ok(PlainTask {
             program,
-            body: Body::of(program.main().copy(alloc)?),
+            body: Body::main(alloc, program)?,
             asked: None,
         })
     }
@@ -72,14 +54,9 @@ impl<'p> PlainTask<'p> {
         let mut values = values;
         values.reserve(1)?;
         values.push(Value::Port(result));
-        // What the program's main text tells: it is checked, so its go bodies fit.
-        let _main = program.main();
-        let Some(text) = program.body(body) else {
-            unreachable!()
-        };
         Ok(PlainTask {
             program,
-            body: Body::of(started(alloc, text, &values)?),
+            body: Body::go(alloc, program, body, &values)?,
             asked: None,
         })
     }

@@ -10,7 +10,8 @@ use Rattle.ca_meaning.specs.System.{SystemBody, SystemRest, a_pub}
 use Rattle.ca_states.specs.Code.{CodeView}
 use Rattle.ca_states.specs.Valid.{is_applied}
 use Rattle.ca_system.specs.Stands.{next_view}
-use Rattle.ca_pubsub.specs.declared.publication.Pub.{Pub}
+use Rattle.ca_system.specs.declared.running.Running.{Running}
+use Rattle.ca_system.specs.declared.stand.Next.{Next as NextState}
 use Rattle.ca_pubsub.specs.declared.publication.Ports.{Ports}
 use Rattle.ca_pubsub.specs.declared.publication.State.{State}
 use Rattle.ca_pubsub.specs.declared.publication.State.TheVariants.{Takes, Finds, Puts, ReadsLast, Closes}
@@ -26,12 +27,15 @@ state_view (Puts c v) = pub_puts c.n (view v)
 state_view ReadsLast = pub_reads_last
 state_view (Closes c left) = pub_closes c.n (each_of (λ p. p.n) (into_iter_items left))
 
-abbrev pub pub_body : Pub → SystemBody
-pub_body p = a_pub (ports_view p.ports) p.place (next_view state_view p.state)
+abbrev pub pub_body : Ports → Place → NextState State → SystemBody
+pub_body k p x = a_pub (ports_view k) p (next_view state_view x)
+
+abbrev pub pub_view : Running Ports State → SystemBody
+pub_view r = pub_body r.kind r.place r.state
 
 -- the code has the topic function, and it takes one value
-abbrev pub pub_over : CodeView → Pub → Type 0
-pub_over C p = IsTrue (is_applied C p.ports.topic)
+abbrev pub pub_over : CodeView → Ports → Type 0
+pub_over C k = IsTrue (is_applied C k.topic)
 
 -- from one state of the table the task comes to rest in the other
 abbrev pub Rests : ProgramView → PubPorts → Place → Next PubState → Next PubState → Type 0

@@ -1,16 +1,17 @@
 //! The task of a publication: each value that it takes from the source goes to the channel of its topic.
-ghost use Rattle.std.specs.Prelude.{◌≡◌, map, IfOk, OnOk, IsTrue, cond};
+ghost use Rattle.std.proofs.Common.{refl};
+ghost use Rattle.std.specs.Prelude.{◌≡◌, map, IfOk, IsTrue, cond};
 ghost use Rattle.std.specs.Vec.Iter.{into_iter_items};
 ghost use Rattle.ca_value.specs.Seq.{list};
 ghost use Rattle.ca_value.specs.View.{view, trees};
 ghost use Rattle.ca_term.specs.declared.place.Place.{Place};
 ghost use Rattle.ca_term.specs.declared.head.SystemTask.TheVariants.{Pub as pub_task};
 ghost use Rattle.ca_term.specs.Program.{ProgramView};
-ghost use Rattle.ca_meaning.specs.Asks.{to, needing, closes_due, follows, registers, one_of, two_of};
+ghost use Rattle.ca_meaning.specs.Asks.{to, needing, closes_due, registers, one_of, two_of};
 ghost use Rattle.ca_term.specs.declared.head.RegisterName.TheVariants.{Find, Topics};
 ghost use Rattle.ca_value.specs.Tree.{port};
 ghost use Rattle.ca_meaning.specs.Operands.{is_nil};
-ghost use Rattle.ca_meaning.specs.PubTable.{pub_asks, pub_next, pub_takes, pub_sorts, pub_puts, pub_reads_last, pub_closes, channel_of_pair, sorted_by};
+ghost use Rattle.ca_meaning.specs.PubTable.{pub_next, pub_takes, pub_sorts, pub_puts, pub_reads_last, pub_closes, channel_of_pair, sorted_by};
 ghost use Rattle.ca_meaning.specs.System.{new_system};
 ghost use Rattle.ca_states.specs.Code.{CodeView};
 ghost use Rattle.ca_states.specs.Valid.{is_applied};
@@ -18,125 +19,119 @@ ghost use Rattle.ca_states.specs.ValidCode.{valid_code};
 ghost use Rattle.ca_lower.specs.Lowered.{Lowered};
 ghost use Rattle.ca_applying.specs.Returned.{returned_view};
 ghost use Rattle.ca_system.specs.Stands.{stand_at, next_view};
-ghost use Rattle.ca_pubsub.specs.Publications.{pub_over, Rests, pub_body, ports_view, state_view};
+ghost use Rattle.ca_pubsub.specs.Publications.{pub_over, Rests, pub_body, pub_view, ports_view, state_view};
 
 use crate::answers::{channel_of, ports_in};
 use ca_applying::apply::apply;
 use ca_applying::returned::Returned;
+use ca_asking::operands::{port_at, value_at};
 use ca_states::valid_code::ValidCode;
 use ca_system::asks::{closes, one, puts, registers, takes, two};
-use ca_system::operand::{is_nil, port_at, value_at};
+use ca_system::operand::is_nil;
+use ca_system::running::{Kind, Running};
 use ca_system::stand::{Next, Stand};
-use ca_system::table::Table;
 use ca_term::fault::Fault;
 use ca_term::head::{PlainFunction, RegisterName};
 use ca_term::place::Place;
 use ca_value::memory::OutOfMemory;
 use ca_value::value::{Items, PortId, Value};
 use std::alloc::Global;
-use std::mem;
 use std::vec::IntoIter;
 
 /// The task of a publication.
+pub type Pub = Running<Ports>;
+
+/// The publication, its source, its topic function, and the keyword where that is the function.
 #[derive(Drop)]
-pub struct Pub {
-    ports: Ports,
-    place: Place,
-    state: Next<State>,
+pub struct Ports {
+    pub(crate) publication: PortId,
+    pub(crate) source: PortId,
+    pub(crate) topic: PlainFunction,
+    pub(crate) keyword: Value,
 }
 
-// The publication, its source, its topic function, and the keyword where that is the function.
+/// Where a publication is in its table.
 #[derive(Drop)]
-struct Ports {
-    publication: PortId,
-    source: PortId,
-    topic: PlainFunction,
-    keyword: Value,
-}
-
-#[derive(Drop)]
-enum State {
-    // It takes the next value.
+pub enum State {
+    /// It takes the next value.
     Takes,
-    // It asks for the channel of this topic, for the value.
+    /// It asks for the channel of this topic, for the value.
     Finds {
         topic: Value,
         value: Value,
     },
-    // It puts the value on the topic's channel.
+    /// It puts the value on the topic's channel.
     Puts {
         channel: PortId,
         value: Value,
     },
-    // The source is closed: it reads the topics' channels.
+    /// The source is closed: it reads the topics' channels.
     ReadsLast,
-    // It closes this channel, and then those that are left.
+    /// It closes this channel, and then those that are left.
     Closes {
         channel: PortId,
         left: IntoIter<PortId, Global>,
     },
 }
 
-impl Pub {
-    /// The task with this topic function and these values: the publication, its source, and the keyword where that is
-    /// the function.
-    pub fn new(topic: PlainFunction, values: Items, place: Place) -> Pub
-        ensures new { pub_body result ≡ new_system (pub_task topic) (trees (list values)) place }
-        ensures topic { (code : CodeView) → IsTrue (is_applied code topic) → pub_over code result }
-    {
-        let publication = port_at(values.as_slice(), 0);
-        let source = port_at(values.as_slice(), 1);
-        Pub {
-            ports: Ports {
-                publication,
-                source,
-                topic,
-                keyword: value_at(values, 2),
-            },
-            place,
-            state: Next::To(State::Takes),
-        }
-    }
+/// The task with this topic function and these values: the publication, its source, and the keyword where that is the
+/// function.
+pub fn new_pub(topic: PlainFunction, values: Items, place: Place) -> Pub
+    ensures new { pub_view result ≡ new_system (pub_task topic) (trees (list values)) place }
+    ensures topic { (code : CodeView) → IsTrue (is_applied code topic) → pub_over code result.kind }
+{
+    let publication = port_at(values.as_slice(), 0);
+    let source = port_at(values.as_slice(), 1);
+    let ports = Ports {
+        publication,
+        source,
+        topic,
+        keyword: value_at(values, 2),
+    };
+    Running::new(ports, place, Next::To(State::Takes))
 }
 
-impl Table for Pub {
+impl Kind for Ports {
+    type State = State;
+
     ghost body = { pub_body };
 
     ghost over = { pub_over };
 
-    fn stand(&self, alloc: Global) -> Result<Stand, OutOfMemory> {
-        match &self.state {
-            Next::To(state) => state.asks(alloc, &self.ports, self.place),
-            Next::Stop => Ok(Stand::Ended),
-            Next::Fail(fault) => Ok(Stand::Faulted(*fault, self.place)),
-        }
-    }
-
-    fn follow(
-        &mut self,
-        alloc: Global,
-        code: &ValidCode,
-        answer: Value,
-    ) -> Result<(), OutOfMemory> {
-        let was = mem::replace(&mut self.state, Next::Stop);
-        self.state = self.ports.follow(alloc, code, was, answer)?;
-        Ok(())
-    }
-}
-
-impl State {
-    // What it asks for.
-    fn asks(&self, alloc: Global, ports: &Ports, place: Place) -> Result<Stand, OutOfMemory>
-        ensures { IfOk result (λ s. stand_at s ≡ pub_asks (ports_view ports.now) (state_view self.now) place) }
-    {
-        match self {
-            State::Takes => Ok(takes(ports.source, place)),
-            State::Finds { topic, value: _ } => ports.find(alloc, topic, place),
+    fn ask(&self, alloc: Global, place: Place, state: &State) -> Result<Stand, OutOfMemory> {
+        match state {
+            State::Takes => Ok(takes(self.source, place)),
+            State::Finds { topic, value: _ } => self.find(alloc, topic, place),
             State::Puts { channel, value } => Ok(puts(*channel, value.copy(alloc)?, place)),
-            State::ReadsLast => ports.topics(alloc, place),
+            State::ReadsLast => self.topics(alloc, place),
             State::Closes { channel, .. } => Ok(closes(*channel, place)),
         }
     }
+
+    #[tactic(auto, using(crate::proofs::Resting::at_rest))]
+    fn next(
+        &self,
+        alloc: Global,
+        code: &ValidCode,
+        state: State,
+        answer: Value,
+    ) -> Result<Next<State>, OutOfMemory> {
+        match state {
+            State::Takes => self.taken(alloc, code, answer),
+            State::Finds { topic: _, value } => Ok(found(&answer, value)),
+            State::Puts { .. } => Ok(Next::To(State::Takes)),
+            State::ReadsLast => closings(alloc, &answer),
+            State::Closes { left, .. } => Ok(closes_due(left)),
+        }
+    }
+
+    ghost ends = { λ k p. refl };
+
+    ghost faults = { λ k p f. refl };
+
+    ghost stays = { λ program k p v. refl };
+
+    ghost stays_faulted = { λ program k p f v. refl };
 }
 
 impl Ports {
@@ -184,46 +179,6 @@ impl Ports {
             Ok(Next::To(State::ReadsLast))
         } else {
             self.sort(alloc, code, answer)
-        }
-    }
-
-    // What follows on the answer.
-    #[tactic(auto, using(crate::proofs::Resting::at_rest))]
-    fn next(
-        &self,
-        alloc: Global,
-        code: &ValidCode,
-        state: State,
-        answer: Value,
-    ) -> Result<Next<State>, OutOfMemory>
-        requires { IsTrue (is_applied (valid_code code.now) self.now.topic) }
-        ensures { IfOk result (λ n. (program : ProgramView) (place : Place) → Lowered program (valid_code code.now) → Rests program (ports_view self.now) place (pub_next (view answer) (state_view state)) (next_view state_view n)) }
-    {
-        match state {
-            State::Takes => self.taken(alloc, code, answer),
-            State::Finds { topic: _, value } => Ok(found(&answer, value)),
-            State::Puts { .. } => Ok(Next::To(State::Takes)),
-            State::ReadsLast => closings(alloc, &answer),
-            State::Closes { left, .. } => Ok(closes_due(left)),
-        }
-    }
-
-    // What follows on the answer, where the task isn't over.
-    #[tactic(auto, using(crate::proofs::Resting::at_rest))]
-    fn follow(
-        &self,
-        alloc: Global,
-        code: &ValidCode,
-        state: Next<State>,
-        answer: Value,
-    ) -> Result<Next<State>, OutOfMemory>
-        requires { IsTrue (is_applied (valid_code code.now) self.now.topic) }
-        ensures { IfOk result (λ n. (program : ProgramView) (place : Place) → Lowered program (valid_code code.now) → Rests program (ports_view self.now) place (follows (pub_next (view answer)) (next_view state_view state)) (next_view state_view n)) }
-    {
-        match state {
-            Next::To(state) => self.next(alloc, code, state, answer),
-            Next::Stop => Ok(Next::Stop),
-            Next::Fail(fault) => Ok(Next::Fail(fault)),
         }
     }
 }

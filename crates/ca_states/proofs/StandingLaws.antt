@@ -1,8 +1,8 @@
 -- A runner in valid code: what it stands on, and that each block leaves it standing, with less to go.
-use Rattle.std.proofs.Common.{◌≡◌, ℕ, zero, suc, ◌+◌, ◌-◌, ◌*◌, ◌<◌, ◌≤◌, List, [], ◌∷◌, ◌++◌, length, map, reverse, get_or, drop, Bool, true, false, Some, None, refl, sym, ap, ap₂, ◌∙◌, subst, arith, suc-mul, mul-le-mul_right, append_assoc}
+use Rattle.std.proofs.Common.{◌≡◌, ℕ, zero, suc, ◌+◌, ◌-◌, ◌*◌, ◌<◌, ◌≤◌, List, [], ◌∷◌, ◌++◌, length, map, reverse, get_or, drop, Bool, true, false, Some, None, refl, sym, ap, ap₂, ◌∙◌, subst, arith, suc-mul, mul-le-mul_right, append_assoc, append-nil}
 use Rattle.std.proofs.lemmas.Bool.{eqb-true, ltb-true, leb-true, leb-false}
 use Rattle.std.proofs.lemmas.List.{length-map, length-reverse, reverse-append}
-use Rattle.std.specs.Prelude.{cond, ◌&&◌, ◌==◌, nat_lt, nat_le, not, replicate, slice_get, slice_index_or, IfOk, IsTrue, Result, Ok, Err}
+use Rattle.std.specs.Prelude.{cond, ◌&&◌, ◌==◌, nat_lt, nat_le, not, replicate, slice_get, slice_index_or, OnOk, IsTrue, Result, Ok, Err}
 use Rattle.ca_value.specs.Tree.{Tree}
 use Rattle.ca_value.specs.View.{view, views}
 use Rattle.ca_value.specs.declared.memory.OutOfMemory.{OutOfMemory}
@@ -31,7 +31,7 @@ use Rattle.ca_states.specs.Machine.{read, write, reads, taken, taken_all, left_b
 use Rattle.ca_states.specs.Touched.{read_by, emptied_by, written_by, read_at, emptied_at, answered_at, targets}
 use Rattle.ca_states.specs.Valid.{each, are_below, takes, is_counted_exit, is_target, is_instruction_in_range, is_exit_in_range, is_in_range, leads_forward, knows_slots, is_valid_block, are_valid_blocks, are_just, begins_well, main_entry, identity_entry, is_valid}
 use Rattle.ca_states.specs.Runs.{StopsAt, follows, effects}
-use Rattle.ca_states.specs.Standing.{frame_view, frames_view, state_view, HasSlots, AreFrames, Stands, TakesValue, HasRoom, FitsAnyway, FitsExit, FitsHere, HaltedAs, HaltsAs, HaltsNext, Passed, StopsAfter, WaitsAt, IsStart, entry_at}
+use Rattle.ca_states.specs.Standing.{frame_view, frames_view, state_view, HasSlots, AreFrames, Stands, TakesValue, HasRoom, FitsAnyway, FitsExit, FitsHalt, HaltedAs, HaltsAs, HoldsStop, Passed, WaitsAt, IsStart, entry_at}
 use Rattle.ca_states.proofs.RowLaws.{both, drop_item, RangeParts, range_parts, in_range_parts}
 use Rattle.ca_states.proofs.SlotLaws.{length_reads}
 
@@ -176,6 +176,15 @@ pub filled_next : (vs : List Tree) (n i : ℕ) (v : Tree) → i < n → (vs ++ v
 filled_next vs n i v lt =
     let e : n - i ≡ suc (n - (i + 1)) = omega (arith, lt) in
     append_assoc vs (v ∷ []) (replicate (n - (i + 1)) v) ∙ ap (λ m. vs ++ replicate m v) (sym e)
+
+-- a new text's slots, one more of which is there, and all of which are
+pub begun_next : (width : ℕ) (vs : List Tree) → length vs < width → begun width (vs ++ Tree.nil ∷ []) ≡ begun width vs
+begun_next width vs lt =
+    let n : length (vs ++ Tree.nil ∷ []) ≡ length vs + 1 = length_both vs (Tree.nil ∷ []) in
+    ap (λ m. (vs ++ Tree.nil ∷ []) ++ replicate (width - m) Tree.nil) n ∙ filled_next vs width (length vs) Tree.nil lt
+
+pub begun_full : (width : ℕ) (vs : List Tree) → width ≤ length vs → begun width vs ≡ vs
+begun_full width vs le = let e : width - length vs ≡ 0 = omega (arith, le) in ap (λ m. vs ++ replicate m Tree.nil) e ∙ append-nil vs
 
 -- the instructions of a block, one after another
 pub instruction_at : (width : ℕ) (xs : List Instr) (i : ℕ) (x : Instr) → IsTrue (each (is_instruction_in_range width) (map instruction xs)) → i < length xs → x ≡ get_or xs i x → IsTrue (is_instruction_in_range width (instruction x))
@@ -478,27 +487,34 @@ ran C q r b e same d =
     block_move C (state_view q) b.instrs b.exit (views r.slots.items) (sym (ap (λ (f : BlockView). f.instrs) e)) (sym (ap (λ (f : BlockView). f.exit) e)) d
     ∙ ap (λ (z : Runner). leaves C b.exit (state_view z)) (sym same)
 
--- a runner that stopped, and one that halted, after it came to a block
-pub stopped : (C : CodeView) (c0 c : State) (e : Stop) (r : Runner) → ((m : Move) → ComesTo C c m → ComesTo C c0 m) → Passed (move C c) false e r → StopsAfter C c0 e r
-stopped C c0 c (Stop.Fault f p) r k h =
-    let e : move C c ≡ faults f p r.turns = h in
-    k (faults f p r.turns) (subst (ComesTo C c) e (halts (subst IsHalt (sym e) tt)))
-stopped C c0 c Stop.OutOfMemory r k h = tt
+-- its exit still fits
+pub fits_after : (C : CodeView) → is_valid C ≡ true → (q r : Runner) (b : BlockView) → Stands C (state_view q) → b ≡ block_at C q.block → r ≡ record q { slots = r.slots } → length r.slots.items ≡ length q.slots.items → FitsExit C b.exit (state_view r)
+fits_after C valid q r b s e same n =
+    subst (λ (z : Runner). FitsExit C b.exit (state_view z)) (sym same)
+    (exit_fits C valid (state_view q) b s e (views r.slots.items) (length-map r.slots.items view ∙ n ∙ sym (length-map q.slots.items view)))
 
-pub halted : (C : CodeView) (c0 c : State) (o : Result Halt OutOfMemory) (r : Runner) → HaltsNext C c0 c → IfOk o (λ h. HaltedAs (move C c) h r) → IfOk o (λ h. HaltsAs C c0 h r)
-halted C c0 c (Ok h) r n e = halt_reached C c0 c h r n.reached e
-halted C c0 c (Err x) r n e = tt
+-- a runner that a block or its exit stopped, and one that halted at the exit, after it came to the block
+pub stop_halts : {A : Type 0} → (C : CodeView) (c0 c : State) (e : Stop) (o : Result A OutOfMemory) (h : Halt) (r : Runner) → ((m : Move) → ComesTo C c m → ComesTo C c0 m) → Passed (move C c) false e r → OnOk o (HoldsStop e h) → OnOk o (HaltsAs C c0 h r)
+stop_halts C c0 c (Stop.Fault f p) (Ok x) h r k a s = subst (λ g. HaltsAs C c0 g r) (sym s) (halt_reached C c0 c (Halt.Faulted f p) r k a)
+stop_halts C c0 c Stop.OutOfMemory (Ok x) h r k a s = absurd s
+stop_halts C c0 c e (Err x) h r k a s = tt
 
-pub halted_waits : (C : CodeView) → is_valid C ≡ true → (c0 c : State) (o : Result Halt OutOfMemory) (r : Runner) → HaltsNext C c0 c → IfOk o (λ h. HaltedAs (move C c) h r) → IfOk o (λ h. WaitsAt C h r)
-halted_waits C valid c0 c (Ok h) r n e = halt_waits C (valid_parts C valid) c n.stands h r e
-halted_waits C valid c0 c (Err x) r n e = tt
+pub exit_halts : {A : Type 0} → (C : CodeView) (c0 c d : State) (x : Exit) (o : Result A OutOfMemory) (h : Halt) (r : Runner) → ((m : Move) → ComesTo C c m → ComesTo C c0 m) → move C c ≡ leaves C x d
+    → OnOk o ((D : CodeView) → HaltedAs (leaves D x d) h r) → OnOk o (HaltsAs C c0 h r)
+exit_halts C c0 c d x (Ok y) h r k e a = halt_reached C c0 c h r k (subst (λ m. HaltedAs m h r) (sym e) (a C))
+exit_halts C c0 c d x (Err y) h r k e a = tt
 
--- what an exit asks it asks here
-pub fits_here : (C : CodeView) (x : Exit) (c : State) → FitsExit C x c → FitsHere x c
-fits_here C (Jump next p) c h = tt
-fits_here C (Branch a yes_to no_to) c h = h
-fits_here C (Test b to left_at right_at yes_to no_to p) c h = (h.1, h.2)
-fits_here C (TestInt b to left_at z yes_to no_to p) c h = h.1
-fits_here C (Call f a n answer next p) c h = tt
-fits_here C (Return a) c h = h
-fits_here C (Cut hd a n answer next p) c h = tt
+pub exit_waits : {A : Type 0} → (C : CodeView) → is_valid C ≡ true → (c d : State) (x : Exit) (o : Result A OutOfMemory) (h : Halt) (r : Runner) → Stands C c → move C c ≡ leaves C x d
+    → OnOk o ((D : CodeView) → HaltedAs (leaves D x d) h r) → OnOk o (WaitsAt C h r)
+exit_waits C valid c d x (Ok y) h r s e a = halt_waits C (valid_parts C valid) c s h r (subst (λ m. HaltedAs m h r) (sym e) (a C))
+exit_waits C valid c d x (Err y) h r s e a = tt
+
+-- what an exit asks it asks where it halts the runner
+pub fits_halt : (C : CodeView) (x : Exit) (c : State) → FitsExit C x c → FitsHalt x c
+fits_halt C (Jump next p) c h = tt
+fits_halt C (Branch a yes_to no_to) c h = tt
+fits_halt C (Test b to left_at right_at yes_to no_to p) c h = tt
+fits_halt C (TestInt b to left_at z yes_to no_to p) c h = tt
+fits_halt C (Call f a n answer next p) c h = tt
+fits_halt C (Return a) c h = h.0
+fits_halt C (Cut hd a n answer next p) c h = h

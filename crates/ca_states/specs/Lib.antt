@@ -5,5 +5,6 @@ pub mod Valid
 pub mod ValidCode
 pub mod Views
 pub mod Told
+pub mod Operands
 pub mod Runs
 pub mod Standing

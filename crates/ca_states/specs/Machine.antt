@@ -1,7 +1,7 @@
 -- What a runner does. It stands at a block of the code, with a value in each slot; it runs the block's
 -- instructions and then leaves by its exit. It knows no term.
-use Rattle.std.specs.Prelude.{◌≡◌, ℕ, zero, suc, ◌-◌, List, [], ◌∷◌, ◌++◌, length, map, cond, nat_lt, replicate, slice_index_or, Result, Ok, Err}
-use Rattle.ca_value.specs.Tree.{Tree, nil, int, trees_of}
+use Rattle.std.specs.Prelude.{◌≡◌, ℕ, zero, suc, ◌-◌, List, [], ◌∷◌, ◌++◌, length, map, Bool, true, false, cond, nat_lt, replicate, slice_index_or, Result, Ok, Err}
+use Rattle.ca_value.specs.Tree.{Tree, nil, int, port, trees_of}
 use Rattle.ca_value.specs.Outcome.{Outcome}
 use Rattle.ca_value.specs.Builtins.{builtin_result}
 use Rattle.ca_value.specs.declared.builtin.Builtin.{Builtin}
@@ -38,10 +38,16 @@ slots_from a (suc n) = a ∷ slots_from (suc a) n
 abbrev pub reads : List Tree → List ℕ → List Tree
 reads s ks = map (read s) ks
 
--- What a slot holds once its value was taken out. Integers cost nothing to keep; nothing hangs on this.
+-- nil, an integer or a port
+abbrev pub is_plain : Tree → Bool
+is_plain nil = true
+is_plain (int z) = true
+is_plain (port n) = true
+is_plain t = false
+
+-- What a slot holds once its value was taken out. These cost nothing to keep; nothing hangs on this.
 unfoldable pub left_by : Tree → Tree
-left_by (int z) = int z
-left_by t = nil
+left_by t = cond (is_plain t) t nil
 
 -- the slots with one value, and with several, taken out
 abbrev pub taken : List Tree → ℕ → List Tree
@@ -133,10 +139,13 @@ waiting p answer c (Err f) = faults f p c.turns
 abbrev pub entered : CodeView → EntryPoint → List Tree → Frame → State → State
 entered C e vs f c = record { block = e.block; slots = begun_at C e vs; frames = f ∷ c.frames; turns = suc c.turns }
 
+-- the runner at that block, by a turn where its number isn't greater
+abbrev pub jumped : ℕ → Place → State → Move
+jumped next p c = cond (nat_lt c.block next) (goes (at_block next c)) (turned c.turns p (goes (record c { block = next; turns = suc c.turns })))
+
 -- the runner, at the end of its block, leaves by the exit
 abbrev pub leaves : CodeView → Exit → State → Move
-leaves C (Jump next p) c =
-    cond (nat_lt c.block next) (goes (at_block next c)) (turned c.turns p (goes (record c { block = next; turns = suc c.turns })))
+leaves C (Jump next p) c = jumped next p c
 leaves C (Branch a yes_to no_to) c = goes (at_block (cond (truth (read c.slots a)) yes_to no_to) c)
 leaves C (Test b to left right yes_to no_to p) c = tested p c yes_to no_to (applied b (read c.slots left ∷ read c.slots right ∷ []))
 leaves C (TestInt b to left z yes_to no_to p) c = tested p c yes_to no_to (applied b (read c.slots left ∷ int z ∷ []))

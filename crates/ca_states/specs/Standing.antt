@@ -1,9 +1,11 @@
 -- A runner of valid code, and where a runner may stand in code.
-use Rattle.std.specs.Prelude.{◌≡◌, ℕ, ◌<◌, ◌≤◌, List, [], ◌∷◌, length, map, reverse, take, Bool, true, false, ◌==◌, IsTrue}
-use Rattle.ca_value.specs.Tree.{Tree}
+use Rattle.std.specs.Prelude.{◌≡◌, ℕ, ◌<◌, ◌≤◌, List, [], ◌∷◌, length, map, reverse, take, Bool, true, false, ◌&&◌, ◌==◌, IsTrue, Result, Ok, Err}
+use Rattle.ca_value.specs.Tree.{Tree, nil, bool, int, port}
 use Rattle.ca_value.specs.View.{view, views}
 use Rattle.ca_value.specs.Builtins.{admits}
-use Rattle.ca_term.specs.Operation.{want_view}
+use Rattle.ca_term.specs.declared.fault.Fault.{Fault}
+use Rattle.ca_term.specs.declared.place.Place.{Place}
+use Rattle.ca_term.specs.Operation.{OpView, taking, putting, op_view, want_view}
 use Rattle.ca_states.specs.declared.code.EntryPoint.{EntryPoint}
 use Rattle.ca_states.specs.declared.code.Exit.{Exit}
 use Rattle.ca_states.specs.declared.code.Exit.TheVariants.{Jump, Branch, Test, TestInt, Call, Return, Cut}
@@ -77,11 +79,51 @@ HaltedAs m (halt.Cut w) r = m ≡ waits (want_view w) (waiting_slot r) (state_vi
 HaltedAs m (halt.Ended v) r = m ≡ ends (view v) (state_view r).turns
 HaltedAs m (halt.Faulted f p) r = m ≡ faults f p (state_view r).turns
 
+-- where it is overwritten, nothing of the value is to be let go
+abbrev pub is_bare : Tree → Bool
+is_bare nil = true
+is_bare (bool b) = true
+is_bare (int z) = true
+is_bare (port n) = true
+is_bare t = false
+
+-- so of a halt
+abbrev pub is_bare_op : OpView → Bool
+is_bare_op (taking c) = is_bare c
+is_bare_op (putting c v) = is_bare c && is_bare v
+is_bare_op op = false
+
+abbrev pub is_bare_halt : Halt → Bool
+is_bare_halt (halt.Cut w) = is_bare_op (op_view w.op)
+is_bare_halt (halt.Ended v) = is_bare (view v)
+is_bare_halt (halt.Faulted f p) = true
+
+-- the halt is at the operation that was asked for, or by its fault
+abbrev pub HoldsAsked : Halt → Result OpView Fault → Place → Type 0
+HoldsAsked (halt.Cut w) o p = (o ≡ Ok (op_view w.op)) × (w.place ≡ p)
+HoldsAsked (halt.Ended v) o p = ⊥
+HoldsAsked (halt.Faulted f q) o p = (o ≡ Err f) × (q ≡ p)
+
+-- it is at the end, with that value
+abbrev pub EndsAs : Halt → Tree → Type 0
+EndsAs (halt.Cut w) t = ⊥
+EndsAs (halt.Ended v) t = view v ≡ t
+EndsAs (halt.Faulted f p) t = ⊥
+
+-- it is by that fault
+abbrev pub HoldsStop : Stop → Halt → Type 0
+HoldsStop (Stop.Fault f p) h = h ≡ halt.Faulted f p
+HoldsStop Stop.OutOfMemory h = ⊥
+
 -- what a block or an exit that doesn't halt came to: the runner goes on, or stops; want of memory says nothing
 abbrev pub Passed : Move → Bool → Stop → Runner → Type 0
 Passed m true e r = m ≡ goes (state_view r)
 Passed m false (Stop.Fault f p) r = m ≡ faults f p (state_view r).turns
 Passed m false Stop.OutOfMemory r = Unit {0}
+
+-- a runner with these parts goes on
+abbrev pub goes_at : ℕ → List Tree → List Frame → ℕ → Move
+goes_at block slots frames turns = goes (record { block = block; slots = slots; frames = frames; turns = turns })
 
 -- an operation halts the runner, and a return where no call waits
 abbrev pub halts_at : Exit → List Frame → Bool
@@ -93,17 +135,6 @@ halts_at (Call f a n answer next p) fs = false
 halts_at (Return a) [] = true
 halts_at (Return a) (f ∷ fs) = false
 halts_at (Cut h a n answer next p) fs = true
-
--- from a state a runner came to a block that it halts at
-pub record HaltsNext (C : CodeView) (c d : State) : Type 0 where
-  pub stands : Stands C d
-  pub reached : (m : Move) → ComesTo C d m → ComesTo C c m
-  pub halts : halts_at (block_at C d.block).exit d.frames ≡ true
-
--- from a state a runner stopped
-abbrev pub StopsAfter : CodeView → State → Stop → Runner → Type 0
-StopsAfter C c (Stop.Fault f p) r = ComesTo C c (faults f p (state_view r).turns)
-StopsAfter C c Stop.OutOfMemory r = Unit {0}
 
 -- from a state a runner came to this halt
 abbrev pub HaltsAs : CodeView → State → Halt → Runner → Type 0
@@ -138,12 +169,12 @@ FitsExit C (Cut h a n answer next p) c = IsTrue (are_below (length c.slots) (slo
 abbrev pub FitsAnyway : CodeView → Exit → State → Type 0
 FitsAnyway C x c = (s : List Tree) → length s ≡ length c.slots → FitsExit C x (record c { slots = s })
 
--- what is asked of an exit that is left in the runner itself
-abbrev pub FitsHere : Exit → State → Type 0
-FitsHere (Jump next p) c = Unit {0}
-FitsHere (Branch a yes_to no_to) c = a < length c.slots
-FitsHere (Test b to left right yes_to no_to p) c = (left < length c.slots) × (right < length c.slots)
-FitsHere (TestInt b to left z yes_to no_to p) c = left < length c.slots
-FitsHere (Call f a n answer next p) c = Unit {0}
-FitsHere (Return a) c = (a < length c.slots) × TakesValue c.frames
-FitsHere (Cut h a n answer next p) c = Unit {0}
+-- what is asked of an exit that the runner halts at
+abbrev pub FitsHalt : Exit → State → Type 0
+FitsHalt (Jump next p) c = Unit {0}
+FitsHalt (Branch a yes_to no_to) c = Unit {0}
+FitsHalt (Test b to left right yes_to no_to p) c = Unit {0}
+FitsHalt (TestInt b to left z yes_to no_to p) c = Unit {0}
+FitsHalt (Call f a n answer next p) c = Unit {0}
+FitsHalt (Return a) c = a < length c.slots
+FitsHalt (Cut h a n answer next p) c = IsTrue (are_below (length c.slots) (slots_from a n))

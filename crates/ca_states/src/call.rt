@@ -22,6 +22,7 @@ const DEEPEST_CALL: u64 = 256;
 
 impl Runner {
     /// A function begins with the values that are taken out of the slots.
+    #[inline(never)]
     pub(crate) fn call(
         &mut self,
         alloc: Global,

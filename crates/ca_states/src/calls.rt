@@ -1,7 +1,7 @@
 //! The calls that a runner stands in.
-ghost use Rattle.std.specs.Prelude.{◌≡◌, ◌≤◌, length, OnOk};
+ghost use Rattle.std.specs.Prelude.{◌≡◌, ◌≤◌, length};
 
-use crate::slots::{clear_from, hand_over, let_go, take_over};
+use crate::slots::{fill, set_at, take_at, take_into};
 use ca_value::memory::OutOfMemory;
 use ca_value::value::Value;
 use std::alloc::Global;
@@ -15,7 +15,7 @@ pub struct Frame {
     pub(crate) slots: Vec<Value>,
 }
 
-/// The calls that wait, the innermost last. Behind them are the frames of calls that returned, whose slots are used
+/// The calls that wait, the innermost last. Behind them are the frames of calls that returned, whose room is used
 /// again: so a call takes memory only where it stands deeper, or is wider, than those before it.
 #[derive(Drop)]
 pub struct Calls {
@@ -24,23 +24,12 @@ pub struct Calls {
     ghost within: { depth ≤ length frames.items },
 }
 
-// Slots, so many; those that are there are used again.
-fn fit(slots: &mut Vec<Value>, width: u64) -> Result<(), OutOfMemory>
-    ensures { OnOk result (length slots.new.items ≡ width) }
-{
-    slots.truncate(width as usize);
-    while (slots.len() as u64) < width {
-        slots.push(Value::Nil)?;
-    }
-    Ok(())
-}
-
 impl Calls {
-    ghost use Rattle.std.specs.Prelude.{◌<◌, ◌∷◌, ℕ, [], false, IfOk, IsTrue, ◌↔◌};
+    ghost use Rattle.std.specs.Prelude.{◌<◌, ◌∷◌, ℕ, [], false, IfOk, OnOk, IsTrue, ◌↔◌};
     ghost use Rattle.ca_value.specs.View.{views};
-    ghost use Rattle.ca_states.specs.Machine.{begun, goes, read, reads, returned, slots_from, taken_all};
+    ghost use Rattle.ca_states.specs.Machine.{begun, read, reads, returned, slots_from, taken_all};
     ghost use Rattle.ca_states.specs.Valid.{are_below};
-    ghost use Rattle.ca_states.specs.Standing.{calls_view, frame_view, halts_at, TakesValue};
+    ghost use Rattle.ca_states.specs.Standing.{calls_view, frame_view, goes_at, halts_at, TakesValue};
     ghost use Rattle.ca_states.specs.declared.code.Exit.TheVariants.{Return};
 
     /// None.
@@ -102,16 +91,12 @@ impl Calls {
             })?;
         }
         let frame = &mut self.frames[self.depth];
-        fit(&mut frame.slots, width)?;
         frame.next = next;
         frame.answer = answer;
-        take_over(
-            frame.slots.as_mut_slice(),
-            slots.as_mut_slice(),
-            from,
-            count,
-        );
-        clear_from(frame.slots.as_mut_slice(), count);
+        frame.slots.clear();
+        frame.slots.reserve_exact(width as usize)?;
+        take_into(&mut frame.slots, slots.as_mut_slice(), from, count)?;
+        fill(&mut frame.slots, width)?;
         mem::swap(&mut frame.slots, slots);
         self.depth += 1;
         Ok(())
@@ -123,18 +108,14 @@ impl Calls {
         requires slot { slot < length slots.old.items }
         requires takes { TakesValue (calls_view self.old) }
         requires waits { halts_at (Return slot) (calls_view self.old) ≡ false }
-        ensures { (turns : ℕ) → returned (read (views slots.old.items) slot) (calls_view self.old) turns ≡ goes (record { block = result; slots = views slots.new.items; frames = calls_view self.new; turns = turns }) }
+        ensures { (turns : ℕ) → returned (read (views slots.old.items) slot) (calls_view self.old) turns ≡ goes_at result (views slots.new.items) (calls_view self.new) turns }
     {
         self.depth -= 1;
         let frame = &mut self.frames[self.depth];
         mem::swap(&mut frame.slots, slots);
-        hand_over(
-            frame.slots.as_mut_slice(),
-            slot,
-            slots.as_mut_slice(),
-            frame.answer,
-        );
-        let_go(frame.slots.as_mut_slice());
+        let value = take_at(frame.slots.as_mut_slice(), slot);
+        set_at(slots.as_mut_slice(), frame.answer, value);
+        frame.slots.clear();
         frame.next
     }
 }

@@ -22,7 +22,7 @@ pub struct Code {
 
 /// Where a go body or a function begins: its first block, and how many values it takes, which stand in the
 /// first slots there.
-#[derive(Clone, Copy, PartialEq, Eq, Debug)]
+#[derive(Clone, Copy)]
 pub struct EntryPoint {
     pub block: u64,
     pub values: u64,
@@ -115,7 +115,7 @@ pub enum Instr {
 }
 
 /// Where a block leads. `next`, `yes` and `no` are blocks.
-#[derive(Clone, Copy, PartialEq, Eq, Debug)]
+#[derive(Clone, Copy)]
 pub enum Exit {
     /// A turn, where the block doesn't have a greater number.
     Jump {
@@ -176,7 +176,7 @@ pub enum Exit {
 }
 
 /// What was last said of a slot, and in which block, counted from 1; in none where that is 0.
-#[derive(Clone, Copy, PartialEq, Eq, Debug)]
+#[derive(Clone, Copy)]
 pub struct Mark {
     pub block: u64,
     pub known: bool,

@@ -1,7 +1,6 @@
 //! Where a text begins, and the slots that it begins with.
-ghost use Rattle.std.specs.Prelude.{◌≡◌, ◌<◌, ◌≤◌, ◌++◌, length, replicate, IfOk};
-ghost use Rattle.ca_value.specs.Seq.{list, spare};
-ghost use Rattle.ca_value.specs.Tree.{nil};
+ghost use Rattle.std.specs.Prelude.{◌≡◌, ◌<◌, ◌≤◌, length, IfOk};
+ghost use Rattle.ca_value.specs.Seq.{list};
 ghost use Rattle.ca_value.specs.View.{views};
 ghost use Rattle.ca_states.specs.Code.{size, block_at, block_view, function_at, body_at, code_view};
 ghost use Rattle.ca_states.specs.Machine.{begun};
@@ -9,6 +8,7 @@ ghost use Rattle.ca_states.specs.Standing.{entry_at};
 
 use crate::code::{Block, Code, EntryPoint};
 use crate::runner::Start;
+use crate::slots::fill;
 use ca_value::memory::OutOfMemory;
 use ca_value::seq::Seq;
 use ca_value::value::{Items, Value};
@@ -56,24 +56,14 @@ pub(crate) fn block_at(code: &Code, number: u64) -> &Block
     &code.blocks.as_slice()[number as usize]
 }
 
-/// So many more slots, which hold nil. There is room.
-pub(crate) fn fill(slots: &mut Items, more: u64)
-    requires { more ≤ spare slots.old }
-    ensures { views (list slots.new) ≡ views (list slots.old) ++ replicate more nil }
-{
-    for _i in 0..more {
-        slots.push(Value::Nil);
-    }
-}
-
 /// New slots, so many, with the values in the first of them.
-pub(crate) fn begun(values: Items, width: u64) -> Result<Items, OutOfMemory>
+pub(crate) fn begun(values: Items, width: u64) -> Result<Vec<Value>, OutOfMemory>
     requires { length (list values) ≤ width }
-    ensures { IfOk result (λ s. views (list s) ≡ begun width (views (list values))) }
+    ensures { IfOk result (λ s. views s.items ≡ begun width (views (list values))) }
 {
-    let mut slots = values;
-    let more = width - slots.len();
-    slots.reserve(more)?;
-    fill(&mut slots, more);
+    let mut slots = values.into_vec();
+    let more = width as usize - slots.len();
+    slots.reserve_exact(more)?;
+    fill(&mut slots, width)?;
     Ok(slots)
 }

@@ -1,63 +1,105 @@
-//! The block that a runner halts at.
-ghost use Rattle.std.specs.Prelude.{◌≡◌, ◌<◌, ◌≤◌, true, length, map, IfOk, IsTrue};
-ghost use Rattle.ca_value.specs.Seq.{list};
+//! What a runner halts as, and how it halts at a block's exit.
+ghost use Rattle.std.specs.Prelude.{◌≡◌, ◌<◌, true, length, OnOk};
 ghost use Rattle.ca_value.specs.View.{views};
-ghost use Rattle.ca_value.specs.Tree.{trees_of};
-ghost use Rattle.ca_term.specs.Asking.{asked};
-ghost use Rattle.ca_states.specs.Code.{block_at, block_view, code_view, instruction};
-ghost use Rattle.ca_states.specs.Machine.{leaves, move, reads, slots_from, taken_all, waiting};
-ghost use Rattle.ca_states.specs.Valid.{are_below, each, is_instruction_in_range};
-ghost use Rattle.ca_states.specs.Standing.{calls_view, state_view, halts_at, FitsAnyway, FitsExit, HaltedAs};
+ghost use Rattle.ca_states.specs.Code.{CodeView};
+ghost use Rattle.ca_states.specs.Machine.{leaves, read};
+ghost use Rattle.ca_states.specs.Standing.{calls_view, state_view, halts_at, FitsHalt, HaltedAs, EndsAs, HoldsStop, is_bare_halt};
 
-use crate::code::{Block, Code, Exit};
+use crate::code::Exit;
+use crate::cutting::cut;
 use crate::runner::{Halt, Runner};
-use crate::slots::{clear_row, row_at, take_at};
+use crate::slots::{is_bare, take_at};
 use crate::stop::Stop;
-use ca_asking::asking::ask;
-use ca_term::head::Head;
-use ca_term::operation::Want;
-use ca_term::place::Place;
+use ca_term::operation::Op;
 use ca_value::memory::OutOfMemory;
+use ca_value::value::Value;
 use std::alloc::Global;
+use std::mem;
 
-impl Runner {
-    // At an operation over the values that are taken out of the slots.
-    fn cut(
-        &mut self,
-        alloc: Global,
-        head: Head,
-        from: u64,
-        count: u64,
-        answer: u64,
-        next: u64,
-        place: Place,
-    ) -> Result<Halt, OutOfMemory>
-        requires { IsTrue (are_below (length self.old.slots.items) (slots_from from count)) }
-        ensures { IfOk result (λ h. HaltedAs (waiting place answer (record (state_view self.old) { block = next; slots = taken_all (views self.old.slots.items) (slots_from from count) }) (asked head (trees_of (reads (views self.old.slots.items) (slots_from from count))) place)) h self.new) }
+impl Halt {
+    /// That of a runner that has not run yet.
+    pub fn none() -> Halt
+        ensures { is_bare_halt result ≡ true }
     {
-        let asked = ask(
-            alloc,
-            head,
-            row_at(self.slots.as_slice(), from, count),
-            place,
-        )?;
-        clear_row(self.slots.as_mut_slice(), from, count);
-        self.block = next;
-        self.answer = answer;
-        match asked {
-            Ok(op) => Ok(Halt::Cut(Want { op, place })),
-            Err(fault) => Ok(Halt::Faulted(fault, place)),
+        Halt::Ended(Value::Nil)
+    }
+
+    // Whether nothing is let go of where it is overwritten: so of most operations that were answered.
+    #[inline(always)]
+    fn is_bare(&self) -> bool
+        ensures { result ≡ is_bare_halt self.now }
+    {
+        match self {
+            Halt::Cut(want) => match &want.op {
+                Op::Take(channel) => is_bare(channel),
+                Op::Put(channel, value) => is_bare(channel) && is_bare(value),
+                _ => false,
+            },
+            Halt::Ended(value) => is_bare(value),
+            Halt::Faulted(_, _) => true,
         }
     }
 
-    // At the exit.
-    fn halt_at(&mut self, alloc: Global, code: &Code, exit: Exit) -> Result<Halt, OutOfMemory>
-        requires fits { FitsExit (code_view code.now) exit (state_view self.old) }
-        requires halts { halts_at exit (calls_view self.old.calls) ≡ true }
-        ensures { IfOk result (λ h. HaltedAs (leaves (code_view code.now) exit (state_view self.old)) h self.new) }
+    /// What it holds is let go; another may be written over it then.
+    #[inline(always)]
+    pub fn clear(&mut self)
+        ensures { is_bare_halt self.new ≡ true }
+    {
+        if !self.is_bare() {
+            self.let_go();
+        }
+    }
+
+    #[inline(never)]
+    fn let_go(&mut self)
+        ensures { is_bare_halt self.new ≡ true }
+    {
+        *self = Halt::none();
+    }
+}
+
+// At the end, with the slot's value.
+#[inline(never)]
+fn end(slots: &mut [Value], slot: u64, halt: &mut Halt)
+    requires { slot < length slots.old }
+    ensures { EndsAs halt.new (read (views slots.old) slot) }
+{
+    *halt = Halt::Ended(take_at(slots, slot));
+}
+
+/// By a fault; not where memory is wanted.
+#[inline(never)]
+pub(crate) fn halt_by(stop: Stop, halt: &mut Halt) -> Result<(), OutOfMemory>
+    ensures { OnOk result (HoldsStop stop halt.new) }
+{
+    match stop {
+        Stop::Fault(fault, place) => {
+            *halt = Halt::Faulted(fault, place);
+            Ok(())
+        }
+        Stop::OutOfMemory => Err(OutOfMemory),
+    }
+}
+
+impl Runner {
+    /// Halts at the exit.
+    #[inline(always)]
+    pub(crate) fn halt(
+        &mut self,
+        alloc: Global,
+        exit: &Exit,
+        halt: &mut Halt,
+    ) -> Result<(), OutOfMemory>
+        requires fits { FitsHalt exit.now (state_view self.old) }
+        requires halts { halts_at exit.now (calls_view self.old.calls) ≡ true }
+        requires bare { is_bare_halt halt.old ≡ true }
+        ensures { OnOk result ((C : CodeView) → HaltedAs (leaves C exit.now (state_view self.old)) halt.new self.new) }
     {
         match exit {
-            Exit::Return { slot } => Ok(Halt::Ended(take_at(self.slots.as_mut_slice(), slot))),
+            Exit::Return { slot } => {
+                end(self.slots.as_mut_slice(), *slot, halt);
+                Ok(())
+            }
             Exit::Cut {
                 head,
                 from,
@@ -65,32 +107,20 @@ impl Runner {
                 answer,
                 next,
                 place,
-            } => self.cut(alloc, head, from, count, answer, next, place),
+            } => {
+                self.block = *next;
+                self.answer = *answer;
+                cut(
+                    alloc,
+                    self.slots.as_mut_slice(),
+                    head,
+                    *from,
+                    *count,
+                    *place,
+                    halt,
+                )
+            }
             _ => unreachable!(),
-        }
-    }
-
-    /// One block of the code, whose exit halts the runner.
-    #[inline(never)]
-    pub(crate) fn halt(
-        &mut self,
-        alloc: Global,
-        code: &Code,
-        block: &Block,
-    ) -> Result<Halt, OutOfMemory>
-        requires same { block_view block.now ≡ block_at (code_view code.now) self.old.block }
-        requires instrs { IsTrue (each (is_instruction_in_range (length self.old.slots.items)) (map instruction (list block.now.instrs))) }
-        requires fits { FitsAnyway (code_view code.now) block.now.exit (state_view self.old) }
-        requires halts { halts_at block.now.exit (calls_view self.old.calls) ≡ true }
-        ensures { IfOk result (λ h. HaltedAs (move (code_view code.now) (state_view self.old)) h self.new) }
-    {
-        let mut stop = Stop::OutOfMemory;
-        if self.run_block(alloc, block, &mut stop) {
-            return self.halt_at(alloc, code, block.exit);
-        }
-        match stop {
-            Stop::Fault(fault, place) => Ok(Halt::Faulted(fault, place)),
-            Stop::OutOfMemory => Err(OutOfMemory),
         }
     }
 }

@@ -14,6 +14,7 @@ mod call;
 mod calls;
 mod check;
 pub mod code;
+mod cutting;
 mod entry;
 mod halt;
 mod instr;

@@ -1,5 +1,5 @@
 //! A runner of valid code: it goes on from operation to operation.
-ghost use Rattle.std.specs.Prelude.{◌≡◌, ◌<◌, ◌≤◌, true, length, map, IfOk, IfErr, OnOk};
+ghost use Rattle.std.specs.Prelude.{◌≡◌, ◌<◌, ◌≤◌, true, length, IfOk, OnOk};
 ghost use Rattle.ca_value.specs.Seq.{list};
 ghost use Rattle.ca_value.specs.View.{view, views};
 ghost use Rattle.ca_states.specs.Code.{code_view, CodeView};
@@ -7,13 +7,14 @@ ghost use Rattle.ca_states.specs.Machine.{started, calling, resumed};
 ghost use Rattle.ca_states.specs.Valid.{is_valid};
 ghost use Rattle.ca_states.specs.ValidCode.{valid_code};
 ghost use Rattle.ca_states.specs.declared.runner.Start.TheVariants.{Function};
-ghost use Rattle.ca_states.specs.Standing.{state_view, waiting_slot, entry_at, is_start, IsStart, Stands, HaltsAs, HaltsNext, StopsAfter, WaitsAt};
+ghost use Rattle.ca_states.specs.Standing.{state_view, waiting_slot, entry_at, is_start, IsStart, Stands, HaltsAs, WaitsAt, is_bare_halt};
 
 use crate::calls::{Calls, Frame};
 use crate::code::Code;
 use crate::entry::{begun, block_at, entry_point};
+use crate::halt::halt_by;
 use crate::range::takes;
-use crate::slots::put_at;
+use crate::slots::set_at;
 use crate::stop::Stop;
 use crate::valid_code::ValidCode;
 use ca_term::fault::Fault;
@@ -24,7 +25,7 @@ use ca_value::value::{Items, Value};
 use std::alloc::Global;
 
 /// Where a runner starts: at the main text, at a go body or at a function, by its number.
-#[derive(Clone, Copy, PartialEq, Eq, Debug)]
+#[derive(Clone, Copy)]
 pub enum Start {
     Main,
     Go(u64),
@@ -80,7 +81,7 @@ impl Runner {
         let slots = begun(values, block_at(code, entry.block).width)?;
         Ok(Runner {
             block: entry.block,
-            slots: slots.into_vec(),
+            slots,
             calls: Calls::new(alloc),
             turns: 0,
             answer: 0,
@@ -106,7 +107,7 @@ impl Runner {
         let outermost = Frame {
             next,
             answer: 0,
-            slots: slots.into_vec(),
+            slots,
         };
         let calls = Calls::one(alloc, outermost)?;
         runner.calls = calls;
@@ -120,41 +121,60 @@ impl Runner {
         ensures halts { IfOk result (λ h. HaltsAs (valid_code code.now) (state_view self.old) h self.new) }
         ensures waits { IfOk result (λ h. WaitsAt (valid_code code.now) h self.new) }
     {
-        let code = code.code();
-        match self.go_on(alloc, code) {
-            Ok(()) => self.halt(alloc, code, block_at(code, self.block)),
-            Err(Stop::Fault(fault, place)) => Ok(Halt::Faulted(fault, place)),
-            Err(Stop::OutOfMemory) => Err(OutOfMemory),
-        }
+        let mut halt = Halt::none();
+        self.run_to(alloc, code, &mut halt)?;
+        Ok(halt)
     }
 
-    // Goes on, block by block, to one whose exit halts it.
+    /// The same, with the halt in its place: what was there is let go.
     #[inline(never)]
-    fn go_on(&mut self, alloc: Global, code: &Code) -> Result<(), Stop>
+    pub fn run_to(
+        &mut self,
+        alloc: Global,
+        code: &ValidCode,
+        halt: &mut Halt,
+    ) -> Result<(), OutOfMemory>
+        requires { Stands (valid_code code.now) (state_view self.old) }
+        ensures halts { OnOk result (HaltsAs (valid_code code.now) (state_view self.old) halt.new self.new) }
+        ensures waits { OnOk result (WaitsAt (valid_code code.now) halt.new self.new) }
+    {
+        let code = code.code();
+        halt.clear();
+        self.go_on(alloc, code, halt)
+    }
+
+    // Goes on, block by block, to one that halts it. In the halt nothing is left to let go.
+    #[inline(always)]
+    fn go_on(&mut self, alloc: Global, code: &Code, halt: &mut Halt) -> Result<(), OutOfMemory>
         requires valid { is_valid (code_view code.now) ≡ true }
         requires stands { Stands (code_view code.now) (state_view self.old) }
-        ensures on { OnOk result (HaltsNext (code_view code.now) (state_view self.old) (state_view self.new)) }
-        ensures stop { IfErr result (λ e. StopsAfter (code_view code.now) (state_view self.old) e self.new) }
+        requires bare { is_bare_halt halt.old ≡ true }
+        ensures halts { OnOk result (HaltsAs (code_view code.now) (state_view self.old) halt.new self.new) }
+        ensures waits { OnOk result (WaitsAt (code_view code.now) halt.new self.new) }
     {
         let mut stop = Stop::OutOfMemory;
         loop {
             let block = block_at(code, self.block);
-            if self.halts_at(&block.exit) {
-                return Ok(());
+            if !self.run_block(alloc, block, &mut stop) {
+                return halt_by(stop, halt);
             }
-            if !self.pass(alloc, code, block, &mut stop) {
-                return Err(stop);
+            if self.halts_at(&block.exit) {
+                return self.halt(alloc, &block.exit, halt);
+            }
+            if !self.leave(alloc, code, &block.exit, &mut stop) {
+                return halt_by(stop, halt);
             }
         }
     }
 
     /// The answer to the operation that it halted at.
+    #[inline(always)]
     pub fn answer(&mut self, answer: Value)
         requires { waiting_slot self.old < length (state_view self.old).slots }
         ensures resumed { state_view self.new ≡ resumed (view answer) (waiting_slot self.old) (state_view self.old) }
         ensures stands { (C : CodeView) → Stands C (state_view self.old) → Stands C (state_view self.new) }
     {
-        put_at(self.slots.as_mut_slice(), self.answer, answer);
+        set_at(self.slots.as_mut_slice(), self.answer, answer);
         self.turns = 0;
     }
 }

@@ -1,18 +1,27 @@
 //! A runner's slots: a value of one is read where it lies, copied, taken out or overwritten.
 //!
-//! The small functions are inlined into the runner's loop, where integers and truths are all that is touched. What
-//! makes or lets go of another value is a function of its own, which is not.
-ghost use Rattle.std.specs.Prelude.{◌≡◌, ◌<◌, length, take, replicate, IfOk, OnOk, IfSome, IsTrue, ◌≤◌, ◌+◌, ◌-◌, ◌++◌, ◌∷◌, []};
-ghost use Rattle.ca_value.specs.Seq.{list, spare};
-ghost use Rattle.ca_value.specs.Tree.{int, bool, nil};
+//! What is inlined into the runner's loop touches numbers and ports alone. What makes or lets go of another value is a
+//! function of its own, which is not inlined.
+ghost use Rattle.std.specs.Prelude.{◌≡◌, ◌<◌, true, false, length, IfOk, OnOk, IfSome, IfNone, IsTrue, ◌≤◌, ◌+◌, ◌++◌};
+ghost use Rattle.ca_value.specs.Seq.{list};
+ghost use Rattle.ca_value.specs.Tree.{int};
 ghost use Rattle.ca_value.specs.View.{view, views};
-ghost use Rattle.ca_states.specs.Machine.{read, write, reads, taken, taken_all, slots_from};
+ghost use Rattle.ca_states.specs.Machine.{begun, is_plain, read, write, reads, taken, taken_all, slots_from};
+ghost use Rattle.ca_states.specs.Operands.{operand_value, IsThere};
+ghost use Rattle.ca_states.specs.Standing.{is_bare};
 ghost use Rattle.ca_states.specs.Valid.{are_below};
 
 use ca_value::memory::OutOfMemory;
 use ca_value::value::{Items, Value};
 use std::alloc::Global;
 use std::mem;
+
+/// An operand of a builtin: a slot's value, or an integer of the text.
+#[derive(Clone, Copy)]
+pub(crate) enum Operand {
+    Slot(u64),
+    Int(i64),
+}
 
 /// The slot's value, where it lies.
 #[inline(always)]
@@ -36,122 +45,60 @@ pub(crate) fn int_at(slots: &[Value], slot: u64) -> Option<i64>
     }
 }
 
-// Whether nothing is let go of where the value is overwritten.
+/// The integer that the operand is, if it is one.
 #[inline(always)]
-fn is_bare(value: &Value) -> bool {
+pub(crate) fn int_of(slots: &[Value], operand: Operand) -> Option<i64>
+    requires { IsThere operand (length slots.now) }
+    ensures { IfSome result (λ n. operand_value operand (views slots.now) ≡ int n) }
+{
+    match operand {
+        Operand::Slot(slot) => int_at(slots, slot),
+        Operand::Int(n) => Some(n),
+    }
+}
+
+/// Whether nothing is let go where the value is overwritten.
+#[inline(always)]
+pub(crate) fn is_bare(value: &Value) -> bool
+    ensures { result ≡ is_bare (view value.now) }
+{
     match value {
         Value::Nil | Value::Bool(_) | Value::Int(_) | Value::Port(_) => true,
         _ => false,
     }
 }
 
-/// The slot has that integer.
+/// A copy of the value, if it is nil, an integer or a port: a plain value, which is copied as it lies, and stays where it is
+/// taken out. A boolean lies elsewhere in a value, and would cost the others a jump.
 #[inline(always)]
-#[tactic(auto, using(crate::proofs::SlotLaws::write_view))]
-pub(crate) fn set_int(slots: &mut [Value], slot: u64, n: i64)
-    requires { slot < length slots.old }
-    ensures written { views slots.new ≡ write (views slots.old) slot (int n) }
-    ensures same { length slots.new ≡ length slots.old }
+pub(crate) fn plain_of(value: &Value) -> Option<Value>
+    ensures same { IfSome result (λ v. view value.now ≡ view v) }
+    ensures plain { IfSome result (λ v. is_plain (view v) ≡ true) }
+    ensures other { IfNone result (is_plain (view value.now) ≡ false) }
 {
-    if is_bare(value_at(slots, slot)) {
-        mem::forget(mem::replace(&mut slots[slot as usize], Value::Int(n)));
-    } else {
-        put_int(slots, slot, n);
+    match value {
+        Value::Nil => Some(Value::Nil),
+        Value::Int(n) => Some(Value::Int(*n)),
+        Value::Port(port) => Some(Value::Port(*port)),
+        _ => None,
     }
 }
 
-#[inline(never)]
-fn put_int(slots: &mut [Value], slot: u64, n: i64)
-    requires { slot < length slots.old }
-    ensures written { views slots.new ≡ write (views slots.old) slot (int n) }
-    ensures same { length slots.new ≡ length slots.old }
-{
-    put_at(slots, slot, Value::Int(n));
-}
-
-/// The slot has that truth.
+/// A copy of the slot's value, if that is plain.
 #[inline(always)]
-#[tactic(auto, using(crate::proofs::SlotLaws::write_view))]
-pub(crate) fn set_bool(slots: &mut [Value], slot: u64, truth: bool)
-    requires { slot < length slots.old }
-    ensures written { views slots.new ≡ write (views slots.old) slot (bool truth) }
-    ensures same { length slots.new ≡ length slots.old }
-{
-    if is_bare(value_at(slots, slot)) {
-        mem::forget(mem::replace(&mut slots[slot as usize], Value::Bool(truth)));
-    } else {
-        put_bool(slots, slot, truth);
-    }
-}
-
-#[inline(never)]
-fn put_bool(slots: &mut [Value], slot: u64, truth: bool)
-    requires { slot < length slots.old }
-    ensures written { views slots.new ≡ write (views slots.old) slot (bool truth) }
-    ensures same { length slots.new ≡ length slots.old }
-{
-    put_at(slots, slot, Value::Bool(truth));
-}
-
-// The slot holds nil.
-#[inline(always)]
-#[tactic(auto, using(crate::proofs::SlotLaws::write_view))]
-fn set_nil(slots: &mut [Value], slot: u64)
-    requires { slot < length slots.old }
-    ensures written { views slots.new ≡ write (views slots.old) slot nil }
-    ensures same { length slots.new ≡ length slots.old }
-{
-    if is_bare(value_at(slots, slot)) {
-        mem::forget(mem::replace(&mut slots[slot as usize], Value::Nil));
-    } else {
-        put_nil(slots, slot);
-    }
-}
-
-#[inline(never)]
-fn put_nil(slots: &mut [Value], slot: u64)
-    requires { slot < length slots.old }
-    ensures written { views slots.new ≡ write (views slots.old) slot nil }
-    ensures same { length slots.new ≡ length slots.old }
-{
-    put_at(slots, slot, Value::Nil);
-}
-
-/// From one slot on all hold nil.
-pub(crate) fn clear_from(slots: &mut [Value], from: u64)
-    requires { from ≤ length slots.old }
-    ensures cleared { views slots.new ≡ take from (views slots.old) ++ replicate (length slots.old - from) nil }
-    ensures same { length slots.new ≡ length slots.old }
-{
-    for slot in from..width_of(slots) {
-        set_nil(slots, slot);
-    }
-}
-
-/// What takes memory is let go.
-pub(crate) fn let_go(slots: &mut [Value]) {
-    for slot in 0..width_of(slots) {
-        if !is_bare(value_at(slots, slot)) {
-            put_nil(slots, slot);
-        }
-    }
-}
-
-/// A copy of the slot's value.
-#[inline(always)]
-pub(crate) fn copy_at(alloc: Global, slots: &[Value], slot: u64) -> Result<Value, OutOfMemory>
+pub(crate) fn plain_at(slots: &[Value], slot: u64) -> Option<Value>
     requires { slot < length slots.now }
-    ensures { IfOk result (λ v. view v ≡ read (views slots.now) slot) }
+    ensures same { IfSome result (λ v. read (views slots.now) slot ≡ view v) }
+    ensures plain { IfSome result (λ v. is_plain (view v) ≡ true) }
+    ensures other { IfNone result (is_plain (read (views slots.now) slot) ≡ false) }
 {
-    if let Some(n) = int_at(slots, slot) {
-        return Ok(Value::Int(n));
-    }
-    value_at(slots, slot).copy(alloc)
+    plain_of(value_at(slots, slot))
 }
 
 /// The slot has another value.
+#[inline(always)]
 #[tactic(auto, using(crate::proofs::SlotLaws::write_view))]
-pub(crate) fn put_at(slots: &mut [Value], slot: u64, value: Value)
+pub(crate) fn set_at(slots: &mut [Value], slot: u64, value: Value)
     requires { slot < length slots.old }
     ensures written { views slots.new ≡ write (views slots.old) slot (view value) }
     ensures same { length slots.new ≡ length slots.old }
@@ -159,34 +106,61 @@ pub(crate) fn put_at(slots: &mut [Value], slot: u64, value: Value)
     if is_bare(value_at(slots, slot)) {
         mem::forget(mem::replace(&mut slots[slot as usize], value));
     } else {
-        slots[slot as usize] = value;
+        put_at(slots, slot, value);
     }
 }
 
-/// The slot's value, taken out of it.
+// The same, where the one that was there is let go.
+#[inline(never)]
+#[tactic(auto, using(crate::proofs::SlotLaws::write_view))]
+fn put_at(slots: &mut [Value], slot: u64, value: Value)
+    requires { slot < length slots.old }
+    ensures written { views slots.new ≡ write (views slots.old) slot (view value) }
+    ensures same { length slots.new ≡ length slots.old }
+{
+    slots[slot as usize] = value;
+}
+
+/// The slot's value, taken out of it; a plain one stays there too.
+#[inline(always)]
+#[tactic(auto, using(crate::proofs::SlotLaws::taken_plain, crate::proofs::SlotLaws::taken_other))]
 pub(crate) fn take_at(slots: &mut [Value], slot: u64) -> Value
     requires { slot < length slots.old }
     ensures value { view result ≡ read (views slots.old) slot }
     ensures taken { views slots.new ≡ taken (views slots.old) slot }
     ensures same { length slots.new ≡ length slots.old }
 {
-    if let Value::Int(n) = value_at(slots, slot) {
-        return Value::Int(*n);
+    if let Some(plain) = plain_at(slots, slot) {
+        return plain;
     }
     mem::replace(&mut slots[slot as usize], Value::Nil)
 }
 
+/// The slot's value is let go.
+#[inline(always)]
+#[tactic(auto, using(crate::proofs::SlotLaws::taken_plain, crate::proofs::SlotLaws::nil_left))]
+pub(crate) fn clear_at(slots: &mut [Value], slot: u64)
+    requires { slot < length slots.old }
+    ensures taken { views slots.new ≡ taken (views slots.old) slot }
+    ensures same { length slots.new ≡ length slots.old }
+{
+    match plain_at(slots, slot) {
+        Some(_) => {}
+        None => put_at(slots, slot, Value::Nil),
+    }
+}
+
 /// The value is taken out of the slot `from`, and the slot `to` has it.
 #[inline(always)]
-#[tactic(auto, using(crate::proofs::SlotLaws::moved_int))]
+#[tactic(auto, using(crate::proofs::SlotLaws::moved_plain))]
 pub(crate) fn move_at(slots: &mut [Value], to: u64, from: u64)
     requires to { to < length slots.old }
     requires from { from < length slots.old }
     ensures moved { views slots.new ≡ write (taken (views slots.old) from) to (read (views slots.old) from) }
     ensures same { length slots.new ≡ length slots.old }
 {
-    if let Some(n) = int_at(slots, from) {
-        set_int(slots, to, n);
+    if let Some(plain) = plain_at(slots, from) {
+        set_at(slots, to, plain);
     } else {
         move_value(slots, to, from);
     }
@@ -200,173 +174,36 @@ fn move_value(slots: &mut [Value], to: u64, from: u64)
     ensures same { length slots.new ≡ length slots.old }
 {
     let value = take_at(slots, from);
-    put_at(slots, to, value);
+    set_at(slots, to, value);
 }
 
-/// The slot's value is let go.
+// How many slots there are.
 #[inline(always)]
-#[tactic(auto, using(crate::proofs::SlotLaws::taken_integer))]
-pub(crate) fn clear_at(slots: &mut [Value], slot: u64)
-    requires { slot < length slots.old }
-    ensures taken { views slots.new ≡ taken (views slots.old) slot }
-    ensures same { length slots.new ≡ length slots.old }
-{
-    if let Some(_n) = int_at(slots, slot) {
-        return;
-    }
-    clear_value(slots, slot);
-}
-
-#[inline(never)]
-fn clear_value(slots: &mut [Value], slot: u64)
-    requires { slot < length slots.old }
-    ensures taken { views slots.new ≡ taken (views slots.old) slot }
-    ensures same { length slots.new ≡ length slots.old }
-{
-    take_at(slots, slot);
-}
-
-/// How many slots there are.
-#[inline(always)]
-pub(crate) fn width_of(slots: &[Value]) -> u64
+fn width_of(slots: &[Value]) -> u64
     ensures { result ≡ length slots.now }
 {
     slots.len() as u64
 }
 
-// The slot's value, taken out of it, at the end of the others. There is room.
-#[inline(always)]
-#[tactic(auto, using(crate::proofs::SlotLaws::taken_integer, crate::proofs::SlotLaws::views_push))]
-fn take_onto(values: &mut Items, slots: &mut [Value], slot: u64)
-    requires slot { slot < length slots.old }
-    requires room { 0 < spare values.old }
-    ensures added { views (list values.new) ≡ views (list values.old) ++ read (views slots.old) slot ∷ [] }
-    ensures taken { views slots.new ≡ taken (views slots.old) slot }
-    ensures same { length slots.new ≡ length slots.old }
-    ensures spare { spare values.old ≤ spare values.new + 1 }
-{
-    if let Some(n) = int_at(slots, slot) {
-        values.push(Value::Int(n));
-        return;
-    }
-    take_value_onto(values, slots, slot);
-}
-
-#[inline(never)]
-#[tactic(auto, using(crate::proofs::SlotLaws::views_push))]
-fn take_value_onto(values: &mut Items, slots: &mut [Value], slot: u64)
-    requires slot { slot < length slots.old }
-    requires room { 0 < spare values.old }
-    ensures added { views (list values.new) ≡ views (list values.old) ++ read (views slots.old) slot ∷ [] }
-    ensures taken { views slots.new ≡ taken (views slots.old) slot }
-    ensures same { length slots.new ≡ length slots.old }
-    ensures spare { spare values.old ≤ spare values.new + 1 }
-{
-    values.push(take_at(slots, slot));
-}
-
-/// The value is taken out of a slot, and a slot of others has it.
-#[inline(always)]
-pub(crate) fn hand_over(slots: &mut [Value], from: u64, others: &mut [Value], to: u64)
-    requires from { from < length slots.old }
-    requires to { to < length others.old }
-    ensures written { views others.new ≡ write (views others.old) to (read (views slots.old) from) }
-    ensures same { length others.new ≡ length others.old }
-{
-    if let Some(n) = int_at(slots, from) {
-        set_int(others, to, n);
-    } else {
-        hand_value_over(slots, from, others, to);
-    }
-}
-
-#[inline(never)]
-fn hand_value_over(slots: &mut [Value], from: u64, others: &mut [Value], to: u64)
-    requires from { from < length slots.old }
-    requires to { to < length others.old }
-    ensures written { views others.new ≡ write (views others.old) to (read (views slots.old) from) }
-    ensures taken { views slots.new ≡ taken (views slots.old) from }
-    ensures same { length others.new ≡ length others.old }
-    ensures as_many { length slots.new ≡ length slots.old }
-{
-    put_at(others, to, take_at(slots, from));
-}
-
-// The slot's value is taken out of it, and a slot of others has it.
-#[inline(always)]
-#[tactic(auto, using(crate::proofs::SlotLaws::taken_integer))]
-fn take_across(slots: &mut [Value], from: u64, others: &mut [Value], to: u64)
-    requires from { from < length slots.old }
-    requires to { to < length others.old }
-    ensures written { views others.new ≡ write (views others.old) to (read (views slots.old) from) }
-    ensures taken { views slots.new ≡ taken (views slots.old) from }
-    ensures same { length slots.new ≡ length slots.old }
-    ensures as_many { length others.new ≡ length others.old }
-{
-    if let Some(n) = int_at(slots, from) {
-        set_int(others, to, n);
-        return;
-    }
-    hand_value_over(slots, from, others, to);
-}
-
-/// The values of so many slots, from one on, are taken out of them, and the first of other slots have them, in order.
-pub(crate) fn take_over(others: &mut [Value], slots: &mut [Value], from: u64, count: u64)
-    requires row { IsTrue (are_below (length slots.old) (slots_from from count)) }
-    requires room { count ≤ length others.old }
-    ensures first { take count (views others.new) ≡ reads (views slots.old) (slots_from from count) }
-    ensures taken { views slots.new ≡ taken_all (views slots.old) (slots_from from count) }
-    ensures same { length slots.new ≡ length slots.old }
-    ensures as_many { length others.new ≡ length others.old }
-{
-    // Each of the slots is below it, so its number fits.
-    let _width = width_of(slots);
-    for i in 0..count {
-        take_across(slots, from + i, others, i);
-    }
-}
-
-/// The values of so many slots, from one on, taken out of them in order, at the end of the others. There is room.
-pub(crate) fn take_into(values: &mut Items, slots: &mut [Value], from: u64, count: u64)
-    requires row { IsTrue (are_below (length slots.old) (slots_from from count)) }
-    requires room { count ≤ spare values.old }
-    ensures values { views (list values.new) ≡ views (list values.old) ++ reads (views slots.old) (slots_from from count) }
-    ensures taken { views slots.new ≡ taken_all (views slots.old) (slots_from from count) }
-    ensures same { length slots.new ≡ length slots.old }
-    ensures spare { spare values.old ≤ spare values.new + count }
-{
-    // Each of the slots is below it, so its number fits.
-    let _width = width_of(slots);
-    for i in 0..count {
-        take_onto(values, slots, from + i);
-    }
-}
-
-/// The values of so many slots, from one on, are let go.
-pub(crate) fn clear_row(slots: &mut [Value], from: u64, count: u64)
+/// The values of so many slots, from one on, taken out of them in order, at the end of the others.
+pub(crate) fn take_into(
+    values: &mut Vec<Value>,
+    slots: &mut [Value],
+    from: u64,
+    count: u64,
+) -> Result<(), OutOfMemory>
     requires { IsTrue (are_below (length slots.old) (slots_from from count)) }
-    ensures taken { views slots.new ≡ taken_all (views slots.old) (slots_from from count) }
+    ensures values { OnOk result (views values.new.items ≡ views values.old.items ++ reads (views slots.old) (slots_from from count)) }
+    ensures count { OnOk result (length values.new.items ≡ length values.old.items + count) }
+    ensures taken { OnOk result (views slots.new ≡ taken_all (views slots.old) (slots_from from count)) }
     ensures same { length slots.new ≡ length slots.old }
 {
     // Each of the slots is below it, so its number fits.
     let _width = width_of(slots);
     for i in 0..count {
-        clear_at(slots, from + i);
+        values.push(take_at(slots, from + i))?;
     }
-}
-
-/// The values of so many slots, from one on, where they lie.
-#[tactic(auto, using(crate::proofs::SlotLaws::row_view, crate::proofs::SlotLaws::row_ends))]
-pub(crate) fn row_at(slots: &[Value], from: u64, count: u64) -> &[Value]
-    requires { IsTrue (are_below (length slots.now) (slots_from from count)) }
-    ensures { views result.now ≡ reads (views slots.now) (slots_from from count) }
-{
-    // Of no slots there is no first.
-    if count == 0 {
-        return &[];
-    }
-    let end = from + count;
-    &slots[from as usize..end as usize]
+    Ok(())
 }
 
 /// The values of so many slots, from one on, taken out of them.
@@ -381,8 +218,32 @@ pub(crate) fn take_row(
     ensures taken { OnOk result (views slots.new ≡ taken_all (views slots.old) (slots_from from count)) }
     ensures same { length slots.new ≡ length slots.old }
 {
-    let mut values = Items::new(alloc);
-    values.reserve(count)?;
-    take_into(&mut values, slots, from, count);
-    Ok(values)
+    let mut values = Vec::new(alloc);
+    values.reserve_exact(count as usize)?;
+    take_into(&mut values, slots, from, count)?;
+    Ok(Items::from_vec(values))
+}
+
+/// So many slots: behind those that are there, such as hold nil.
+pub(crate) fn fill(slots: &mut Vec<Value>, width: u64) -> Result<(), OutOfMemory>
+    requires { length slots.old.items ≤ width }
+    ensures { OnOk result (views slots.new.items ≡ begun width (views slots.old.items)) }
+{
+    while (slots.len() as u64) < width {
+        slots.push(Value::Nil)?;
+    }
+    Ok(())
+}
+
+/// The values of so many slots, from one on, are let go.
+pub(crate) fn clear_row(slots: &mut [Value], from: u64, count: u64)
+    requires { IsTrue (are_below (length slots.old) (slots_from from count)) }
+    ensures taken { views slots.new ≡ taken_all (views slots.old) (slots_from from count) }
+    ensures same { length slots.new ≡ length slots.old }
+{
+    // Each of the slots is below it, so its number fits.
+    let _width = width_of(slots);
+    for i in 0..count {
+        clear_at(slots, from + i);
+    }
 }

@@ -6,7 +6,7 @@ ghost use Rattle.ca_states.specs.Views.{numbers};
 use crate::code::{Exit, Instr};
 
 /// A few numbers of slots or blocks, in order.
-#[derive(Clone, Copy, PartialEq, Eq, Debug)]
+#[derive(Clone, Copy)]
 pub enum Numbers {
     None,
     One(u64),

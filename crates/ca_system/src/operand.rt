@@ -1,74 +1,21 @@
 //! Values by their form: those that a task begins with, and answers.
 ghost use Rattle.std.specs.Prelude.{◌≡◌, ℕ, IfOk, option_map};
-ghost use Rattle.ca_value.specs.Seq.{list};
-ghost use Rattle.ca_value.specs.Tree.{Tree, vector, nil as nil_tree};
+ghost use Rattle.ca_value.specs.Tree.{Tree, vector};
 ghost use Rattle.ca_value.specs.View.{view, trees};
 ghost use Rattle.ca_meaning.specs.Asks.{port_in, trees_in, value_and_port};
-ghost use Rattle.ca_meaning.specs.Operands.{is_nil, port_number, truth};
-ghost use Rattle.ca_meaning.specs.Parts.{operand_at};
+ghost use Rattle.ca_meaning.specs.Operands.{operand_at, is_nil};
 
+use ca_asking::operands::operand;
 use ca_value::memory::OutOfMemory;
-use ca_value::value::{Items, PortId, Value};
+use ca_value::value::{PortId, Value};
 use std::alloc::Global;
-
-// The value at the place, from 0, or nil.
-fn operand<'a>(values: &'a [Value], place: usize, nil: &'a Value) -> &'a Value
-    requires { view nil.now ≡ nil_tree }
-    ensures { view result.now ≡ operand_at place (trees values.now) }
-{
-    match values.get(place) {
-        None => nil,
-        Some(value) => value,
-    }
-}
-
-/// The port at the place of the values, from 0; port 0 where none stands there.
-pub fn port_at(values: &[Value], place: usize) -> PortId
-    ensures { result.n ≡ port_number (operand_at place (trees values.now)) }
-{
-    let nil = Value::Nil;
-    match operand(values, place, &nil) {
-        Value::Port(port) => *port,
-        _ => PortId { n: 0 },
-    }
-}
-
-/// Whether the value at the place, from 0, counts as true.
-pub fn truth_at(values: &[Value], place: usize) -> bool
-    ensures { result ≡ truth (operand_at place (trees values.now)) }
-{
-    let nil = Value::Nil;
-    is_true(operand(values, place, &nil))
-}
-
-/// The value at the place, from 0, or nil. The others are let go.
-#[tactic(auto, using(crate::proofs::Operands::value_none, crate::proofs::Operands::value_some))]
-pub fn value_at(values: Items, place: u64) -> Value
-    ensures { view result ≡ operand_at place (trees (list values)) }
-{
-    match values.into_item(place) {
-        Some(value) => value,
-        None => Value::Nil,
-    }
-}
 
 /// A copy of the value at the place, from 0, or nil.
 pub fn copy_at(alloc: Global, values: &[Value], place: u64) -> Result<Value, OutOfMemory>
     ensures { IfOk result (λ v. view v ≡ operand_at place (trees values.now)) }
 {
     let nil = Value::Nil;
-    operand(values, place as usize, &nil).copy(alloc)
-}
-
-/// nil and false are false, all else is true.
-pub fn is_true(value: &Value) -> bool
-    ensures { result ≡ truth (view value.now) }
-{
-    match value {
-        Value::Nil => false,
-        Value::Bool(b) => *b,
-        _ => true,
-    }
+    operand(values, place, &nil).copy(alloc)
 }
 
 /// Whether it is nil.

@@ -6,16 +6,16 @@ ghost use Rattle.ca_meaning.specs.System.{new_system};
 ghost use Rattle.ca_states.specs.Code.{CodeView};
 ghost use Rattle.ca_tasks.specs.Kinds.{HasFunction, kind_body, kind_over};
 
-use ca_jobs::job::Job;
-use ca_mix::mix::Mix;
-use ca_mult::deliver::Deliver;
-use ca_mult::mult::Mult;
-use ca_pipes::collect::Collect;
-use ca_pipes::feed::Feed;
-use ca_pipes::merge::Merge;
-use ca_pipes::onto::Onto;
-use ca_pipes::pipe::Pipe;
-use ca_pubsub::publication::Pub;
+use ca_jobs::job::{Job, new_job};
+use ca_mix::mix::{Mix, new_mix};
+use ca_mult::deliver::{Deliver, new_deliver};
+use ca_mult::mult::{Mult, new_mult};
+use ca_pipes::collect::{Collect, new_collect};
+use ca_pipes::feed::{Feed, new_feed};
+use ca_pipes::merge::{Merge, new_merge};
+use ca_pipes::onto::{Onto, new_onto};
+use ca_pipes::pipe::{Pipe, new_pipe};
+use ca_pubsub::publication::{Pub, new_pub};
 use ca_states::valid_code::ValidCode;
 use ca_system::stand::Stand;
 use ca_system::table::Table;
@@ -47,18 +47,18 @@ impl Kind {
         ensures function { (code : CodeView) → HasFunction code task → kind_over code result }
     {
         match task {
-            SystemTask::Mult => Kind::Mult(Mult::new(values, place)),
-            SystemTask::Deliver => Kind::Deliver(Deliver::new(values, place)),
-            SystemTask::Mix => Kind::Mix(Mix::new(values, place)),
-            SystemTask::Pub(function) => Kind::Pub(Pub::new(function, values, place)),
-            SystemTask::Pipe => Kind::Pipe(Pipe::new(values, place)),
-            SystemTask::Merge => Kind::Merge(Merge::new(values, place)),
-            SystemTask::Onto => Kind::Onto(Onto::new(values, place)),
-            SystemTask::Feed => Kind::Feed(Feed::new(values, place)),
-            SystemTask::Job(transform, function) => Kind::Job(Job::new(
+            SystemTask::Mult => Kind::Mult(new_mult(values, place)),
+            SystemTask::Deliver => Kind::Deliver(new_deliver(values, place)),
+            SystemTask::Mix => Kind::Mix(new_mix(values, place)),
+            SystemTask::Pub(function) => Kind::Pub(new_pub(function, values, place)),
+            SystemTask::Pipe => Kind::Pipe(new_pipe(values, place)),
+            SystemTask::Merge => Kind::Merge(new_merge(values, place)),
+            SystemTask::Onto => Kind::Onto(new_onto(values, place)),
+            SystemTask::Feed => Kind::Feed(new_feed(values, place)),
+            SystemTask::Job(transform, function) => Kind::Job(new_job(
                 transform, function, values, place,
             )),
-            SystemTask::Collect => Kind::Collect(Collect::new(values, place)),
+            SystemTask::Collect => Kind::Collect(new_collect(values, place)),
         }
     }
 }

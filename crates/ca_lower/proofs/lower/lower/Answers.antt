@@ -11,14 +11,14 @@ use Rattle.ca_lower.proofs.lower.lower.Goals as goal
 
 pub unreachable-requires : goal.unreachable-requires
 unreachable-requires c =
-    let valid : is_valid (code_view c.in_ok-code_for.field-0) ≡ true = ap is_valid c.in_ok-code_for.ensures ∙ code_valid (program_view c.args.program.now) c.main-main.ensures.checked in
+    let valid : is_valid (code_view c.in_ok-code_for.field-0) ≡ true = ap is_valid c.in_ok-code_for.ensures ∙ code_valid (program_view c.args.program.now) c.checked.ensures in
     let not_valid : is_valid (code_view c.in_ok-code_for.field-0) ≡ false = c.in-Err.ensures.invalid in
     cc
 
 pub returns-clause-lowered : goal.returns-clause-lowered
 returns-clause-lowered c =
     let P = program_view c.args.program.now in
-    subst (Lowered P) (sym (c.in-Ok.ensures.same ∙ c.in_ok-code_for.ensures)) (code_stands P c.main-main.ensures.checked)
+    subst (Lowered P) (sym (c.in-Ok.ensures.same ∙ c.in_ok-code_for.ensures)) (code_stands P c.checked.ensures)
 
 pub returns-clause-gos : goal.returns-clause-gos
 returns-clause-gos c =

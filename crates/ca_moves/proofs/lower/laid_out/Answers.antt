@@ -18,10 +18,10 @@ made K laid h (Ok c) e = subst K (sym e) h
 made K laid h (Err x) e = tt
 
 pub returns-clause-valid : goal.returns-clause-valid
-returns-clause-valid c = let P = program_view c.args.program.now in made (λ code. is_valid code ≡ true) (code_of P) (code_valid P c.main-main.ensures.checked) c.code_for.result c.code_for.ensures
+returns-clause-valid c = let P = program_view c.args.program.now in made (λ code. is_valid code ≡ true) (code_of P) (code_valid P c.checked.ensures) c.code_for.result c.code_for.ensures
 
 pub returns-clause-lowered : goal.returns-clause-lowered
-returns-clause-lowered c = let P = program_view c.args.program.now in made (Lowered P) (code_of P) (code_stands P c.main-main.ensures.checked) c.code_for.result c.code_for.ensures
+returns-clause-lowered c = let P = program_view c.args.program.now in made (Lowered P) (code_of P) (code_stands P c.checked.ensures) c.code_for.result c.code_for.ensures
 
 pub returns-clause-gos : goal.returns-clause-gos
 returns-clause-gos c = let P = program_view c.args.program.now in made (SameGos P) (code_of P) (same_gos P) c.code_for.result c.code_for.ensures

@@ -1,6 +1,7 @@
 use Rattle.std.proofs.Common.{length, ◌∙◌, sym, ap, subst}
 use Rattle.std.proofs.lemmas.List.{length-map}
-use Rattle.std.specs.Prelude.{IfErr, IsTrue}
+use Rattle.std.specs.Prelude.{IsTrue}
+use Rattle.std.specs.Bool.{OnFalse}
 use Rattle.ca_value.specs.Seq.{list}
 use Rattle.ca_value.specs.View.{view, views}
 use Rattle.ca_value.specs.Outcome.{Gives}
@@ -21,7 +22,7 @@ returns-clause-stop c =
     let s = views c.args.slots.now in
     let r = c.apply_builtin-outcome.result in
     let o = applied c.args.builtin (reads s (slots_from c.args.from c.args.count)) in
-    subst (λ z. IfErr c.settle.result (λ e. StopsAt e (answered z c.args.to c.args.place o))) c.in-Ok.ensures.taken
+    subst (λ z. OnFalse c.settle.result (StopsAt c.settle.new.stop (answered z c.args.to c.args.place o))) c.in-Ok.ensures.taken
     (c.settle.ensures.stop o
     (subst (λ ts. Gives r (applied c.args.builtin ts)) c.in-Ok.ensures.values
     (gives_by r (applied c.args.builtin (views (list c.in-Ok.values))) c.apply_builtin-outcome.ensures.value c.apply_builtin-outcome.ensures.fault)))

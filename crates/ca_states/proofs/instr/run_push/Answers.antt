@@ -1,5 +1,5 @@
-use Rattle.std.proofs.Common.{[], ◌∷◌, subst}
-use Rattle.std.specs.Prelude.{IfErr}
+use Rattle.std.proofs.Common.{[], ◌∷◌, ◌∙◌, subst}
+use Rattle.std.specs.Bool.{OnFalse}
 use Rattle.ca_value.specs.View.{view, views}
 use Rattle.ca_value.specs.Outcome.{Gives}
 use Rattle.ca_value.specs.declared.builtin.Builtin.TheVariants.{Conj}
@@ -13,8 +13,8 @@ returns-clause-stop c =
     let s = views c.args.slots.now in
     let r = c.conj_one-outcome.result in
     let o = applied Conj (read s c.args.collection ∷ read s c.args.item ∷ []) in
-    subst (λ z. IfErr c.settle.result (λ e. StopsAt e (answered z c.args.to c.args.place o))) c.take_at-collection.ensures.taken
+    subst (λ z. OnFalse c.settle.result (StopsAt c.settle.new.stop (answered z c.args.to c.args.place o))) c.take_at-collection.ensures.taken
     (c.settle.ensures.stop o
     (subst (λ t. Gives r (applied Conj (t ∷ read s c.args.item ∷ []))) c.take_at-collection.ensures.value
-    (subst (λ t. Gives r (applied Conj (view c.take_at-collection.result ∷ t ∷ []))) c.in-Ok.ensures
+    (subst (λ t. Gives r (applied Conj (view c.take_at-collection.result ∷ t ∷ []))) (c.in-Ok.ensures ∙ c.value_at.ensures)
     (gives_by r (applied Conj (view c.take_at-collection.result ∷ view c.in-Ok.item ∷ [])) c.conj_one-outcome.ensures.value c.conj_one-outcome.ensures.fault))))

@@ -1,5 +1,5 @@
-use Rattle.std.proofs.Common.{[], ◌∷◌, subst}
-use Rattle.std.specs.Prelude.{IfErr}
+use Rattle.std.proofs.Common.{[], ◌∷◌, ◌∙◌, subst}
+use Rattle.std.specs.Bool.{OnFalse}
 use Rattle.ca_value.specs.View.{view, views}
 use Rattle.ca_value.specs.Outcome.{Gives}
 use Rattle.ca_value.specs.declared.builtin.Builtin.TheVariants.{Assoc}
@@ -13,9 +13,9 @@ returns-clause-stop c =
     let s = views c.args.slots.now in
     let r = c.assoc_one-outcome.result in
     let o = applied Assoc (read s c.args.collection ∷ read s c.args.key ∷ read s c.args.value ∷ []) in
-    subst (λ z. IfErr c.settle.result (λ e. StopsAt e (answered z c.args.to c.args.place o))) c.take_at-collection.ensures.taken
+    subst (λ z. OnFalse c.settle.result (StopsAt c.settle.new.stop (answered z c.args.to c.args.place o))) c.take_at-collection.ensures.taken
     (c.settle.ensures.stop o
     (subst (λ t. Gives r (applied Assoc (t ∷ read s c.args.key ∷ read s c.args.value ∷ []))) c.take_at-collection.ensures.value
-    (subst (λ t. Gives r (applied Assoc (view c.take_at-collection.result ∷ t ∷ read s c.args.value ∷ []))) c.in-Ok.ensures
-    (subst (λ t. Gives r (applied Assoc (view c.take_at-collection.result ∷ view c.in-Ok.key ∷ t ∷ []))) c.in-Ok-copy_at.ensures
-    (gives_by r (applied Assoc (view c.take_at-collection.result ∷ view c.in-Ok.key ∷ view c.in-Ok-copy_at.value ∷ [])) c.assoc_one-outcome.ensures.value c.assoc_one-outcome.ensures.fault)))))
+    (subst (λ t. Gives r (applied Assoc (view c.take_at-collection.result ∷ t ∷ read s c.args.value ∷ []))) (c.in-Ok.ensures ∙ c.value_at.ensures)
+    (subst (λ t. Gives r (applied Assoc (view c.take_at-collection.result ∷ view c.in-Ok.key ∷ t ∷ []))) (c.in-Ok-copy.ensures ∙ c.value_at-2.ensures)
+    (gives_by r (applied Assoc (view c.take_at-collection.result ∷ view c.in-Ok.key ∷ view c.in-Ok-copy.value ∷ [])) c.assoc_one-outcome.ensures.value c.assoc_one-outcome.ensures.fault)))))

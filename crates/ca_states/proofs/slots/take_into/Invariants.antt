@@ -1,5 +1,4 @@
 use Rattle.std.proofs.Common.{◌≡◌, ℕ, ◌+◌, ◌-◌, ◌≤◌, ◌++◌, length}
-use Rattle.ca_value.specs.Seq.{list, spare}
 use Rattle.ca_value.specs.View.{views}
 use Rattle.ca_states.specs.Machine.{read, reads, taken_all, slots_from}
 use Rattle.ca_states.proofs.slots.take_into.Given as goal
@@ -9,7 +8,6 @@ invariant-loop-i l = record {
   same : length l.slots ≡ length l.fn.slots;
   taken : taken_all (views l.slots) (slots_from (l.from + l.i) (l.count - l.i)) ≡ taken_all (views l.fn.slots) (slots_from l.from l.count);
   later : (k : ℕ) → l.from + l.i ≤ k → read (views l.slots) k ≡ read (views l.fn.slots) k;
-  moved : views (list l.values) ++ reads (views l.fn.slots) (slots_from (l.from + l.i) (l.count - l.i)) ≡ views (list l.fn.values) ++ reads (views l.fn.slots) (slots_from l.from l.count);
-  room : l.count ≤ spare l.values + l.i;
-  left : spare l.fn.values ≤ spare l.values + l.i;
+  count : length l.values.items ≡ length l.fn.values.items + l.i;
+  moved : views l.values.items ++ reads (views l.fn.slots) (slots_from (l.from + l.i) (l.count - l.i)) ≡ views l.fn.values.items ++ reads (views l.fn.slots) (slots_from l.from l.count);
 }

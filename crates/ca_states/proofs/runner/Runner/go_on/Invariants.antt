@@ -1,11 +1,13 @@
+use Rattle.std.proofs.Common.{◌≡◌, true}
 use Rattle.ca_states.specs.Code.{code_view, size}
 use Rattle.ca_states.specs.Machine.{Move, ComesTo}
-use Rattle.ca_states.specs.Standing.{state_view, Stands}
+use Rattle.ca_states.specs.Standing.{state_view, Stands, is_bare_halt}
 use Rattle.ca_states.proofs.StandingLaws.{left}
 use Rattle.ca_states.proofs.runner.Runner.go_on.Given as goal
 
 abbrev pub invariant-loop-block : goal.invariant-loop-block
 invariant-loop-block l = record {
+  bare : is_bare_halt l.halt ≡ true;
   stands : Stands (code_view l.code) (state_view l.self);
   reached : (m : Move) → ComesTo (code_view l.code) (state_view l.self) m → ComesTo (code_view l.code) (state_view l.fn.self) m;
 }

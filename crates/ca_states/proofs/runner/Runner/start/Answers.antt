@@ -34,15 +34,15 @@ returns-clause-stands c =
     let xs = list c.args.values in
     let p = entry_at C c.args.start in
     let room = start_room C (valid_parts C c.code-code.ensures.valid) c.args.start (length xs) c.requires in
-    let r : Runner = record { block = c.entry_point-entry.result.block; slots = c.into_vec.result; calls = c.new.result; turns = 0; answer = 0 } in
+    let r : Runner = record { block = c.entry_point-entry.result.block; slots = c.in_ok-slots.slots; calls = c.new.result; turns = 0; answer = 0 } in
     let e : c.entry_point-entry.result ≡ p = c.entry_point-entry.ensures ∙ ap (λ (E : CodeView). entry_at E c.args.start) c.code-code.ensures.same in
     let b : block_view c.block_at.result.now ≡ block_at C p.block =
     c.block_at.ensures
     ∙ ap (λ (E : CodeView). block_at E c.entry_point-entry.result.block) c.code-code.ensures.same
     ∙ ap (λ (q : EntryPoint). block_at C q.block) e in
-    let s : views c.into_vec.result.items ≡ begun_at C p (views xs) = ap views c.into_vec.ensures ∙ c.in_ok-slots.ensures ∙ ap (λ (d : BlockView). begun d.width (views xs)) b in
+    let s : views c.in_ok-slots.slots.items ≡ begun_at C p (views xs) = c.in_ok-slots.ensures ∙ ap (λ (d : BlockView). begun d.width (views xs)) b in
     let same : started C p (views xs) ≡ state_view r =
-    sym (ap (λ (q : EntryPoint). state_of q.block (views c.into_vec.result.items) (calls_view c.new.result)) e
+    sym (ap (λ (q : EntryPoint). state_of q.block (views c.in_ok-slots.slots.items) (calls_view c.new.result)) e
     ∙ ap (λ t. state_of p.block t (calls_view c.new.result)) s
     ∙ ap (state_of p.block (begun_at C p (views xs))) c.new.ensures) in
     subst (Stands C) same (start_standing C p (views xs) (subst (HasRoom C p) (sym (length-map xs view)) room))
