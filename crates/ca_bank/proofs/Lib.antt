@@ -1,5 +1,6 @@
 pub mod Queues
-pub mod Arguments
+pub mod Seats
+pub mod Tables
 pub mod Members
 pub mod Sources
 pub mod Topics

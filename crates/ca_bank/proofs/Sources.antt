@@ -3,7 +3,7 @@ use Rattle.std.proofs.Common.{◌≡◌, ℕ, suc, ◌+◌, List, [], ◌∷◌,
 use Rattle.std.proofs.lemmas.List.{length-map}
 use Rattle.std.specs.Map.{lookup}
 use Rattle.indexmap.specs.IndexMap.{insert_entry}
-use Rattle.ca_meaning.specs.Registry.{Source, changed_source, plain_source, set_mode, set_modes, modes_in, toggled, all_channels}
+use Rattle.ca_meaning.specs.Registry.{Source, changed_source, plain_source, set_mode, set_modes, modes_in, toggled, all_channels, names_channel, channels_differ}
 use Rattle.ca_value.specs.Equality.{pair_count}
 use Rattle.ca_value.specs.View.{tree_pairs}
 use Rattle.ca_value.specs.declared.value.Pair.{Pair}
@@ -13,7 +13,7 @@ use Rattle.std.specs.Prelude.{codes, is_some, ◌&&◌, filter}
 use Rattle.std.specs.Str.{bytes_eq}
 use Rattle.std.specs.Map.{remove_entry}
 use Rattle.ca_bank.specs.declared.mix.Modes.{Modes}
-use Rattle.ca_bank.specs.Mixes.{modes_or, source_view, is_source, new_in, names_channel, channels_differ}
+use Rattle.ca_bank.specs.Mixes.{modes_or, source_view, is_source, new_in}
 use Rattle.ca_bank.proofs.Members.{eqb_is, left_without}
 
 -- a source that is changed is an entry of the table

@@ -1,3 +1,6 @@
+pub mod NearRow
+pub mod Waits
+pub mod WaitTable
 pub mod Shard
 pub mod Kept
 pub mod Room

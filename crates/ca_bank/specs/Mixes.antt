@@ -1,12 +1,12 @@
 -- What a mix shows, and what an operation on it comes to.
-use Rattle.std.specs.Prelude.{◌≡◌, ℕ, ◌+◌, List, [], ◌∷◌, Option, Some, None, Bool, true, false, not, ◌&&◌, eqb, cond, map, length}
+use Rattle.std.specs.Prelude.{◌≡◌, ℕ, ◌+◌, List, [], ◌∷◌, Option, Some, None, Bool, true, false, eqb, cond, map, length}
 use Rattle.indexmap.specs.IndexMap.{spare}
 use Rattle.ca_value.specs.Tree.{Trees, TreePairs, port, empty, pair}
 use Rattle.ca_term.specs.declared.fault.Fault.TheVariants.{NotAPort}
 use Rattle.ca_term.specs.declared.head.RegisterName.{RegisterName}
 use Rattle.ca_term.specs.declared.head.RegisterName.TheVariants.{Toggle}
 use Rattle.ca_meaning.specs.Operands.{port_number, first_of}
-use Rattle.ca_meaning.specs.Registry.{Source, Registry, a_mix, Registered, mix_row, pairs_in, all_channels, toggled, within, refuses}
+use Rattle.ca_meaning.specs.Registry.{Source, Registry, a_mix, Registered, mix_row, pairs_in, all_channels, channels_differ, toggled, within, refuses}
 use Rattle.ca_bank.specs.declared.mix.Modes.{Modes}
 use Rattle.ca_bank.specs.declared.mix.Mix.{Mix}
 
@@ -43,15 +43,6 @@ is_source c (x ∷ xs) = cond (eqb c x.channel) true (is_source c xs)
 abbrev pub new_in : TreePairs → List Source → ℕ
 new_in empty xs = 0
 new_in (pair k m ps) xs = cond (is_source (port_number k) xs) 0 1 + new_in ps xs
-
-abbrev pub names_channel : ℕ → TreePairs → Bool
-names_channel c empty = false
-names_channel c (pair k m ps) = cond (eqb c (port_number k)) true (names_channel c ps)
-
--- no two keys name one channel
-abbrev pub channels_differ : TreePairs → Bool
-channels_differ empty = true
-channels_differ (pair k m ps) = not (names_channel (port_number k) ps) && channels_differ ps
 
 -- the names of the channels of a toggle are different ones
 abbrev pub TogglesApart : RegisterName → Trees → Type 0

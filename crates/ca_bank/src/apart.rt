@@ -1,10 +1,10 @@
 ghost use Rattle.std.specs.Prelude.{◌≡◌, ◌≤◌, IsTrue, drop, length};
 ghost use Rattle.ca_value.specs.View.{view, trees, tree_pairs};
-ghost use Rattle.ca_meaning.specs.Registry.{pairs_in};
-ghost use Rattle.ca_bank.specs.Mixes.{names_channel, channels_differ, TogglesApart};
+ghost use Rattle.ca_meaning.specs.Registry.{pairs_in, names_channel, channels_differ};
+ghost use Rattle.ca_bank.specs.Mixes.{TogglesApart};
 ghost use Rattle.ca_bank.specs.Publications.{PlacesItself};
 
-use crate::argument::{argument, number_of};
+use ca_asking::operands::{operand, port_of};
 use ca_term::head::RegisterName;
 use ca_value::value::{Pair, Value};
 
@@ -15,7 +15,7 @@ pub fn toggles_apart(name: RegisterName, args: &[Value]) -> bool
     match name {
         RegisterName::Toggle => {
             let nil = Value::Nil;
-            have_apart(argument(args, 0, &nil))
+            have_apart(operand(args, 0, &nil))
         }
         _ => true,
     }
@@ -28,7 +28,7 @@ pub fn places_itself(name: RegisterName, args: &[Value]) -> bool
     match name {
         RegisterName::Place => {
             let nil = Value::Nil;
-            let topic = argument(args, 0, &nil);
+            let topic = operand(args, 0, &nil);
             topic.equal(topic)
         }
         _ => true,
@@ -48,7 +48,7 @@ fn are_apart(pairs: &[Pair]) -> bool
     ensures { result ≡ channels_differ (tree_pairs pairs.now) }
 {
     for place in 0..pairs.len() {
-        if is_named(number_of(&pairs[place].key), pairs, place + 1) {
+        if is_named(port_of(&pairs[place].key).n, pairs, place + 1) {
             return false;
         }
     }
@@ -61,7 +61,7 @@ fn is_named(channel: u64, pairs: &[Pair], from: usize) -> bool
     ensures { result ≡ names_channel channel (tree_pairs (drop from pairs.now)) }
 {
     for place in from..pairs.len() {
-        if channel == number_of(&pairs[place].key) {
+        if channel == port_of(&pairs[place].key).n {
             return true;
         }
     }

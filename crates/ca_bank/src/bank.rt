@@ -24,7 +24,7 @@ use indexmap::IndexMap;
 use std::alloc::Global;
 
 /// What a port is.
-#[derive(Clone, Copy, PartialEq, Eq, Debug)]
+#[derive(Clone, Copy)]
 pub enum PortKind {
     Channel,
     Mult,

@@ -7,7 +7,8 @@
 //! left of its own number, divided by how many there are.
 //!
 //! A wait is live exactly where it stands in its shard. A handler whose wait is gone is stale: it stays in
-//! its queue until somebody prunes it.
+//! its queue until somebody prunes it. A shard has sixteen places; a wait stands at the one that its number tells, or in a
+//! table by hash where another stands there (`wait_table`).
 //!
 //! Only calls named `reserve` take memory. Finding a port or a wait costs the same however many there are,
 //! and so does what is done at the front of a queue. A topic is found by its mark (`topic`).
@@ -17,13 +18,13 @@
 #![tactic(auto)]
 
 pub mod apart;
-mod argument;
 pub mod bank;
 pub mod handler;
 pub mod law;
 mod listing;
 mod mix;
 mod mult;
+mod near_row;
 mod publication;
 mod registry;
 pub mod registry_error;
@@ -31,3 +32,4 @@ pub mod room;
 pub mod shard;
 pub mod standing;
 mod topic;
+mod wait_table;

@@ -3,16 +3,16 @@ ghost use Rattle.std.specs.Str.{bytes_eq};
 ghost use Rattle.ca_value.specs.View.{view, trees, tree_pairs};
 ghost use Rattle.ca_value.specs.Tree.{nil, key as keyword, vector, port, item, trees_of};
 ghost use Rattle.indexmap.specs.IndexMap.{get, insert_entry};
-ghost use Rattle.ca_meaning.specs.Registry.{a_mix, changed_source, set_mode, set_modes, modes_in, toggled, mode_value, source_value, is_pause, pairs_in, within};
+ghost use Rattle.ca_meaning.specs.Registry.{a_mix, changed_source, set_mode, set_modes, modes_in, toggled, mode_value, source_value, is_pause, pairs_in, within, channels_differ};
 ghost use Rattle.ca_bank.specs.declared.registry_error.RegisterError.TheVariants.{TooManyMembers};
 ghost use Rattle.ca_meaning.specs.Operands.{first_of};
 ghost use Rattle.ca_value.specs.Equality.{pair_count};
-ghost use Rattle.ca_bank.specs.Mixes.{modes_or, source_view, sources_of, mix_view, mix_spare, mix_gives, toggle_gives, is_source, new_in, channels_differ, TogglesApart};
+ghost use Rattle.ca_bank.specs.Mixes.{modes_or, source_view, sources_of, mix_view, mix_spare, mix_gives, toggle_gives, is_source, new_in, TogglesApart};
 ghost use Rattle.ca_bank.specs.Registries.{answered, IsCause, left_by, members_added};
 
-use crate::argument::{argument, is_true, number_of, port_at};
 use crate::listing::{channel, four};
 use crate::registry_error::RegisterError;
+use ca_asking::operands::{is_true, operand, port_at, port_of};
 use ca_term::head::RegisterName;
 use ca_value::memory::OutOfMemory;
 use ca_value::seq::{Seq, Text};
@@ -179,7 +179,7 @@ impl Mix {
     {
         let mut count = 0;
         for pair in pairs {
-            if !self.has(number_of(&pair.key)) {
+            if !self.has(port_of(&pair.key).n) {
                 count += 1;
             }
         }
@@ -200,7 +200,7 @@ impl Mix {
         ensures { mix_view self.new ≡ a_mix self.old.out self.old.changes self.old.pausing (toggled (tree_pairs pairs.now) (sources_of self.old)) }
     {
         for pair in pairs {
-            self.toggle(number_of(&pair.key), &pair.value);
+            self.toggle(port_of(&pair.key).n, &pair.value);
         }
     }
 
@@ -224,8 +224,8 @@ impl Mix {
         ensures { mix_view self.new ≡ left_by (mix_gives self.old name (trees args.now)) (mix_view self.old) }
     {
         match name {
-            RegisterName::Admix => self.admix(port_at(args, 0)),
-            RegisterName::Unmix => self.unmix(port_at(args, 0)),
+            RegisterName::Admix => self.admix(port_at(args, 0).n),
+            RegisterName::Unmix => self.unmix(port_at(args, 0).n),
             RegisterName::UnmixAll => self.unmix_all(),
             RegisterName::Toggle => self.toggle_first(args),
             RegisterName::SoloMode => self.set_solo_mode(args),
@@ -250,7 +250,7 @@ impl Mix {
         ensures { mix_view self.new ≡ left_by (toggle_gives self.old (pairs_in (first_of (trees args.now)))) (mix_view self.old) }
     {
         let nil = Value::Nil;
-        if let Value::Map(pairs) = argument(args, 0, &nil) {
+        if let Value::Map(pairs) = operand(args, 0, &nil) {
             self.toggle_within(pairs.as_slice());
         }
     }
@@ -270,7 +270,7 @@ impl Mix {
         ensures { mix_view self.new ≡ a_mix self.old.out self.old.changes (is_pause (first_of (trees args.now))) (sources_of self.old) }
     {
         let nil = Value::Nil;
-        self.pausing = names_pause(argument(args, 0, &nil));
+        self.pausing = names_pause(operand(args, 0, &nil));
     }
 
     // The operation's answer, or its fault.
@@ -285,7 +285,7 @@ impl Mix {
         ensures err { IfErr result (λ e. IsCause e (mix_gives self.now name (trees args.now))) }
     {
         match name {
-            RegisterName::Admix => self.answer_within(self.admits(port_at(args, 0))),
+            RegisterName::Admix => self.answer_within(self.admits(port_at(args, 0).n)),
             RegisterName::Unmix | RegisterName::UnmixAll => Ok(channel(self.changes)),
             RegisterName::Toggle => self.answer_toggle(args),
             RegisterName::SoloMode => Ok(channel(self.changes)),
@@ -326,7 +326,7 @@ impl Mix {
         ensures { result ≡ not (nat_lt 255 (length (toggled (pairs_in (first_of (trees args.now))) (sources_of self.now)))) }
     {
         let nil = Value::Nil;
-        match argument(args, 0, &nil) {
+        match operand(args, 0, &nil) {
             Value::Map(pairs) => self.admits_all(pairs.as_slice()),
             _ => self.sources.len() <= MOST_SOURCES,
         }

@@ -5,9 +5,9 @@ ghost use Rattle.ca_term.specs.declared.head.RegisterName.TheVariants.{Tap};
 ghost use Rattle.ca_meaning.specs.Registry.{a_mult, tapped, tap_value, within};
 ghost use Rattle.ca_bank.specs.Registries.{answered, IsCause, left_by, members_added, tap_view, taps_of, mult_view, mult_spare, mult_gives};
 
-use crate::argument::{argument, port_at, truth_at};
 use crate::listing::{channel, pair};
 use crate::registry_error::RegisterError;
+use ca_asking::operands::{operand, port_at, truth_at};
 use ca_term::head::RegisterName;
 use ca_value::memory::OutOfMemory;
 use ca_value::seq::Seq;
@@ -98,8 +98,8 @@ impl Mult {
         ensures { mult_view self.new ≡ left_by (mult_gives self.old name (trees args.now)) (mult_view self.old) }
     {
         match name {
-            RegisterName::Tap => self.tap(port_at(args, 0), truth_at(args, 1)),
-            RegisterName::Untap => self.untap(port_at(args, 0)),
+            RegisterName::Tap => self.tap(port_at(args, 0).n, truth_at(args, 1)),
+            RegisterName::Untap => self.untap(port_at(args, 0).n),
             RegisterName::UntapAll => self.untap_all(),
             _ => {}
         }
@@ -127,11 +127,11 @@ impl Mult {
         ensures ok { IfOk result (λ v. answered (mult_gives self.now Tap (trees args.now)) ≡ Some (view v)) }
         ensures err { IfErr result (λ e. IsCause e (mult_gives self.now Tap (trees args.now))) }
     {
-        if !self.admits(port_at(args, 0), truth_at(args, 1)) {
+        if !self.admits(port_at(args, 0).n, truth_at(args, 1)) {
             return Err(RegisterError::TooManyMembers);
         }
         let nil = Value::Nil;
-        Ok(argument(args, 0, &nil).copy(alloc)?)
+        Ok(operand(args, 0, &nil).copy(alloc)?)
     }
 
     // The taps, in order.

@@ -9,10 +9,10 @@ ghost use Rattle.ca_term.specs.declared.head.RegisterName.TheVariants.{Place};
 ghost use Rattle.ca_bank.specs.Registries.{answered, IsCause, left_by, members_added};
 ghost use Rattle.ca_bank.specs.Publications.{topics_of, publication_view, topics_spare, publication_gives, has_topic, topic_made, channel_of, PlacesItself};
 
-use crate::argument::{argument, first_argument, port_at};
 use crate::listing::{channel, pair};
 use crate::registry_error::RegisterError;
 use crate::topic::{Topic, TopicList};
+use ca_asking::operands::{operand, port_at, value_at};
 use ca_term::head::RegisterName;
 use ca_value::memory::OutOfMemory;
 use ca_value::seq::Seq;
@@ -72,7 +72,7 @@ impl Publication {
         ensures { result ≡ not (nat_lt 1024 (length (placed (topic_made (trees args.now)) (topics_of self.now)))) }
     {
         let nil = Value::Nil;
-        let more = if self.has(argument(args, 0, &nil)) {
+        let more = if self.has(operand(args, 0, &nil)) {
             0
         } else {
             1
@@ -128,9 +128,9 @@ impl Publication {
         ensures { publication_view self.new ≡ left_by (publication_gives self.old Place (trees (list args))) (publication_view self.old) }
     {
         if self.admits(args.as_slice()) {
-            let mult = port_at(args.as_slice(), 1);
-            let channel = port_at(args.as_slice(), 2);
-            self.place(first_argument(args), mult, channel);
+            let mult = port_at(args.as_slice(), 1).n;
+            let channel = port_at(args.as_slice(), 2).n;
+            self.place(value_at(args, 0), mult, channel);
         }
     }
 
@@ -141,7 +141,7 @@ impl Publication {
     {
         match name {
             RegisterName::Place => self.place_first(args),
-            RegisterName::Drop => self.forget(&first_argument(args)),
+            RegisterName::Drop => self.forget(&value_at(args, 0)),
             RegisterName::Clear => self.clear(),
             _ => {}
         }
@@ -171,7 +171,7 @@ impl Publication {
         ensures { IfOk result (λ v. view v ≡ found (first_of (trees args.now)) (topics_of self.now)) }
     {
         let nil = Value::Nil;
-        self.find(alloc, argument(args, 0, &nil))
+        self.find(alloc, operand(args, 0, &nil))
     }
 
     fn answer_place(&self, alloc: Global, args: &[Value]) -> Result<Value, RegisterError>
@@ -194,13 +194,17 @@ impl Publication {
         if self.has_first(args) {
             return self.find_first(alloc, args);
         }
-        pair(alloc, channel(port_at(args, 1)), channel(port_at(args, 2)))
+        pair(
+            alloc,
+            channel(port_at(args, 1).n),
+            channel(port_at(args, 2).n),
+        )
     }
 
     fn has_first(&self, args: &[Value]) -> bool
         ensures { result ≡ has_topic (first_of (trees args.now)) (topics_of self.now) }
     {
         let nil = Value::Nil;
-        self.has(argument(args, 0, &nil))
+        self.has(operand(args, 0, &nil))
     }
 }

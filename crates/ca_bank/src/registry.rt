@@ -9,12 +9,12 @@ ghost use Rattle.ca_meaning.specs.Registry.{a_mult, a_mix, a_publication, pairs_
 ghost use Rattle.ca_value.specs.Equality.{pair_count};
 ghost use Rattle.ca_bank.specs.Registry.{registry_view, members_spare, comes_to, registered};
 
-use crate::argument::argument;
 use crate::bank::PortKind;
 use crate::mix::Mix;
 use crate::mult::Mult;
 use crate::publication::Publication;
 use crate::registry_error::RegisterError;
+use ca_asking::operands::operand;
 use ca_term::head::RegisterName;
 use ca_value::memory::OutOfMemory;
 use ca_value::value::{Items, PortId, Value};
@@ -111,7 +111,7 @@ pub(crate) fn members_added(name: RegisterName, args: &[Value]) -> u64
         RegisterName::Tap | RegisterName::Admix | RegisterName::Place => 1,
         RegisterName::Toggle => {
             let nil = Value::Nil;
-            pairs_in(argument(args, 0, &nil))
+            pairs_in(operand(args, 0, &nil))
         }
         _ => 0,
     }

@@ -3,7 +3,7 @@ ghost use Rattle.std.specs.Prelude.{◌≡◌};
 use ca_value::memory::OutOfMemory;
 
 /// Why an operation on a registry has no answer.
-#[derive(Clone, Copy, PartialEq, Eq, Debug)]
+#[derive(Clone, Copy)]
 pub enum RegisterError {
     /// The port is no registry of the kind that the operation needs.
     NotAPort,

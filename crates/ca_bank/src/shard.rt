@@ -2,9 +2,9 @@ ghost use Rattle.std.specs.Prelude.{◌≡◌, ℕ, ◌+◌, ◌%◌, ◌<◌, �
 ghost use Rattle.std.specs.Map.{update};
 ghost use Rattle.indexmap.specs.IndexMap.{get};
 
+use crate::wait_table::WaitTable;
 use ca_term::event::WaitId;
 use ca_value::memory::OutOfMemory;
-use indexmap::IndexMap;
 use std::alloc::Global;
 
 /// Who waits: a task, or nobody where a value was put by a task that went on.
@@ -15,7 +15,7 @@ pub enum Parked<A> {
 }
 
 /// Whether a wait is still to be completed.
-#[derive(Clone, Copy, PartialEq, Eq, Debug)]
+#[derive(Clone, Copy)]
 pub enum Probe {
     Live,
     Stale,
@@ -24,7 +24,7 @@ pub enum Probe {
 /// The live waits of one shard, by number.
 #[derive(Drop)]
 pub struct Shard<A> {
-    waits: IndexMap<u64, Parked<A>>,
+    waits: WaitTable<Parked<A>>,
     number: u64,
     count: u64,
     ghost within: { number < count },
@@ -42,7 +42,7 @@ impl<A> Shard<A> {
         ensures count { shard_count result ≡ count }
     {
         Shard {
-            waits: IndexMap::new(alloc),
+            waits: WaitTable::new(alloc),
             number,
             count,
         }
@@ -63,15 +63,14 @@ impl<A> Shard<A> {
         ensures waits { (w : ℕ) → parked_in self.new w ≡ parked_in self.old w }
         ensures same { SameShard self.old self.new }
     {
-        self.waits.reserve(1)?;
-        Ok(())
+        self.waits.reserve()
     }
 
     /// Whether the wait is live: it is stale exactly where it isn't in its shard.
     pub fn probe(&self, wait: WaitId) -> Probe
         ensures { is_live result ≡ is_some (parked_in self.now wait.n) }
     {
-        match self.waits.get(&wait.n) {
+        match self.waits.get(wait.n) {
             Some(_) => Probe::Live,
             None => Probe::Stale,
         }
@@ -81,7 +80,7 @@ impl<A> Shard<A> {
     pub fn parked(&self, wait: WaitId) -> Option<&Parked<A>>
         ensures { option_map (λ p. p.now) result ≡ parked_in self.now wait.n }
     {
-        self.waits.get(&wait.n)
+        self.waits.get(wait.n)
     }
 
     /// Takes the wait out; None exactly where it isn't there.
@@ -91,7 +90,7 @@ impl<A> Shard<A> {
         ensures spare { shard_spare self.old ≤ shard_spare self.new }
         ensures same { SameShard self.old self.new }
     {
-        self.waits.swap_remove(&wait.n)
+        self.waits.take(wait.n)
     }
 
     /// Puts the wait in. It takes no memory.
@@ -104,9 +103,6 @@ impl<A> Shard<A> {
         ensures spare { shard_spare self.old ≤ shard_spare self.new + 1 }
         ensures same { SameShard self.old self.new }
     {
-        match self.waits.insert(wait.n, parked) {
-            Ok(_) => {}
-            Err(_) => unreachable!(),
-        }
+        self.waits.put(wait.n, parked);
     }
 }

@@ -4,8 +4,7 @@ use Rattle.ca_value.specs.Tree.{Trees}
 use Rattle.ca_value.specs.View.{view, trees}
 use Rattle.ca_value.specs.declared.value.Value.{Value}
 use Rattle.ca_term.specs.declared.fault.Fault.TheVariants.{NotAPort, TooManyPorts}
-use Rattle.ca_meaning.specs.Operands.{count_of, first_of, is_pair, or_else, port_number, rest_of, values_in}
-use Rattle.ca_meaning.specs.Parts.{operand_at}
+use Rattle.ca_meaning.specs.Operands.{operand_at, count_of, first_of, is_pair, or_else, port_number, rest_of, values_in}
 use Rattle.ca_meaning.specs.State.{State}
 use Rattle.ca_meaning.specs.TaskSteps.{last_port}
 use Rattle.ca_meaning.specs.Refusal.{bad_choice, bad_ports, meets_need, not_needed, unmet}

@@ -6,7 +6,7 @@ use Rattle.std.proofs.lemmas.List.Elements.{Contains-push, Contains-append_left}
 use mathlib.Core.Logic.{dite}
 use native.Mathlib.Decide.{ℕ_discrete}
 use Rattle.ca_value.specs.Tree.{Tree, nil}
-use Rattle.ca_term.specs.declared.head.SeedKind.{SeedKind}
+use Rattle.ca_term.specs.declared.event.TaskKind.{TaskKind}
 use Rattle.ca_term.specs.Program.{ProgramView}
 use Rattle.ca_term.specs.Operation.{SeedView, spawning}
 use Rattle.ca_term.specs.Event.{spawned}
@@ -80,7 +80,7 @@ no_first w k u e f = omega (arith, e, f)
 
 module _ {A : Type 0} (place : A → At) (stands : ProgramView → A → Option ℕ → TaskBody → Type 0) (program : ProgramView) (n : ℕ)
     (advances : ProgramView → A → A → Type 0) (goes_on_law : GoesOn stands place advances) (gives : A → Tree → A → Type 0) (answers_law : TakesAnswers stands place gives) (starts : ProgramView → SeedView → A → Type 0) (begins_law : Begins stands place starts) where
-  pub spawn_steps : (now old new : Parts A) (s : State) (w t u : ℕ) (kind : SeedKind) (result : Option ℕ) → Stands place stands program n now s → IsPart old now → MovesSpawn place advances gives starts w n t u kind result old new → Leads place stands program n (laid_parts now new) s (spawned t u kind result)
+  pub spawn_steps : (now old new : Parts A) (s : State) (w t u : ℕ) (kind : TaskKind) (result : Option ℕ) → Stands place stands program n now s → IsPart old now → MovesSpawn place advances gives starts w n t u kind result old new → Leads place stands program n (laid_parts now new) s (spawned t u kind result)
   spawn_steps now old new s w t u kind result st part m = let a = m.answers in let op = spawning m.seed in let g = went place stands program n advances goes_on_law gives answers_law now old new s w t op nil st part a in
       let x = g.0 in let y = runs x.result g.4.0 in let tasks : Tasks = update eqb s.tasks t (Some y) in let l = a.stands.lane in let l2 = a.stands.lane2 in let lane2 = update eqb now.lane w (Some l2) in
       let at_lane = part.lanes w l a.stands.lanes.was in let mine = st.lanes w l at_lane in

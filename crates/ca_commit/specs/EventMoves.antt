@@ -4,7 +4,7 @@ use Rattle.ca_value.specs.Tree.{Tree, Trees, bool, nil, port}
 use Rattle.ca_value.specs.Deadlines.{due}
 use Rattle.ca_term.specs.declared.event.Side.{Side}
 use Rattle.ca_term.specs.declared.head.RegisterName.{RegisterName}
-use Rattle.ca_term.specs.declared.head.SeedKind.{SeedKind}
+use Rattle.ca_term.specs.declared.event.TaskKind.{TaskKind}
 use Rattle.ca_term.specs.declared.place.Place.{Place}
 use Rattle.ca_term.specs.Program.{ProgramView}
 use Rattle.ca_term.specs.Operation.{OpView, SeedView, WhatView, spawning, timeout}
@@ -118,7 +118,7 @@ module _ {A : Type 0} (place : A → At) (advances : ProgramView → A → A →
 
   -- a task that is started
   abbrev pub SpawnMoves : (ProgramView → SeedView → A → Type 0) → Type 0
-  SpawnMoves starts = (old new : Parts (TaskAgent A)) (w n t u : ℕ) (op : OpView) (kind : SeedKind) (r : Option ℕ) (a : TaskAgent A) (q : List (ℕ × TaskAgent A)) → PlanTells old op (to_spawn kind r)
+  SpawnMoves starts = (old new : Parts (TaskAgent A)) (w n t u : ℕ) (op : OpView) (kind : TaskKind) (r : Option ℕ) (a : TaskAgent A) (q : List (ℕ × TaskAgent A)) → PlanTells old op (to_spawn kind r)
       → (answers : Goes w t op nil old new) → u ≡ 1 + w + n * answers.stands.lane.counts.tasks → answers.stands.lane2.counts ≡ one_task_more answers.stands.lane.counts
       → ((seed : SeedView) → op ≡ spawning seed → starts_of starts answers.stands.lane.program seed a)
       → Becomes old.ready new.ready w q (q ++ (u, a) ∷ []) → Stays old.bank new.bank → Stays old.registry new.registry → Stays old.shard new.shard → new.timers ≡ old.timers

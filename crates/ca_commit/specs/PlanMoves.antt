@@ -1,7 +1,7 @@
 -- What the calls of a plan's event promise of the parts is how that event moves them: one law for all events.
 use Rattle.std.specs.Prelude.{◌≡◌, ℕ, ◌+◌, ◌*◌, List, [], ◌∷◌, ◌++◌, Option, Some, None, option_map}
 use Rattle.ca_value.specs.Tree.{Tree}
-use Rattle.ca_term.specs.declared.head.SeedKind.{SeedKind}
+use Rattle.ca_term.specs.declared.event.TaskKind.{TaskKind}
 use Rattle.ca_term.specs.declared.place.Place.{Place}
 use Rattle.ca_term.specs.Program.{ProgramView}
 use Rattle.ca_term.specs.Operation.{OpView, SeedView, spawning}
@@ -87,7 +87,7 @@ module _ {A : Type 0} (place : A → At) (advances : ProgramView → A → A →
     pub is_event : IsEvent q
     pub placed : Placed old.bank
     pub stands : Stood (place_of place) (advances_of advances) w t (at_op (record { op = op; place = at })) old new
-    pub task_is : (kind : SeedKind) (r : Option ℕ) → q ≡ to_spawn kind r → u ≡ next_task w n stands.lane.counts
+    pub task_is : (kind : TaskKind) (r : Option ℕ) → q ≡ to_spawn kind r → u ≡ next_task w n stands.lane.counts
     pub port_is : p ≡ next_port w n stands.lane.counts
     pub wait_is : v ≡ next_wait w n stands.lane.counts
     pub counts : stands.lane2.counts ≡ counts_by q stands.lane.counts

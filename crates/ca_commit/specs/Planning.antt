@@ -4,7 +4,7 @@ use Rattle.ca_value.specs.Tree.{Tree, Trees}
 use Rattle.ca_term.specs.declared.fault.Fault.{Fault}
 use Rattle.ca_term.specs.declared.event.Side.{Side}
 use Rattle.ca_term.specs.declared.head.RegisterName.{RegisterName}
-use Rattle.ca_term.specs.declared.head.SeedKind.{SeedKind}
+use Rattle.ca_term.specs.declared.event.TaskKind.{TaskKind}
 use Rattle.ca_term.specs.Operation.{OpView, WhatView, taking, putting, choosing, making, spawning, closing, registering, printing, posting}
 use Rattle.ca_term.specs.Event.{BranchView}
 use Rattle.ca_meaning.specs.Operands.{port_number}
@@ -40,7 +40,7 @@ pub data Planned : Type 0 where
   to_post : List BranchView → Planned
   to_default : Tree → Planned
   to_make : WhatView → Planned
-  to_spawn : SeedKind → Option ℕ → Planned
+  to_spawn : TaskKind → Option ℕ → Planned
   to_close : ℕ → Planned
   to_register : RegisterName → Trees → Planned
   to_print : List ℕ → Planned

@@ -5,7 +5,7 @@ use Rattle.ca_value.specs.Tree.{Tree, Trees, nil, port}
 use Rattle.ca_term.specs.declared.place.Place.{Place}
 use Rattle.ca_term.specs.declared.fault.Fault.{Fault}
 use Rattle.ca_term.specs.declared.head.RegisterName.{RegisterName}
-use Rattle.ca_term.specs.declared.head.SeedKind.{SeedKind}
+use Rattle.ca_term.specs.declared.event.TaskKind.{TaskKind}
 use Rattle.ca_term.specs.Program.{ProgramView}
 use Rattle.ca_term.specs.Operation.{OpView, WhatView, SeedView, making, spawning, registering, printing}
 use Rattle.ca_meaning.specs.Body.{At, at_op, ended, faulted}
@@ -74,7 +74,7 @@ module _ {A : Type 0} (place : A → At) (advances : ProgramView → A → A →
     pub timers : MakesTimed p what moment old.timers new.timers
 
   -- the new task stands last in the worker's own ready part
-  pub record MovesSpawn (starts : ProgramView → SeedView → A → Type 0) (w n t u : ℕ) (kind : SeedKind) (result : Option ℕ) (old new : Parts A) : Type 0 where
+  pub record MovesSpawn (starts : ProgramView → SeedView → A → Type 0) (w n t u : ℕ) (kind : TaskKind) (result : Option ℕ) (old new : Parts A) : Type 0 where
     pub seed : SeedView
     pub answers : Answers place advances gives w t (spawning seed) nil old new
     pub kind_is : kind_of seed ≡ kind

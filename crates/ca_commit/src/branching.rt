@@ -17,6 +17,7 @@ use crate::counting::count;
 use crate::finding::{Finding, find_put, find_take};
 use crate::held::{Banks, Shards};
 use crate::planned::{Chosen, Plan};
+use ca_asking::operands::port_of;
 use ca_term::event::{Branch, Side};
 use ca_value::memory::OutOfMemory;
 use ca_value::seq::Seq;
@@ -46,16 +47,6 @@ fn pair_of<'a>(items: &'a [Value], nil: &'a Value) -> (PortId, Option<&'a Value>
     match items.first() {
         Some(Value::Port(port)) => (*port, Some(value)),
         _ => (PortId { n: 0 }, Some(value)),
-    }
-}
-
-// The port that a value is, or port 0.
-pub(crate) fn port_of(value: &Value) -> PortId
-    ensures { result.n ≡ port_number (view value.now) }
-{
-    match value {
-        Value::Port(port) => *port,
-        _ => PortId { n: 0 },
     }
 }
 

@@ -18,13 +18,13 @@ ghost use Rattle.ca_commit.specs.Replies.{GoesOn};
 ghost use Rattle.ca_commit.specs.Showing.{channels_held, registries_held};
 ghost use Rattle.ca_commit.specs.Tasks.{agent_of};
 
-use crate::branching::port_of;
 use crate::changing::register;
 use crate::held::{Applied, Banks, Held};
 use crate::replying::{goes_on, taken};
 use crate::reserving::reserve_members;
 use crate::task::Task;
 use ca_agent::agent::Agent;
+use ca_asking::operands::port_of;
 use ca_bank::bank::Bank;
 use ca_bank::registry_error::RegisterError;
 use ca_term::event::Event;

@@ -18,7 +18,7 @@ use ca_term::event::{Side, WaitId};
 use ca_value::value::PortId;
 
 /// What the held shards tell of a wait.
-#[derive(Clone, Copy, PartialEq, Eq, Debug)]
+#[derive(Clone, Copy)]
 pub enum Glance {
     Here,
     Gone,
@@ -26,7 +26,7 @@ pub enum Glance {
 }
 
 /// What is found of a branch.
-#[derive(Clone, Copy, PartialEq, Eq, Debug)]
+#[derive(Clone, Copy)]
 pub enum Finding {
     Unready,
     /// It is done at once.

@@ -1,9 +1,7 @@
 // Whether operands are the ports that an operation needs, as far as the held banks tell.
 ghost use Rattle.std.specs.Prelude.{◌≡◌, ◌%◌, None, cond, is_some, map};
-ghost use Rattle.ca_value.specs.Tree.{nil as nil_tree};
 ghost use Rattle.ca_value.specs.View.{view, trees};
-ghost use Rattle.ca_meaning.specs.Operands.{is_pair, second_of, or_else, first_of};
-ghost use Rattle.ca_meaning.specs.Parts.{operand_at};
+ghost use Rattle.ca_meaning.specs.Operands.{operand_at, is_pair, second_of, or_else, first_of};
 ghost use Rattle.ca_meaning.specs.Refusal.{is_channel, is_port_to, meets_need, nil_put, not_a_channel, bad_port, bad_ports, bad_choice, unmet};
 ghost use Rattle.ca_bank.specs.Bank.{kind_of};
 ghost use Rattle.ca_commit.specs.Contents.{whole};
@@ -11,12 +9,13 @@ ghost use Rattle.ca_commit.specs.Showing.{channels_held, registries_held, state_
 ghost use Rattle.ca_commit.specs.Needs.{need_view};
 
 use crate::held::Banks;
+use ca_asking::operands::operand;
 use ca_bank::bank::PortKind;
 use ca_term::fault::Fault;
 use ca_value::value::{PortId, Value};
 
 /// What an operand has to be.
-#[derive(Clone, Copy, PartialEq, Eq, Debug)]
+#[derive(Clone, Copy)]
 pub enum Need {
     Channel,
     Mult,
@@ -165,7 +164,7 @@ fn need_met(banks: &Banks, need: Need, values: &[Value], place: usize) -> bool
     ensures { result ≡ meets_need (state_held banks.now) (need_view need) (operand_at place (trees values.now)) }
 {
     let nil = Value::Nil;
-    meets_need(banks, need, operand(values, place, &nil))
+    meets_need(banks, need, operand(values, place as u64, &nil))
 }
 
 /// The fault of the first operand that isn't what is needed.
@@ -178,15 +177,4 @@ pub fn unmet(banks: &Banks, needs: &[Need], values: &[Value]) -> Option<Fault>
         }
     }
     None
-}
-
-// The operand at the place, from 0, or nil.
-fn operand<'a>(values: &'a [Value], place: usize, nil: &'a Value) -> &'a Value
-    requires { view nil.now ≡ nil_tree }
-    ensures { view result.now ≡ operand_at place (trees values.now) }
-{
-    match values.get(place) {
-        None => nil,
-        Some(value) => value,
-    }
 }

@@ -22,8 +22,7 @@ use crate::replying::{goes_on, taken};
 use crate::task::Task;
 use crate::waiting::push;
 use ca_agent::agent::Agent;
-use ca_term::event::Event;
-use ca_term::head::SeedKind;
+use ca_term::event::{Event, TaskKind};
 use ca_value::memory::OutOfMemory;
 use ca_value::seq::{Seq, Text};
 use ca_value::value::{PortId, Value};
@@ -68,7 +67,7 @@ pub fn apply_print<A: Agent>(line: Text, task: Task<A>) -> Applied<A>
 /// The new task stands last in the ready part, and the task that started it gets nil.
 pub fn apply_spawn<A: Agent>(
     held: &mut Held<A>,
-    kind: SeedKind,
+    kind: TaskKind,
     port: Option<PortId>,
     task: Task<A>,
     spawned: Task<A>,

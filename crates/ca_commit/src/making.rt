@@ -6,14 +6,15 @@ ghost use Rattle.ca_term.specs.Event.{port_number};
 ghost use Rattle.ca_term.specs.Operation.{what_view, seed_view};
 ghost use Rattle.ca_meaning.specs.Operands.{values_in};
 ghost use Rattle.ca_meaning.specs.Refusal.{bad_seed, needs_of_system, needs_to_make, operands_to_make, unmet};
-ghost use Rattle.ca_meaning.specs.TaskSteps.{kind_of, last_port, result_of};
+ghost use Rattle.ca_meaning.specs.TaskSteps.{kind_of, kind_of_system, last_port, result_of};
 ghost use Rattle.ca_commit.specs.Showing.{state_held};
 
-use crate::branching::port_of;
 use crate::fit::{Need, not_a_channel, unmet};
 use crate::held::Banks;
+use ca_asking::operands::port_of;
+use ca_term::event::TaskKind;
 use ca_term::fault::Fault;
-use ca_term::head::{SeedKind, SystemTask};
+use ca_term::head::SystemTask;
 use ca_term::operation::{Seed, What};
 use ca_value::memory::OutOfMemory;
 use ca_value::value::{PortId, Value};
@@ -102,12 +103,30 @@ pub(crate) fn bad_seed(banks: &Banks, seed: &Seed) -> Option<Fault>
 }
 
 /// The kind of the new task.
-pub(crate) fn kind_of(seed: &Seed) -> SeedKind
+pub(crate) fn kind_of(seed: &Seed) -> TaskKind
     ensures { result ≡ kind_of (seed_view seed.now) }
 {
     match seed {
-        Seed::Go(go) => SeedKind::Go(go.body),
-        Seed::System(system) => SeedKind::System(system.kind),
+        Seed::Go(_) => TaskKind::Go,
+        Seed::System(system) => kind_of_system(system.kind),
+    }
+}
+
+// The kind without its function.
+fn kind_of_system(kind: SystemTask) -> TaskKind
+    ensures { result ≡ kind_of_system kind }
+{
+    match kind {
+        SystemTask::Mult => TaskKind::Mult,
+        SystemTask::Deliver => TaskKind::Deliver,
+        SystemTask::Mix => TaskKind::Mix,
+        SystemTask::Pub(_) => TaskKind::Pub,
+        SystemTask::Pipe => TaskKind::Pipe,
+        SystemTask::Merge => TaskKind::Merge,
+        SystemTask::Onto => TaskKind::Onto,
+        SystemTask::Feed => TaskKind::Feed,
+        SystemTask::Job(_, _) => TaskKind::Job,
+        SystemTask::Collect => TaskKind::Collect,
     }
 }
 

@@ -18,13 +18,13 @@ ghost use Rattle.ca_commit.specs.Running.{or_was};
 ghost use Rattle.ca_commit.specs.Showing.{channels_held, registries_held};
 ghost use Rattle.ca_commit.specs.Tasks.{agent_of};
 
-use crate::branching::port_of;
 use crate::changing::make;
 use crate::held::{Applied, Held};
 use crate::replying::goes_on;
 use crate::reserving::reserve_port;
 use crate::task::Task;
 use ca_agent::agent::Agent;
+use ca_asking::operands::port_of;
 use ca_bank::bank::Made;
 use ca_buffers::any::AnyBuffer;
 use ca_buffers::dropping::Dropping;

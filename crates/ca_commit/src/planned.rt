@@ -1,6 +1,6 @@
-use ca_term::event::{Branch, Side, WaitId};
+use ca_term::event::{Branch, Side, TaskKind, WaitId};
 use ca_term::fault::Fault;
-use ca_term::head::{RegisterName, SeedKind};
+use ca_term::head::RegisterName;
 use ca_term::operation::What;
 use ca_value::seq::{Seq, Text};
 use ca_value::value::{Items, PortId, Value};
@@ -40,7 +40,7 @@ pub enum Plan {
     Default(Value),
     Make(What),
     /// The kind of the new task, and its result port.
-    Spawn(SeedKind, Option<PortId>),
+    Spawn(TaskKind, Option<PortId>),
     Close(PortId),
     /// The arguments, for the event and once more for the registry.
     Register(RegisterName, Items, Items),

@@ -11,12 +11,13 @@ ghost use Rattle.ca_commit.specs.Planning.{Planned, Seen, planned, in_turn, all_
 ghost use Rattle.ca_commit.specs.Plans.{plan_view, HasCopies, AreTwice};
 ghost use Rattle.ca_commit.specs.Branching.{branches_in, branch_by, plan_or, put_as, HaveCopies, single};
 
-use crate::branching::{branch, branches, count_for, look_at, parts_of, port_of};
+use crate::branching::{branch, branches, count_for, look_at, parts_of};
 use crate::fit::{bad_choice, bad_put, not_a_channel};
 use crate::held::{Banks, Held, Shards};
 use crate::making::{bad_make, bad_seed, copy_what, kind_of, result_of};
 use crate::planned::{Handlers, Joining, Plan};
 use crate::registering::bad_register;
+use ca_asking::operands::port_of;
 use ca_term::copy::copy_values;
 use ca_term::event::Branch;
 use ca_term::head::RegisterName;

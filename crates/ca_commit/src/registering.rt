@@ -12,9 +12,9 @@ ghost use Rattle.ca_bank.specs.Mixes.{TogglesApart};
 ghost use Rattle.ca_bank.specs.Publications.{PlacesItself};
 ghost use Rattle.ca_bank.specs.Registry.{comes_to};
 
-use crate::branching::port_of;
 use crate::fit::{Need, is_channel, unmet};
 use crate::held::Banks;
+use ca_asking::operands::port_of;
 use ca_bank::bank::Bank;
 use ca_bank::registry_error::RegisterError;
 use ca_term::fault::Fault;

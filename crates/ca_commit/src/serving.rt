@@ -18,7 +18,7 @@ use ca_term::event::{Side, WaitId};
 use ca_value::value::PortId;
 
 /// What a channel does by itself.
-#[derive(Clone, Copy, PartialEq, Eq, Debug)]
+#[derive(Clone, Copy)]
 pub enum Serving {
     Rests,
     /// It serves that branch of the wait, which stands in front of the side.

@@ -1,12 +1,15 @@
-use ca_term::event::Event;
-use ca_value::seq::Seq;
+use crate::note::Note;
 
 /// An event, and its number among all events of the run.
 #[derive(Drop)]
 pub struct Entry {
     pub number: u64,
-    pub event: Event,
+    pub note: Note,
 }
 
-/// The events of a run, in order.
-pub type Journal = Seq<Event>;
+/// Where an entry lies in a worker's list: in which of its pieces, and where in that.
+#[derive(Clone, Copy)]
+pub struct Spot {
+    pub piece: usize,
+    pub place: usize,
+}

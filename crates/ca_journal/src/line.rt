@@ -6,28 +6,103 @@ ghost use Rattle.ca_term.specs.Operation.{what_view};
 ghost use Rattle.ca_term.specs.Event.{branch_view, event_view, made, spawned, done, parked, posted, settled, defaulted, registered, printed, ticked, over, port_number};
 ghost use Rattle.ca_meaning.specs.Texts.{◌⋅◌};
 ghost use Rattle.ca_meaning.specs.Journal.{event_text, event_line, side_text, port_text};
+ghost use Rattle.ca_journal.specs.Note.{note_view};
 
 use crate::name::{kind_name, register_name};
+use crate::note::Note;
 use crate::part::{
     append_branch, append_branches, append_maybe_port, append_numbered, append_place, append_ports,
-    append_values, append_what,
+    append_put, append_values, append_what,
 };
 use ca_meaning::text::{fault_name, side_name};
-use ca_term::event::{Branch, Ending, Event, Side, WaitId};
-use ca_term::head::{RegisterName, SeedKind};
+use ca_term::event::{Branch, Ending, Event, Side, TaskKind, WaitId};
+use ca_term::head::RegisterName;
 use ca_term::operation::What;
 use ca_value::memory::OutOfMemory;
 use ca_value::seq::Text;
 use ca_value::value::{Items, PortId, Value};
 
-// The line of an event, with its number and its line feed.
-pub(crate) fn append_line(number: u64, event: &Event, into: &mut Text) -> Result<(), OutOfMemory>
-    ensures { OnOk result (list into.new ≡ list into.old ++ event_line number (event_view event.now)) }
+// The line of a note, with its number and its line feed.
+pub(crate) fn append_line(number: u64, note: &Note, into: &mut Text) -> Result<(), OutOfMemory>
+    ensures { OnOk result (list into.new ≡ list into.old ++ event_line number (note_view note.now)) }
 {
     append_numbered(b"", number, into)?;
     into.append(b" ")?;
-    append_event(event, into)?;
+    append_note(note, into)?;
     into.append(b"\n")
+}
+
+fn append_note(note: &Note, into: &mut Text) -> Result<(), OutOfMemory>
+    ensures { OnOk result (list into.new ≡ list into.old ++ event_text (note_view note.now)) }
+{
+    match note {
+        Note::Took {
+            branch,
+            task,
+            port,
+            answer,
+        } => append_done(*task, *branch as u64, &Branch::Take(*port), answer, into),
+        Note::Gave {
+            branch,
+            accepted,
+            task,
+            port,
+            value,
+        } => {
+            append_pair(b"done t", *task, b" ", *branch as u64, into)?;
+            into.append(b" ")?;
+            append_put(*port, value, into)?;
+            into.append(b" ")?;
+            Value::Bool(*accepted).append_readable(into)
+        }
+        Note::Met {
+            side,
+            branch,
+            other,
+            task,
+            port,
+            wait,
+            value,
+        } => {
+            append_pair(b"meet t", *task, b" ", *branch as u64, into)?;
+            append_passing(*side, *port, value, into)?;
+            append_pair(b" w", wait.n, b" ", *other as u64, into)
+        }
+        Note::TakeParked { task, wait, port } => {
+            append_pair(b"park t", *task, b" w", wait.n, into)?;
+            append_numbered(b" take p", port.n, into)
+        }
+        Note::PutParked {
+            task,
+            wait,
+            port,
+            value,
+        } => {
+            append_pair(b"park t", *task, b" w", wait.n, into)?;
+            into.append(b" ")?;
+            append_put(*port, value, into)
+        }
+        Note::Settled {
+            side,
+            branch,
+            wait,
+            port,
+            value,
+        } => append_settle(*wait, *branch as u64, *side, *port, value, into),
+        Note::Timed {
+            task,
+            port,
+            milliseconds,
+            moment,
+        } => append_make(
+            *task,
+            *port,
+            &What::Timeout(*milliseconds),
+            Some(*moment),
+            into,
+        ),
+        Note::Rare(event) => append_event(event, into),
+    }
 }
 
 fn append_event(event: &Event, into: &mut Text) -> Result<(), OutOfMemory>
@@ -144,7 +219,7 @@ fn append_make(
 fn append_spawn(
     task: u64,
     created: u64,
-    kind: SeedKind,
+    kind: TaskKind,
     port: Option<PortId>,
     into: &mut Text,
 ) -> Result<(), OutOfMemory>

@@ -3,11 +3,11 @@ ghost use Rattle.ca_value.specs.Seq.{list};
 ghost use Rattle.ca_value.specs.View.{view, trees};
 ghost use Rattle.ca_value.specs.Printed.{readable_items};
 ghost use Rattle.ca_term.specs.Operation.{what_view};
-ghost use Rattle.ca_term.specs.Event.{branch_view, port_number as number_of};
-ghost use Rattle.ca_meaning.specs.Operands.{port_number};
+ghost use Rattle.ca_term.specs.Event.{branch_view, put_of, port_number as number_of};
 ghost use Rattle.ca_meaning.specs.Texts.{place_text};
 ghost use Rattle.ca_meaning.specs.Journal.{maybe_port_text, moment_text, what_text, branch_text, branches_text, ports_text};
 
+use ca_asking::operands::port_of;
 use ca_term::event::Branch;
 use ca_term::operation::What;
 use ca_term::place::Place;
@@ -55,16 +55,6 @@ fn append_moment(moment: Option<u64>, into: &mut Text) -> Result<(), OutOfMemory
     }
 }
 
-// The number of the port that the value names; 0 where it names none.
-fn port_of(value: &Value) -> u64
-    ensures { result ≡ port_number (view value.now) }
-{
-    match value {
-        Value::Port(port) => port.n,
-        _ => 0,
-    }
-}
-
 // What is made at a new port.
 pub(crate) fn append_what(
     what: &What,
@@ -84,12 +74,12 @@ pub(crate) fn append_what(
             into.append(b" at ")?;
             append_moment(moment, into)
         }
-        What::Mult(source) => append_numbered(b"mult p", port_of(source), into),
+        What::Mult(source) => append_numbered(b"mult p", port_of(source).n, into),
         What::Mix(out, changes) => {
-            append_numbered(b"mix p", port_of(out), into)?;
-            append_numbered(b" p", port_of(changes), into)
+            append_numbered(b"mix p", port_of(out).n, into)?;
+            append_numbered(b" p", port_of(changes).n, into)
         }
-        What::Pub(source) => append_numbered(b"pub p", port_of(source), into),
+        What::Pub(source) => append_numbered(b"pub p", port_of(source).n, into),
     }
 }
 
@@ -99,12 +89,17 @@ pub(crate) fn append_branch(branch: &Branch, into: &mut Text) -> Result<(), OutO
 {
     match branch {
         Branch::Take(port) => append_numbered(b"take p", port.n, into),
-        Branch::Put(port, value) => {
-            append_numbered(b"put p", port.n, into)?;
-            into.append(b" ")?;
-            value.append_readable(into)
-        }
+        Branch::Put(port, value) => append_put(*port, value, into),
     }
+}
+
+// A put of a value into a channel.
+pub(crate) fn append_put(port: PortId, value: &Value, into: &mut Text) -> Result<(), OutOfMemory>
+    ensures { OnOk result (list into.new ≡ list into.old ++ branch_text (put_of port.n (view value.now))) }
+{
+    append_numbered(b"put p", port.n, into)?;
+    into.append(b" ")?;
+    value.append_readable(into)
 }
 
 // The operations of a wait, joined by a comma and a space.

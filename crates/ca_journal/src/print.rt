@@ -3,8 +3,9 @@ ghost use Rattle.ca_value.specs.Seq.{list};
 ghost use Rattle.ca_meaning.specs.Journal.{journal_text};
 ghost use Rattle.ca_journal.specs.Events.{events};
 
-use crate::entry::Journal;
+use crate::journal::Journal;
 use crate::line::append_line;
+use crate::walk::Walk;
 use ca_value::memory::OutOfMemory;
 use ca_value::seq::Text;
 use std::alloc::Global;
@@ -14,9 +15,11 @@ pub fn print(alloc: Global, journal: &Journal) -> Result<Text, OutOfMemory>
     ensures { IfOk result (λ t. list t ≡ journal_text (events journal.now)) }
 {
     let mut text = Text::new(alloc);
-    let events = journal.as_slice();
-    for (number, event) in events.iter().enumerate() {
-        append_line(number as u64, event, &mut text)?;
+    let mut walk = Walk::of(alloc, journal)?;
+    let mut number = 0;
+    while let Some(entry) = walk.next() {
+        append_line(number, &entry.note, &mut text)?;
+        number += 1;
     }
     Ok(text)
 }

@@ -1,9 +1,10 @@
 -- The order of deadlines, and what it means for those that are due.
-use Rattle.std.proofs.Common.{◌≡◌, ℕ, zero, suc, List, [], ◌∷◌, ◌++◌, ◌+◌, length, drop, map, Bool, true, false, cond, Option, Some, None, refl, sym, ◌∙◌, ap, arith}
+use Rattle.std.proofs.Common.{◌≡◌, ℕ, zero, suc, List, [], ◌∷◌, ◌++◌, ◌+◌, ◌-◌, length, drop, map, Bool, true, false, cond, Option, Some, None, refl, sym, ◌∙◌, ap, subst, arith}
+use Rattle.std.proofs.lemmas.List.{append-nil}
 use Rattle.std.specs.Prelude.{slice_get, filter, nat_le, not}
 use Rattle.std.proofs.lemmas.Bool.Decides.{nat_tests}
 use Rattle.ca_value.specs.Deadlines.{Deadline, is_before, opened, due, open_after}
-use Rattle.ca_timers.specs.Timers.{NoneBefore, AreOrdered}
+use Rattle.ca_timers.specs.Timers.{NoneBefore, AreOrdered, IsInFront}
 use Rattle.ca_timers.specs.Stored.{first_of}
 
 -- what stands no earlier than a later one is later too
@@ -101,9 +102,9 @@ none_there : (d e : Deadline) (xs ys : List Deadline) → NoneBefore d (xs ++ e 
 none_there d e [] ys all = all.0
 none_there d e (x ∷ xs) ys all = none_there d e xs ys all.1
 
-pub ordered_front : (xs : List Deadline) (e : Deadline) (ys : List Deadline) → AreOrdered (xs ++ e ∷ ys) → AreOrdered xs
-ordered_front [] e ys o = tt
-ordered_front (x ∷ xs) e ys o = (none_in_front x xs (e ∷ ys) o.0, ordered_front xs e ys o.1)
+pub ordered_front : (xs ys : List Deadline) → AreOrdered (xs ++ ys) → AreOrdered xs
+ordered_front [] ys o = tt
+ordered_front (x ∷ xs) ys o = (none_in_front x xs ys o.0, ordered_front xs ys o.1)
 
 pub ordered_back : (xs : List Deadline) (e : Deadline) (ys : List Deadline) → AreOrdered (xs ++ e ∷ ys) → AreOrdered ys
 ordered_back [] e ys o = o.1
@@ -139,3 +140,33 @@ first_opened d (e ∷ ds) = by (is_before d e) where
   by : (b : Bool) → Some (cond b d e) ≡ slice_get (cond b (d ∷ e ∷ ds) (e ∷ opened d ds)) 0
   by true = refl
   by false = refl
+
+-- a deadline behind which none stands is opened last
+pub opened_end : (d : Deadline) (xs ys : List Deadline) → AreOrdered (xs ++ d ∷ ys) → opened d xs ≡ xs ++ d ∷ []
+opened_end d [] ys o = refl
+opened_end d (x ∷ xs) ys o = ap (λ (b : Bool). cond b (d ∷ x ∷ xs) (x ∷ opened d xs)) (none_there x d xs ys o.0) ∙ ap (λ (r : List Deadline). x ∷ r) (opened_end d xs ys o.1)
+
+-- it doesn't stand before the other one, if there is one
+abbrev pub NotBefore : Deadline → Option Deadline → Type 0
+NotBefore d None = Unit {0}
+NotBefore d (Some e) = is_before d e ≡ false
+
+not_before_first : (d x y : Deadline) (ys : List Deadline) → NoneBefore x (y ∷ ys) → NotBefore d (slice_get (y ∷ ys) (length ys)) → is_before d x ≡ false
+not_before_first d x y [] all h = not_earlier d y x h all.0
+not_before_first d x y (z ∷ zs) all h = not_before_first d x z zs all.1 h
+
+opened_behind_all : (d x : Deadline) (xs : List Deadline) → AreOrdered (x ∷ xs) → NotBefore d (slice_get (x ∷ xs) (length xs)) → opened d (x ∷ xs) ≡ (x ∷ xs) ++ d ∷ []
+opened_behind_all d x [] o h = ap (λ (b : Bool). cond b (d ∷ x ∷ []) (x ∷ d ∷ [])) h
+opened_behind_all d x (y ∷ ys) o h =
+    ap (λ (b : Bool). cond b (d ∷ x ∷ y ∷ ys) (x ∷ opened d (y ∷ ys))) (not_before_first d x y ys o.0 h) ∙ ap (λ (r : List Deadline). x ∷ r) (opened_behind_all d y ys o.1 h)
+
+pub opened_last : (d : Deadline) (ds : List Deadline) (n : ℕ) (o : Option Deadline) → AreOrdered ds → n ≡ length ds - 1 → o ≡ slice_get ds n → NotBefore d o → opened d ds ≡ ds ++ d ∷ []
+opened_last d [] n o r e s h = refl
+opened_last d (x ∷ xs) n o r e s h =
+    let last : n ≡ length xs = omega arith in
+    opened_behind_all d x xs r (subst (NotBefore d) (s ∙ ap (slice_get (x ∷ xs)) last) h)
+
+-- a deadline that stands before those of the second list is opened in the first one
+pub opened_in_front : (d : Deadline) (xs ys : List Deadline) → IsInFront d ys → opened d (xs ++ ys) ≡ opened d xs ++ ys
+opened_in_front d xs [] h = ap (opened d) (append-nil xs) ∙ sym (append-nil (opened d xs))
+opened_in_front d xs (e ∷ ys) h = opened_before d xs e ys h

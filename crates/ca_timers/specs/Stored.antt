@@ -1,15 +1,15 @@
--- How timers are stored: which list a tree of deadlines stands for, and what holds beside it.
-use Rattle.std.specs.Prelude.{◌≡◌, ◌+◌, ◌≤◌, Option, Some, None, length, cond, option_map, slice_get, vec_len, vec_capacity}
+-- How timers are stored.
+use Rattle.std.specs.Prelude.{◌≡◌, Option, Some, None, cond, option_map, slice_get}
 use Rattle.ca_value.specs.Deadlines.{Deadline, is_before}
 use Rattle.ca_timers.specs.Timers.{TimersView, AreOrdered, deadline_view}
 use Rattle.ca_timers.specs.declared.timers.Timers.TheInside.{Inside}
 
 abbrev pub timers_view : Inside → TimersView
-timers_view t = record { deadlines = t.tree.deadlines; moment = t.moment; spare = vec_len t.unused }
+timers_view t = record { deadlines = t.queue.deadlines; moment = t.moment; spare = t.queue.spare }
 
--- the deadlines are in order, the first one is kept, and all nodes of the tree fit among the unused ones
+-- the deadlines are in order, and the first one is kept
 abbrev pub IsStored : Inside → Type 0
-IsStored t = AreOrdered t.tree.deadlines × (option_map deadline_view t.first ≡ slice_get t.tree.deadlines 0) × (vec_len t.unused + length t.tree.deadlines ≤ vec_capacity t.unused)
+IsStored t = AreOrdered t.queue.deadlines × (option_map deadline_view t.first ≡ slice_get t.queue.deadlines 0)
 
 -- the earlier of two deadlines, the other where none stood there
 abbrev pub first_of : Option Deadline → Deadline → Deadline

@@ -1,5 +1,5 @@
 -- What timers show.
-use Rattle.std.specs.Prelude.{◌≡◌, ℕ, List, [], ◌∷◌, false}
+use Rattle.std.specs.Prelude.{◌≡◌, ℕ, List, [], ◌∷◌, true, false}
 use Rattle.ca_value.specs.declared.value.PortId.{PortId}
 use Rattle.ca_value.specs.Deadlines.{Deadline, is_before}
 use Rattle.ca_timers.specs.declared.deadline.OpenDeadline.{OpenDeadline}
@@ -25,3 +25,8 @@ NoneBefore d (e ∷ es) = (is_before e d ≡ false) × NoneBefore d es
 abbrev pub AreOrdered : List Deadline → Type 0
 AreOrdered [] = Unit {0}
 AreOrdered (d ∷ ds) = NoneBefore d ds × AreOrdered ds
+
+-- it stands before the first one, where there is any
+abbrev pub IsInFront : Deadline → List Deadline → Type 0
+IsInFront d [] = Unit {0}
+IsInFront d (e ∷ es) = is_before d e ≡ true

@@ -5,7 +5,7 @@ ghost use Rattle.ca_timers.specs.Timers.{deadline_view};
 use ca_value::value::PortId;
 
 /// A timeout that is open: the moment at which it closes its port.
-#[derive(Clone, Copy, PartialEq, Eq, Debug)]
+#[derive(Clone, Copy)]
 pub(crate) struct OpenDeadline {
     pub(crate) moment: u64,
     pub(crate) port: PortId,

@@ -4,7 +4,7 @@ ghost use Rattle.ca_timers.specs.Timers.{port_number, deadline_view};
 ghost use Rattle.ca_timers.specs.Stored.{first_of};
 
 use crate::deadline::OpenDeadline;
-use crate::tree::{Node, Tree};
+use crate::queue::DeadlineQueue;
 use ca_value::memory::OutOfMemory;
 use ca_value::value::PortId;
 use std::alloc::Global;
@@ -13,12 +13,10 @@ use std::marker::Model;
 /// The open deadlines, and the last moment that was reached, in milliseconds.
 #[derive(Drop)]
 pub struct Timers {
-    tree: Tree,
+    queue: DeadlineQueue,
+    // The first one of the queue.
     first: Option<OpenDeadline>,
-    // Nodes for deadlines to come. Those of the tree have a place here too, for when they are popped.
-    unused: Vec<Box<Node>>,
     moment: u64,
-    alloc: Global,
 }
 
 impl Model for Timers {
@@ -42,11 +40,9 @@ impl Timers {
         ensures moment { result.moment ≡ 0 }
     {
         Timers {
-            tree: Tree::new(),
+            queue: DeadlineQueue::new(alloc),
             first: None,
-            unused: Vec::new(alloc),
             moment: 0,
-            alloc,
         }
     }
 
@@ -57,16 +53,7 @@ impl Timers {
         ensures deadlines { self.new.deadlines ≡ self.old.deadlines }
         ensures moment { self.new.moment ≡ self.old.moment }
     {
-        if self.unused.is_empty() {
-            self.unused.reserve(self.tree.count() as usize + 1)?;
-            let nothing = OpenDeadline {
-                moment: 0,
-                port: PortId { n: 0 },
-            };
-            let node = Box::new(self.alloc, Node::new(nothing))?;
-            self.unused.push(node)?;
-        }
-        Ok(())
+        self.queue.reserve()
     }
 
     /// Opens a deadline: at that moment the port is due.
@@ -80,11 +67,7 @@ impl Timers {
             moment: deadline,
             port,
         };
-        let Some(mut node) = self.unused.pop() else {
-            unreachable!()
-        };
-        *node = Node::new(deadline);
-        self.tree.insert(node);
+        self.queue.insert(deadline);
         self.first = Some(first_of(self.first, deadline));
     }
 
@@ -128,13 +111,8 @@ impl Timers {
         if now < first.moment {
             return None;
         }
-        if let Some(node) = self.tree.take_first() {
-            self.first = self.tree.get(0);
-            match self.unused.push(node) {
-                Ok(()) => {}
-                Err(_) => unreachable!(),
-            }
-        }
+        self.queue.drop_first();
+        self.first = self.queue.get(0);
         Some(first.port)
     }
 
@@ -144,7 +122,7 @@ impl Timers {
     pub fn due(&self, now: u64, place: u64) -> Option<PortId>
         ensures { option_map port_number result ≡ slice_get (due now self.now.deadlines) place }
     {
-        match self.tree.get(place) {
+        match self.queue.get(place) {
             Some(deadline) if deadline.moment <= now => Some(deadline.port),
             _ => None,
         }

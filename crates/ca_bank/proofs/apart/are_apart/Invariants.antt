@@ -1,6 +1,6 @@
 use Rattle.std.proofs.Common.{◌≡◌, drop}
 use Rattle.ca_value.specs.View.{tree_pairs}
-use Rattle.ca_bank.specs.Mixes.{channels_differ}
+use Rattle.ca_meaning.specs.Registry.{channels_differ}
 use Rattle.ca_bank.proofs.apart.are_apart.Given as goal
 
 abbrev pub invariant-loop-place : goal.invariant-loop-place

@@ -2,16 +2,15 @@ use Rattle.std.proofs.Common.{◌≡◌, List, Option, Some, slice_get, sym, ◌
 use Rattle.ca_value.specs.Deadlines.{Deadline, opened}
 use Rattle.ca_timers.specs.Timers.{deadline_view, AreOrdered}
 use Rattle.ca_timers.specs.Stored.{first_of}
-use Rattle.ca_timers.proofs.Order.{opened_ordered, first_opened, length-opened}
+use Rattle.ca_timers.proofs.Order.{opened_ordered, first_opened}
 use Rattle.ca_timers.proofs.timers.Timers.add.Goals as goal
 
 pub invariant_of-self : goal.invariant_of-self
 invariant_of-self c =
     let d : Deadline = record { moment = c.args.deadline; port = c.args.port.n } in
-    let ds : List Deadline = c.self.inside.tree.deadlines in
+    let ds : List Deadline = c.self.inside.queue.deadlines in
     let tree : c.insert.new.self.deadlines ≡ opened d ds = grind arith in
     let first : deadline_view c.first_of.result ≡ first_of (slice_get ds 0) d = c.first_of.ensures ∙ ap (λ (o : Option Deadline). first_of o d) c.self.invariant.1 in (
       subst AreOrdered (sym tree) (opened_ordered d ds c.self.invariant.0),
       ap (λ (x : Deadline). Some x) first ∙ first_opened d ds ∙ ap (λ (xs : List Deadline). slice_get xs 0) (sym tree),
-      let more = length-opened d ds in grind arith,
     )

@@ -10,7 +10,7 @@ pub insert-requires : goal.insert-requires
 insert-requires t c =
     let whole : c.args.self.now.deadlines ≡ node_deadlines c.deref_mut.result.now = grind arith in
     let ordered = subst AreOrdered whole c.requires.ordered in
-    (grind (arith, length-append), (ordered_front _ _ _ ordered, grind (arith, length-append)))
+    (grind (arith, length-append), (ordered_front _ _ ordered, grind (arith, length-append)))
 
 pub insert-requires-else-is_before : goal.insert-requires-else-is_before
 insert-requires-else-is_before t c =
