@@ -4,7 +4,7 @@ use Rattle.std.specs.Prelude.{option_to_list}
 use Rattle.std.specs.Map.{update}
 use Rattle.ca_value.specs.Tree.{Tree, bool, nil, port}
 use Rattle.ca_term.specs.declared.event.Ending.TheVariants.{Ended, Faulted}
-use Rattle.ca_term.specs.declared.head.SeedKind.{SeedKind}
+use Rattle.ca_term.specs.declared.event.TaskKind.{TaskKind}
 use Rattle.ca_term.specs.Program.{ProgramView}
 use Rattle.ca_term.specs.Operation.{OpView, SeedView, closing, making, posting, printing, registering, spawning}
 use Rattle.ca_term.specs.Event.{EventView, made, spawned, done, met, parked, posted, settled, defaulted, closed, registered, printed, ticked, over}
@@ -76,7 +76,7 @@ module _ {A : Type 0} (place : A → At) (stands : ProgramView → A → TaskBod
       (counts_less h.stands.lane h.stands.lane2 r.queue (whole now.shard) d (lane_found now old new part d r h.stands.lane h.stands.lanes.was) h.empty h.counts)
 
   -- where a new task has made no alts, and the branch is the schedule's
-  pub shown_leaves : (t : ℕ) (e : EventView) → is_of t e ≡ true → d.readings ≡ asked e → ((t u : ℕ) (kind : SeedKind) (result : Option ℕ) → e ≡ spawned t u kind result → d.alts u ≡ 0) → ChoosesWell s d e → Moved e → Left s (laid_parts now new) d e
+  pub shown_leaves : (t : ℕ) (e : EventView) → is_of t e ≡ true → d.readings ≡ asked e → ((t u : ℕ) (kind : TaskKind) (result : Option ℕ) → e ≡ spawned t u kind result → d.alts u ≡ 0) → ChoosesWell s d e → Moved e → Left s (laid_parts now new) d e
   shown_leaves z (made t p what moment) is asks fresh well m =
       let y = moment_desk moment d asks in let a = m.answers in let f = lane_found now old new part d r a.stands.lane a.stands.lanes.was in
       let next : p ≡ suc d.ports = (let n = m.next in let e = f.ports in omega (arith, n, e)) in

@@ -2,7 +2,7 @@
 use Rattle.std.proofs.Common.{⊎_elim, ◌≡◌, ℕ, ◌<◌, List, [], ◌∷◌, ◌++◌, refl, sym, ap, ◌∙◌, subst, true, false, Option, Some, None, eqb, eqb-true}
 use Rattle.ca_value.specs.Tree.{Tree}
 use Rattle.ca_term.specs.declared.event.Ending.TheVariants.{Ended, Faulted}
-use Rattle.ca_term.specs.declared.head.SeedKind.{SeedKind}
+use Rattle.ca_term.specs.declared.event.TaskKind.{TaskKind}
 use Rattle.ca_term.specs.Program.{ProgramView}
 use Rattle.ca_term.specs.Operation.{SeedView}
 use Rattle.ca_term.specs.Event.{EventView, made, spawned, done, met, parked, posted, settled, defaulted, closed, registered, printed, ticked, over}
@@ -78,7 +78,7 @@ module _ {A : Type 0} (place : A → At) (advances : ProgramView → A → A →
 
 module _ {A : Type 0} (place : A → At) (stands : ProgramView → A → TaskBody → Type 0) (advances : ProgramView → A → A → Type 0) (gives : A → Tree → A → Type 0) (starts : ProgramView → SeedView → A → Type 0)
     (advance_law : Advanced stands place advances) (answer_law : Answered stands place gives) (start_law : Started stands place starts) (program : ProgramView) where
-  new_there : (s s2 : State) (t u : ℕ) (kind : SeedKind) (result : Option ℕ) → Step program s (spawned t u kind result) s2 → s.tasks u ≡ None
+  new_there : (s s2 : State) (t u : ℕ) (kind : TaskKind) (result : Option ℕ) → Step program s (spawned t u kind result) s2 → s.tasks u ≡ None
   new_there s s2 t u kind result x = x.5
 
   -- the lane's task may make an event, and makes one

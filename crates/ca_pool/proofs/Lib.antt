@@ -10,7 +10,6 @@ pub mod EndsMoved
 pub mod HomesNamed
 pub mod LeftTimers
 pub mod Lefts
-pub mod Lightness
 pub mod Lone
 pub mod LoneSteps
 pub mod LoneSettling

@@ -12,12 +12,14 @@ use Rattle.ca_term.proofs.event.Ending.TheSendSync as ending
 use Rattle.ca_term.proofs.event.Side.TheSendSync as side
 use Rattle.ca_term.proofs.event.WaitId.TheSendSync as wait
 use Rattle.ca_term.proofs.head.RegisterName.TheSendSync as name
-use Rattle.ca_term.proofs.head.SeedKind.TheSendSync as kind
+use Rattle.ca_term.proofs.event.TaskKind.TheSendSync as kind
 use Rattle.ca_term.specs.contracts.event.Branch as Branch
 use Rattle.ca_term.specs.contracts.event.Event as Event
 use Rattle.ca_term.specs.contracts.operation.What as What
+use Rattle.ca_journal.proofs.entry.Spot.TheSendSync as spot
 use Rattle.ca_journal.specs.contracts.entries.Entries as Entries
 use Rattle.ca_journal.specs.contracts.entry.Entry as Entry
+use Rattle.ca_journal.specs.contracts.note.Note as Note
 use Rattle.ca_buffers.specs.contracts.any.AnyBuffer as AnyBuffer
 use Rattle.ca_buffers.specs.contracts.dropping.Dropping as Dropping
 use Rattle.ca_buffers.specs.contracts.fixed.Fixed as Fixed
@@ -70,11 +72,14 @@ ruleset shown = (small, branch_send, what_send)
 event_send : IsSend Event.the_row
 event_send = variants_send Event.enum (search (shown, crosses) depth 20, (search (shown, crosses) depth 20, (search (shown, crosses) depth 20, (search (shown, crosses) depth 20, (search (shown, crosses) depth 20, (search (shown, crosses) depth 20, (search (shown, crosses) depth 20, (search (shown, crosses) depth 20, (search (shown, crosses) depth 20, (search (shown, crosses) depth 20, (search (shown, crosses) depth 20, (search (shown, crosses) depth 20, (search (shown, crosses) depth 20, tt)))))))))))))
 
+note_send : IsSend Note.the_row
+note_send = variants_send Note.enum (search (small, crosses, event_send) depth 20)
+
 entry_send : IsSend Entry.the_row
-entry_send = declared_send Entry.the_type (search (sendable, event_send) depth 20)
+entry_send = declared_send Entry.the_type (search (sendable, note_send) depth 20)
 
 entries_send : IsSend Entries.the_row
-entries_send = declared_send Entries.the_type (Vec-send _ (Vec-send Entry.the_row entry_send), (Vec-send Entry.the_row entry_send, tt))
+entries_send = declared_send Entries.the_type (Vec-send _ (Vec-send Entry.the_row entry_send), (Vec-send Entry.the_row entry_send, (Vec-send _ spot.the_send, (search sendable, (search sendable, (search (sendable, crosses, event_send) depth 20, tt))))))
 
 -- a channel's values
 ring_send : IsSend Ring.the_row

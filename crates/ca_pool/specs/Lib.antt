@@ -6,7 +6,6 @@ pub mod Lone
 pub mod Costs
 pub mod Desk
 pub mod Endings
-pub mod Fitting
 pub mod Leaving
 pub mod Named
 pub mod PoolEnds

@@ -1,5 +1,5 @@
 /// Where a worker passes a gate.
-#[derive(Clone, Copy, PartialEq, Eq, Debug)]
+#[derive(Clone, Copy)]
 pub enum GatePlace {
     Picked,
     Advanced,
@@ -12,7 +12,7 @@ pub trait Gate {
 }
 
 /// A gate that everyone passes at once.
-#[derive(Clone, Copy, PartialEq, Eq, Debug)]
+#[derive(Clone, Copy)]
 pub struct OpenGate;
 
 impl Gate for OpenGate {

@@ -147,7 +147,8 @@ fn is_first(timers: &Timers, first: u64) -> bool
     }
 }
 
-// Makes room, and waits until that moment, if it is the first deadline still.
+// Makes room, and waits until that moment, if it is the first deadline still. The run may have been marked since the worker
+// looked, where it waited for the timers: then it leaves, and nothing is asked.
 fn wait_with<R: Wait, A: Agent, C: Clock + Drop>(
     rt: &R,
     alloc: Global,
@@ -169,6 +170,10 @@ fn wait_with<R: Wait, A: Agent, C: Clock + Drop>(
     ensures carries { (program : ProgramView) (n : ℕ) (l : Lane A) → IsCarrying A.over A.stands program code.now table.now.id n worker.old (taken (part_seen C.least C.faults C.readings) n code.now worker.old.number l (Some clockwork) held.old) → IsCarrying A.over A.stands program code.now table.now.id n worker.new (just_lane n code.now l) }
     ensures solo { IfOk result (λ r. (most : ℕ) → MayGo A.over A.place A.stands A.advances A.gives A.starts code.now AtEmpty most worker.old → Went A.over A.place A.stands A.advances A.gives A.starts code.now (MaySettle to_rest ports.new.items) most worker.new) }
 {
+    if is_marked(clockwork.mark) {
+        draw_clock(rt, table, code, worker, held, clockwork, Turned::Halt);
+        return Ok(Rested::Over);
+    }
     if !is_first(&clockwork.timers, first) || first >= MOMENTS {
         put_off(table, code, worker, held, Some(clockwork));
         return Ok(Rested::Busy);

@@ -10,6 +10,9 @@ ghost use Rattle.ca_meaning.specs.Legal.{GoesOn, Legal, Reaches};
 ghost use Rattle.ca_meaning.specs.State.{State};
 ghost use Rattle.ca_meaning.specs.Task.{BodyRest, TaskBody, script};
 ghost use Rattle.ca_meaning.specs.WaitLaw.{WaitLaw};
+ghost use Rattle.ca_derived_laws.specs.ReduceLaw.{ReduceLaw};
+ghost use Rattle.ca_derived_laws.specs.SplitLaw.{SplitLaw};
+ghost use Rattle.ca_derived_laws.specs.TakeLaw.{TakeLaw};
 ghost use Rattle.ca_states.specs.ValidCode.{valid_code};
 ghost use Rattle.ca_lower.specs.Gos.{SameGos};
 ghost use Rattle.ca_lower.specs.Lowered.{Lowered};
@@ -33,20 +36,19 @@ ghost use Rattle.ca_table.specs.declared.answer.WorkEnd.TheVariants.{Over, Spent
 ghost use Rattle.ca_pool.specs.Answers.{BeginsAlone, StopsAlone};
 ghost use Rattle.ca_pool.specs.PoolEnds.{IsSolo, end_view};
 
-use crate::fitting::all_fit;
 use crate::gate::Gate;
 use crate::rounds::round;
 use crate::run_end::{PoolRun, RunStop, end_run};
 use ca_agent::agent::Agent;
 use ca_agent::starting::Starting;
-use ca_journal::entry::Journal;
+use ca_journal::journal::Journal;
+use ca_meaning::laws::values::values_of_a_run_are_values;
 use ca_states::valid_code::ValidCode;
 use ca_table::answer::{PoolStop, WorkEnd};
 use ca_table::gathering::{Gathered, gather};
 use ca_table::opening::open_pool;
 use ca_table::part::{Clockwork, Contents, Part};
 use ca_table::pool::Pool;
-use ca_table::waiting::wait_for_good;
 use ca_table::worker::Worker;
 use ca_term::program::Program;
 use ca_timers::clock::Clock;
@@ -233,21 +235,22 @@ pub fn run_pool<
     ensures end { IfOk result (λ run. HasEnd (program_view program.now) budget (events run.journal) (end_view run.end)) }
     ensures channels { IfOk result (λ run. ChannelLaw (events run.journal)) }
     ensures waits { IfOk result (λ run. WaitLaw (program_view program.now) (events run.journal)) }
+    ensures takes { IfOk result (λ run. TakeLaw (program_view program.now) (events run.journal)) }
+    ensures reduces { IfOk result (λ run. ReduceLaw (program_view program.now) (events run.journal)) }
+    ensures splits { IfOk result (λ run. SplitLaw (program_view program.now) (events run.journal)) }
     ensures moments { IfOk result (λ run. KeepsTime (events run.journal) (C.least clock) (C.readings clock) (C.readings run.clock)) }
     ensures failed { (c : C) → result ≡ Err (RunStop.ClockFailed c) → Rose (C.faults clock) (C.faults c) }
     ensures solo { IfOk result (λ run. workers ≡ 1 → IsSolo (program_view program.now) (events run.journal) (C.least clock) (C.readings clock) (C.readings run.clock)) }
 {
     let worked = work_through(rt, alloc, program, code, main, workers, budget, clock, gate)?;
     let (journal, clock) = worked;
-    if all_fit(&journal) {
-        let (journal, end) = end_run(journal, budget);
-        Ok(PoolRun {
-            journal,
-            end,
-            clock,
-        })
-    } else {
-        wait_for_good(rt);
-        Err(RunStop::OutOfMemory)
-    }
+    // Each event of a run shows little, so what it costs can be told.
+    program.checked();
+    values_of_a_run_are_values();
+    let (journal, end) = end_run(journal, budget);
+    Ok(PoolRun {
+        journal,
+        end,
+        clock,
+    })
 }

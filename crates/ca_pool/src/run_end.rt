@@ -11,11 +11,11 @@ ghost use Rattle.ca_table.specs.Moments.{KeepsTime};
 ghost use Rattle.ca_pool.specs.PoolEnds.{end_view, ended_by};
 
 use ca_journal::cut::{CutAt, cut};
-use ca_journal::entry::Journal;
+use ca_journal::journal::Journal;
 use ca_value::memory;
 
 /// How a run came to its end.
-#[derive(Clone, Copy, PartialEq, Eq, Debug)]
+#[derive(Clone, Copy)]
 pub enum PoolEnd {
     /// The main text has a value.
     Ended,

@@ -4,7 +4,7 @@ ghost use Rattle.std.specs.Prelude.{◌≡◌};
 use ca_value::memory::OutOfMemory as NoMemory;
 
 /// How a call of a worker ended.
-#[derive(Clone, Copy, PartialEq, Eq, Debug)]
+#[derive(Clone, Copy)]
 pub enum WorkEnd {
     /// Its events cost the allowance.
     Spent,
@@ -13,7 +13,7 @@ pub enum WorkEnd {
 }
 
 /// Why a call of a worker, or a run, was given up.
-#[derive(Clone, Copy, PartialEq, Eq, Debug)]
+#[derive(Clone, Copy)]
 pub enum PoolStop {
     /// The clock failed.
     ClockFailed,

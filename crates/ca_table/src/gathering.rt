@@ -29,7 +29,7 @@ use crate::pool::Pool;
 use crate::worker::Worker;
 use ca_agent::agent::Agent;
 use ca_journal::entries::Entries;
-use ca_journal::entry::Journal;
+use ca_journal::journal::Journal;
 use ca_journal::merge::merge;
 use ca_states::valid_code::ValidCode;
 use ca_term::program::Program;

@@ -19,7 +19,6 @@ use crate::pool::Pool;
 use crate::worker::Worker;
 use ca_agent::agent::Agent;
 use ca_journal::entries::Entries;
-use ca_journal::entry::Entry;
 use ca_timers::clock::Clock;
 use ca_turns::Table;
 use ca_value::memory::OutOfMemory;
@@ -51,7 +50,7 @@ fn note(into: &mut Entries, number: u64, what: Turned)
     ensures room { room into.old ≤ room into.new + length (visible (turn_view what)) }
 {
     if let Turned::Shown(event) = what {
-        into.push(Entry { number, event });
+        into.push(number, event);
     }
 }
 

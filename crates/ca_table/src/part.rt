@@ -6,7 +6,7 @@ use ca_timers::timers::Timers;
 use std::snapshot::Snapshot;
 
 /// Why the workers stop before all is done. It is set once.
-#[derive(Clone, Copy, PartialEq, Eq, Debug)]
+#[derive(Clone, Copy)]
 pub enum Mark {
     Unmarked,
     /// The main text has ended or faulted.
@@ -17,7 +17,7 @@ pub enum Mark {
 }
 
 /// How many numbers a worker gave to tasks, ports and waits.
-#[derive(Clone, Copy, PartialEq, Eq, Debug)]
+#[derive(Clone, Copy)]
 pub struct Counts {
     pub tasks: u64,
     pub ports: u64,

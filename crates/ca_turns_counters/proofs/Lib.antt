@@ -3,4 +3,3 @@ pub mod Rests
 pub mod News
 pub mod Sums
 pub mod Counts
-pub mod Sending

@@ -7,7 +7,7 @@ use Rattle.ca_turns.specs.Places.{total}
 use Rattle.ca_turns.specs.Views.{stands}
 use Rattle.ca_turns.proofs.Lists.{no_part}
 use Rattle.ca_turns_counters.specs.declared.workers.Worker.{Worker}
-use Rattle.ca_turns_counters.specs.Turning.{Counting, IsOneOfTwo}
+use Rattle.ca_turns_counters.specs.Turning.{Counting}
 use Rattle.ca_turns_counters.specs.Working.{IsIdle, IsNew, spare_stands}
 
 idle_of : (id : TableId) (cs : List ℕ) (n : ℕ) (h : Counting) → IsFresh id cs n h → IsIdle id h
@@ -29,6 +29,3 @@ new_worker w hand spare id cs n room is its none_noted has_room f g = let h = su
 pub total_spare : (spare : Option Counting) → total (λ h. stands h.view) (option_to_list spare) ≡ spare_stands spare
 total_spare None = refl
 total_spare (Some h) = omega arith
-
-pub one_of_two : (id : TableId) (cs : List ℕ) (h : Counting) → IsFresh id cs 2 h → IsOneOfTwo id 0 h
-one_of_two id cs h f = let idle = idle_of id cs 2 h f in record { table = f.table; nothing = idle.1; opened_for = f.opened_for; stands_for_one = f.stands_for_one; turns = idle.2 }

@@ -2,4 +2,3 @@ pub mod Adding
 pub mod Turning
 pub mod Apart
 pub mod Working
-pub mod Visiting

@@ -1,7 +1,7 @@
 -- What a hand of a table of counters is between its turns.
-use Rattle.std.specs.Prelude.{◌≡◌, ◌≢◌, ℕ, ◌+◌, List, [], ◌∷◌, ◌++◌, length}
-use Rattle.ca_turns.specs.Hands.{TableId, Held, HoldsNothing, IsSettled, IsWithout}
-use Rattle.ca_turns.specs.Views.{turn, stands}
+use Rattle.std.specs.Prelude.{◌≡◌, ◌≢◌, ℕ, ◌+◌, List, [], ◌∷◌, ◌++◌}
+use Rattle.ca_turns.specs.Hands.{Held, IsSettled, IsWithout}
+use Rattle.ca_turns.specs.Views.{turn}
 use Rattle.ca_turns_counters.specs.declared.counters.Event.{Event}
 
 abbrev pub Counting : Type 0
@@ -25,11 +25,3 @@ pub record Same (old new : Counting) : Type 0 where
 -- it drew one event more, at this number
 abbrev pub Drew : Event → ℕ → Counting → Counting → Type 0
 Drew e n old new = (before : List ℕ) × (after : List ℕ) × (new.view.turns ≡ old.view.turns ++ turn n e before after ∷ [])
-
--- one of the two hands of a table, which holds nothing and drew that many events
-pub record IsOneOfTwo (id : TableId) (drawn : ℕ) (h : Counting) : Type 0 where
-  pub table : h.table ≡ id
-  pub nothing : HoldsNothing h
-  pub opened_for : h.view.hands ≡ 2
-  pub stands_for_one : stands h.view ≡ 1
-  pub turns : length h.view.turns ≡ drawn

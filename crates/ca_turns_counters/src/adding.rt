@@ -1,6 +1,6 @@
 ghost use mathlib.Core.Option.{some};
 ghost use lib.ListN.{get_elem?};
-ghost use Rattle.std.specs.Prelude.{◌≡◌, ℕ, ◌+◌, ◌^◌, ◌<◌, length, MatchBool, Some, slice_set};
+ghost use Rattle.std.specs.Prelude.{◌≡◌, ℕ, ◌+◌, ◌^◌, ◌<◌, length, Some, slice_set};
 ghost use Rattle.ca_turns.specs.Hands.{HoldsNothing, IsHolding};
 ghost use Rattle.ca_turns_counters.specs.declared.counters.Event.TheVariants.{One, Pair};
 ghost use Rattle.ca_turns_counters.specs.Adding.{one_more, IsWithin};
@@ -9,18 +9,6 @@ ghost use Rattle.ca_turns_counters.specs.Turning.{HoldsOnly, HoldsPair, Same, Dr
 use crate::counters::{Counters, Event};
 use ca_turns::{Hand, Table};
 use std::sync::Wait;
-
-/// Whether a try held the counter.
-pub fn try_take(table: &Table<Counters>, hand: &mut Hand<Counters>, part: u64) -> bool
-    requires table { hand.old.table ≡ table.now.id }
-    requires range { part < table.now.id.slots }
-    requires nothing { HoldsNothing hand.old }
-    ensures held { MatchBool result (HoldsOnly part hand.new) (HoldsNothing hand.new) }
-    ensures same { Same hand.old hand.new }
-    ensures turns { hand.new.view.turns ≡ hand.old.view.turns }
-{
-    table.try_hold(hand, part).is_ok()
-}
 
 // One more in a counter that the hand holds, not settled yet.
 fn count_up(hand: &mut Hand<Counters>, part: u64)

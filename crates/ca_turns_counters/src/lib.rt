@@ -10,17 +10,13 @@ mod adding;
 mod counters;
 mod counting;
 mod gathering;
-mod things;
-mod two;
 mod workers;
 mod working;
 
-pub use adding::{add, add_held, add_one, add_pair, try_take};
+pub use adding::{add, add_held, add_one, add_pair};
 pub use counters::{Counters, Event};
 pub use counting::{Counted, count};
 pub use gathering::{enlist, gather};
-pub use things::{Things, Visitor, visit_all, visitors_of};
-pub use two::{close_two, open_two};
 pub use workers::Worker;
 pub use working::{work, work_all};
 

@@ -1,5 +1,7 @@
-use Rattle.std.proofs.Common.{ℕ, Some, subst, sym}
-use Rattle.ca_commit.specs.Contents.{TimersPart}
+use Rattle.std.proofs.Common.{◌≢◌, ℕ, Some, refl, subst, sym}
+use Rattle.ca_commit.specs.Contents.{TimersPart, unmarked}
+use Rattle.ca_commit.specs.Touched as said
+use Rattle.ca_table.specs.Parts.{mark_view}
 use Rattle.ca_table.specs.Worked.{Drew}
 use Rattle.ca_table.specs.declared.part.Clockwork.{Clockwork}
 use Rattle.ca_table.proofs.Drawing.{drew_later, drew_none}
@@ -9,10 +11,21 @@ use Rattle.ca_pool.specs.Lone.{MayGo, Went}
 use Rattle.ca_pool.specs.Asking.{IsFirst}
 use Rattle.ca_pool.proofs.Stays.{same_turns}
 use Rattle.ca_pool.proofs.Takens.{as_clocked, for_ok, if_ok, made_room, same_show}
-use Rattle.ca_pool.proofs.Lone.{same_may}
+use Rattle.ca_pool.proofs.Lone.{same_may, stayed_may, stayed_one}
 use Rattle.ca_pool.proofs.LoneClocks.{rests_empty}
 use Rattle.ca_pool.proofs.AtWork.{gave_after, gave_none, if_err}
 use Rattle.ca_pool.proofs.idling.wait_with.Goals as goal
+
+pub draw_clock-requires-clause-carries : goal.draw_clock-requires-clause-carries
+draw_clock-requires-clause-carries g c = let r = c.requires.carries in let held = c.args.held.now in
+    (r.0, r.1, r.2, c.args.clockwork, held, r.3, same_show held, (refl, subst (λ (x : Clockwork g.row.C.Denot). mark_view x.mark ≢ unmarked) c.deref.ensures (c.is_marked.ensures c.if-is_marked.true)))
+
+pub returns-then-is_marked-clause-carries : goal.returns-then-is_marked-clause-carries
+returns-then-is_marked-clause-carries g c = λ P n l s. let held = c.args.held.now in c.draw_clock.ensures.carries P n l c.args.clockwork held s (same_show held) (refl, subst (λ (x : Clockwork g.row.C.Denot). mark_view x.mark ≢ unmarked) c.deref.ensures (c.is_marked.ensures c.if-is_marked.true))
+
+pub returns-then-is_marked-clause-solo : goal.returns-then-is_marked-clause-solo
+returns-then-is_marked-clause-solo g c = λ most may. let a = g.A.Agent in let m = g.met.A.Agent in let d = c.draw_clock in let e = d.ensures in let w = c.args.worker.now in let code = c.args.code.now in
+    rests_empty a.over a.place a.stands a.advances a.gives a.starts m.advanced m.answered m.started code c.args.ports.now.items {most = most} {w = d.new.worker} (stayed_may a.over a.place a.stands a.advances a.gives a.starts m.advanced m.answered m.started code {P = AtEmpty} {most = most} {old = w} {new = d.new.worker} (stayed_one {what = said.halts} e.same e.hand e.turn tt) may)
 
 pub wait_late-requires-clause-carries : goal.wait_late-requires-clause-carries
 wait_late-requires-clause-carries g c = let a = g.A.Agent in let K = g.C.Clock in let r = c.requires.carries in let t = c.ready_to_ask-clockwork in let e = t.ensures in let w = c.args.worker.now in let held = c.args.held.now in let code = c.args.code.now in let id = c.args.table.now.id in (
@@ -57,7 +70,7 @@ returns-then-not-is_first-clause-solo g c = λ most may. let a = g.A.Agent in le
     rests_empty a.over a.place a.stands a.advances a.gives a.starts m.advanced m.answered m.started code c.args.ports.now.items {most = most} {w = p.new.worker} (same_may a.over a.place a.stands a.advances a.gives a.starts m.advanced m.answered m.started code {P = AtEmpty} {most = most} {old = w} {new = p.new.worker} p.ensures.same p.ensures.turns may)
 
 pub returns-in-Ok-clause-solo : goal.returns-in-Ok-clause-solo
-returns-in-Ok-clause-solo g c = let a = g.A.Agent in let m = g.met.A.Agent in let K = g.C.Clock in let t = c.ready_to_ask-clockwork in let k = c.wait_late in let code = c.args.code.now in let w = c.args.worker.now in let us = k.new.ports.items in let first = c.args.first in let is = subst (λ (x : Clockwork g.row.C.Denot). IsFirst first x.timers.deadlines) c.deref.ensures (c.is_first.ensures c.if-not-is_first.false) in
+returns-in-Ok-clause-solo g c = let a = g.A.Agent in let m = g.met.A.Agent in let K = g.C.Clock in let t = c.ready_to_ask-clockwork in let k = c.wait_late in let code = c.args.code.now in let w = c.args.worker.now in let us = k.new.ports.items in let first = c.args.first in let is = subst (λ (x : Clockwork g.row.C.Denot). IsFirst first x.timers.deadlines) c.deref-2.ensures (c.is_first.ensures c.if-not-is_first.false) in
     if_ok
     (λ x. IsFirst first t.result.0.value.timers.deadlines → (most : ℕ) → MayGo a.over a.place a.stands a.advances a.gives a.starts code AtEmpty most t.new.worker → Went a.over a.place a.stands a.advances a.gives a.starts code (MaySettle to_rest us) most k.new.worker)
     (λ x. (most : ℕ) → MayGo a.over a.place a.stands a.advances a.gives a.starts code AtEmpty most w → Went a.over a.place a.stands a.advances a.gives a.starts code (MaySettle to_rest us) most k.new.worker)
