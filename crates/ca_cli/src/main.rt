@@ -11,10 +11,15 @@ use std::{env, io, mem};
 /// The exit status of want of memory.
 const OUT_OF_MEMORY: u8 = 8;
 
-// The words after the program's name.
+// The words after the program's name. Where one isn't UTF-8 there are none: neither is a command.
 fn words<R: env::Env + AllocGlobal>(rt: &R) -> io::Result<Vec<String>> {
     let mut words = Vec::new(rt.alloc());
-    for word in env::args(rt)?.skip(1) {
+    let given = match env::args(rt) {
+        Ok(given) => given,
+        Err(error) if error.kind() == io::ErrorKind::InvalidData => return Ok(words),
+        Err(error) => return Err(error),
+    };
+    for word in given.skip(1) {
         words.push(word)?;
     }
     Ok(words)

@@ -7,13 +7,24 @@ use Rattle.ca_term.specs.declared.place.Place.{Place as PlaceKind}
 use Rattle.ca_term.specs.Event.{EventView, over}
 use Rattle.ca_term.specs.Program.{ProgramView}
 use Rattle.ca_meaning.specs.Ends.{RunEnd, faulted, EndsWith, HasEnd}
-use Rattle.ca_run.specs.Answers.{end_of, line_of_end}
+use Rattle.ca_journal.specs.Latest.{last_of}
+use Rattle.ca_journal.proofs.Latest.{last_push}
+use Rattle.ca_run.specs.Answers.{end_of, line_of_end, main_fault}
 use Rattle.ca_run.specs.declared.run.ScriptEnd.TheVariants.{Faulted}
 use Rattle.ca_run.specs.Top.{EndLine}
+
+-- the fault that an event tells, where there is one
+abbrev pub told_of : Option EventView → Option (FaultKind × PlaceKind)
+told_of None = None
+told_of (Some e) = main_fault e
 
 -- the fault that the last event tells
 abbrev pub Told : List EventView → Option (FaultKind × PlaceKind) → Type 0
 Told journal o = (f : FaultKind) (p : PlaceKind) (r : Option PortId) → EndsWith journal (over 0 (FaultedEnding f p r)) → o ≡ Some (f, p)
+
+-- what an event that ends the main text by a fault tells
+pub told_by : (journal : List EventView) (o : Option EventView) → o ≡ last_of journal → Told journal (told_of o)
+told_by journal o last f p r ends = ap told_of (last ∙ ap last_of ends.1 ∙ last_push ends.0 (over 0 (FaultedEnding f p r)))
 
 has_fault : (program : ProgramView) (budget : ℕ) (journal : List EventView) (end : RunEnd) → HasEnd program budget journal end → end ≡ faulted → HasEnd program budget journal faulted
 has_fault program budget journal end h e = subst (HasEnd program budget journal) e h

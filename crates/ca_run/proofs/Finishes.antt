@@ -2,8 +2,6 @@
 use Rattle.std.proofs.Common.{◌≡◌, ◌≢◌, ℕ, List, codes, ap, take, subst, Option, Some, None, Result, Ok, Err, Bool, true, false, refl, sym, ◌∙◌, ◌⊎◌, inl, inr, OnOk, OnErr, is_ok, IsSome, arith, ◌<◌, ◌≤◌}
 use Rattle.std.specs.Io.KnownBytes.{Appends}
 use Rattle.ca_meaning.specs.Ends.{RunEnd, ended, faulted, limit, stuck}
-use Rattle.ca_value.specs.declared.seq.Seq.{Seq}
-use Rattle.ca_term.specs.declared.event.Event.{Event}
 use Rattle.ca_words.specs.declared.command.Command.{Command}
 use Rattle.ca_words.specs.declared.command.Command.TheVariants.{Check}
 use Rattle.ca_run.specs.declared.run.ScriptRun.{ScriptRun}
@@ -12,6 +10,7 @@ use Rattle.ca_run.specs.declared.run.ScriptEnd.TheVariants.{Ended, Faulted, Limi
 use Rattle.ca_run.specs.declared.answer.Refusal.{Refusal}
 use Rattle.ca_run.specs.declared.answer.Answer.{Answer}
 use Rattle.ca_run.specs.declared.answer.Answer.TheVariants.{Usage, Refused, Accepted, Ran}
+use Rattle.ca_journal.specs.declared.journal.Journal.{Journal}
 use Rattle.ca_journal.specs.Events.{events}
 use Rattle.ca_run.specs.Top.{ClockSpan, Refused as RefusedFrom, Accepted as AcceptedFrom, Completed, CompletedFor, Partly, RunText, runs, usage}
 use Rattle.ca_run.specs.Answers.{answer_text, status_of, status_of_end, journal_of, refusal_line, end_of, line_of_end, AnswersTo, RunsNothing}
@@ -113,7 +112,7 @@ ends_of asked span before after held taken (Refused r) want some s h p = absurd 
 ends_of asked span before after held taken Accepted want some s h p = absurd (omega (arith, some, s))
 ends_of asked span before after held taken (Ran m shown) want some s h p = run_for asked span before after held taken m shown want s h p
 
-same_command : (c d : Command) → Some c ≡ Some d → c ≡ d
+pub same_command : (c d : Command) → Some c ≡ Some d → c ≡ d
 same_command c d e = cc
 
 -- where a script was accepted, a check was asked for
@@ -124,7 +123,7 @@ check_asked (Some c) span before after h = ap Some h.0
 never_checks : {G : Type 0} (c : Command) → c ≡ Check → runs c ≡ true → G
 never_checks c e r = absurd (let z : false ≡ true = sym (ap runs e) ∙ r in cc)
 
-of_command : (asked : Option Command) (before after held taken : Option (List ℕ)) (clock : Option ClockSpan) (journal : Option (Seq Event)) (end : RunEnd) (c : Command) → asked ≡ Some c → CompletedFor asked before after held taken clock journal end → Completed c before after held taken clock journal end
+of_command : (asked : Option Command) (before after held taken : Option (List ℕ)) (clock : Option ClockSpan) (journal : Option Journal) (end : RunEnd) (c : Command) → asked ≡ Some c → CompletedFor asked before after held taken clock journal end → Completed c before after held taken clock journal end
 of_command asked before after held taken clock journal end c e h = subst (λ (d : Command). Completed d before after held taken clock journal end) (same_command h.0 c (sym h.1 ∙ e)) h.3
 
 pub ended_of : (asked : Option Command) (span : ClockSpan) (before after held taken : Option (List ℕ)) (a : Answer) (c : Command) → asked ≡ Some c → runs c ≡ true → status_of a ≡ 0 → AnswersTo asked span before after a → Appends held taken (answer_text a) → Completed c before after held taken (Some span) (journal_of a) ended
@@ -226,13 +225,13 @@ run_asked (Some c) span before after m shown h = (c, refl, h.0)
 abbrev pub IsEndOfRun : ℕ → Type 0
 IsEndOfRun s = (s ≡ 0) ⊎ (3 ≤ s × s ≤ 5)
 
-end_of_run : (e : ScriptEnd) → IsEndOfRun (status_of_end e)
+pub end_of_run : (e : ScriptEnd) → IsEndOfRun (status_of_end e)
 end_of_run Ended = inl refl
 end_of_run (Faulted f p) = inr (omega arith, omega arith)
 end_of_run Limit = inr (omega arith, omega arith)
 end_of_run Stuck = inr (omega arith, omega arith)
 
-nothing_there : IsSome {T = Seq Event} None → ⊥
+nothing_there : IsSome {T = Journal} None → ⊥
 nothing_there g = cc
 
 journal_when : (asked : Option Command) (span : ClockSpan) (before after : Option (List ℕ)) (a : Answer) → AnswersTo asked span before after a → IsSome (journal_of a) → RunAsked asked × IsEndOfRun (status_of a)

@@ -1,11 +1,11 @@
 -- The numbers of a command that words ask for are in their ranges.
-use Rattle.std.proofs.Common.{◌≡◌, ℕ, ◌<◌, ◌≤◌, List, [], ◌∷◌, Bool, true, false, Option, Some, None, codes, refl, subst, arith, ◌&&◌, if◌then◌else◌, length}
+use Rattle.std.proofs.Common.{◌≡◌, ℕ, ◌≤◌, List, [], ◌∷◌, Bool, true, false, Option, Some, None, codes, refl, subst, arith, ◌&&◌, if◌then◌else◌}
 use Rattle.std.specs.Prelude.{nat_le, filter_map}
 use Rattle.std.specs.List.{list_all}
 use Rattle.std.specs.Str.{bytes_eq}
 use Rattle.std.specs.Str.Parse.{digits_value}
 use Rattle.std.proofs.lemmas.Bool.Decides.{nat_tests}
-use Rattle.ca_words.specs.Words.{Text, bare, between, number_of, setting, one_number, once, is_number, is_run_word, is_load_word, joined, workers_in, budget_in, workers_of, budget_of, journal_of, run_with, load_with, run_words, load_words, check_words, command_in}
+use Rattle.ca_words.specs.Words.{Text, bare, between, number_of, setting, one_number, is_number, is_run_word, is_load_word, joined, workers_in, budget_in, workers_of, budget_of, journal_of, run_with, load_with, run_words, load_words, check_words, command_in}
 use Rattle.ca_words.specs.declared.command.Command.{Command}
 use Rattle.ca_words.specs.declared.command.Command.TheVariants.{Check, Load, Run}
 use Rattle.ca_run.specs.Answers.{IsFit}

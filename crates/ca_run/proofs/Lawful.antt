@@ -1,13 +1,12 @@
 -- A journal that is handed back is a run of an accepted script, and keeps its laws.
 use Rattle.std.proofs.Common.{◌≡◌, ℕ, List, Bool, Option, Some, None, Ok, refl, subst}
-use Rattle.ca_value.specs.declared.seq.Seq.{Seq}
-use Rattle.ca_term.specs.declared.event.Event.{Event}
 use Rattle.ca_term.specs.Event.{EventView}
 use Rattle.ca_term.specs.Program.{ProgramView}
 use Rattle.ca_meaning.specs.Ends.{RunEnd}
 use Rattle.ca_meaning.specs.Legal.{Legal}
 use Rattle.ca_reader.specs.Form.{FormTrees}
 use Rattle.ca_check.specs.Expansion.{expansion_of}
+use Rattle.ca_journal.specs.declared.journal.Journal.{Journal}
 use Rattle.ca_journal.specs.Events.{events}
 use Rattle.ca_sealed.specs.KeepsLaws.{KeepsLaws}
 use Rattle.ca_words.specs.declared.command.Command.{Command}
@@ -30,13 +29,13 @@ ran_for : KeepAll → (asked : Option Command) (span : ClockSpan) (before after 
 ran_for keep None span before after m shown h = absurd h
 ran_for keep (Some c) span before after m shown h = ran keep c span before after (events m.journal) _ h.2
 
-no_journal : {G : Type 0} (j : Seq Event) → None ≡ Some j → G
+pub no_journal : {G : Type 0} (j : Journal) → None ≡ Some j → G
 no_journal j e = cc
 
-same_journal : (i j : Seq Event) → Some i ≡ Some j → i ≡ j
+pub same_journal : (i j : Journal) → Some i ≡ Some j → i ≡ j
 same_journal i j e = cc
 
-pub lawful_of : KeepAll → (asked : Option Command) (span : ClockSpan) (before after : Option (List ℕ)) (a : Answer) (j : Seq Event) → AnswersTo asked span before after a → journal_of a ≡ Some j → IsLawful asked before after (events j)
+pub lawful_of : KeepAll → (asked : Option Command) (span : ClockSpan) (before after : Option (List ℕ)) (a : Answer) (j : Journal) → AnswersTo asked span before after a → journal_of a ≡ Some j → IsLawful asked before after (events j)
 lawful_of keep asked span before after Usage j h e = no_journal j e
 lawful_of keep asked span before after (Refused r) j h e = no_journal j e
 lawful_of keep asked span before after Accepted j h e = no_journal j e

@@ -1,13 +1,17 @@
 -- The text, the status and the journal of an answer, and when the answer is right.
-use Rattle.std.specs.Prelude.{◌≡◌, ◌<◌, ◌≤◌, ℕ, List, [], ◌++◌, codes, cond, true, Option, Some, None}
-use Rattle.ca_value.specs.declared.seq.Seq.{Seq}
-use Rattle.ca_term.specs.declared.event.Event.{Event}
+use Rattle.std.specs.Prelude.{◌≡◌, ◌<◌, ◌≤◌, ℕ, zero, suc, List, [], ◌++◌, codes, cond, true, Option, Some, None}
+use Rattle.ca_term.specs.declared.event.Ending.{Ending}
+use Rattle.ca_term.specs.declared.event.Ending.TheVariants.{Ended as EndedEnding, Faulted as FaultedEnding}
+use Rattle.ca_term.specs.declared.fault.Fault.{Fault}
+use Rattle.ca_term.specs.declared.place.Place.{Place}
+use Rattle.ca_term.specs.Event.{EventView, over}
 use Rattle.ca_term.specs.Program.{ProgramView}
 use Rattle.ca_meaning.specs.Journal.{journal_text}
 use Rattle.ca_meaning.specs.Texts.{output, fault_line}
 use Rattle.ca_meaning.specs.Legal.{Legal}
 use Rattle.ca_meaning.specs.Ends.{RunEnd, ended, faulted, limit, stuck, HasEnd}
 use Rattle.ca_reader.specs.Kind.{kind_name}
+use Rattle.ca_derived.specs.Kind.{kind_name as forms_kind_name}
 use Rattle.ca_forms.specs.Kind.{kind_name as check_kind_name}
 use Rattle.ca_words.specs.declared.command.Command.{Command}
 use Rattle.ca_words.specs.declared.command.Command.TheVariants.{Check, Load, Run}
@@ -19,13 +23,15 @@ use Rattle.ca_run.specs.declared.run.ScriptEnd.TheVariants.{Ended, Faulted, Limi
 use Rattle.ca_run.specs.declared.answer.Answer.{Answer}
 use Rattle.ca_run.specs.declared.answer.Answer.TheVariants.{Usage, Refused, Accepted, Ran}
 use Rattle.ca_run.specs.declared.answer.Refusal.{Refusal}
-use Rattle.ca_run.specs.declared.answer.Refusal.TheVariants.{TooLong, Unreadable, Unchecked}
+use Rattle.ca_run.specs.declared.answer.Refusal.TheVariants.{TooLong, Unreadable, Underived, Unchecked}
+use Rattle.ca_journal.specs.declared.journal.Journal.{Journal}
 use Rattle.ca_journal.specs.Events.{events}
-use Rattle.ca_run.specs.Top.{ClockSpan, budget_of, runs, shows_journal, usage, error_line, first_place, ProgramOf, RefusedFor, RunOf, EndLine, workers_of, Refused as RefusedFrom, Accepted as AcceptedFrom, Ran as RanFrom}
+use Rattle.ca_run.specs.Top.{ClockSpan, budget_of, runs, shows_journal, usage, error_line, first_place, HasProgram, RefusedFor, RunOf, EndLine, workers_of, Refused as RefusedFrom, Accepted as AcceptedFrom, Ran as RanFrom}
 
 abbrev pub refusal_line : Refusal → List ℕ
 refusal_line TooLong = error_line (codes "TooLong") first_place
 refusal_line (Unreadable k p) = error_line (kind_name k) p
+refusal_line (Underived k p) = error_line (forms_kind_name k) p
 refusal_line (Unchecked k p) = error_line (check_kind_name k) p
 
 -- the end that a run has come to, and the line that tells it
@@ -40,6 +46,16 @@ line_of_end Ended = []
 line_of_end (Faulted fault place) = fault_line fault place
 line_of_end Limit = codes "budget\n"
 line_of_end Stuck = codes "stuck\n"
+
+-- the fault of the main text that an event tells
+abbrev pub main_fault_by : ℕ → Ending → Option (Fault × Place)
+main_fault_by zero EndedEnding = None
+main_fault_by zero (FaultedEnding fault place result) = Some (fault, place)
+main_fault_by (suc t) how = None
+
+abbrev pub main_fault : EventView → Option (Fault × Place)
+main_fault (over t how) = main_fault_by t how
+main_fault e = None
 
 abbrev pub answer_text : Answer → List ℕ
 answer_text Usage = usage
@@ -59,7 +75,7 @@ status_of (Refused r) = 2
 status_of Accepted = 0
 status_of (Ran m shown) = status_of_end m.end
 
-abbrev pub journal_of : Answer → Option (Seq Event)
+abbrev pub journal_of : Answer → Option Journal
 journal_of Usage = None
 journal_of (Refused r) = None
 journal_of Accepted = None
@@ -98,7 +114,7 @@ JudgedProgram command span program (Ran m shown) = (runs command ≡ true) × (s
 abbrev pub Judged : Command → ClockSpan → List ℕ → Answer → Type 0
 Judged command span input Usage = ⊥
 Judged command span input (Refused r) = RefusedFor input (refusal_line r)
-Judged command span input Accepted = (command ≡ Check) × ((program : ProgramView) × ProgramOf input program)
+Judged command span input Accepted = (command ≡ Check) × HasProgram input
 Judged command span input (Ran m shown) = (runs command ≡ true) × (shown ≡ shows_journal command) × RunOf (workers_of command) (budget_of command) span input (events m.journal) (end_of m.end) × EndLine (events m.journal) (end_of m.end) (line_of_end m.end)
 
 -- what the words and the source come to

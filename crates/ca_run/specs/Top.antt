@@ -1,11 +1,9 @@
 -- What the top call answers.
-use Rattle.std.specs.Prelude.{◌≡◌, ℕ, ◌≤◌, ◌<◌, ◌⊎◌, List, [], ◌∷◌, ◌++◌, length, take, codes, decimal, cond, Bool, true, false, Option, Some, None, Ok, Err, MatchOption, option_map}
+use Rattle.std.specs.Prelude.{◌≡◌, ℕ, suc, ◌≤◌, ◌⊎◌, List, [], ◌∷◌, ◌++◌, length, take, codes, decimal, cond, Bool, true, false, Option, Some, None, Ok, Err, MatchOption, option_map}
 use Rattle.std.specs.Io.KnownBytes.{Consumes, Appends, IsAtEnd}
-use Rattle.ca_value.specs.declared.seq.Seq.{Seq}
 use Rattle.ca_value.specs.declared.value.PortId.{PortId}
 use Rattle.ca_term.specs.declared.place.Place.{Place}
 use Rattle.ca_term.specs.declared.fault.Fault.{Fault as FaultKind}
-use Rattle.ca_term.specs.declared.event.Event.{Event}
 use Rattle.ca_term.specs.declared.event.Ending.TheVariants.{Faulted}
 use Rattle.ca_term.specs.Program.{ProgramView}
 use Rattle.ca_term.specs.Event.{EventView, over}
@@ -13,18 +11,24 @@ use Rattle.ca_meaning.specs.Legal.{Legal}
 use Rattle.ca_meaning.specs.Ends.{RunEnd, ended, faulted, limit, stuck, HasEnd, EndsWith}
 use Rattle.ca_meaning.specs.Journal.{journal_text}
 use Rattle.ca_meaning.specs.Texts.{output, fault_line}
+use Rattle.ca_timers.specs.Causes.{Rose}
 use Rattle.ca_reader.specs.declared.error.ReadErrorKind.{ReadErrorKind}
 use Rattle.ca_reader.specs.Form.{FormTrees}
 use Rattle.ca_reader.specs.Kind.{kind_name}
 use Rattle.ca_reader.specs.Reads.{Reads, ReadFault}
+use Rattle.ca_derived.specs.declared.error.FormsErrorKind.{FormsErrorKind}
+use Rattle.ca_derived.specs.Kind.{kind_name as forms_kind_name}
+use Rattle.ca_derived.specs.Outcome.{made, refused}
+use Rattle.ca_derived.specs.Expand.{expand}
 use Rattle.ca_forms.specs.declared.error.CheckErrorKind.{CheckErrorKind}
 use Rattle.ca_forms.specs.Kind.{kind_name as check_kind_name}
 use Rattle.ca_check.specs.Expansion.{expansion_of}
 use Rattle.ca_words.specs.declared.command.Command.{Command}
 use Rattle.ca_words.specs.declared.command.Command.TheVariants.{Check, Load, Run}
+use Rattle.ca_journal.specs.declared.journal.Journal.{Journal}
 use Rattle.ca_journal.specs.Events.{events}
 use Rattle.ca_sealed.specs.KeepsLaws.{KeepsLaws}
-use Rattle.ca_table.specs.Moments.{KeepsTime}
+use Rattle.ca_table.specs.Moments.{KeepsTime, WentOn}
 use Rattle.ca_pool.specs.PoolEnds.{IsSolo}
 use Rattle.ca_run.specs.Generator.{load_text}
 
@@ -62,9 +66,17 @@ shows_journal (Run workers budget journal) = journal
 shows_journal Check = false
 shows_journal (Load n workers) = false
 
+-- the text reads to these forms, and they are expanded to those derived
+abbrev pub Derives : List ℕ → FormTrees → Type 0
+Derives input derived = (forms : FormTrees) × Reads input forms × (expand forms ≡ made derived)
+
 -- the text is a script, and this is its program
 abbrev pub ProgramOf : List ℕ → ProgramView → Type 0
-ProgramOf input program = (forms : FormTrees) × Reads input forms × (expansion_of forms ≡ Ok program)
+ProgramOf input program = (derived : FormTrees) × Derives input derived × (expansion_of derived ≡ Ok program)
+
+-- the text is a script that has a program
+abbrev pub HasProgram : List ℕ → Type 0
+HasProgram input = (program : ProgramView) × ProgramOf input program
 
 -- A clock that a call was given and hands back: the moment that no answer of it lies below, and what it had told of its
 -- answers before and has told after.
@@ -122,7 +134,15 @@ IsLawful asked before after journal =
 
 -- what was read is a script that has a program
 abbrev pub Accepted : Option (List ℕ) → Option (List ℕ) → Type 0
-Accepted before after = (input : List ℕ) × ReadWhole before after input × ((program : ProgramView) × ProgramOf input program)
+Accepted before after = (input : List ℕ) × ReadWhole before after input × HasProgram input
+
+-- a command that reads its script was asked for
+abbrev pub ReadsScript : Option Command → Type 0
+ReadsScript asked = (command : Command) × (asked ≡ Some command) × (reads command ≡ true)
+
+-- a command that runs its script was asked for, and this has a program
+abbrev pub RunsScript : Option Command → Option (List ℕ) → Option (List ℕ) → Type 0
+RunsScript asked before after = (command : Command) × (input : List ℕ) × (asked ≡ Some command) × (runs command ≡ true) × Given command before after input × HasProgram input
 
 -- a line that names an error and its place
 abbrev pub error_line : List ℕ → Place → List ℕ
@@ -135,18 +155,23 @@ first_place = record { line = 1; column = 1 }
 abbrev pub IsUnreadable : List ℕ → List ℕ → Type 0
 IsUnreadable input line = (k : ReadErrorKind) × (p : Place) × ReadFault input k p × (line ≡ error_line (kind_name k) p)
 
--- the line names the first error of its forms
+-- the line names the first error of the words that are expanded
+abbrev pub IsUnderived : List ℕ → List ℕ → Type 0
+IsUnderived input line = (forms : FormTrees) × (k : FormsErrorKind) × (p : Place) × Reads input forms × (expand forms ≡ refused k p)
+    × (line ≡ error_line (forms_kind_name k) p)
+
+-- the line names the first error of its derived forms
 abbrev pub IsMistaken : List ℕ → List ℕ → Type 0
-IsMistaken input line = (forms : FormTrees) × (k : CheckErrorKind) × (p : Place) × Reads input forms × (expansion_of forms ≡ Err (k, p))
+IsMistaken input line = (derived : FormTrees) × (k : CheckErrorKind) × (p : Place) × Derives input derived × (expansion_of derived ≡ Err (k, p))
     × (line ≡ error_line (check_kind_name k) p)
 
 -- the text is refused with this line
 abbrev pub RefusedFor : List ℕ → List ℕ → Type 0
-RefusedFor input line = IsUnreadable input line ⊎ IsMistaken input line
+RefusedFor input line = IsUnreadable input line ⊎ (IsUnderived input line ⊎ IsMistaken input line)
 
--- the source was longer than a script may be, and was read as far as that shows
+-- the source was longer than a script may be, and was read to one byte past that length
 abbrev pub IsTooLong : Option (List ℕ) → Option (List ℕ) → List ℕ → Type 0
-IsTooLong before after line = (input : List ℕ) × Consumes before after input × (greatest_length < length input) × (line ≡ error_line (codes "TooLong") first_place)
+IsTooLong before after line = (input : List ℕ) × Consumes before after input × (length input ≡ suc greatest_length) × (line ≡ error_line (codes "TooLong") first_place)
 
 -- the command's script is refused with this line
 abbrev pub IsRefused : Command → Option (List ℕ) → Option (List ℕ) → List ℕ → Type 0
@@ -167,12 +192,12 @@ abbrev pub RunText : Bool → List EventView → RunEnd → List ℕ → Type 0
 RunText shown journal end text = (line : List ℕ) × EndLine journal end line × (text ≡ output journal ++ (cond shown (journal_text journal) [] ++ line))
 
 -- A run of the command's script came to that end; its journal and the clock are handed back, and its whole text was taken.
-abbrev pub Completed : Command → Option (List ℕ) → Option (List ℕ) → Option (List ℕ) → Option (List ℕ) → Option ClockSpan → Option (Seq Event) → RunEnd → Type 0
+abbrev pub Completed : Command → Option (List ℕ) → Option (List ℕ) → Option (List ℕ) → Option (List ℕ) → Option ClockSpan → Option Journal → RunEnd → Type 0
 Completed command before after held taken clock journal end = MatchOption clock ⊥ (λ span. MatchOption journal ⊥ (λ j.
     Ran command span before after (events j) end × ((text : List ℕ) × RunText (shows_journal command) (events j) end text × Appends held taken text)))
 
 -- the same of the command that was asked for, which runs a script
-abbrev pub CompletedFor : Option Command → Option (List ℕ) → Option (List ℕ) → Option (List ℕ) → Option (List ℕ) → Option ClockSpan → Option (Seq Event) → RunEnd → Type 0
+abbrev pub CompletedFor : Option Command → Option (List ℕ) → Option (List ℕ) → Option (List ℕ) → Option (List ℕ) → Option ClockSpan → Option Journal → RunEnd → Type 0
 CompletedFor asked before after held taken clock journal end = (command : Command) × (asked ≡ Some command) × (runs command ≡ true) × Completed command before after held taken clock journal end
 
 -- the text of an answer without a run: the usage line, a refusal's or that of a script that is accepted
@@ -181,9 +206,45 @@ Told None before after text = text ≡ usage
 Told (Some command) before after text = Refused command before after text ⊎ ((command ≡ Check) × Accepted before after × (text ≡ codes "ok\n"))
 
 -- a prefix of a text was taken: that of a run, whose journal and clock are handed back, or another with no journal
-pub record Partly (command : Option Command) (before after held taken : Option (List ℕ)) (clock : Option ClockSpan) (journal : Option (Seq Event)) : Type 0 where
+pub record Partly (command : Option Command) (before after held taken : Option (List ℕ)) (clock : Option ClockSpan) (journal : Option Journal) : Type 0 where
   pub text : List ℕ
   pub count : ℕ
   pub prefix : Appends held taken (take count text)
   pub source : MatchOption journal (Told command before after text)
       (λ j. (c : Command) × (command ≡ Some c) × ((span : ClockSpan) × (clock ≡ Some span) × ((end : RunEnd) × Ran c span before after (events j) end × RunText (shows_journal c) (events j) end text)))
+
+-- with one worker, the clock told no answer in its span
+abbrev pub ToldNothing : Option Command → Option ClockSpan → Type 0
+ToldNothing asked clock = (command : Command) → asked ≡ Some command → workers_of command ≡ 1 → MatchOption clock ⊥ (λ span. WentOn [] span.before span.after)
+
+-- the count of a device's faults did not rise
+abbrev pub IsSteady : ℕ → ℕ → Type 0
+IsSteady before after = Rose before after → ⊥
+
+-- neither the source's did, nor the sink's, nor that of a clock that is handed back
+pub record NoneRose (source source2 sink sink2 clock : ℕ) (clock2 : Option ℕ) : Type 0 where
+  pub source_steady : IsSteady source source2
+  pub sink_steady : IsSteady sink sink2
+  pub clock_steady : MatchOption clock2 (Unit {0}) (λ now. IsSteady clock now)
+
+-- all that the source has to give is told, and is a script: it is no longer than one may be, and has a program
+abbrev pub IsScript : Option (List ℕ) → Type 0
+IsScript left = (input : List ℕ) × (left ≡ Some input) × (length input ≤ greatest_length) × HasProgram input
+
+-- the text that a command is to be done on is told, and is a script: what the source has to give, or the generator's
+abbrev pub HasScript : Command → Option (List ℕ) → Type 0
+HasScript (Run workers budget journal) left = IsScript left
+HasScript Check left = IsScript left
+HasScript (Load n workers) left = HasProgram (load_text n)
+
+-- the statuses of an accepted script: those of a run's ends, or that of a check
+abbrev pub IsDone : Command → ℕ → Type 0
+IsDone (Run workers budget journal) status = (status ≡ 0) ⊎ (3 ≤ status × status ≤ 5)
+IsDone Check status = status ≡ 0
+IsDone (Load n workers) status = (status ≡ 0) ⊎ (3 ≤ status × status ≤ 5)
+
+-- The status where no device failed: with other words than a command's it is 1, with a command's that of an accepted
+-- script, or 2, but not where it is told that there is such a script; or there was not the memory, and it is 8.
+abbrev pub IsComplete : Option Command → Option (List ℕ) → ℕ → Type 0
+IsComplete None left status = (status ≡ 1) ⊎ (status ≡ 8)
+IsComplete (Some command) left status = IsDone command status ⊎ (((status ≡ 2) × (HasScript command left → ⊥)) ⊎ (status ≡ 8))

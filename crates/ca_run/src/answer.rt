@@ -1,11 +1,11 @@
-ghost use Rattle.std.specs.Prelude.{◌≡◌, ◌≢◌, ◌++◌, [], cond, false, IfOk, OnOk, Some, Err};
+ghost use Rattle.std.specs.Prelude.{◌≡◌, ◌≢◌, ◌++◌, [], cond, false, true, IfOk, OnOk, Some, Err};
 ghost use Rattle.ca_value.specs.Seq.{list};
 ghost use Rattle.ca_term.specs.Program.{program_view};
 ghost use Rattle.ca_meaning.specs.Journal.{journal_text};
 ghost use Rattle.ca_meaning.specs.Texts.{output};
 ghost use Rattle.ca_journal.specs.Events.{events};
 ghost use Rattle.ca_timers.specs.Causes.{Rose};
-ghost use Rattle.ca_run.specs.Top.{error_line, runs, span_between};
+ghost use Rattle.ca_run.specs.Top.{error_line, runs, span_between, HasProgram};
 ghost use Rattle.ca_run.specs.Answers.{answer_text, line_of_end, refusal_line, IsFit, Judged, JudgedProgram, RunsNothing};
 ghost use Rattle.ca_run.specs.Stops.{clock_left};
 ghost use Rattle.ca_run.specs.declared.stop.Stop.TheVariants.{ClockFailed, SourceFailed};
@@ -13,6 +13,8 @@ ghost use Rattle.ca_run.specs.declared.stop.Stop.TheVariants.{ClockFailed, Sourc
 use crate::run::{ScriptEnd, ScriptRun, run_script};
 use crate::stop::Stop;
 use ca_check::check::check;
+use ca_derived::error::{FormsError, FormsErrorKind};
+use ca_derived::expand::expand;
 use ca_forms::error::{CheckError, CheckErrorKind};
 use ca_journal::output::{append_fault, output};
 use ca_journal::print::print;
@@ -34,13 +36,15 @@ use std::thread::Threads;
 const LOAD_BUDGET: u64 = 4_000_000;
 
 /// Why a script is refused, with the place where it is.
-#[derive(Clone, Copy, PartialEq, Eq, Debug)]
+#[derive(Clone, Copy)]
 pub enum Refusal {
     /// More bytes than a script may have.
     TooLong,
     /// The first fault of the text.
     Unreadable(ReadErrorKind, Place),
-    /// The first error of its forms.
+    /// The first error of the words that are expanded.
+    Underived(FormsErrorKind, Place),
+    /// The first error of its derived forms.
     Unchecked(CheckErrorKind, Place),
 }
 
@@ -71,6 +75,7 @@ pub fn judge_text<R: Threads + Wait + Sync, C: Clock + Drop + Send, G: Gate + Sy
     ensures unasked { IfOk result (λ j. RunsNothing j.0 → j.1 ≡ clock) }
     ensures idle { runs command ≡ false → clock_left result ≡ Some clock }
     ensures failed { (c : C) → result ≡ Err (ClockFailed c) → Rose (C.faults clock) (C.faults c) }
+    ensures ran { (c : C) → result ≡ Err (ClockFailed c) → (runs command ≡ true) × HasProgram input.now }
     ensures unbroken { (c : C) → result ≢ Err (SourceFailed c) }
 {
     let forms = match read(alloc, input) {
@@ -80,7 +85,14 @@ pub fn judge_text<R: Threads + Wait + Sync, C: Clock + Drop + Send, G: Gate + Sy
         }
         Err(ReadError::OutOfMemory) => return Err(Stop::OutOfMemory(Some(clock))),
     };
-    let program = match check(alloc, &forms) {
+    let derived = match expand(alloc, &forms) {
+        Ok(derived) => derived,
+        Err(FormsError::Fault(kind, place)) => {
+            return Ok((Answer::Refused(Refusal::Underived(kind, place)), clock));
+        }
+        Err(FormsError::OutOfMemory) => return Err(Stop::OutOfMemory(Some(clock))),
+    };
+    let program = match check(alloc, &derived) {
         Ok(program) => program,
         Err(CheckError::Fault(kind, place)) => {
             return Ok((Answer::Refused(Refusal::Unchecked(kind, place)), clock));
@@ -104,6 +116,7 @@ fn answer_of<R: Threads + Wait + Sync, C: Clock + Drop + Send, G: Gate + Sync>(
     ensures unasked { IfOk result (λ j. RunsNothing j.0 → j.1 ≡ clock) }
     ensures idle { runs command ≡ false → clock_left result ≡ Some clock }
     ensures failed { (c : C) → result ≡ Err (ClockFailed c) → Rose (C.faults clock) (C.faults c) }
+    ensures ran { (c : C) → result ≡ Err (ClockFailed c) → runs command ≡ true }
     ensures unbroken { (c : C) → result ≢ Err (SourceFailed c) }
 {
     let (workers, budget, shown) = match command {
@@ -167,6 +180,7 @@ fn line_of(alloc: Global, refusal: Refusal) -> Result<Text, OutOfMemory>
     match refusal {
         Refusal::TooLong => error_line(alloc, "TooLong", Place { line: 1, column: 1 }),
         Refusal::Unreadable(kind, place) => error_line(alloc, kind.name(), place),
+        Refusal::Underived(kind, place) => error_line(alloc, kind.name(), place),
         Refusal::Unchecked(kind, place) => error_line(alloc, kind.name(), place),
     }
 }

@@ -53,7 +53,7 @@ pub trait Sink {
 }
 
 /// Why a source was not read.
-#[derive(Clone, Copy, PartialEq, Eq, Debug)]
+#[derive(Clone, Copy)]
 pub enum ReadError {
     Broken,
     OutOfMemory,

@@ -17,6 +17,4 @@ pub mod memory;
 pub mod run;
 pub mod standard;
 pub mod stop;
-#[cfg(test)]
-mod tests;
 pub mod top;

@@ -8,14 +8,17 @@ ghost use Rattle.ca_value.specs.declared.value.PortId.{PortId};
 ghost use Rattle.ca_meaning.specs.Ends.{EndsWith, HasEnd};
 ghost use Rattle.ca_meaning.specs.Legal.{Legal};
 ghost use Rattle.ca_journal.specs.Events.{events};
+ghost use Rattle.ca_journal.specs.Note.{note_view};
 ghost use Rattle.ca_timers.specs.Causes.{Rose};
 ghost use Rattle.ca_table.specs.Moments.{KeepsTime};
 ghost use Rattle.ca_pool.specs.PoolEnds.{IsSolo, end_view};
 ghost use Rattle.ca_pool.specs.declared.run_end.RunStop.TheVariants.{ClockFailed};
-ghost use Rattle.ca_run.specs.Answers.{end_of, line_of_end};
+ghost use Rattle.ca_run.specs.Answers.{end_of, line_of_end, main_fault};
 ghost use Rattle.ca_run.specs.Top.{EndLine};
 
-use ca_journal::entry::Journal;
+use ca_journal::journal::Journal;
+use ca_journal::last::last;
+use ca_journal::note::Note;
 use ca_moves::lower::lower_moving;
 use ca_pool::gate::Gate;
 use ca_pool::pool_run::run_pool;
@@ -26,12 +29,13 @@ use ca_term::fault::Fault;
 use ca_term::place::Place;
 use ca_term::program::Program;
 use ca_timers::clock::Clock;
+use ca_value::memory::OutOfMemory;
 use std::alloc::Global;
 use std::sync::Wait;
 use std::thread::Threads;
 
 /// How the run of a script came to its end.
-#[derive(Clone, Copy, PartialEq, Eq, Debug)]
+#[derive(Clone, Copy)]
 pub enum ScriptEnd {
     /// The main text has a value.
     Ended,
@@ -51,37 +55,51 @@ pub struct ScriptRun {
 }
 
 // The fault of the main text that is the last event, if it is one.
-fn last_fault(journal: &Journal) -> Option<(Fault, Place)>
-    ensures { (f : FaultKind) (p : PlaceKind) (r : Option PortId) → EndsWith (events journal.now) (over 0 (FaultedEnding f p r)) → result ≡ Some (f, p) }
+fn last_fault(alloc: Global, journal: &Journal) -> Result<Option<(Fault, Place)>, OutOfMemory>
+    ensures { IfOk result (λ told. (f : FaultKind) (p : PlaceKind) (r : Option PortId) → EndsWith (events journal.now) (over 0 (FaultedEnding f p r)) → told ≡ Some (f, p)) }
 {
-    match journal.as_slice().last() {
-        Some(
-            Event::End {
-                task: 0,
-                ending: Ending::Faulted { fault, place, .. },
-            },
-        ) => Some((*fault, *place)),
+    let Some(note) = last(alloc, journal)? else {
+        return Ok(None);
+    };
+    Ok(fault_of(note))
+}
+
+// The fault of the main text that the note tells.
+fn fault_of(note: &Note) -> Option<(Fault, Place)>
+    ensures { result ≡ main_fault (note_view note.now) }
+{
+    let Note::Rare(event) = note else {
+        return None;
+    };
+    match **event {
+        Event::End {
+            task: 0,
+            ending: Ending::Faulted { fault, place, .. },
+        } => Some((fault, place)),
         _ => None,
     }
 }
 
 // The same end, with the fault that the journal tells.
-fn told(journal: Journal, end: PoolEnd) -> ScriptRun
+fn told(alloc: Global, journal: Journal, end: PoolEnd) -> Result<ScriptRun, OutOfMemory>
     requires end { (program : ProgramView) × (budget : ℕ) × HasEnd program budget (events journal) (end_view end) }
-    ensures journal { result.journal ≡ journal }
-    ensures end { end_of result.end ≡ end_view end }
-    ensures line { EndLine (events result.journal) (end_of result.end) (line_of_end result.end) }
+    ensures journal { IfOk result (λ run. run.journal ≡ journal) }
+    ensures end { IfOk result (λ run. end_of run.end ≡ end_view end) }
+    ensures line { IfOk result (λ run. EndLine (events run.journal) (end_of run.end) (line_of_end run.end)) }
 {
     let end = match end {
         PoolEnd::Ended => ScriptEnd::Ended,
         PoolEnd::Limit => ScriptEnd::Limit,
         PoolEnd::Stuck => ScriptEnd::Stuck,
-        PoolEnd::Faulted => match last_fault(&journal) {
-            Some((fault, place)) => ScriptEnd::Faulted(fault, place),
-            None => unreachable!(),
-        },
+        PoolEnd::Faulted => {
+            let fault = last_fault(alloc, &journal)?;
+            match fault {
+                Some((fault, place)) => ScriptEnd::Faulted(fault, place),
+                None => unreachable!(),
+            }
+        }
     };
-    ScriptRun { journal, end }
+    Ok(ScriptRun { journal, end })
 }
 
 /// Compiles the program, and runs it with 1 to 16 workers, until an end or until its events cost the budget. The moments
@@ -116,5 +134,5 @@ pub fn run_script<R: Threads + Wait + Sync, C: Clock + Drop + Send, G: Gate + Sy
         end,
         clock,
     } = run;
-    Ok((told(journal, end), clock))
+    Ok((told(alloc, journal, end)?, clock))
 }

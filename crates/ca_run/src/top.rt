@@ -1,13 +1,13 @@
-ghost use Rattle.std.specs.Prelude.{◌≡◌, ◌≢◌, ◌⊎◌, ◌≤◌, ℕ, List, Option, map, string_bytes, true, false, codes, None, Some, Ok, Err, IfOk, IsSome};
+ghost use Rattle.std.specs.Prelude.{◌≡◌, ◌≢◌, ◌⊎◌, ◌≤◌, ℕ, List, Option, map, string_bytes, true, false, codes, None, Some, Ok, Err, IfOk, IsSome, option_map};
 ghost use Rattle.std.specs.Io.KnownBytes.{Appends};
-ghost use Rattle.ca_value.specs.declared.seq.Seq.{Seq};
-ghost use Rattle.ca_term.specs.declared.event.Event.{Event};
 ghost use Rattle.ca_journal.specs.Events.{events};
+ghost use Rattle.ca_journal.specs.declared.journal.Journal.{Journal};
 ghost use Rattle.ca_meaning.specs.Ends.{ended, faulted, limit, stuck};
+ghost use Rattle.ca_meaning.specs.Solo.{NoTimeouts};
 ghost use Rattle.ca_timers.specs.Causes.{Rose};
 ghost use Rattle.ca_words.specs.Words.{command_in};
 ghost use Rattle.ca_words.specs.declared.command.Command.TheVariants.{Check, Load};
-ghost use Rattle.ca_run.specs.Top.{Accepted, Completed, CompletedFor, IsLawful, Refused, Partly, reads, runs, span_between, span_of, usage};
+ghost use Rattle.ca_run.specs.Top.{Accepted, Completed, CompletedFor, IsComplete, IsLawful, NoneRose, ReadsScript, Refused, RunsScript, Partly, ToldNothing, reads, runs, span_between, span_of, usage};
 ghost use Rattle.ca_run.specs.Answers.{status_of, journal_of, AnswersTo, IsFit, RunsNothing};
 ghost use Rattle.ca_run.specs.Stops.{clock_left};
 ghost use Rattle.ca_run.specs.declared.answer.Answer.{Answer};
@@ -18,7 +18,7 @@ use crate::device::{ReadError, Sink, Source, read_all, write_all};
 use crate::generator::load_script;
 use crate::run::ScriptEnd;
 use crate::stop::Stop;
-use ca_journal::entry::Journal;
+use ca_journal::journal::Journal;
 use ca_pool::gate::Gate;
 use ca_sealed::journals::journals_of_scripts_keep_the_laws;
 use ca_timers::clock::Clock;
@@ -69,6 +69,7 @@ fn judge_source<R: Threads + Wait + Sync, S: Source, C: Clock + Drop + Send, G: 
     ensures later { S.faults source.old ≤ S.faults source.new }
     ensures broken { (c : C) → result ≡ Err (SourceFailed c) → Rose (S.faults source.old) (S.faults source.new) × (c ≡ clock) }
     ensures failed { (c : C) → result ≡ Err (ClockFailed c) → Rose (C.faults clock) (C.faults c) }
+    ensures ran { (c : C) → result ≡ Err (ClockFailed c) → RunsScript (Some command) (S.left source.old) (S.left source.new) }
     ensures unasked { (j : Answer × C) → result ≡ Ok j → RunsNothing j.0 → j.1 ≡ clock }
     ensures idle { runs command ≡ false → clock_left result ≡ Some clock }
 {
@@ -96,6 +97,7 @@ fn judge_load<R: Threads + Wait + Sync, C: Clock + Drop + Send, G: Gate + Sync>(
     requires fit { IsFit (Load n workers) }
     ensures answers { (left : Option (List ℕ)) (j : Answer × C) → result ≡ Ok j → AnswersTo (Some (Load n workers)) (span_between C.least C.readings clock j.1) left left j.0 }
     ensures failed { (c : C) → result ≡ Err (ClockFailed c) → Rose (C.faults clock) (C.faults c) }
+    ensures ran { (left : Option (List ℕ)) (c : C) → result ≡ Err (ClockFailed c) → RunsScript (Some (Load n workers)) left left }
     ensures unbroken { (c : C) → result ≢ Err (SourceFailed c) }
     ensures unasked { (j : Answer × C) → result ≡ Ok j → RunsNothing j.0 → j.1 ≡ clock }
 {
@@ -116,12 +118,13 @@ fn judge<R: Threads + Wait + Sync, S: Source, C: Clock + Drop + Send, G: Gate + 
     gate: &G,
 ) -> Result<(Answer, C), Stop<C>>
     requires fit { (c : Command) → asked ≡ Some c → IsFit c }
-    ensures unread { asked ≡ None → source.new ≡ source.old }
+    ensures unread { ((c : Command) → asked ≡ Some c → reads c ≡ false) → source.new ≡ source.old }
     ensures admitted { asked ≡ None → result ≡ Ok (Answer.Usage, clock) }
     ensures answers { (j : Answer × C) → result ≡ Ok j → AnswersTo asked (span_between C.least C.readings clock j.1) (S.left source.old) (S.left source.new) j.0 }
     ensures later { S.faults source.old ≤ S.faults source.new }
-    ensures broken { (c : C) → result ≡ Err (SourceFailed c) → Rose (S.faults source.old) (S.faults source.new) × (c ≡ clock) }
+    ensures broken { (c : C) → result ≡ Err (SourceFailed c) → ReadsScript asked × Rose (S.faults source.old) (S.faults source.new) × (c ≡ clock) }
     ensures failed { (c : C) → result ≡ Err (ClockFailed c) → Rose (C.faults clock) (C.faults c) }
+    ensures ran { (c : C) → result ≡ Err (ClockFailed c) → RunsScript asked (S.left source.old) (S.left source.new) }
     ensures unasked { (j : Answer × C) → result ≡ Ok j → RunsNothing j.0 → j.1 ≡ clock }
     ensures idle { ((c : Command) → asked ≡ Some c → runs c ≡ false) → clock_left result ≡ Some clock }
 {
@@ -168,22 +171,29 @@ pub fn main_call<
     ensures limit { result.status ≡ 5 → CompletedFor (command_in (map string_bytes words.now)) (S.left source.old) (S.left source.new) (K.held sink.old) (K.held sink.new) (span_of C.least C.readings clock result.clock) result.journal limit }
 
     // And each such run keeps the laws of channels, waits, mixes, mults and pipelines.
-    ensures laws { (j : Seq Event) → result.journal ≡ Some j → IsLawful (command_in (map string_bytes words.now)) (S.left source.old) (S.left source.new) (events j) }
+    ensures laws { (j : Journal) → result.journal ≡ Some j → IsLawful (command_in (map string_bytes words.now)) (S.left source.old) (S.left source.new) (events j) }
 
     // When each other status comes.
     ensures accepted { command_in (map string_bytes words.now) ≡ Some Check → result.status ≡ 0 → Accepted (S.left source.old) (S.left source.new) × Appends (K.held sink.old) (K.held sink.new) (codes "ok\n") }
     ensures usage { result.status ≡ 1 → (command_in (map string_bytes words.now) ≡ None) × Appends (K.held sink.old) (K.held sink.new) usage }
     ensures refused { result.status ≡ 2 → (command : Command) × (line : List ℕ) × (command_in (map string_bytes words.now) ≡ Some command) × Refused command (S.left source.old) (S.left source.new) line × Appends (K.held sink.old) (K.held sink.new) line }
-    ensures read { result.status ≡ 6 → Rose (S.faults source.old) (S.faults source.new) }
+    ensures read { result.status ≡ 6 → ReadsScript (command_in (map string_bytes words.now)) × Rose (S.faults source.old) (S.faults source.new) }
+    ensures unread { (command : Command) → command_in (map string_bytes words.now) ≡ Some command → reads command ≡ false → source.new ≡ source.old }
     ensures write { result.status ≡ 7 → Rose (K.faults sink.old) (K.faults sink.new) }
     ensures partial { result.status ≡ 7 → Partly (command_in (map string_bytes words.now)) (S.left source.old) (S.left source.new) (K.held sink.old) (K.held sink.new) (span_of C.least C.readings clock result.clock) result.journal }
     ensures admitted { command_in (map string_bytes words.now) ≡ None → (source.new ≡ source.old) × ((result.status ≡ 1) ⊎ ((result.status ≡ 7) ⊎ (result.status ≡ 8))) }
     ensures unasked { ((result.status ≡ 1) ⊎ ((result.status ≡ 2) ⊎ (result.status ≡ 6))) ⊎ ((c : Command) → command_in (map string_bytes words.now) ≡ Some c → runs c ≡ false) → result.clock ≡ Some clock }
+    ensures unrun { result.status ≡ 7 → result.journal ≡ None → result.clock ≡ Some clock }
+    ensures untimed { (j : Journal) → result.journal ≡ Some j → NoTimeouts (events j) → ToldNothing (command_in (map string_bytes words.now)) (span_of C.least C.readings clock result.clock) }
     ensures kept { result.clock ≡ None → result.status ≡ 8 }
     ensures waited { result.status ≡ 9 → (c : C) × (result.clock ≡ Some c) × Rose (C.faults clock) (C.faults c) }
+    ensures ran { result.status ≡ 9 → RunsScript (command_in (map string_bytes words.now)) (S.left source.old) (S.left source.new) }
     ensures silent { (result.status ≡ 6) ⊎ ((result.status ≡ 8) ⊎ (result.status ≡ 9)) → K.held sink.new ≡ K.held sink.old }
     ensures known { result.status ≤ 9 }
     ensures done { result.status ≡ 0 → (command : Command) × (command_in (map string_bytes words.now) ≡ Some command) }
+    // Where no device failed, an accepted script comes to its end, or there was not the memory: the clauses above say of each
+    // end which it is and what was written.
+    ensures complete { NoneRose (S.faults source.old) (S.faults source.new) (K.faults sink.old) (K.faults sink.new) (C.faults clock) (option_map C.faults result.clock) → IsComplete (command_in (map string_bytes words.now)) (S.left source.old) result.status }
     ensures journal { IsSome result.journal → ((command : Command) × (command_in (map string_bytes words.now) ≡ Some command) × (runs command ≡ true)) × ((result.status ≡ 0) ⊎ ((3 ≤ result.status × result.status ≤ 5) ⊎ (result.status ≡ 7))) }
 {
     journals_of_scripts_keep_the_laws();

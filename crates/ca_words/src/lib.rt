@@ -15,5 +15,3 @@ mod line;
 mod name;
 mod number;
 pub mod reading;
-#[cfg(test)]
-mod tests;

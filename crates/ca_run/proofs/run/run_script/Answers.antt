@@ -24,18 +24,18 @@ run_pool-requires-clause-main g c κs within =
 pub returns-clause-end : goal.returns-clause-end
 returns-clause-end g c =
     let run = c.in_ok-run.run' in
-    let told = c.told.result in
+    let told = c.in_ok-told.field-0 in
     let P = program_view c.args.program.now in
-    subst (λ j. HasEnd P c.args.budget (events j) (end_of told.end)) (sym c.told.ensures.journal)
-    (subst (HasEnd P c.args.budget (events run.journal)) (sym c.told.ensures.end) c.in_ok-run.ensures.end)
+    subst (λ j. HasEnd P c.args.budget (events j) (end_of told.end)) (sym c.in_ok-told.ensures.journal)
+    (subst (HasEnd P c.args.budget (events run.journal)) (sym c.in_ok-told.ensures.end) c.in_ok-run.ensures.end)
 
 pub returns-clause-moments : goal.returns-clause-moments
 returns-clause-moments g c = let K = g.C.Clock in
-    subst (λ j. KeepsTime (events j) (K.least c.args.clock) (K.readings c.args.clock) (K.readings c.in_ok-run.run'.clock)) (sym c.told.ensures.journal) c.in_ok-run.ensures.moments
+    subst (λ j. KeepsTime (events j) (K.least c.args.clock) (K.readings c.args.clock) (K.readings c.in_ok-run.run'.clock)) (sym c.in_ok-told.ensures.journal) c.in_ok-run.ensures.moments
 
 pub returns-clause-solo : goal.returns-clause-solo
 returns-clause-solo g c = λ one. let K = g.C.Clock in
-    subst (λ j. IsSolo (program_view c.args.program.now) (events j) (K.least c.args.clock) (K.readings c.args.clock) (K.readings c.in_ok-run.run'.clock)) (sym c.told.ensures.journal) (c.in_ok-run.ensures.solo one)
+    subst (λ j. IsSolo (program_view c.args.program.now) (events j) (K.least c.args.clock) (K.readings c.args.clock) (K.readings c.in_ok-run.run'.clock)) (sym c.in_ok-told.ensures.journal) (c.in_ok-run.ensures.solo one)
 
 pub told-requires : goal.told-requires
 told-requires g c = record { end = (program_view c.args.program.now, c.args.budget, c.in_ok-run.ensures.end) }

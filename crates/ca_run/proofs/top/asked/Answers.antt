@@ -1,4 +1,4 @@
-use Rattle.std.proofs.Common.{◌≡◌, ◌∙◌, map, sym}
+use Rattle.std.proofs.Common.{◌∙◌, map}
 use Rattle.std.specs.Prelude.{string_bytes}
 use Rattle.ca_run.proofs.Fitting.{asked_fits}
 use Rattle.ca_run.proofs.top.asked.Goals as goal

@@ -1,11 +1,12 @@
 use Rattle.std.proofs.Common.{◌≡◌, ◌∙◌, ⊎_elim, rules, map, refl, sym, ap, subst, arith, IsSome, Some}
 use Rattle.std.specs.Prelude.{string_bytes}
-use Rattle.ca_value.specs.declared.seq.Seq.{Seq}
-use Rattle.ca_term.specs.declared.event.Event.{Event}
 use Rattle.ca_words.specs.Words.{command_in}
+use Rattle.ca_journal.specs.declared.journal.Journal.{Journal}
 use Rattle.ca_run.specs.Answers.{answer_text, AnswersTo}
-use Rattle.ca_run.specs.Top.{Completed, CompletedFor, Partly, span_between, span_of}
+use Rattle.ca_run.specs.Top.{Completed, CompletedFor, Partly, ToldNothing, span_between, span_of}
 use Rattle.ca_meaning.specs.Ends.{ended, faulted, limit, stuck}
+use Rattle.ca_run.proofs.Causes.{not_eight, read_nothing, silent_of, without_run}
+use Rattle.ca_run.proofs.Complete.{close_complete, unfinished}
 use Rattle.ca_run.proofs.Lawful.{lawful_of}
 use Rattle.ca_run.proofs.Finishes.{whole_text, part_text, ended_of, ends_of, accepted_of, refused_of, usage_of, partly_of, close_journal, close_asked, runs_nothing}
 use Rattle.ca_run.proofs.top.main_call.Goals as goal
@@ -149,7 +150,7 @@ returns-clause-journal g c = λ j.
     let taken = g.K.Sink.held c.write_all.new.sink in
     let asked = command_in (map string_bytes c.args.words.now) in
     let answers : AnswersTo asked span left after a = subst (λ q. AnswersTo q span left after a) c.in-Ok.ensures.command (c.in-Ok-judge.ensures.answers c.in-Ok-judge.judged refl) in
-    close_journal asked span left after a c.is_ok-written.result c.close.result.status c.close.ensures.lost c.close.ensures.done answers (subst (IsSome {T = Seq Event}) c.close.ensures.journal j)
+    close_journal asked span left after a c.is_ok-written.result c.close.result.status c.close.ensures.lost c.close.ensures.done answers (subst (IsSome {T = Journal}) c.close.ensures.journal j)
 
 pub returns-clause-unasked : goal.returns-clause-unasked
 returns-clause-unasked g c =
@@ -165,3 +166,55 @@ returns-clause-laws g c = λ j e.
     let asked = command_in (map string_bytes c.args.words.now) in
     let answers : AnswersTo asked span left after a = subst (λ q. AnswersTo q span left after a) c.in-Ok.ensures.command (c.in-Ok-judge.ensures.answers c.in-Ok-judge.judged refl) in
     lawful_of c.journals_of_scripts_keep_the_laws.ensures asked span left after a j answers (sym c.close.ensures.journal ∙ e)
+
+pub returns-clause-unrun : goal.returns-clause-unrun
+returns-clause-unrun g c = λ e none. c.close.ensures.clock ∙ ap Some (c.in-Ok-judge.ensures.unasked c.in-Ok-judge.judged refl (without_run c.in-Ok-judge.judged.0 (sym c.close.ensures.journal ∙ none)))
+
+pub returns-clause-untimed : goal.returns-clause-untimed
+returns-clause-untimed g c = λ j e none.
+    let a = c.in-Ok-judge.judged.0 in
+    let span = span_between g.C.Clock.least g.C.Clock.readings c.args.clock c.in-Ok-judge.judged.1 in
+    let left = g.S.Source.left c.args.source.now in
+    let after = g.S.Source.left c.judge.new.source in
+    let asked = command_in (map string_bytes c.args.words.now) in
+    let answers : AnswersTo asked span left after a = subst (λ q. AnswersTo q span left after a) c.in-Ok.ensures.command (c.in-Ok-judge.ensures.answers c.in-Ok-judge.judged refl) in
+    subst (λ o. ToldNothing asked (span_of g.C.Clock.least g.C.Clock.readings c.args.clock o)) (sym c.close.ensures.clock) (silent_of asked span left after a j answers (sym c.close.ensures.journal ∙ e) none)
+
+pub returns-clause-complete : goal.returns-clause-complete
+returns-clause-complete g c = λ steady.
+    let a = c.in-Ok-judge.judged.0 in
+    let span = span_between g.C.Clock.least g.C.Clock.readings c.args.clock c.in-Ok-judge.judged.1 in
+    let left = g.S.Source.left c.args.source.now in
+    let after = g.S.Source.left c.judge.new.source in
+    let asked = command_in (map string_bytes c.args.words.now) in
+    let faults = g.K.Sink.faults in
+    let answers : AnswersTo asked span left after a = subst (λ q. AnswersTo q span left after a) c.in-Ok.ensures.command (c.in-Ok-judge.ensures.answers c.in-Ok-judge.judged refl) in
+    close_complete asked span left after a c.write_all.result c.is_ok-written.result c.close.result.status (faults c.args.sink.now) (faults c.reserve.new.self) (faults c.write_all.new.sink) c.is_ok-written.ensures.value c.close.ensures.done c.reserve.ensures.faults c.write_all.ensures.cause steady.sink_steady answers
+
+pub returns-in_default-clause-complete : goal.returns-in_default-clause-complete
+returns-in_default-clause-complete g c = λ steady. unfinished (command_in (map string_bytes c.args.words.now)) (g.S.Source.left c.args.source.now) c.without_journal.result.status c.without_journal.ensures.status
+
+pub returns-in-Err-OutOfMemory-clause-unread : goal.returns-in-Err-OutOfMemory-clause-unread
+returns-in-Err-OutOfMemory-clause-unread g c = λ command. read_nothing (command_in (map string_bytes c.args.words.now)) c.in-Ok.asked command c.in-Ok.ensures.command c.judge.ensures.unread
+
+pub returns-in-Err-ClockFailed-clause-unread : goal.returns-in-Err-ClockFailed-clause-unread
+returns-in-Err-ClockFailed-clause-unread g c = λ command. read_nothing (command_in (map string_bytes c.args.words.now)) c.in-Ok.asked command c.in-Ok.ensures.command c.judge.ensures.unread
+
+pub returns-in_default-text_of-clause-unread : goal.returns-in_default-text_of-clause-unread
+returns-in_default-text_of-clause-unread g c = λ command. read_nothing (command_in (map string_bytes c.args.words.now)) c.in-Ok.asked command c.in-Ok.ensures.command c.judge.ensures.unread
+
+pub returns-then-is_err-clause-unread : goal.returns-then-is_err-clause-unread
+returns-then-is_err-clause-unread g c = λ command. read_nothing (command_in (map string_bytes c.args.words.now)) c.in-Ok.asked command c.in-Ok.ensures.command c.judge.ensures.unread
+
+pub returns-clause-unread : goal.returns-clause-unread
+returns-clause-unread g c = λ command. read_nothing (command_in (map string_bytes c.args.words.now)) c.in-Ok.asked command c.in-Ok.ensures.command c.judge.ensures.unread
+
+pub returns-in_default-text_of-clause-unasked : goal.returns-in_default-text_of-clause-unasked
+returns-in_default-text_of-clause-unasked g c =
+    ⊎_elim (not_eight c.without_journal-in_default-text_of.result.status c.without_journal-in_default-text_of.ensures.status)
+    (λ k. c.without_journal-in_default-text_of.ensures.clock ∙ c.in-Ok-judge.ensures.idle (λ x is. k x (sym c.in-Ok.ensures.command ∙ is)))
+
+pub returns-then-is_err-clause-unasked : goal.returns-then-is_err-clause-unasked
+returns-then-is_err-clause-unasked g c =
+    ⊎_elim (not_eight c.without_journal-then-is_err.result.status c.without_journal-then-is_err.ensures.status)
+    (λ k. c.without_journal-then-is_err.ensures.clock ∙ c.in-Ok-judge.ensures.idle (λ x is. k x (sym c.in-Ok.ensures.command ∙ is)))
