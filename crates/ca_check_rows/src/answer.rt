@@ -1,5 +1,7 @@
 use crate::script::script_of;
 use ca_check::check::check;
+use ca_derived::error::FormsError;
+use ca_derived::expand::expand;
 use ca_forms::error::CheckError;
 use ca_reader::error::ReadError;
 use ca_reader::read::read;
@@ -14,7 +16,12 @@ pub fn answer_text(alloc: Global, line: &str) -> Result<String, AllocError> {
         Err(ReadError::Fault(kind, place)) => return error_text(alloc, kind.name(), place),
         Err(ReadError::OutOfMemory) => return String::from_str(alloc, "OutOfMemory"),
     };
-    match check(alloc, &forms) {
+    let derived = match expand(alloc, &forms) {
+        Ok(derived) => derived,
+        Err(FormsError::Fault(kind, place)) => return error_text(alloc, kind.name(), place),
+        Err(FormsError::OutOfMemory) => return String::from_str(alloc, "OutOfMemory"),
+    };
+    match check(alloc, &derived) {
         Ok(_) => String::from_str(alloc, "ok"),
         Err(CheckError::Fault(kind, place)) => error_text(alloc, kind.name(), place),
         Err(CheckError::OutOfMemory) => String::from_str(alloc, "OutOfMemory"),

@@ -1,8 +1,10 @@
 //! Runs with two workers that are held at gates, which no contract can speak of: that two workers really work, that one
-//! goes on while the other is held, and that an event needs only the parts that it touches.
+//! goes on while the other is held, that an event needs only the parts that it touches, and that nobody asks the clock
+//! once the run is over.
 //!
 //! Each line of the output names a run, and says with what status it ended and what it wrote, or how the call of the one
-//! worker that made events ended, and whether a wait at a gate was given up, which a test fails by.
+//! worker that made events ended, and whether a wait at a gate was given up, which a test fails by. The last is of many
+//! runs, and counts how often their clocks were asked.
 //!
 //! Stands on `ca_run`, and in `beside` on the workers of `ca_pool` and the parts of `ca_table` themselves, with no claim
 //! of its own; start with `passing`.
@@ -11,6 +13,7 @@
 mod beside;
 mod both;
 mod disjoint;
+mod ended;
 mod held;
 mod opened;
 mod passing;
@@ -19,6 +22,7 @@ mod run;
 
 use crate::both::BothPass;
 use crate::disjoint::Disjoint;
+use crate::ended::askings_of_runs;
 use crate::held::HeldWorker;
 use crate::opened::end_beside_holder;
 use crate::run::run_text;
@@ -41,5 +45,6 @@ fn main(rt: HostRuntime) -> io::Result<()> {
     println!(rt; "the held worker: {told}, {}", held.waits.told())?;
     let disjoint = Disjoint::new();
     let end = end_beside_holder(&rt, rt.alloc(), ONE_CHANNEL, &disjoint);
-    println!(rt; "disjoint parts: {end}, {}", disjoint.waits.told())
+    println!(rt; "disjoint parts: {end}, {}", disjoint.waits.told())?;
+    println!(rt; "the ended run: {}", askings_of_runs(&rt)?)
 }

@@ -2,6 +2,7 @@
 use crate::beside::work_beside_holder;
 use crate::disjoint::Disjoint;
 use ca_check::check::check;
+use ca_derived::expand::expand;
 use ca_moves::lower::lower_moving;
 use ca_reader::read::read;
 use ca_run::memory::MemoryClock;
@@ -17,7 +18,8 @@ const WORKERS: u64 = 2;
 
 fn program_of(alloc: Global, script: &str) -> Option<Program> {
     let forms = read(alloc, script.as_bytes()).ok()?;
-    check(alloc, &forms).ok()
+    let derived = expand(alloc, &forms).ok()?;
+    check(alloc, &derived).ok()
 }
 
 // What worker 0's call answers.

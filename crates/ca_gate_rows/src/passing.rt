@@ -2,7 +2,7 @@ use std::hint;
 use std::sync::atomic::{AtomicU64, Ordering};
 
 /// How often a wait at a gate looks before it is given up.
-const LOOKS: u64 = 10_000_000;
+const LOOKS: u64 = 200_000_000;
 
 /// What workers have passed, by worker.
 #[derive(Drop)]

@@ -13,6 +13,8 @@ use crate::same::are_same;
 use crate::tally::Tally;
 use ca_agent::agent::{Agent, Outcome, Pause};
 use ca_check::check::check;
+use ca_derived::error::FormsError;
+use ca_derived::expand::expand;
 use ca_forms::error::CheckError;
 use ca_machine::machine::Machine;
 use ca_moves::lower::lower_moving;
@@ -164,7 +166,12 @@ fn program_of(alloc: Global, script: &[u8]) -> Result<Option<Program>, OutOfMemo
         Err(ReadError::Fault(..)) => return Ok(None),
         Err(ReadError::OutOfMemory) => return Err(OutOfMemory),
     };
-    match check(alloc, &forms) {
+    let derived = match expand(alloc, &forms) {
+        Ok(derived) => derived,
+        Err(FormsError::Fault(..)) => return Ok(None),
+        Err(FormsError::OutOfMemory) => return Err(OutOfMemory),
+    };
+    match check(alloc, &derived) {
         Ok(program) => Ok(Some(program)),
         Err(CheckError::Fault(..)) => Ok(None),
         Err(CheckError::OutOfMemory) => Err(OutOfMemory),

@@ -68,7 +68,7 @@ const LEAVES: &[&[u8]] = &[
 ];
 
 /// Where a form stands.
-#[derive(Clone, Copy, PartialEq, Eq, Debug)]
+#[derive(Clone, Copy)]
 enum Site {
     /// In a function, from which so many functions are known.
     Function(u64),
@@ -77,7 +77,7 @@ enum Site {
 }
 
 /// A template that is written up to a place.
-#[derive(Clone, Copy, Debug)]
+#[derive(Clone, Copy)]
 struct Piece {
     template: &'static [u8],
     at: u64,
@@ -157,7 +157,7 @@ impl Generator {
                 Ok(None)
             }
             b'~' => {
-                if piece.site != Site::Go {
+                if !matches!(piece.site, Site::Go) {
                     script.append(b"!")?;
                 }
                 Ok(None)

@@ -89,7 +89,7 @@ fn is_same_seed(left: &Seed, right: &Seed) -> bool {
 fn is_same_block(left: &GoSeed, right: &GoSeed) -> bool {
     left.body == right.body
         && left.values.equal(&right.values)
-        && left.result == right.result
+        && left.result.n == right.result.n
         && left.place == right.place
 }
 

@@ -2,7 +2,7 @@ use std::fmt;
 use std::fmt::{Formatter, Write};
 
 /// What was compared.
-#[derive(Clone, Copy, Debug)]
+#[derive(Clone, Copy)]
 pub struct Tally {
     /// Scripts that have a program.
     pub scripts: u64,

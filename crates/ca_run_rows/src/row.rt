@@ -1,7 +1,7 @@
 use std::alloc::{AllocError, Global};
 
-/// A row: the words, the script, how many bytes the devices give and take at most at once, and which of their calls
-/// fail.
+/// A row: the words, the script, how many bytes the devices give and take at most at once, which of their calls fail, how
+/// far the clock rises at each look, whether its askings are told, and whether the script is cut after each of its bytes.
 #[derive(Drop)]
 pub struct Row {
     pub words: Vec<String>,
@@ -10,6 +10,9 @@ pub struct Row {
     pub reads: Vec<u64>,
     pub writes: Vec<u64>,
     pub waits: Vec<u64>,
+    pub rise: u64,
+    pub tells_askings: bool,
+    pub is_cut: bool,
 }
 
 impl Row {
@@ -23,6 +26,9 @@ impl Row {
             reads: Vec::new(alloc),
             writes: Vec::new(alloc),
             waits: Vec::new(alloc),
+            rise: 0,
+            tells_askings: false,
+            is_cut: false,
         };
         for word in head.split(' ') {
             row.add(alloc, word)?;
@@ -40,9 +46,19 @@ impl Row {
             Some(("read", number)) => self.reads.push(number.parse().unwrap_or(0))?,
             Some(("write", number)) => self.writes.push(number.parse().unwrap_or(0))?,
             Some(("wait", number)) => self.waits.push(number.parse().unwrap_or(0))?,
+            Some(("rise", number)) => self.rise = number.parse().unwrap_or(0),
+            Some(("spaces", number)) => self.add_spaces(number.parse().unwrap_or(0))?,
+            None if word == "askings" => self.tells_askings = true,
+            None if word == "cuts" => self.is_cut = true,
             _ => self.words.push(String::from_str(alloc, word)?)?,
         }
         Ok(())
+    }
+
+    // Adds so many spaces to the script.
+    fn add_spaces(&mut self, count: usize) -> Result<(), AllocError> {
+        let length = self.script.len().saturating_add(count);
+        self.script.resize(length, b' ')
     }
 }
 

@@ -1,8 +1,8 @@
-//! Runs code of blocks by rows of text, for anyone to add a row to: each line of the input is one row, its
-//! answer stands in the output.
+//! Says of code of blocks whether it keeps the rules, and what its moves are, by rows of text, for anyone to add a row to:
+//! each line of the input is one row, its answer stands in the output.
 //!
-//! A row is code, `run`, where it starts, and the answers to its operations; or code and `run moves`, for its blocks
-//! after the pass that moves values at their last use. `block 2 0` begins a block with two slots, of which it begins
+//! A row is code, `run`, and a call: `validate` answers `valid` or `invalid`, and `moves` has the blocks after the pass
+//! that moves values at their last use, in the words of a row. `block 2 0` begins a block with two slots, of which it begins
 //! with the first none, `block 4 3-1` one that begins with the first three but slot 1; what it does follows, word by word: `const:0:7`,
 //! `copy:1:0`, `move:1:0`, `clear:0`, `one:inc:0:1`, `two:+:0:1:2`, `int:+:0:1:5`, `push:0:1:2`,
 //! `put:0:1:2:3`, `many:str:0:1:2`, and last where it leads: `jump:1`, `branch:0:1:2`, `test:<:2:0:1:3:4` and
@@ -11,23 +11,19 @@
 //! `take:0:1:0:3` and `print:0:1:0:3` (first slot, how many, the answer's slot, the next block). `main 3`
 //! says where the main text begins, `go 1 2` and `function 1 2` where such a text does, and how many values
 //! it takes; `identity 4` where the text does that has the value which it takes, and where no word says so such a text
-//! is the last block. A start is `main`, `go:0:5:port1`, `function:0:5`, or `call:0:5` for a function that is called by
-//! itself. What may fault in a block stands at the line of the block's number, its column counts words.
-//!
-//! The answer has each operation, and then `ended` with the value, or the fault with its place; `invalid`
-//! where the code breaks a rule, `no start` where it doesn't have the start. Blocks are told in the words of a row.
+//! is the last block.
 #![tactic(auto)]
 
+mod answer;
 mod printing;
 mod reading;
-mod running;
 mod words;
 
 use std::io;
 
 fn main(rt: HostRuntime) -> io::Result<()> {
     for line in rt.lines(rt.alloc()) {
-        match running::answer(rt.alloc(), line?.as_str()) {
+        match answer::answer(rt.alloc(), line?.as_str()) {
             Ok(text) => println!(rt; "{text}")?,
             Err(words::RowError::Unreadable) => println!(rt; "unreadable")?,
             Err(words::RowError::OutOfMemory) => println!(rt; "out of memory")?,

@@ -15,8 +15,8 @@ pub fn blocks_text(alloc: Global, code: &Code) -> Result<String, RowError> {
     Ok(text)
 }
 
-/// The value as a script has it.
-pub fn append_value(alloc: Global, text: &mut String, value: &Value) -> Result<(), RowError> {
+// The value as a script has it.
+fn append_value(alloc: Global, text: &mut String, value: &Value) -> Result<(), RowError> {
     let bytes = value.print_readable(alloc)?;
     match str::from_utf8(bytes.as_slice()) {
         Ok(part) => Ok(text.push_str(part)?),

@@ -6,7 +6,7 @@ use std::alloc::{AllocError, Global};
 use std::str::Split;
 
 /// Why a row has no answer.
-#[derive(Clone, Copy, PartialEq, Eq, Debug)]
+#[derive(Clone, Copy)]
 pub enum RowError {
     Unreadable,
     OutOfMemory,

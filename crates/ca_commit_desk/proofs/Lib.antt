@@ -1,2 +1,0 @@
-pub mod AskerLaws
-pub mod PlanStays

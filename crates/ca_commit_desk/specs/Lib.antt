@@ -1,2 +1,0 @@
-pub mod Askers
-pub mod Standing
