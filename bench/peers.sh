@@ -5,22 +5,15 @@
 # golang-go); in brackets how many times theirs ours is, with one worker. Of the work that only computes it tells, too, how
 # much more four processes at once get done than one: what the machine's processors give.
 #
-#   bench/peers.sh [NAME..]     only these works
+#   bench/peers.sh [NAME..]     only these works; with none the table in bench/README.md is made anew
 set -eu
 
 cd "$(dirname "$0")/.."
-program=crates/ca_cli/out/ca_cli
-./runzolev check <examples/first.clj >/dev/null
-names=("$@")
-[ $# -gt 0 ] || names=(load pingpong fanin buffered alts timeouts compute)
+. bench/table.sh
 kept=$(mktemp -d)
 trap 'rm -rf "$kept"' EXIT
+find_program "$kept"
 
-jars=/usr/share/java
-path=
-if command -v java >/dev/null && [ -e "$jars/core.async.jar" ]; then
-    path=$(printf '%s:' "$jars"/{clojure,spec.alpha,core.specs.alpha,core.async,tools.analyzer,tools.analyzer.jvm,tools.reader,core.memoize,core.cache,data.priority-map,asm}.jar)
-fi
 if command -v go >/dev/null; then go build -o "$kept/peer" bench/peers/peer.go; fi
 
 # The microseconds of a command, the best of five.
@@ -43,18 +36,35 @@ at_once() {
     wait
 }
 
-for name in "${names[@]}"; do
-    one=$(micros ours 1 "$name")
-    four=$(micros ours 4 "$name")
-    awk -v name="$name" -v one="$one" -v four="$four" 'BEGIN { printf "%-9s %8.1f ms, with four workers %8.1f (%.2f)", name, one / 1000, four / 1000, four / one }'
-    if [ "$name" = compute ]; then
-        micros at_once "$name" | awk -v one="$one" -v four="$four" '{ printf "; four workers are %.2f times as fast as one, four processes at once %.2f times", one / four, 4 * one / $1 }'
-    fi
-    if [ -n "$path" ]; then
-        java -cp "$path" clojure.main bench/peers/peer.clj "$name" 8 | awk -v one="$one" '{ printf "; core.async hot %.1f (%.2f), first %.1f (%.2f)", $3, one / 1000 / $3, $2, one / 1000 / $2 }'
-    fi
-    if [ -x "$kept/peer" ]; then
-        GOMAXPROCS=1 "$kept/peer" "$name" 5 | awk -v one="$one" '{ printf "; Go %.1f (%.2f)", $2, one / 1000 / $2 }'
-    fi
+# A peer's milliseconds, and how many times those ours are.
+beside() { awk -v ours="$1" -v theirs="$2" 'BEGIN { if (theirs) printf " %.0f (%.2f) |", theirs, ours / 1000 / theirs; else printf " |" }'; }
+
+rows() {
+    local name one four hot first go
+    for name; do
+        one=$(micros ours 1 "$name")
+        four=$(micros ours 4 "$name")
+        hot= first= go=
+        read -r _ first hot < <(tools/core-async bench/peers/peer.clj "$name" 8 2>/dev/null) || true
+        if [ -x "$kept/peer" ]; then read -r _ go < <(GOMAXPROCS=1 "$kept/peer" "$name" 5); fi
+        awk -v name="$name" -v one="$one" -v four="$four" 'BEGIN { printf "| %s | %.0f | %.0f |", name, one / 1000, four / 1000 }'
+        echo "$(beside "$one" "$hot")$(beside "$one" "$first")$(beside "$one" "$go")"
+    done
+}
+
+if [ $# -gt 0 ]; then
+    rows "$@"
+    exit
+fi
+{
+    echo "Of $built, on $(date +%F); $(machine)."
     echo
-done
+    echo "| work | one worker | four | core.async, hot | core.async, first | Go |"
+    echo "|---|---|---|---|---|---|"
+    rows load pingpong fanin buffered alts timeouts compute
+    one=$(micros ours 1 compute)
+    four=$(micros ours 4 compute)
+    echo
+    micros at_once compute | awk -v one="$one" -v four="$four" '{ printf "Four workers compute %.2f times as fast as one, four processes at once %.2f times.\n", one / four, 4 * one / $1 }'
+} | tee "$kept/table"
+put_table peers <"$kept/table"
