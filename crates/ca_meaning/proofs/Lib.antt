@@ -8,6 +8,7 @@ pub mod Sizes
 pub mod PutFits
 pub mod RedexFits
 pub mod Contracts
+pub mod Endings
 pub mod Bodies
 pub mod Rests
 pub mod Systems

@@ -1,5 +1,6 @@
 -- The body that a `Body` stands for, and what the code tells of where it stands.
-use Rattle.std.specs.Prelude.{◌≡◌, Bool, true, false}
+use Rattle.std.specs.Prelude.{◌≡◌, Bool, true, false, Option, Some, None}
+use Rattle.ca_value.specs.Tree.{Tree}
 use Rattle.ca_term.specs.Operation.{WantView}
 use Rattle.ca_term.specs.View.{kernel}
 use Rattle.ca_meaning.specs.Body.{BodyView, At, local, at_op, ended, faulted, nowhere}
@@ -19,6 +20,14 @@ stand_of nowhere = Stand.Ended
 abbrev pub is_at_op : At → Bool
 is_at_op (at_op w) = true
 is_at_op a = false
+
+-- the value of a body that is at its end
+abbrev pub value_at : At → Option Tree
+value_at local = None
+value_at (at_op w) = None
+value_at (ended v) = Some v
+value_at (faulted f p) = None
+value_at nowhere = None
 
 -- where it is at an operation, it is at that one
 abbrev pub AtNoOther : At → WantView → Type 0

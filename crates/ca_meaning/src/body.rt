@@ -1,17 +1,17 @@
-ghost use Rattle.std.specs.Prelude.{◌≡◌, ◌≢◌, true, OnOk, OnErr, IfOk, IsTrue, ◌↔◌};
+ghost use Rattle.std.specs.Prelude.{◌≡◌, ◌≢◌, true, OnOk, OnErr, IfOk, IsTrue, ◌↔◌, option_map};
 ghost use Rattle.ca_value.specs.View.{view};
 ghost use Rattle.ca_term.specs.Program.{ProgramView, program_view};
 ghost use Rattle.ca_term.specs.View.{kernel};
 ghost use Rattle.ca_term.specs.Operation.{want_view};
 ghost use Rattle.ca_meaning.specs.Body.{at, local, at_op, nowhere, step, fill, new_body};
-ghost use Rattle.ca_meaning.specs.BodyViews.{body_view, stand_of, is_at_op};
+ghost use Rattle.ca_meaning.specs.BodyViews.{body_view, stand_of, is_at_op, value_at};
 ghost use Rattle.ca_meaning.specs.IsBody.{IsBody, IsBodyOf};
 ghost use Rattle.ca_meaning.specs.Rest.{Rest};
 
 use crate::contract::contracted;
 use crate::redex::redex;
 use crate::replace::replaced;
-use crate::standing::{depth_after, standing, turns_after};
+use crate::standing::{depth_after, ended_with, standing, turns_after};
 use crate::want::want_of;
 use ca_term::fault::Fault;
 use ca_term::operation::Want;
@@ -98,6 +98,16 @@ impl Body {
         ensures { IfOk result (λ w. at (body_view self.now) ≡ at_op (want_view w)) }
     {
         want_of(alloc, redex(&self.term))
+    }
+
+    /// The value that the body came to, where it stands at its end.
+    pub fn value(&self) -> Option<&Value>
+        ensures { option_map (λ v. view v.now) result ≡ value_at (at (body_view self.now)) }
+    {
+        match self.fault {
+            Some(_) => None,
+            None => ended_with(redex(&self.term)),
+        }
     }
 
     /// One local step; a refusal leaves the body as it was.

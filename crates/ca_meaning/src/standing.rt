@@ -1,10 +1,11 @@
-ghost use Rattle.std.specs.Prelude.{◌≡◌, ◌<◌, ◌^◌};
+ghost use Rattle.std.specs.Prelude.{◌≡◌, ◌<◌, ◌^◌, ℕ, option_map};
 ghost use Rattle.ca_value.specs.Seq.{list};
 ghost use Rattle.ca_term.specs.Operation.{OpView};
 ghost use Rattle.ca_term.specs.View.{kernel, kernels};
 ghost use Rattle.ca_meaning.specs.Redex.{values_of};
 ghost use Rattle.ca_meaning.specs.Body.{asking, standing, standing_with, standing_turn, at_turn, at_call, turns_after, depth_after};
-ghost use Rattle.ca_meaning.specs.BodyViews.{stand_of};
+ghost use Rattle.ca_value.specs.View.{view};
+ghost use Rattle.ca_meaning.specs.BodyViews.{stand_of, value_at};
 
 use crate::body::Stand;
 use crate::redex::is_ready_recur;
@@ -35,6 +36,17 @@ pub(crate) fn standing(turns: u64, depth: u64, redex: &Term) -> Stand
         Term::Do(_) | Term::Frame(_) => Stand::Local,
         Term::Turn(_, _, now) => standing_turn(turns, now),
         Term::Apply(head, operands, place) => standing_with(turns, depth, operands, *place, *head),
+    }
+}
+
+// The value that a term is whose redex is the whole of it, where it is one.
+#[tactic(auto, using(crate::proofs::Endings::no_value_with, crate::proofs::Endings::no_value_turned))]
+pub(crate) fn ended_with(redex: &Term) -> Option<&Value>
+    ensures { (turns depth : ℕ) → option_map (λ v. view v.now) result ≡ value_at (standing turns depth (kernel redex.now)) }
+{
+    match redex {
+        Term::Const(value) => Some(value),
+        _ => None,
     }
 }
 
