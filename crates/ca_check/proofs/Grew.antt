@@ -5,11 +5,13 @@ use Rattle.std.proofs.lemmas.List.{append-nil, append_assoc}
 use Rattle.ca_value.specs.Tree.{nil}
 use Rattle.ca_term.specs.Kernel.{Kernel, const}
 use Rattle.ca_term.specs.Program.{ProcedureView, arity, IsProcedure}
-use Rattle.ca_term.specs.Fits.{Known, Takes}
+use Rattle.ca_term.specs.Fits.{Takes}
+use Rattle.ca_term.specs.Constants.{HasScalars}
 use Rattle.ca_forms.specs.Depth.{depth_of}
 use Rattle.ca_forms.specs.Uses.{IsGoBody}
 use Rattle.ca_forms.specs.Outcome.{Gathered, Outcome, done, refused, after, limited}
 use Rattle.ca_forms.specs.Go.{unmade}
+use Rattle.ca_check.proofs.Well.{Rules}
 
 abbrev pub Each : {A : Type 0} → (A → Type 0) → List A → Type 0
 Each P [] = Unit {0}
@@ -48,27 +50,31 @@ agrees_at [] b ys (k ∷ ks) n a = ⊎_elim (λ e. absurd (n e)) (λ e. sym e) a
 agrees_at (x ∷ xs) b ys [] n a = a
 agrees_at (x ∷ xs) b ys (k ∷ ks) n a = agrees_at xs b ys ks n a.1
 
--- a go body that is right
-abbrev pub IsMade : Known → ProcedureView → Type 0
-IsMade k b = IsProcedure k b × IsGoBody b
+-- a text that is right, with constants as said
+abbrev pub IsRight : Rules → ProcedureView → Type 0
+IsRight k b = IsProcedure k.known b × HasScalars k.scalars b.body
 
-pub record Grew (k : Known) (s s2 : Gathered) (P : Type 0) : Type 0 where
+-- a go body that is right
+abbrev pub IsMade : Rules → ProcedureView → Type 0
+IsMade k b = IsRight k b × IsGoBody b
+
+pub record Grew (k : Rules) (s s2 : Gathered) (P : Type 0) : Type 0 where
   pub more : List ProcedureView
   pub extends : s2.bodies ≡ s.bodies ++ more
-  pub holds : Agrees s2.bodies k.bodies → Each (IsMade k) more × P
+  pub holds : Agrees s2.bodies k.known.bodies → Each (IsMade k) more × P
 
-pub stays : (k : Known) (s : Gathered) (P : Type 0) → P → Grew k s s P
+pub stays : (k : Rules) (s : Gathered) (P : Type 0) → P → Grew k s s P
 stays k s P p = record { more = []; extends = sym (append-nil s.bodies); holds = λ a. (tt, p) }
 
-pub gives : (k : Known) (s s2 : Gathered) (P Q : Type 0) → (P → Q) → Grew k s s2 P → Grew k s s2 Q
+pub gives : (k : Rules) (s s2 : Gathered) (P Q : Type 0) → (P → Q) → Grew k s s2 P → Grew k s s2 Q
 gives k s s2 P Q f x = record { more = x.more; extends = x.extends; holds = λ a. ((x.holds a).0, f (x.holds a).1) }
 
 -- one walk after the other
-pub behind_it : (k : Known) (s s1 s2 : Gathered) (P Q : Type 0) → Grew k s s1 P → Grew k s1 s2 Q → Grew k s s2 (P × Q)
+pub behind_it : (k : Rules) (s s1 s2 : Gathered) (P Q : Type 0) → Grew k s s1 P → Grew k s1 s2 Q → Grew k s s2 (P × Q)
 behind_it k s s1 s2 P Q x y = record {
   more = x.more ++ y.more;
   extends = y.extends ∙ ap (λ (l : List ProcedureView). l ++ y.more) x.extends ∙ append_assoc s.bodies x.more y.more;
-  holds = λ a. let h : Each (IsMade k) x.more × P = x.holds (agrees_prefix s1.bodies y.more k.bodies (subst (λ l. Agrees l k.bodies) y.extends a)) in
+  holds = λ a. let h : Each (IsMade k) x.more × P = x.holds (agrees_prefix s1.bodies y.more k.known.bodies (subst (λ l. Agrees l k.known.bodies) y.extends a)) in
       let i : Each (IsMade k) y.more × Q = y.holds a in
       (each_append (IsMade k) x.more y.more h.0 i.0, (h.1, i.1));
 }
@@ -92,6 +98,6 @@ if_cond true x y Q g h = g
 if_cond false x y Q g h = h
 
 -- nil in place of a term that is too deep
-pub if_limited : (k : Known) (W : Kernel → Type 0) (s s2 : Gathered) (t : Kernel) → W (const nil) → Grew k s s2 (W t) → IfDone (limited t s2) (λ u s3. Grew k s s3 (W u))
+pub if_limited : (k : Rules) (W : Kernel → Type 0) (s s2 : Gathered) (t : Kernel) → W (const nil) → Grew k s s2 (W t) → IfDone (limited t s2) (λ u s3. Grew k s s3 (W u))
 if_limited k W s s2 t w x = if_cond (nat_le (depth_of t) 400) (done t s2) (done (const nil) (record s2 { deep = true })) (λ u s3. Grew k s s3 (W u))
     x (record { more = x.more; extends = x.extends; holds = λ a. ((x.holds a).0, w) })

@@ -3,7 +3,8 @@ use Rattle.std.proofs.Common.{◌≡◌, ℕ, suc, ◌+◌, ◌≤◌, List, [],
 use Rattle.std.proofs.lemmas.List.{length-append, append_assoc, take-append-le, take_all}
 use Rattle.ca_term.specs.declared.place.Place.{Place}
 use Rattle.ca_term.specs.Kernel.{Kernel}
-use Rattle.ca_term.specs.Fits.{Known, Takes}
+use Rattle.ca_value.specs.IsValue.{any}
+use Rattle.ca_term.specs.Fits.{Takes}
 use Rattle.ca_term.specs.Program.{ProcedureView}
 use Rattle.ca_reader.specs.View.{form_trees}
 use Rattle.ca_check.specs.declared.defn.Defn.{Defn}
@@ -16,7 +17,8 @@ use Rattle.ca_forms.specs.Tops.{Tops, Written, function_env, straight, names_of,
 use Rattle.ca_check.specs.TopsView.{body_in, written_as, AreBelow, AreSafe}
 use Rattle.ca_forms.specs.WalkView.{parts_of}
 use Rattle.ca_check.proofs.Grew.{Grew, IfDone}
-use Rattle.ca_check.proofs.Well.{Well, uses_below}
+use Rattle.ca_check.proofs.Well.{Rules, Well, uses_below}
+use Rattle.ca_check.proofs.Places.{any_places, any_forms}
 use Rattle.ca_check.proofs.Sound.{Ground, AreSigned, Stands, Sound, sound_block}
 use Rattle.ca_check.proofs.SoundPlain.{means_sound}
 use Rattle.ca_check.proofs.SoundWalk.{sound_parts}
@@ -26,48 +28,49 @@ use Rattle.ca_check.proofs.SoundTops.{sound_over_parameters, body_makes, names_l
 values_of : Signature → ℕ
 values_of f = f.arity + length f.hidden
 
-known_of : List Signature → Known
-known_of fs = record { functions = map values_of fs; bodies = []; plain = λ n. true }
+rules_of : List Signature → Rules
+rules_of fs = record { known = record { functions = map values_of fs; bodies = []; plain = λ n. true }; scalars = any }
 
 takes_at : (before : List ℕ) (k : ℕ) (behind : List ℕ) → Takes (before ++ k ∷ behind) (length before) k
 takes_at [] k behind = refl
 takes_at (b ∷ before) k behind = takes_at before k behind
 
-signed_from : (n : ℕ) (known : Known) (before : List ℕ) (fs : List Signature) → ((m : ℕ) → known.plain m ≡ true) → known.functions ≡ before ++ map values_of fs → AreSafe n fs
-    → AreSigned known n (length before) fs
+signed_from : (n : ℕ) (k : Rules) (before : List ℕ) (fs : List Signature) → ((m : ℕ) → k.known.plain m ≡ true) → k.known.functions ≡ before ++ map values_of fs → AreSafe n fs
+    → AreSigned k n (length before) fs
 unfolding values_of
-signed_from n known before [] pl e s = tt
-signed_from n known before (f ∷ fs) pl e s =
+signed_from n k before [] pl e s = tt
+signed_from n k before (f ∷ fs) pl e s =
     let more : length (before ++ values_of f ∷ []) ≡ suc (length before) = length-append before (values_of f ∷ []) ∙ omega arith in (
       record { takes = subst (λ ks. Takes ks (length before) (f.arity + length f.hidden)) (sym e) (takes_at before (values_of f) (map values_of fs)); below = s.0; plain = λ h. pl (length before); bare = s.1 },
-      subst (λ i. AreSigned known n i fs) more (signed_from n known (before ++ values_of f ∷ []) fs pl (e ∙ sym (append_assoc before (values_of f ∷ []) (map values_of fs))) s.2),
+      subst (λ i. AreSigned k n i fs) more (signed_from n k (before ++ values_of f ∷ []) fs pl (e ∙ sym (append_assoc before (values_of f ∷ []) (map values_of fs))) s.2),
     )
 
-signed_all : (n : ℕ) (fs : List Signature) → AreSafe n fs → AreSigned (known_of fs) n 0 fs
-unfolding known_of
-signed_all n fs s = signed_from n (known_of fs) [] fs (λ m. refl) refl s
+signed_all : (n : ℕ) (fs : List Signature) → AreSafe n fs → AreSigned (rules_of fs) n 0 fs
+unfolding rules_of
+signed_all n fs s = signed_from n (rules_of fs) [] fs (λ m. refl) refl s
 
 -- what was added stands behind what there was
-kept : (k : Known) (P : Type 0) (s s2 : Gathered) → Grew k s s2 P → take (length s.bodies) s2.bodies ≡ s.bodies
+kept : (k : Rules) (P : Type 0) (s s2 : Gathered) → Grew k s s2 P → take (length s.bodies) s2.bodies ≡ s.bodies
 kept k P s s2 g = ap (λ (bs : List ProcedureView). take (length s.bodies) bs) g.extends ∙ take-append-le (length s.bodies) s.bodies g.more (omega arith) ∙ take_all (length s.bodies) s.bodies (omega arith)
 
-kept_if : (k : Known) (P : Kernel → Type 0) (o : Outcome Kernel) (s s2 : Gathered) (b : Kernel) → o ≡ done b s2 → IfDone o (λ t s3. Grew k s s3 (P t)) → take (length s.bodies) s2.bodies ≡ s.bodies
+kept_if : (k : Rules) (P : Kernel → Type 0) (o : Outcome Kernel) (s s2 : Gathered) (b : Kernel) → o ≡ done b s2 → IfDone o (λ t s3. Grew k s s3 (P t)) → take (length s.bodies) s2.bodies ≡ s.bodies
 kept_if k P o s s2 b e h = kept k (P b) s s2 (subst (λ o. IfDone o (λ t s3. Grew k s s3 (P t))) e h)
 
 pub body_keeps : (pass : Pass) (d : Defn) (p : Place) (t : Tops) (sig : Signature) (s s2 : Gathered) (b : Kernel) → AreSafe (length t.scope) (t.functions ++ sig ∷ [])
     → body_in pass (written_as d) p (function_env sig t) s ≡ done b s2 → take (length s.bodies) s2.bodies ≡ s.bodies
+unfolding rules_of
 body_keeps pass d p t sig s s2 b safe h = by pass h where
   w : Written
   w = written_as d
 
-  k : Known
-  k = known_of (t.functions ++ sig ∷ [])
+  k : Rules
+  k = rules_of (t.functions ++ sig ∷ [])
 
   g : Ground
-  g = record { known = k; base = length t.scope }
+  g = record { rules = k; base = length t.scope }
 
   body_sound : Sound g 0 w.body
-  body_sound = sound_block g 0 (meanings (parts_of d.body.now)) (means_sound g (parts_of d.body.now) (sound_parts g (form_trees d.body.now)))
+  body_sound = sound_block g 0 (meanings (parts_of d.body.now)) (means_sound g (parts_of d.body.now) (sound_parts g (form_trees d.body.now) (any_forms (form_trees d.body.now))))
 
   signed : AreSigned k (length t.scope) 0 (t.functions ++ sig ∷ [])
   signed = signed_all (length t.scope) (t.functions ++ sig ∷ []) safe
@@ -80,9 +83,9 @@ body_keeps pass d p t sig s s2 b safe h = by pass h where
 
   by : (pass : Pass) → body_in pass w p (function_env sig t) s ≡ done b s2 → take (length s.bodies) s2.bodies ≡ s.bodies
   by Pass.First h = kept_if k (λ body. Well k (length (t.scope ++ names_of w.parameters)) (Some (length w.parameters)) body) (straight (Some (length w.parameters)) w p (function_env sig t) s) s s2 b h
-      (sound_over_parameters g w p (length t.scope) (length t.scope + length (names_of w.parameters)) (omega (arith, names_length w.parameters)) body_sound within s stands)
-  by Pass.Straight h = kept_if k (λ body. Well k (length t.scope + length (names_of w.parameters)) None body) (body_in Pass.Straight w p (function_env sig t) s) s s2 b h (body_makes k w p t sig s false body_sound signed)
-  by Pass.Looped h = kept_if k (λ body. Well k (length t.scope + length (names_of w.parameters)) None body) (body_in Pass.Looped w p (function_env sig t) s) s s2 b h (body_makes k w p t sig s true body_sound signed)
+      (sound_over_parameters g w p (length t.scope) (length t.scope + length (names_of w.parameters)) (omega (arith, names_length w.parameters)) (any_places w.parameters) body_sound within s stands)
+  by Pass.Straight h = kept_if k (λ body. Well k (length t.scope + length (names_of w.parameters)) None body) (body_in Pass.Straight w p (function_env sig t) s) s s2 b h (body_makes k w p t sig s false (any_places w.parameters) body_sound signed)
+  by Pass.Looped h = kept_if k (λ body. Well k (length t.scope + length (names_of w.parameters)) None body) (body_in Pass.Looped w p (function_env sig t) s) s s2 b h (body_makes k w p t sig s true (any_places w.parameters) body_sound signed)
 
 -- safety goes on
 pub safe_behind : (n : ℕ) (fs : List Signature) (f : Signature) → AreSafe n fs → AreBelow n f.hidden → (f.plain ≡ true → f.hidden ≡ []) → AreSafe n (fs ++ f ∷ [])

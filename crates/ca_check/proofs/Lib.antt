@@ -1,5 +1,6 @@
 mod Checked
 mod Grew
+mod Places
 mod Ordered
 mod OrderedPlain
 mod OrderedChannels

@@ -7,8 +7,7 @@ use Rattle.ca_term.specs.declared.place.Place.{Place}
 use Rattle.ca_term.specs.declared.head.Head.{Head}
 use Rattle.ca_term.specs.declared.head.Head.TheVariants.{Recur, Builtin, Close, Post}
 use Rattle.ca_term.specs.Kernel.{Kernel, Kernels, Bindings, var, branch, bind, loop, seq, apply, none, item, empty, binding}
-use Rattle.ca_term.specs.Source.{IsLiteral}
-use Rattle.ca_term.specs.Fits.{Known, Takes, count_terms, count_bindings}
+use Rattle.ca_term.specs.Fits.{Takes, count_terms, count_bindings}
 use Rattle.ca_term.specs.Program.{ProcedureView, IsProcedure}
 use Rattle.ca_term.specs.View.{kernels_of}
 use Rattle.ca_forms.specs.declared.error.CheckErrorKind.{CheckErrorKind}
@@ -16,32 +15,33 @@ use Rattle.ca_forms.specs.Uses.{uses}
 use Rattle.ca_forms.specs.Outcome.{Gathered, Outcome, after, limited}
 use Rattle.ca_forms.specs.Meaning.{Env, Signature, Meaning, Named, size, inner, named, fail, constant, nothing, local, iff, unless, before_others, in_order, operation, block, unnamed, binds, behind, lets, loops, name_as, hide, numbered, joined, hiding}
 use Rattle.ca_forms.specs.Go.{task, in_task, unmade, go}
-use Rattle.ca_check.proofs.Well.{Suited, Well, WellTerms, WellInOrder, WellBindings, fits, source, anew, closed, Below, below_more, below_append, uses_only, uses_below, in_left, in_right}
-use Rattle.ca_check.proofs.Grew.{Each, Agrees, agrees_unmade, agrees_at, set_between, IsMade, Grew, stays, gives, behind_it, IfDone, if_after, if_limited}
+use Rattle.ca_check.proofs.Well.{Rules, IsConstant, scalars_in, Suited, Well, WellTerms, WellInOrder, WellBindings, fits, source, anew, closed, Below, below_more, below_append, uses_only, uses_below, in_left, in_right}
+use Rattle.ca_check.proofs.Places.{small}
+use Rattle.ca_check.proofs.Grew.{Each, Agrees, agrees_unmade, agrees_at, set_between, IsRight, IsMade, Grew, stays, gives, behind_it, IfDone, if_after, if_limited}
 
--- what the program knows, and how many names of the main text the functions may use
+-- what is known and said, and how many names of the main text the functions may use
 pub record Ground : Type 0 where
-  pub known : Known
+  pub rules : Rules
   pub base : ℕ
 
 -- the function of that number is known so
-pub record IsSigned (k : Known) (base : ℕ) (n : ℕ) (f : Signature) : Type 0 where
-  pub takes : Takes k.functions n (f.arity + length f.hidden)
+pub record IsSigned (k : Rules) (base : ℕ) (n : ℕ) (f : Signature) : Type 0 where
+  pub takes : Takes k.known.functions n (f.arity + length f.hidden)
   pub below : Below base f.hidden
-  pub plain : f.plain ≡ true → k.plain n ≡ true
+  pub plain : f.plain ≡ true → k.known.plain n ≡ true
   pub bare : f.plain ≡ true → f.hidden ≡ []
 
-abbrev pub AreSigned : Known → ℕ → ℕ → List Signature → Type 0
+abbrev pub AreSigned : Rules → ℕ → ℕ → List Signature → Type 0
 AreSigned k base n [] = Unit {0}
 AreSigned k base n (f ∷ fs) = IsSigned k base n f × AreSigned k base (suc n) fs
 
 -- at least n names are in scope, and the functions are known
 abbrev pub Stands : Ground → ℕ → Env → Type 0
-Stands g n env = (n ≤ size env) × (g.base ≤ size env) × AreSigned g.known g.base 0 env.functions
+Stands g n env = (n ≤ size env) × (g.base ≤ size env) × AreSigned g.rules g.base 0 env.functions
 
 -- what is made in this environment from this state stands well
 abbrev pub Makes : Ground → Env → Gathered → Outcome Kernel → Type 0
-Makes g env s o = IfDone o (λ t s2. Grew g.known s s2 (Well g.known (size env) env.target t))
+Makes g env s o = IfDone o (λ t s2. Grew g.rules s s2 (Well g.rules (size env) env.target t))
 
 abbrev pub Sound : Ground → ℕ → Meaning → Type 0
 Sound g n m = (env : Env) (s : Gathered) → Stands g n env → Makes g env s (m env s)
@@ -59,15 +59,15 @@ weaken g n m b l f env s st = f env s (omega (arith, l, st.0), st.1, st.2)
 pub weaken_aimed : (g : Ground) (n m j : ℕ) (b : Meaning) → n ≤ m → Aimed g n j b → Aimed g m j b
 weaken_aimed g n m j b l f env s st e = f env s (omega (arith, l, st.0), st.1, st.2) e
 
-pub sound_constant : (g : Ground) (n : ℕ) (v : Tree) → IsLiteral v → Sound g n (constant v)
-sound_constant g n v l env s st = stays g.known s (IsLiteral v) l
+pub sound_constant : (g : Ground) (n : ℕ) (v : Tree) → IsConstant g.rules.scalars v → Sound g n (constant v)
+sound_constant g n v l env s st = stays g.rules s (IsConstant g.rules.scalars v) l
 
 pub sound_local : (g : Ground) (n h : ℕ) → h < n → Sound g n (local h)
-sound_local g n h l env s st = stays g.known s (h < size env) (omega (arith, l, st.0))
+sound_local g n h l env s st = stays g.rules s (h < size env) (omega (arith, l, st.0))
 
 -- a name of the main text
 pub sound_low : (g : Ground) (n h : ℕ) → h < g.base → Sound g n (local h)
-sound_low g n h l env s st = stays g.known s (h < size env) (omega (arith, l, st.1))
+sound_low g n h l env s st = stays g.rules s (h < size env) (omega (arith, l, st.1))
 
 pub sound_fail : (g : Ground) (n : ℕ) (e : CheckErrorKind) (p : Place) → Sound g n (fail e p)
 sound_fail g n e p env s st = tt
@@ -76,8 +76,8 @@ pub sound_cond : (g : Ground) (n : ℕ) (b : Bool) (x y : Meaning) → Sound g n
 sound_cond g n true x y gx gy = gx
 sound_cond g n false x y gx gy = gy
 
-pub makes_limited : (g : Ground) (env : Env) (s s2 : Gathered) (t : Kernel) → Grew g.known s s2 (Well g.known (size env) env.target t) → Makes g env s (limited t s2)
-makes_limited g env s s2 t x = if_limited g.known (λ u. Well g.known (size env) env.target u) s s2 t tt x
+pub makes_limited : (g : Ground) (env : Env) (s s2 : Gathered) (t : Kernel) → Grew g.rules s s2 (Well g.rules (size env) env.target t) → Makes g env s (limited t s2)
+makes_limited g env s s2 t x = if_limited g.rules (λ u. Well g.rules (size env) env.target u) s s2 t tt x
 
 pub makes_iff : (g : Ground) (n : ℕ) (c a b : Meaning) (env : Env) (s : Gathered) → Stands g n env → Sound g n c
     → ((s : Gathered) → Makes g env s (a env s)) → ((s : Gathered) → Makes g env s (b env s)) → Makes g env s (iff c a b env s)
@@ -85,7 +85,7 @@ makes_iff g n c a b env s st gc ga gb =
     if_after (c (inner env) s) _ _ _ (gc (inner env) s st) (λ t s1 x.
     if_after (a env s1) _ _ _ (ga s1) (λ u s2 y.
     if_after (b env s2) _ _ _ (gb s2) (λ v s3 z.
-    makes_limited g env s s3 (branch t u v) (gives g.known s s3 _ _ (λ q. (q.0.0, q.0.1, q.1)) (behind_it g.known s s2 s3 _ _ (behind_it g.known s s1 s2 _ _ x y) z)))))
+    makes_limited g env s s3 (branch t u v) (gives g.rules s s3 _ _ (λ q. (q.0.0, q.0.1, q.1)) (behind_it g.rules s s2 s3 _ _ (behind_it g.rules s s1 s2 _ _ x y) z)))))
 
 pub sound_iff : (g : Ground) (n : ℕ) (c a b : Meaning) → Sound g n c → Sound g n a → Sound g n b → Sound g n (iff c a b)
 sound_iff g n c a b gc ga gb env s st = makes_iff g n c a b env s st gc (λ s. ga env s st) (λ s. gb env s st)
@@ -95,7 +95,7 @@ sound_unless g n c a b gc ga gb env s st =
     if_after (c (inner env) s) _ _ _ (gc (inner env) s st) (λ t s1 x.
     if_after (a env s1) _ _ _ (ga env s1 st) (λ u s2 y.
     if_after (b env s2) _ _ _ (gb env s2 st) (λ v s3 z.
-    makes_limited g env s s3 (branch t v u) (gives g.known s s3 _ _ (λ q. (q.0.0, q.1, q.0.1)) (behind_it g.known s s2 s3 _ _ (behind_it g.known s s1 s2 _ _ x y) z)))))
+    makes_limited g env s s3 (branch t v u) (gives g.rules s s3 _ _ (λ q. (q.0.0, q.1, q.0.1)) (behind_it g.rules s s2 s3 _ _ (behind_it g.rules s s1 s2 _ _ x y) z)))))
 
 -- all of a list
 abbrev pub AllSound : Ground → ℕ → List Meaning → Type 0
@@ -115,7 +115,7 @@ stands_before g n zero env st = st
 stands_before g n (suc i) env st = st
 
 -- a term before so many others
-pub first_well : (k : Known) (env : Env) (i : ℕ) (ts : Kernels) (t : Kernel) → count_terms ts ≡ i
+pub first_well : (k : Rules) (env : Env) (i : ℕ) (ts : Kernels) (t : Kernel) → count_terms ts ≡ i
     → Well k (size (before_others i env)) (before_others i env).target t × WellInOrder k (size env) env.target ts → WellInOrder k (size env) env.target (item t ts)
 first_well k env zero none t e w = w.0
 first_well k env zero (item u us) t e w = absurd (omega (arith, e))
@@ -124,7 +124,7 @@ first_well k env (suc i) (item u us) t e w = w
 
 -- terms in order, so many of them
 abbrev pub MakesInOrder : Ground → Env → Gathered → ℕ → Outcome Kernels → Type 0
-MakesInOrder g env s i o = IfDone o (λ ts s2. (count_terms ts ≡ i) × Grew g.known s s2 (WellInOrder g.known (size env) env.target ts))
+MakesInOrder g env s i o = IfDone o (λ ts s2. (count_terms ts ≡ i) × Grew g.rules s s2 (WellInOrder g.rules (size env) env.target ts))
 
 pub one_in_order : (g : Ground) (m : Meaning) (ms : List Meaning) (env : Env) (s : Gathered)
     → Makes g (before_others (length ms) env) s (m (before_others (length ms) env) s) → ((s : Gathered) → MakesInOrder g env s (length ms) (in_order ms env s))
@@ -132,34 +132,34 @@ pub one_in_order : (g : Ground) (m : Meaning) (ms : List Meaning) (env : Env) (s
 one_in_order g m ms env s f h =
     if_after (m (before_others (length ms) env) s) _ _ _ f (λ t s1 x.
     if_after (in_order ms env s1) _ _ _ (h s1) (λ ts s2 y.
-    (ap suc y.0, gives g.known s s2 _ _ (λ q. first_well g.known env (length ms) ts t y.0 q) (behind_it g.known s s1 s2 _ _ x y.1))))
+    (ap suc y.0, gives g.rules s s2 _ _ (λ q. first_well g.rules env (length ms) ts t y.0 q) (behind_it g.rules s s1 s2 _ _ x y.1))))
 
 pub sound_in_order : (g : Ground) (n : ℕ) (ms : List Meaning) → AllSound g n ms → (env : Env) (s : Gathered) → Stands g n env → MakesInOrder g env s (length ms) (in_order ms env s)
-sound_in_order g n [] f env s st = (refl, stays g.known s (Unit {0}) tt)
+sound_in_order g n [] f env s st = (refl, stays g.rules s (Unit {0}) tt)
 sound_in_order g n (m ∷ ms) f env s st = one_in_order g m ms env s (f.0 (before_others (length ms) env) s (stands_before g n (length ms) env st))
     (λ s. sound_in_order g n ms f.1 env s st)
 
 -- the last one where a `recur` takes j values
 pub aimed_in_order : (g : Ground) (n j : ℕ) (ms : List Meaning) (m : Meaning) → AllSound g n ms → Aimed g n j m → (env : Env) (s : Gathered) → Stands g n env → env.target ≡ Some j
     → MakesInOrder g env s (length (ms ++ m ∷ [])) (in_order (ms ++ m ∷ []) env s)
-aimed_in_order g n j [] m f h env s st e = one_in_order g m [] env s (h env s st e) (λ s. (refl, stays g.known s (Unit {0}) tt))
+aimed_in_order g n j [] m f h env s st e = one_in_order g m [] env s (h env s st e) (λ s. (refl, stays g.rules s (Unit {0}) tt))
 aimed_in_order g n j (x ∷ xs) m f h env s st e = one_in_order g x (xs ++ m ∷ []) env s
     (f.0 (before_others (length (xs ++ m ∷ [])) env) s (stands_before g n (length (xs ++ m ∷ [])) env st)) (λ s. aimed_in_order g n j xs m f.1 h env s st e)
 
-pub all_none : (k : Known) (n : ℕ) (ts : Kernels) → WellInOrder k n None ts → WellTerms k n ts
+pub all_none : (k : Rules) (n : ℕ) (ts : Kernels) → WellInOrder k n None ts → WellTerms k n ts
 all_none k n none w = tt
 all_none k n (item t none) w = (w, tt)
 all_none k n (item t (item u us)) w = (w.0, all_none k n (item u us) w.1)
 
 pub makes_operation : (g : Ground) (n : ℕ) (h : Head) (ms : List Meaning) (p : Place) (env : Env) (s : Gathered) → Stands g n env → AllSound g n ms
-    → Suited g.known env.target h (length ms) → Makes g env s (operation h ms p env s)
+    → Suited g.rules env.target h (length ms) → Makes g env s (operation h ms p env s)
 makes_operation g n h ms p env s st f u =
     if_after (in_order ms (inner env) s) _ _ _ (sound_in_order g n ms f (inner env) s st) (λ ts s2 x.
-    makes_limited g env s s2 (apply h ts p) (gives g.known s s2 _ _
-    (λ w. (subst (λ i. Suited g.known env.target h i) (sym x.0) u, all_none g.known (size env) ts w)) x.1))
+    makes_limited g env s s2 (apply h ts p) (gives g.rules s s2 _ _
+    (λ w. (subst (λ i. Suited g.rules env.target h i) (sym x.0) u, all_none g.rules (size env) ts w)) x.1))
 
 pub sound_operation : (g : Ground) (n : ℕ) (h : Head) (ms : List Meaning) (p : Place) → AllSound g n ms
-    → ((target : Option ℕ) → Suited g.known target h (length ms)) → Sound g n (operation h ms p)
+    → ((target : Option ℕ) → Suited g.rules target h (length ms)) → Sound g n (operation h ms p)
 sound_operation g n h ms p f u env s st = makes_operation g n h ms p env s st f (u env.target)
 
 pub aimed_recur : (g : Ground) (n : ℕ) (ms : List Meaning) (p : Place) → AllSound g n ms → Aimed g n (length ms) (operation Recur ms p)
@@ -204,14 +204,14 @@ pub stands_named : (g : Ground) (n : ℕ) (x : List ℕ) (env : Env) → Stands 
 stands_named g n x env st = (omega (arith, size_named x env, st.0), omega (arith, size_named x env, st.1), st.2)
 
 abbrev pub MakesBindings : Ground → Env → Gathered → ℕ → Outcome Bindings → Type 0
-MakesBindings g env s i o = IfDone o (λ ts s2. (count_bindings ts ≡ i) × Grew g.known s s2 (WellBindings g.known (size env) ts))
+MakesBindings g env s i o = IfDone o (λ ts s2. (count_bindings ts ≡ i) × Grew g.rules s s2 (WellBindings g.rules (size env) ts))
 
 pub sound_binds : (g : Ground) (n : ℕ) (bs : List Named) → NamedSound g n bs → (env : Env) (s : Gathered) → Stands g n env → MakesBindings g env s (length bs) (binds bs env s)
-sound_binds g n [] f env s st = (refl, stays g.known s (Unit {0}) tt)
+sound_binds g n [] f env s st = (refl, stays g.rules s (Unit {0}) tt)
 sound_binds g n (b ∷ bs) f env s st =
     if_after (b.means (inner env) s) _ _ _ (f.0 (inner env) s st) (λ t s1 x.
     if_after (binds bs (named b.name env) s1) _ _ _ (sound_binds g (suc n) bs f.1 (named b.name env) s1 (stands_named g n b.name env st)) (λ ts s2 y.
-    (ap suc y.0, gives g.known s s2 _ _ (λ q. (refl, q.0, subst (λ m. WellBindings g.known m ts) (size_named b.name env) q.1)) (behind_it g.known s s1 s2 _ _ x y.1))))
+    (ap suc y.0, gives g.rules s s2 _ _ (λ q. (refl, q.0, subst (λ m. WellBindings g.rules m ts) (size_named b.name env) q.1)) (behind_it g.rules s s1 s2 _ _ x y.1))))
 
 pub size_behind : (bs : List Named) (env : Env) → size (behind bs env) ≡ size env + length bs
 size_behind bs env = length-append env.scope (map (λ b. b.name) bs) ∙ ap (λ n. size env + n) (length-map bs (λ b. b.name))
@@ -223,16 +223,16 @@ pub sound_lets : (g : Ground) (n : ℕ) (bs : List Named) (body : Meaning) → N
 sound_lets g n bs body f h env s st =
     if_after (binds bs env s) _ _ _ (sound_binds g n bs f env s st) (λ ts s1 x.
     if_after (body (behind bs env) s1) _ _ _ (h (behind bs env) s1 (stands_behind g n bs env st)) (λ u s2 y.
-    makes_limited g env s s2 (bind ts u) (gives g.known s s2 _ _
-    (λ q. (q.0, subst (λ m. Well g.known m env.target u) (size_behind bs env ∙ ap (λ i. size env + i) (sym x.0)) q.1)) (behind_it g.known s s1 s2 _ _ x.1 y))))
+    makes_limited g env s s2 (bind ts u) (gives g.rules s s2 _ _
+    (λ q. (q.0, subst (λ m. Well g.rules m env.target u) (size_behind bs env ∙ ap (λ i. size env + i) (sym x.0)) q.1)) (behind_it g.rules s s1 s2 _ _ x.1 y))))
 
 pub sound_loops : (g : Ground) (n : ℕ) (bs : List Named) (body : Meaning) → NamedSound g n bs → Aimed g (n + length bs) (length bs) body → Sound g n (loops bs body)
 sound_loops g n bs body f h env s st =
     if_after (binds bs env s) _ _ _ (sound_binds g n bs f env s st) (λ ts s1 x.
     if_after (body (record (behind bs env) { target = Some (length bs) }) s1) _ _ _ (h (record (behind bs env) { target = Some (length bs) }) s1 (stands_behind g n bs env st) refl) (λ u s2 y.
-    makes_limited g env s s2 (loop [] ts u) (gives g.known s s2 _ _
-    (λ q. (q.0, subst (λ i. Well g.known (size env + i) (Some i) u) (sym x.0) (subst (λ m. Well g.known m (Some (length bs)) u) (size_behind bs env) q.1)))
-    (behind_it g.known s s1 s2 _ _ x.1 y))))
+    makes_limited g env s s2 (loop [] ts u) (gives g.rules s s2 _ _
+    (λ q. (q.0, subst (λ i. Well g.rules (size env + i) (Some i) u) (sym x.0) (subst (λ m. Well g.rules m (Some (length bs)) u) (size_behind bs env) q.1)))
+    (behind_it g.rules s s1 s2 _ _ x.1 y))))
 
 pub sound_name_as : (g : Ground) (n : ℕ) (x : List ℕ) (e body : Meaning) → Sound g n e → Sound g (suc n) body → Sound g n (name_as x e body)
 sound_name_as g n x e body f h = sound_lets g n (record { name = x; means = e } ∷ []) body (f, tt) (weaken g (suc n) (n + 1) body (omega arith) h)
@@ -250,15 +250,15 @@ pub unnamed_sound : (g : Ground) (n : ℕ) (ms : List Meaning) → AllSound g n 
 unnamed_sound g n [] f = tt
 unnamed_sound g n (m ∷ ms) f = (f.0, named_weaken g n (suc n) (map unnamed ms) (omega arith) (unnamed_sound g n ms f.1))
 
-abbrev pub WellNumbered : Known → ℕ → List Kernel → Type 0
+abbrev pub WellNumbered : Rules → ℕ → List Kernel → Type 0
 WellNumbered k n [] = Unit {0}
 WellNumbered k n (t ∷ ts) = Well k n None t × WellNumbered k (suc n) ts
 
-pub numbered_well : (k : Known) (n : ℕ) (ts : List Kernel) → WellNumbered k n ts → (count_bindings (numbered n ts) ≡ length ts) × WellBindings k n (numbered n ts)
+pub numbered_well : (k : Rules) (n : ℕ) (ts : List Kernel) → WellNumbered k n ts → (count_bindings (numbered n ts) ≡ length ts) × WellBindings k n (numbered n ts)
 numbered_well k n [] w = (refl, tt)
 numbered_well k n (t ∷ ts) w = (ap suc (numbered_well k (suc n) ts w.1).0, (refl, w.0, (numbered_well k (suc n) ts w.1).1))
 
-pub joined_well : (k : Known) (n : ℕ) (bs cs : Bindings) → WellBindings k n bs → WellBindings k (n + count_bindings bs) cs → WellBindings k n (joined bs cs)
+pub joined_well : (k : Rules) (n : ℕ) (bs cs : Bindings) → WellBindings k n bs → WellBindings k (n + count_bindings bs) cs → WellBindings k n (joined bs cs)
 joined_well k n empty cs w v = subst (λ m. WellBindings k m cs) (omega arith) v
 joined_well k n (binding m t bs) cs w v = (w.0, w.1, joined_well k (suc n) bs cs w.2 (subst (λ m. WellBindings k m cs) (omega arith) v))
 
@@ -267,19 +267,19 @@ joined_count empty cs = omega arith
 joined_count (binding n t bs) cs = omega (arith, joined_count bs cs)
 
 pub sound_hiding : (g : Ground) (n : ℕ) (ms : List Meaning) (more body : ℕ → List Kernel) → AllSound g n ms
-    → ((h : ℕ) → WellNumbered g.known (h + length ms) (more h))
-    → ((h : ℕ) (target : Option ℕ) → WellInOrder g.known (h + length ms + length (more h)) target (kernels_of (body h)))
+    → ((h : ℕ) → WellNumbered g.rules (h + length ms) (more h))
+    → ((h : ℕ) (target : Option ℕ) → WellInOrder g.rules (h + length ms + length (more h)) target (kernels_of (body h)))
     → Sound g n (hiding ms more body)
 sound_hiding g n ms more body f wm wb env s st =
     if_after (binds (map unnamed ms) env s) _ _ _ (sound_binds g n (map unnamed ms) (unnamed_sound g n ms f) env s st) (λ bs s2 x.
     let count : count_bindings bs ≡ length ms = x.0 ∙ length-map ms unnamed in
     let rest : (count_bindings (numbered (size env + length ms) (more (size env))) ≡ length (more (size env)))
-    × WellBindings g.known (size env + length ms) (numbered (size env + length ms) (more (size env))) = numbered_well g.known (size env + length ms) (more (size env)) (wm (size env)) in
-    makes_limited g env s s2 (bind (joined bs (numbered (size env + length ms) (more (size env)))) (seq (kernels_of (body (size env))))) (gives g.known s s2 _ _
+    × WellBindings g.rules (size env + length ms) (numbered (size env + length ms) (more (size env))) = numbered_well g.rules (size env + length ms) (more (size env)) (wm (size env)) in
+    makes_limited g env s s2 (bind (joined bs (numbered (size env + length ms) (more (size env)))) (seq (kernels_of (body (size env))))) (gives g.rules s s2 _ _
     (λ w. (
-      joined_well g.known (size env) bs (numbered (size env + length ms) (more (size env))) w
-          (subst (λ i. WellBindings g.known (size env + i) (numbered (size env + length ms) (more (size env)))) (sym count) rest.1),
-      subst (λ m. WellInOrder g.known m env.target (kernels_of (body (size env))))
+      joined_well g.rules (size env) bs (numbered (size env + length ms) (more (size env))) w
+          (subst (λ i. WellBindings g.rules (size env + i) (numbered (size env + length ms) (more (size env)))) (sym count) rest.1),
+      subst (λ m. WellInOrder g.rules m env.target (kernels_of (body (size env))))
           (omega (arith, joined_count bs (numbered (size env + length ms) (more (size env))), count, rest.0)) (wb (size env) env.target),
     )) x.1))
 
@@ -295,7 +295,7 @@ sound_task g r body p f = sound_name_as g (suc r) [] body (block (
       (sound_operation g (suc (suc r)) Close (local r ∷ []) p (sound_local g (suc (suc r)) r (omega arith), tt) (λ target. tt), tt),
     ))
 
-pub vars_well : (k : Known) (n : ℕ) (ms : List ℕ) → Below n ms → WellTerms k n (kernels_of (map var ms))
+pub vars_well : (k : Rules) (n : ℕ) (ms : List ℕ) → Below n ms → WellTerms k n (kernels_of (map var ms))
 vars_well k n [] w = tt
 vars_well k n (m ∷ ms) w = (w.0, vars_well k n ms w.1)
 
@@ -304,14 +304,16 @@ vars_count [] = refl
 vars_count (m ∷ ms) = ap suc (vars_count ms)
 
 -- the body of a go block, in a scope of n names outside
-pub body_procedure : (k : Known) (n : ℕ) (t : Kernel) → Well k (suc n) None t → IsProcedure k (record { parameters = uses n t [] ++ n ∷ []; body = t })
-body_procedure k n t w = record {
-  bound = closed k n (uses n t []) (suc n) None t (uses n t [] ++ n ∷ []) w (uses_only n t [])
-      ((λ m h. in_left m (uses n t []) (n ∷ []) h), (λ m l u. in_right m (uses n t []) (n ∷ []) (inl (omega (arith, l, u)))));
-  anew = anew k (suc n) None t (uses n t [] ++ n ∷ []) w (below_append (suc n) (uses n t []) (n ∷ []) (below_more n (suc n) (uses n t []) (omega arith) (uses_below n t [] tt)) (omega arith, tt));
-  fits = fits k (suc n) None t w;
-  source = source k (suc n) None t w;
-}
+pub body_procedure : (k : Rules) (n : ℕ) (t : Kernel) → Well k (suc n) None t → IsRight k (record { parameters = uses n t [] ++ n ∷ []; body = t })
+body_procedure k n t w = (is_one, scalars_in k (suc n) None t w) where
+  is_one : IsProcedure k.known (record { parameters = uses n t [] ++ n ∷ []; body = t })
+  is_one = record {
+    bound = closed k n (uses n t []) (suc n) None t (uses n t [] ++ n ∷ []) w (uses_only n t [])
+        ((λ m h. in_left m (uses n t []) (n ∷ []) h), (λ m l u. in_right m (uses n t []) (n ∷ []) (inl (omega (arith, l, u)))));
+    anew = anew k (suc n) None t (uses n t [] ++ n ∷ []) w (below_append (suc n) (uses n t []) (n ∷ []) (below_more n (suc n) (uses n t []) (omega arith) (uses_below n t [] tt)) (omega arith, tt));
+    fits = fits k (suc n) None t w;
+    source = source k (suc n) None t w;
+  }
 
 pub sound_go : (g : Ground) (n : ℕ) (body : Meaning) (p : Place) → Sound g n body → Sound g n (go body p)
 sound_go g n body p f = at_size g n (go body p) (λ env s l st.
@@ -327,17 +329,17 @@ sound_go g n body p f = at_size g n (go body p) (λ env s l st.
       more = made ∷ x.more;
       extends = now;
       holds = λ a.
-          let b : Agrees (s.bodies ++ made ∷ x.more) g.known.bodies = subst (λ l. Agrees l g.known.bodies) now a in
-          let h : Each (IsMade g.known) x.more × Well g.known (size (in_task env)) None t =
-          x.holds (subst (λ l. Agrees l g.known.bodies) (sym is) (agrees_unmade s.bodies made x.more g.known.bodies b)) in (
-            ((body_procedure g.known (size env) t (subst (λ m. Well g.known m None t) (size_named [] env) h.1), (size env, refl)), h.0),
+          let b : Agrees (s.bodies ++ made ∷ x.more) g.rules.known.bodies = subst (λ l. Agrees l g.rules.known.bodies) now a in
+          let h : Each (IsMade g.rules) x.more × Well g.rules (size (in_task env)) None t =
+          x.holds (subst (λ l. Agrees l g.rules.known.bodies) (sym is) (agrees_unmade s.bodies made x.more g.rules.known.bodies b)) in (
+            ((body_procedure g.rules (size env) t (subst (λ m. Well g.rules m None t) (size_named [] env) h.1), (size env, refl)), h.0),
             (
-              (refl, (tt, (tt, tt)), tt),
+              (refl, (tt, (small g.rules.scalars 1 (omega arith), tt)), tt),
               (
                 (
-                  subst (λ i. Takes g.known.bodies (length s.bodies) i) (sym (vars_count (uses (size env) t [] ++ size env ∷ [])))
-                      (agrees_at s.bodies made x.more g.known.bodies (λ e. omega (arith, e, some)) b),
-                  vars_well g.known (size env + 1) (uses (size env) t [] ++ size env ∷ [])
+                  subst (λ i. Takes g.rules.known.bodies (length s.bodies) i) (sym (vars_count (uses (size env) t [] ++ size env ∷ [])))
+                      (agrees_at s.bodies made x.more g.rules.known.bodies (λ e. omega (arith, e, some)) b),
+                  vars_well g.rules (size env + 1) (uses (size env) t [] ++ size env ∷ [])
                       (below_append (size env + 1) (uses (size env) t []) (size env ∷ []) (below_more (size env) (size env + 1) (uses (size env) t []) (omega arith) (uses_below (size env) t [] tt)) (omega arith, tt)),
                 ),
                 omega arith,

@@ -1,6 +1,8 @@
 -- The rows of the forms of core.async make terms that stand well.
 use Rattle.std.proofs.Common.{◌≤◌, ◌≡◌, ℕ, ◌+◌, ◌<◌, List, [], ◌∷◌, length, refl, sym, subst, arith, Option, Some, None, true}
+use Rattle.std.specs.Prelude.{codes}
 use Rattle.ca_value.specs.Tree.{nil, bool}
+use Rattle.ca_value.specs.IsValue.{Scalars, any, written, IsKeyword}
 use Rattle.ca_value.specs.declared.builtin.Builtin.TheVariants.{WorkerCount, Vector, IsNil, IsSome, Min, Count}
 use Rattle.ca_term.specs.declared.place.Place.{Place}
 use Rattle.ca_term.specs.declared.head.Head.{Head}
@@ -12,8 +14,8 @@ use Rattle.ca_term.specs.declared.head.Transform.{Transform}
 use Rattle.ca_term.specs.declared.head.RegisterName.{RegisterName}
 use Rattle.ca_term.specs.Kernel.{Kernel, const, var, branch, apply}
 use Rattle.ca_term.specs.declared.head.PlainFunction.{PlainFunction}
-use Rattle.ca_term.specs.Fits.{Known}
-use Rattle.ca_check.proofs.Well.{Suited}
+use Rattle.ca_check.proofs.Well.{Rules, Suited}
+use Rattle.ca_check.proofs.Places.{small, PairsHave, PartsHave}
 use Rattle.ca_term.specs.View.{kernels_of}
 use Rattle.ca_reader.specs.Form.{place_of}
 use Rattle.ca_forms.specs.declared.context.Context.{Context}
@@ -32,7 +34,7 @@ use Rattle.ca_check.proofs.SoundNames.{IsGiven, given_sound}
 
 -- a head that takes so many operands, wherever it stands
 abbrev pub SuitsAny : Ground → Head → ℕ → Type 0
-SuitsAny g h k = (target : Option ℕ) → Suited g.known target h k
+SuitsAny g h k = (target : Option ℕ) → Suited g.rules target h k
 
 pub sound_row_of_one : (g : Ground) (h : Head) (p : Place) (qs : List Part) → SuitsAny g h 1 → PartsSound g qs → Sound g 0 (row_of_one h p qs)
 sound_row_of_one g h p [] u f = sound_fail g 0 BadForm p
@@ -88,36 +90,40 @@ sound_row_alts g w p qs u f = sound_alts_of g w (options_in qs) (operands_in qs)
 
 -- so many operands, and so many further terms
 pub sound_fixed : (g : Ground) (n i j : ℕ) (ms : List Meaning) (more body : ℕ → List Kernel) → AllSound g n ms → length ms ≡ i → ((h : ℕ) → length (more h) ≡ j)
-    → ((h : ℕ) → WellNumbered g.known (h + i) (more h)) → ((h : ℕ) (target : Option ℕ) → WellInOrder g.known (h + i + j) target (kernels_of (body h)))
+    → ((h : ℕ) → WellNumbered g.rules (h + i) (more h)) → ((h : ℕ) (target : Option ℕ) → WellInOrder g.rules (h + i + j) target (kernels_of (body h)))
     → Sound g n (hiding ms more body)
 sound_fixed g n i j ms more body f e d wm wb = sound_hiding g n ms more body f
-    (λ h. subst (λ m. WellNumbered g.known (h + m) (more h)) (sym e) (wm h))
-    (λ h target. subst (λ m. WellInOrder g.known m target (kernels_of (body h))) (omega (arith, e, d h)) (wb h target))
+    (λ h. subst (λ m. WellNumbered g.rules (h + m) (more h)) (sym e) (wm h))
+    (λ h target. subst (λ m. WellInOrder g.rules m target (kernels_of (body h))) (omega (arith, e, d h)) (wb h target))
 
 -- small fixed terms in a scope of n names
-pub nth_well : (k : Known) (n : ℕ) (target : Option ℕ) (h i : ℕ) (p : Place) → h < n → Well k n target (nth_of h i p)
-nth_well k n target h i p l = (refl, (l, (tt, tt)))
+default_named : (scalars : Scalars) → IsKeyword scalars (codes "default")
+default_named any = tt
+default_named written = refl
 
-pub tried_well : (k : Known) (n : ℕ) (ports : List Kernel) (p : Place) → WellTerms k n (kernels_of ports) → Well k n None (tried ports p)
+pub nth_well : (k : Rules) (n : ℕ) (target : Option ℕ) (h i : ℕ) (p : Place) → h < n → i ≤ 4096 → Well k n target (nth_of h i p)
+nth_well k n target h i p l m = (refl, (l, (small k.scalars i m, tt)))
+
+pub tried_well : (k : Rules) (n : ℕ) (ports : List Kernel) (p : Place) → WellTerms k n (kernels_of ports) → Well k n None (tried ports p)
 tried_well k n ports p w = (tt, ((refl, w), (tt, tt)))
 
-pub unless_default_well : (k : Known) (n : ℕ) (target : Option ℕ) (h : ℕ) (p : Place) → h < n → Well k n target (unless_default h p)
-unless_default_well k n target h p l = ((refl, (nth_well k n None h 1 p l, (omega arith, tt))), tt, nth_well k n target h 0 p l)
+pub unless_default_well : (k : Rules) (n : ℕ) (target : Option ℕ) (h : ℕ) (p : Place) → h < n → Well k n target (unless_default h p)
+unless_default_well k n target h p l = ((refl, (nth_well k n None h 1 p l (omega arith), ((omega arith, default_named k.scalars), tt))), tt, nth_well k n target h 0 p l (omega arith))
 
 pub sound_row_offer : (g : Ground) (p : Place) (qs : List Part) → PartsSound g qs → Sound g 0 (row_offer p qs)
 sound_row_offer g p [] f = sound_fail g 0 BadForm p
 sound_row_offer g p (a ∷ []) f = sound_fail g 0 BadForm p
 sound_row_offer g p (c ∷ v ∷ []) f = sound_fixed g 0 2 1 (c.means ∷ v.means ∷ [])
     (λ h. tried (built Vector (var h ∷ var (h + 1) ∷ []) p ∷ []) p ∷ []) (λ h. unless_default (h + 2) p ∷ []) (f.0, (f.2.0, tt)) refl (λ h. refl)
-    (λ h. (tried_well g.known (h + 2) (built Vector (var h ∷ var (h + 1) ∷ []) p ∷ []) p ((refl, (omega arith, (omega arith, tt))), tt), tt))
-    (λ h target. unless_default_well g.known (h + 2 + 1) target (h + 2) p (omega arith))
+    (λ h. (tried_well g.rules (h + 2) (built Vector (var h ∷ var (h + 1) ∷ []) p ∷ []) p ((refl, (omega arith, (omega arith, tt))), tt), tt))
+    (λ h target. unless_default_well g.rules (h + 2 + 1) target (h + 2) p (omega arith))
 sound_row_offer g p (a ∷ b ∷ c ∷ qs) f = sound_fail g 0 BadForm p
 
 pub sound_row_poll : (g : Ground) (p : Place) (qs : List Part) → PartsSound g qs → Sound g 0 (row_poll p qs)
 sound_row_poll g p [] f = sound_fail g 0 BadForm p
 sound_row_poll g p (c ∷ []) f = sound_fixed g 0 1 1 (c.means ∷ []) (λ h. tried (var h ∷ []) p ∷ []) (λ h. unless_default (h + 1) p ∷ []) (f.0, tt) refl (λ h. refl)
-    (λ h. (tried_well g.known (h + 1) (var h ∷ []) p (omega arith, tt), tt))
-    (λ h target. unless_default_well g.known (h + 1 + 1) target (h + 1) p (omega arith))
+    (λ h. (tried_well g.rules (h + 1) (var h ∷ []) p (omega arith, tt), tt))
+    (λ h target. unless_default_well g.rules (h + 1 + 1) target (h + 1) p (omega arith))
 sound_row_poll g p (a ∷ b ∷ qs) f = sound_fail g 0 BadForm p
 
 pub sound_with_buffer : (g : Ground) (kind : MakeKind) (qs : List Pair) (p : Place) → PairsSound g qs → Sound g 0 (with_buffer kind qs p)
@@ -161,7 +167,7 @@ pub sound_row_mix : (g : Ground) (p : Place) (qs : List Part) → PartsSound g q
 sound_row_mix g p [] f = sound_fail g 0 BadForm p
 sound_row_mix g p (o ∷ []) f = sound_fixed g 0 1 2 (o.means ∷ []) (λ h. made MakeKind.Sliding (whole 1 ∷ []) p ∷ made MakeKind.Mix (var h ∷ var (h + 1) ∷ []) p ∷ [])
     (λ h. started SystemTask.Mix (var (h + 2) ∷ var h ∷ var (h + 1) ∷ []) p ∷ var (h + 2) ∷ []) (f.0, tt) refl (λ h. refl)
-    (λ h. ((tt, (tt, tt)), ((tt, (omega arith, (omega arith, tt))), tt)))
+    (λ h. ((tt, (small g.rules.scalars 1 (omega arith), tt)), ((tt, (omega arith, (omega arith, tt))), tt)))
     (λ h target. ((tt, (omega arith, (omega arith, (omega arith, tt)))), omega arith))
 sound_row_mix g p (a ∷ b ∷ qs) f = sound_fail g 0 BadForm p
 
@@ -191,17 +197,17 @@ sound_pub_of g (applied fn ks) c q p r f = sound_fixed g 0 1 1 (c ∷ []) (λ h.
     (λ h. ((tt, (omega arith, tt)), tt))
     (λ h target. ((r.0, (omega arith, (omega arith, r.1 (h + 1 + 1)))), omega arith))
 
-pub sound_row_pub : (g : Ground) (p : Place) (qs : List Part) → PartsSound g qs → Sound g 0 (row_pub p qs)
-sound_row_pub g p [] f = sound_fail g 0 BadForm p
-sound_row_pub g p (a ∷ []) f = sound_fail g 0 BadForm p
-sound_row_pub g p (c ∷ fn ∷ []) f = λ env s st. sound_pub_of g (given fn.form env) c.means (place_of fn.form) p (given_sound g fn.form env st.2) f.0 env s st
-sound_row_pub g p (a ∷ b ∷ c ∷ qs) f = sound_fail g 0 BadForm p
+pub sound_row_pub : (g : Ground) (p : Place) (qs : List Part) → PartsHave g.rules.scalars qs → PartsSound g qs → Sound g 0 (row_pub p qs)
+sound_row_pub g p [] y f = sound_fail g 0 BadForm p
+sound_row_pub g p (a ∷ []) y f = sound_fail g 0 BadForm p
+sound_row_pub g p (c ∷ fn ∷ []) y f = λ env s st. sound_pub_of g (given fn.form env) c.means (place_of fn.form) p (given_sound g fn.form env y.2.0 st.2) f.0 env s st
+sound_row_pub g p (a ∷ b ∷ c ∷ qs) y f = sound_fail g 0 BadForm p
 
 -- in a scope of n names, q being the last
-pub placed_well : (k : Known) (hp ht q : ℕ) (p : Place) → hp < q → ht < q → Well k q None (placed hp ht q p)
+pub placed_well : (k : Rules) (hp ht q : ℕ) (p : Place) → hp < q → ht < q → Well k q None (placed hp ht q p)
 placed_well k hp ht q p l m = (
   (refl, (tt, tt), (refl, (tt, tt), (omega arith, (tt, (omega arith, tt)), (omega arith, (omega arith, (omega (arith, l), (omega (arith, m), (omega arith, (omega arith, tt))))), tt)))),
-  (((refl, (nth_well k (q + 4) None (q + 3) 0 p (omega arith), (omega arith, tt))), (tt, (omega arith, (omega arith, (omega arith, tt)))), tt), omega arith),
+  (((refl, (nth_well k (q + 4) None (q + 3) 0 p (omega arith) (omega arith), (omega arith, tt))), (tt, (omega arith, (omega arith, (omega arith, tt)))), tt), omega arith),
 )
 
 pub sound_subscribing : (g : Ground) (ms : List Meaning) (p : Place) → length ms ≡ 4 → AllSound g 0 ms → Sound g 0 (subscribing ms p)
@@ -211,9 +217,9 @@ sound_subscribing g ms p e f = sound_fixed g 0 4 2 ms
     (λ n. registered RegisterName.Tap (nth_of (n + 5) 0 p ∷ var (n + 2) ∷ var (n + 3) ∷ []) p ∷ const nil ∷ []) f e (λ h. refl)
     (λ n. (
       (omega arith, (omega arith, (omega arith, tt))),
-      (((refl, (omega arith, tt)), subst (λ m. Well g.known m None (placed n (n + 1) (n + 5) p)) (omega arith) (placed_well g.known n (n + 1) (n + 5) p (omega arith) (omega arith)), omega arith), tt),
+      (((refl, (omega arith, tt)), subst (λ m. Well g.rules m None (placed n (n + 1) (n + 5) p)) (omega arith) (placed_well g.rules n (n + 1) (n + 5) p (omega arith) (omega arith)), omega arith), tt),
     ))
-    (λ n target. ((omega arith, (nth_well g.known (n + 4 + 2) None (n + 5) 0 p (omega arith), (omega arith, (omega arith, tt)))), tt))
+    (λ n target. ((omega arith, (nth_well g.rules (n + 4 + 2) None (n + 5) 0 p (omega arith) (omega arith), (omega arith, (omega arith, tt)))), tt))
 
 pub sound_row_sub : (g : Ground) (p : Place) (qs : List Part) → PartsSound g qs → Sound g 0 (row_sub p qs)
 sound_row_sub g p [] f = sound_fail g 0 BadForm p
@@ -232,7 +238,7 @@ sound_row_unsub g p (b ∷ t ∷ c ∷ []) f = sound_fixed g 0 3 1 (b.means ∷ 
     (λ n. branch (built IsSome (var (n + 3) ∷ []) p) (registered RegisterName.Untap (nth_of (n + 3) 0 p ∷ var (n + 2) ∷ []) p) (const nil) ∷ const nil ∷ [])
     (f.0, (f.2.0, (f.2.2.0, tt))) refl (λ h. refl)
     (λ n. ((omega arith, (omega arith, (omega arith, tt))), tt))
-    (λ n target. (((refl, (omega arith, tt)), (omega arith, (nth_well g.known (n + 3 + 1) None (n + 3) 0 p (omega arith), (omega arith, tt))), tt), tt))
+    (λ n target. (((refl, (omega arith, tt)), (omega arith, (nth_well g.rules (n + 3 + 1) None (n + 3) 0 p (omega arith) (omega arith), (omega arith, tt))), tt), tt))
 sound_row_unsub g p (a ∷ b ∷ c ∷ d ∷ qs) f = sound_fail g 0 BadForm p
 
 pub sound_row_unsub_all : (g : Ground) (p : Place) (qs : List Part) → PartsSound g qs → Sound g 0 (row_unsub_all p qs)
@@ -263,9 +269,9 @@ sound_row_merge g p (v ∷ b ∷ []) f = sound_cond g 0 (is_sized (buffer_named 
     (sound_merging g v.means (row_chan p (b ∷ [])) p f.0 (sound_row_chan g p (b ∷ []) f.2)) (sound_fail g 0 BadForm p)
 sound_row_merge g p (a ∷ b ∷ c ∷ qs) f = sound_fail g 0 BadForm p
 
-pub repeated_well : (k : Known) (n i : ℕ) (target : Option ℕ) (job : Kernel) (p : Place) → n < i → Well k (i + 1) None job → Well k i target (repeated n i job p)
+pub repeated_well : (k : Rules) (n i : ℕ) (target : Option ℕ) (job : Kernel) (p : Place) → n < i → Well k (i + 1) None job → Well k i target (repeated n i job p)
 repeated_well k n i target job p l w =
-    ((refl, tt, tt), ((refl, (omega arith, (omega (arith, l), tt))), (w, (refl, ((refl, (omega arith, tt)), tt))), tt))
+    ((refl, small k.scalars 0 (omega arith), tt), ((refl, (omega arith, (omega (arith, l), tt))), (w, (refl, ((refl, (omega arith, tt)), tt))), tt))
 
 pub sound_pipelining : (g : Ground) (xf : Transform) (fn : PlainFunction) (ks : List Kernel) (ms : List Meaning) (p : Place) → length ms ≡ 4
     → IsGiven g (applied fn ks) → AllSound g 0 ms → Sound g 0 (pipelining xf fn ks ms p)
@@ -275,10 +281,10 @@ sound_pipelining g xf fn ks ms p e r f = sound_fixed g 0 4 3 ms
     ∷ started SystemTask.Feed (var (n + 2) ∷ var (n + 4) ∷ var (n + 5) ∷ []) p
     ∷ started SystemTask.Collect (var (n + 5) ∷ var (n + 1) ∷ var (n + 3) ∷ var (n + 6) ∷ []) p
     ∷ var (n + 6) ∷ []) f e (λ h. refl)
-    (λ n. ((tt, (omega arith, tt)), ((tt, (omega arith, tt)), ((tt, (tt, tt)), tt))))
+    (λ n. ((tt, (omega arith, tt)), ((tt, (omega arith, tt)), ((tt, (small g.rules.scalars 1 (omega arith), tt)), tt))))
     (λ n target. (
-      subst (λ m. Well g.known m None (repeated n (n + 7) (started (SystemTask.Job xf fn) (var (n + 4) ∷ ks) p) p)) (omega arith)
-          (repeated_well g.known n (n + 7) None (started (SystemTask.Job xf fn) (var (n + 4) ∷ ks) p) p (omega arith) (r.0, (omega arith, r.1 (n + 7 + 1)))),
+      subst (λ m. Well g.rules m None (repeated n (n + 7) (started (SystemTask.Job xf fn) (var (n + 4) ∷ ks) p) p)) (omega arith)
+          (repeated_well g.rules n (n + 7) None (started (SystemTask.Job xf fn) (var (n + 4) ∷ ks) p) p (omega arith) (r.0, (omega arith, r.1 (n + 7 + 1)))),
       ((tt, (omega arith, (omega arith, (omega arith, tt)))), ((tt, (omega arith, (omega arith, (omega arith, (omega arith, tt))))), omega arith)),
     ))
 
@@ -290,28 +296,28 @@ pub sound_pipeline_over : (g : Ground) (xf : Transform) (r : Given) (q : Place) 
 sound_pipeline_over g xf (wrong e) q n t f z p r gn gt gf gz = sound_stopping g 0 (n ∷ t ∷ []) e q
 sound_pipeline_over g xf (applied fn ks) q n t f z p r gn gt gf gz = sound_pipelining g xf fn ks (workers n p ∷ t ∷ f ∷ z ∷ []) p refl r (sound_workers g n p gn, (gt, (gf, (gz, tt))))
 
-pub sound_pipeline_of : (g : Ground) (o : Option Transform) (qs : List Pair) (n t f z : Meaning) (p : Place) → Sound g 0 n → Sound g 0 t → Sound g 0 f → Sound g 0 z
+pub sound_pipeline_of : (g : Ground) (o : Option Transform) (qs : List Pair) (n t f z : Meaning) (p : Place) → PairsHave g.rules.scalars qs → Sound g 0 n → Sound g 0 t → Sound g 0 f → Sound g 0 z
     → Sound g 0 (pipeline_of o qs n t f z p)
-sound_pipeline_of g None qs n t f z p gn gt gf gz = sound_fail g 0 BadForm p
-sound_pipeline_of g (Some xf) [] n t f z p gn gt gf gz = sound_fail g 0 BadForm p
-sound_pipeline_of g (Some xf) (a ∷ []) n t f z p gn gt gf gz = sound_fail g 0 BadForm p
-sound_pipeline_of g (Some xf) (a ∷ b ∷ []) n t f z p gn gt gf gz = λ env s st.
-    sound_pipeline_over g xf (given b.form env) (place_of b.form) n t f z p (given_sound g b.form env st.2) gn gt gf gz env s st
-sound_pipeline_of g (Some xf) (a ∷ b ∷ c ∷ qs) n t f z p gn gt gf gz = sound_fail g 0 BadForm p
+sound_pipeline_of g None qs n t f z p y gn gt gf gz = sound_fail g 0 BadForm p
+sound_pipeline_of g (Some xf) [] n t f z p y gn gt gf gz = sound_fail g 0 BadForm p
+sound_pipeline_of g (Some xf) (a ∷ []) n t f z p y gn gt gf gz = sound_fail g 0 BadForm p
+sound_pipeline_of g (Some xf) (a ∷ b ∷ []) n t f z p y gn gt gf gz = λ env s st.
+    sound_pipeline_over g xf (given b.form env) (place_of b.form) n t f z p (given_sound g b.form env y.1.0 st.2) gn gt gf gz env s st
+sound_pipeline_of g (Some xf) (a ∷ b ∷ c ∷ qs) n t f z p y gn gt gf gz = sound_fail g 0 BadForm p
 
-pub sound_row_pipeline : (g : Ground) (p : Place) (qs : List Part) → PartsSound g qs → Sound g 0 (row_pipeline p qs)
-sound_row_pipeline g p [] f = sound_fail g 0 BadForm p
-sound_row_pipeline g p (a ∷ []) f = sound_fail g 0 BadForm p
-sound_row_pipeline g p (a ∷ b ∷ []) f = sound_fail g 0 BadForm p
-sound_row_pipeline g p (a ∷ b ∷ c ∷ []) f = sound_fail g 0 BadForm p
-sound_row_pipeline g p (n ∷ t ∷ x ∷ i ∷ []) f = sound_pipeline_of g (transform_named (word_in x)) x.within n.means t.means i.means yes p f.0 f.2.0 f.2.2.2.0 (sound_yes g)
-sound_row_pipeline g p (n ∷ t ∷ x ∷ i ∷ z ∷ []) f = sound_pipeline_of g (transform_named (word_in x)) x.within n.means t.means i.means z.means p f.0 f.2.0 f.2.2.2.0 f.2.2.2.2.0
-sound_row_pipeline g p (a ∷ b ∷ c ∷ d ∷ e ∷ i ∷ qs) f = sound_fail g 0 BadForm p
+pub sound_row_pipeline : (g : Ground) (p : Place) (qs : List Part) → PartsHave g.rules.scalars qs → PartsSound g qs → Sound g 0 (row_pipeline p qs)
+sound_row_pipeline g p [] y f = sound_fail g 0 BadForm p
+sound_row_pipeline g p (a ∷ []) y f = sound_fail g 0 BadForm p
+sound_row_pipeline g p (a ∷ b ∷ []) y f = sound_fail g 0 BadForm p
+sound_row_pipeline g p (a ∷ b ∷ c ∷ []) y f = sound_fail g 0 BadForm p
+sound_row_pipeline g p (n ∷ t ∷ x ∷ i ∷ []) y f = sound_pipeline_of g (transform_named (word_in x)) x.within n.means t.means i.means yes p y.2.2.1 f.0 f.2.0 f.2.2.2.0 (sound_yes g)
+sound_row_pipeline g p (n ∷ t ∷ x ∷ i ∷ z ∷ []) y f = sound_pipeline_of g (transform_named (word_in x)) x.within n.means t.means i.means z.means p y.2.2.1 f.0 f.2.0 f.2.2.2.0 f.2.2.2.2.0
+sound_row_pipeline g p (a ∷ b ∷ c ∷ d ∷ e ∷ i ∷ qs) y f = sound_fail g 0 BadForm p
 
 pub sound_putting_onto : (g : Ground) (ms : List Meaning) (p : Place) → length ms ≡ 3 → AllSound g 0 ms → Sound g 0 (putting_onto ms p)
 sound_putting_onto g ms p e f = sound_fixed g 0 3 1 ms (λ h. made MakeKind.Fixed (whole 1 ∷ []) p ∷ [])
     (λ h. started SystemTask.Onto (var h ∷ var (h + 1) ∷ var (h + 2) ∷ var (h + 3) ∷ []) p ∷ var (h + 3) ∷ []) f e (λ h. refl)
-    (λ h. ((tt, (tt, tt)), tt)) (λ h target. ((tt, (omega arith, (omega arith, (omega arith, (omega arith, tt))))), omega arith))
+    (λ h. ((tt, (small g.rules.scalars 1 (omega arith), tt)), tt)) (λ h target. ((tt, (omega arith, (omega arith, (omega arith, (omega arith, tt))))), omega arith))
 
 pub sound_row_onto : (g : Ground) (p : Place) (qs : List Part) → PartsSound g qs → Sound g 0 (row_onto p qs)
 sound_row_onto g p [] f = sound_fail g 0 BadForm p
@@ -325,6 +331,6 @@ sound_row_to g p [] f = sound_fail g 0 BadForm p
 sound_row_to g p (v ∷ []) f = sound_fixed g 0 1 2 (v.means ∷ [])
     (λ h. made MakeKind.Sized (built Min (whole 100 ∷ built Count (var h ∷ []) p ∷ []) p ∷ []) p ∷ made MakeKind.Fixed (whole 1 ∷ []) p ∷ [])
     (λ h. started SystemTask.Onto (var (h + 1) ∷ var h ∷ const (bool true) ∷ var (h + 2) ∷ []) p ∷ var (h + 1) ∷ []) (f.0, tt) refl (λ h. refl)
-    (λ h. ((tt, ((refl, (tt, ((refl, (omega arith, tt)), tt))), tt)), ((tt, (tt, tt)), tt)))
+    (λ h. ((tt, ((refl, (small g.rules.scalars 100 (omega arith), ((refl, (omega arith, tt)), tt))), tt)), ((tt, (small g.rules.scalars 1 (omega arith), tt)), tt)))
     (λ h target. ((tt, (omega arith, (omega arith, (tt, (omega arith, tt))))), omega arith))
 sound_row_to g p (a ∷ b ∷ qs) f = sound_fail g 0 BadForm p

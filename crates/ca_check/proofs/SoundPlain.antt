@@ -4,6 +4,7 @@ use Rattle.std.specs.List.{list_any}
 use Rattle.std.proofs.lemmas.List.{length-append, length-map}
 use Rattle.std.proofs.lemmas.Bool.{eqb-true}
 use Rattle.ca_value.specs.Tree.{nil, int, bool}
+use Rattle.ca_value.specs.IsValue.{IsInteger}
 use Rattle.ca_value.specs.declared.builtin.Builtin.TheVariants.{Part as PartOf, Inc, Less, Nth, Count, Items, IsSome}
 use Rattle.ca_term.specs.declared.place.Place.{Place}
 use Rattle.ca_term.specs.declared.head.Head.TheVariants.{Recur, Builtin}
@@ -12,6 +13,7 @@ use Rattle.ca_forms.specs.Outcome.{Gathered}
 use Rattle.ca_forms.specs.Meaning.{Env, Meaning, Named, size, constant, nothing, local, fail, iff, operation, block, unnamed, lets, loops, name_as}
 use Rattle.ca_forms.specs.Binders.{Part, Pair, Binder, Bound, one, many, with_bound, bounds, binder, is_vector, bindings_in, spread_items, spread_one, spread, width, letting, is_pattern, patterns}
 use Rattle.ca_forms.specs.Plain.{meanings, number, let_of, row_let, row_if, row_if_not, row_when, row_when_not, is_even, cond_of, row_cond, and_of, or_of, by_truth, by_some, only, one_bound, if_bound, row_if_bound, row_when_bound, again, binders, loop_over_patterns, looping, loop_of, row_loop, recur_of, row_recur, recur_with_next, row_while, counting, dotimes, row_dotimes, nth_bound, doseq, row_doseq}
+use Rattle.ca_check.proofs.Places.{small, HasPlaces, HavePlaces, where_done, lets_places, loops_places}
 use Rattle.ca_check.proofs.Sound.{Ground, Stands, Makes, Sound, Aimed, aimed, weaken, sound_constant, sound_local, sound_fail, sound_cond, sound_iff, sound_unless, AllSound, all_weaken, makes_operation, sound_operation, aimed_recur, sound_block, sound_body, aimed_block, aimed_when, NamedSound, named_weaken, named_append, sound_lets, sound_loops, sound_name_as, at_size, sound_hide}
 
 -- each part of a form is sound, and so are its own parts
@@ -57,11 +59,11 @@ bindings_sound g q f bs e = by (is_vector q.form) (bounds_sound g q.within f) e 
   by true h e = h bs e
   by false h e = cc
 
-pub items_sound : (g : Ground) (p : Place) (h : ℕ) (xs : List (List ℕ)) (i n : ℕ) → h < n → NamedSound g n (spread_items p h xs i)
-items_sound g p h [] i n l = tt
-items_sound g p h (x ∷ xs) i n l = (
-  sound_operation g n (Builtin PartOf) (local h ∷ constant (int (pos i)) ∷ []) p (sound_local g n h l, (sound_constant g n (int (pos i)) tt, tt)) (λ target. refl),
-  items_sound g p h xs (suc i) (suc n) (omega (arith, l)),
+pub items_sound : (g : Ground) (p : Place) (h : ℕ) (xs : List (List ℕ)) (i n : ℕ) → h < n → ((j : ℕ) → j < i + length xs → IsInteger g.rules.scalars (pos j)) → NamedSound g n (spread_items p h xs i)
+items_sound g p h [] i n l f = tt
+items_sound g p h (x ∷ xs) i n l f = (
+  sound_operation g n (Builtin PartOf) (local h ∷ constant (int (pos i)) ∷ []) p (sound_local g n h l, (sound_constant g n (int (pos i)) (f i (omega arith)), tt)) (λ target. refl),
+  items_sound g p h xs (suc i) (suc n) (omega (arith, l)) (λ j k. f j (omega (arith, k))),
 )
 
 pub items_length : (p : Place) (h : ℕ) (xs : List (List ℕ)) (i : ℕ) → length (spread_items p h xs i) ≡ length xs
@@ -72,10 +74,10 @@ pub spread_one_length : (p : Place) (n : ℕ) (b : Binder) (m : Meaning) → len
 spread_one_length p n (one x) m = refl
 spread_one_length p n (many xs q) m = ap suc (items_length p n xs 0)
 
-pub spread_one_sound : (g : Ground) (p : Place) (n : ℕ) (b : Binder) (m : Meaning) → Sound g n m → NamedSound g n (spread_one p n b m)
-spread_one_sound g p n (one x) m f = (f, tt)
-spread_one_sound g p n (many xs q) m f =
-    (sound_cond g n (nat_lt 4096 (length xs)) (fail TooMany q) m (sound_fail g n TooMany q) f, items_sound g p n xs 0 (suc n) (omega arith))
+pub spread_one_sound : (g : Ground) (p : Place) (n : ℕ) (b : Binder) (m : Meaning) → HasPlaces g.rules.scalars b → Sound g n m → NamedSound g n (spread_one p n b m)
+spread_one_sound g p n (one x) m h f = (f, tt)
+spread_one_sound g p n (many xs q) m h f =
+    (sound_cond g n (nat_lt 4096 (length xs)) (fail TooMany q) m (sound_fail g n TooMany q) f, items_sound g p n xs 0 (suc n) (omega arith) (λ j k. h j (omega (arith, k))))
 
 abbrev pub widths : List Bound → ℕ
 widths [] = 0
@@ -85,14 +87,16 @@ pub spread_length : (p : Place) (n : ℕ) (bs : List Bound) → length (spread p
 spread_length p n [] = refl
 spread_length p n (b ∷ bs) = length-append (spread_one p n b.by b.means) (spread p (n + width b.by) bs) ∙ omega (arith, spread_one_length p n b.by b.means, spread_length p (n + width b.by) bs)
 
-pub spread_sound : (g : Ground) (p : Place) (n : ℕ) (bs : List Bound) → BoundsSound g bs → NamedSound g n (spread p n bs)
-spread_sound g p n [] f = tt
-spread_sound g p n (b ∷ bs) f = named_append g n (spread_one p n b.by b.means) (spread p (n + width b.by) bs) (spread_one_sound g p n b.by b.means (weaken g 0 n b.means (omega arith) f.0))
-    (named_weaken g (n + width b.by) (n + length (spread_one p n b.by b.means)) (spread p (n + width b.by) bs) (omega (arith, spread_one_length p n b.by b.means)) (spread_sound g p (n + width b.by) bs f.1))
+pub spread_sound : (g : Ground) (p : Place) (n : ℕ) (bs : List Bound) → HavePlaces g.rules.scalars (binders bs) → BoundsSound g bs → NamedSound g n (spread p n bs)
+spread_sound g p n [] h f = tt
+spread_sound g p n (b ∷ bs) h f = named_append g n (spread_one p n b.by b.means) (spread p (n + width b.by) bs) (spread_one_sound g p n b.by b.means h.0 (weaken g 0 n b.means (omega arith) f.0))
+    (named_weaken g (n + width b.by) (n + length (spread_one p n b.by b.means)) (spread p (n + width b.by) bs) (omega (arith, spread_one_length p n b.by b.means)) (spread_sound g p (n + width b.by) bs h.1 f.1))
 
 pub sound_letting : (g : Ground) (n : ℕ) (bs : List Bound) (body : Meaning) (p : Place) → BoundsSound g bs → Sound g n body → Sound g n (letting bs body p)
-sound_letting g n bs body p f h = at_size g n (letting bs body p) (λ env s l st. sound_lets g (size env) (spread p (size env) bs) body (spread_sound g p (size env) bs f)
-    (weaken g n (size env + length (spread p (size env) bs)) body (omega (arith, l)) h) env s st)
+sound_letting g n bs body p f h = at_size g n (letting bs body p) (λ env s l st.
+    where_done (HavePlaces g.rules.scalars (binders bs)) _ (lets (spread p (size env) bs) body env s) (lets_places g.rules.scalars p (size env) bs body env s) (λ k.
+    sound_lets g (size env) (spread p (size env) bs) body (spread_sound g p (size env) bs k f)
+    (weaken g n (size env + length (spread p (size env) bs)) body (omega (arith, l)) h) env s st))
 
 pub sound_let_of : (g : Ground) (o : Option (List Bound)) (body : Meaning) (p : Place) → ((bs : List Bound) → o ≡ Some bs → BoundsSound g bs) → Sound g 0 body → Sound g 0 (let_of o body p)
 sound_let_of g None body p f h = sound_fail g 0 BadForm p
@@ -200,21 +204,23 @@ pub again_length : (n : ℕ) (bs : List Bound) → length (again n bs) ≡ lengt
 again_length n [] = refl
 again_length n (b ∷ bs) = ap suc (again_length (n + width b.by) bs)
 
-pub patterns_sound : (g : Ground) (p : Place) (n : ℕ) (bs : List Binder) (m : ℕ) → n + length bs ≤ m → NamedSound g m (patterns p n bs)
-patterns_sound g p n [] m l = tt
-patterns_sound g p n (one x ∷ bs) m l = patterns_sound g p (suc n) bs m (omega (arith, l))
-patterns_sound g p n (many xs q ∷ bs) m l = named_append g m (spread_items p n xs 0) (patterns p (suc n) bs) (items_sound g p n xs 0 m (omega (arith, l)))
-    (patterns_sound g p (suc n) bs (m + length (spread_items p n xs 0)) (omega (arith, l)))
+pub patterns_sound : (g : Ground) (p : Place) (n : ℕ) (bs : List Binder) (m : ℕ) → n + length bs ≤ m → HavePlaces g.rules.scalars bs → NamedSound g m (patterns p n bs)
+patterns_sound g p n [] m l h = tt
+patterns_sound g p n (one x ∷ bs) m l h = patterns_sound g p (suc n) bs m (omega (arith, l)) h.1
+patterns_sound g p n (many xs q ∷ bs) m l h = named_append g m (spread_items p n xs 0) (patterns p (suc n) bs) (items_sound g p n xs 0 m (omega (arith, l)) (λ j k. h.0 j (omega (arith, k))))
+    (patterns_sound g p (suc n) bs (m + length (spread_items p n xs 0)) (omega (arith, l)) h.1)
 
 -- over so many names from n on
-pub sound_over_patterns : (g : Ground) (p : Place) (n : ℕ) (bs : List Binder) (body : Meaning) (m : ℕ) → n + length bs ≤ m → Sound g 0 body → Sound g m (lets (patterns p n bs) body)
-sound_over_patterns g p n bs body m l h = sound_lets g m (patterns p n bs) body (patterns_sound g p n bs m l) (weaken g 0 (m + length (patterns p n bs)) body (omega arith) h)
+pub sound_over_patterns : (g : Ground) (p : Place) (n : ℕ) (bs : List Binder) (body : Meaning) (m : ℕ) → n + length bs ≤ m → HavePlaces g.rules.scalars bs → Sound g 0 body → Sound g m (lets (patterns p n bs) body)
+sound_over_patterns g p n bs body m l k h = sound_lets g m (patterns p n bs) body (patterns_sound g p n bs m l k) (weaken g 0 (m + length (patterns p n bs)) body (omega arith) h)
 
 pub sound_loop_over_patterns : (g : Ground) (bs : List Bound) (body : Meaning) (p : Place) → BoundsSound g bs → Sound g 0 body → Sound g 0 (loop_over_patterns bs body p)
 sound_loop_over_patterns g bs body p f h = at_size g 0 (loop_over_patterns bs body p) (λ env s l st.
+    where_done (HavePlaces g.rules.scalars (binders bs)) _ (loop_over_patterns bs body p env s) (lets_places g.rules.scalars p (size env) bs
+    (block ((λ env2. loops (again (size env) bs) (block (lets (patterns p (size env2) (binders bs)) body ∷ [])) env2) ∷ [])) env s) (λ places.
     sound_lets g (size env) (spread p (size env) bs)
     (block ((λ env2. loops (again (size env) bs) (block (lets (patterns p (size env2) (binders bs)) body ∷ [])) env2) ∷ []))
-    (spread_sound g p (size env) bs f)
+    (spread_sound g p (size env) bs places f)
     (sound_body g (size env + length (spread p (size env) bs)) (λ env2. loops (again (size env) bs) (block (lets (patterns p (size env2) (binders bs)) body ∷ [])) env2)
     (at_size g (size env + length (spread p (size env) bs)) (λ env2. loops (again (size env) bs) (block (lets (patterns p (size env2) (binders bs)) body ∷ [])) env2)
     (λ env2 s2 l2 st2. sound_loops g (size env2) (again (size env) bs) (block (lets (patterns p (size env2) (binders bs)) body ∷ []))
@@ -222,14 +228,15 @@ sound_loop_over_patterns g bs body p f h = at_size g 0 (loop_over_patterns bs bo
     (aimed g (size env2 + length (again (size env) bs)) (length (again (size env) bs)) (block (lets (patterns p (size env2) (binders bs)) body ∷ []))
     (sound_body g (size env2 + length (again (size env) bs)) (lets (patterns p (size env2) (binders bs)) body)
     (sound_over_patterns g p (size env2) (binders bs) body (size env2 + length (again (size env) bs))
-    (omega (arith, again_length (size env) bs, length-map bs (λ (b : Bound). b.by))) h))) env2 s2 st2))) env s st)
+    (omega (arith, again_length (size env) bs, length-map bs (λ (b : Bound). b.by))) places h))) env2 s2 st2))) env s st))
 
 pub sound_looping : (g : Ground) (bs : List Bound) (body : Meaning) (p : Place) → BoundsSound g bs → Sound g 0 body → Sound g 0 (looping bs body p)
 sound_looping g bs body p f h = at_size g 0 (looping bs body p) (λ env s l st. by (list_any is_pattern (binders bs)) env s st) where
   by : (b : Bool) (env : Env) (s : Gathered) → Stands g (size env) env → Makes g env s (cond b (loop_over_patterns bs body p env) (loops (spread p (size env) bs) body env) s)
   by true env s st = sound_loop_over_patterns g bs body p f h env s (omega arith, st.1, st.2)
-  by false env s st = sound_loops g (size env) (spread p (size env) bs) body (spread_sound g p (size env) bs f)
-      (aimed g (size env + length (spread p (size env) bs)) (length (spread p (size env) bs)) body (weaken g 0 (size env + length (spread p (size env) bs)) body (omega arith) h)) env s st
+  by false env s st = where_done (HavePlaces g.rules.scalars (binders bs)) _ (loops (spread p (size env) bs) body env s) (loops_places g.rules.scalars p (size env) bs body env s) (λ places.
+      sound_loops g (size env) (spread p (size env) bs) body (spread_sound g p (size env) bs places f)
+      (aimed g (size env + length (spread p (size env) bs)) (length (spread p (size env) bs)) body (weaken g 0 (size env + length (spread p (size env) bs)) body (omega arith) h)) env s st)
 
 pub sound_loop_of : (g : Ground) (o : Option (List Bound)) (body : Meaning) (p : Place) → ((bs : List Bound) → o ≡ Some bs → BoundsSound g bs) → Sound g 0 body → Sound g 0 (loop_of o body p)
 sound_loop_of g None body p f h = sound_fail g 0 BadForm p
@@ -264,7 +271,7 @@ pub sound_counting : (g : Ground) (m : ℕ) (i : List ℕ) (n : ℕ) (ms : List 
 sound_counting g m i n ms p l f = at_size g m (counting i n ms p) (λ env s l2 st.
     sound_loops g (size env) (record { name = i; means = number 0 } ∷ [])
     (block (iff (operation (Builtin Less) (local (size env) ∷ local n ∷ []) p) (block (ms ++ recur_with_next (size env) p ∷ [])) nothing ∷ []))
-    (sound_constant g (size env) (int (pos 0)) tt, tt)
+    (sound_constant g (size env) (int (pos 0)) (small g.rules.scalars 0 (omega arith)), tt)
     (aimed_when g (size env + 1) 1 (operation (Builtin Less) (local (size env) ∷ local n ∷ []) p) (block (ms ++ recur_with_next (size env) p ∷ []))
     (sound_operation g (size env + 1) (Builtin Less) (local (size env) ∷ local n ∷ []) p
     (sound_local g (size env + 1) (size env) (omega arith), (sound_local g (size env + 1) n (omega (arith, l, l2)), tt)) (λ target. refl))
@@ -281,9 +288,11 @@ sound_row_dotimes g p [] f = sound_fail g 0 BadForm p
 sound_row_dotimes g p (b ∷ qs) f = sound_dotimes g (one_bound (bindings_in b)) (meanings qs) p (sound_one_bound g (bindings_in b) (bindings_sound g b f.1)) (means_sound g qs f.2)
 
 pub sound_letting_one : (g : Ground) (n : ℕ) (b : Bound) (body : Meaning) (p : Place) → Sound g n b.means → Sound g 0 body → Sound g n (letting (b ∷ []) body p)
-sound_letting_one g n b body p f h = at_size g n (letting (b ∷ []) body p) (λ env s l st. sound_lets g (size env) (spread p (size env) (b ∷ [])) body
-    (named_append g (size env) (spread_one p (size env) b.by b.means) [] (spread_one_sound g p (size env) b.by b.means (weaken g n (size env) b.means l f)) tt)
-    (weaken g 0 (size env + length (spread p (size env) (b ∷ []))) body (omega arith) h) env s st)
+sound_letting_one g n b body p f h = at_size g n (letting (b ∷ []) body p) (λ env s l st.
+    where_done (HavePlaces g.rules.scalars (binders (b ∷ []))) _ (lets (spread p (size env) (b ∷ [])) body env s) (lets_places g.rules.scalars p (size env) (b ∷ []) body env s) (λ places.
+    sound_lets g (size env) (spread p (size env) (b ∷ [])) body
+    (named_append g (size env) (spread_one p (size env) b.by b.means) [] (spread_one_sound g p (size env) b.by b.means places.0 (weaken g n (size env) b.means l f)) tt)
+    (weaken g 0 (size env + length (spread p (size env) (b ∷ []))) body (omega arith) h) env s st))
 
 pub sound_nth_bound : (g : Ground) (n : ℕ) (b : Binder) (h j : ℕ) (p : Place) → h < n → j < n → Sound g n (nth_bound b h j p).means
 sound_nth_bound g n b h j p l k = sound_operation g n (Builtin Nth) (local h ∷ local j ∷ []) p (sound_local g n h l, (sound_local g n j k, tt)) (λ target. refl)

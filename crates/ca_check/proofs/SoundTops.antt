@@ -6,7 +6,6 @@ use Rattle.std.proofs.lemmas.Bool.{eqb-true, cases_lt}
 use Rattle.ca_term.specs.declared.place.Place.{Place}
 use Rattle.ca_term.specs.Kernel.{Kernel}
 use Rattle.ca_term.specs.Closed.{IsIn}
-use Rattle.ca_term.specs.Fits.{Known}
 use Rattle.ca_term.specs.Program.{IsProcedure}
 use Rattle.ca_reader.specs.declared.form.Bracket.TheVariants.{Round, Square, Curly}
 use Rattle.ca_reader.specs.Form.{FormTree, form, atom, group}
@@ -19,8 +18,9 @@ use Rattle.ca_forms.specs.Binders.{Part, Binder, is_pattern, whole_name}
 use Rattle.ca_forms.specs.Plain.{meanings}
 use Rattle.ca_forms.specs.Walk.{walk}
 use Rattle.ca_forms.specs.Tops.{Tops, Written, Top, definition, function, expression, wrong, top_name, definition_of, def_top, parameters_in, function_of, note_in, defn_behind, defn_top, word_at_head, behind_head, list_top, list_parts, top, numbers, same_names, names_of, over_parameters, straight, looped, body_of, signature, function_env, Settled, settled}
-use Rattle.ca_check.proofs.Well.{Well, fits, source, anew, closed, Below, below_more, below_append, Only, uses_only, uses_below, uses_extends, extended_same, in_left, in_right}
-use Rattle.ca_check.proofs.Grew.{Grew, IfDone, if_cond}
+use Rattle.ca_check.proofs.Well.{Rules, scalars_in, Well, fits, source, anew, closed, Below, below_more, below_append, Only, uses_only, uses_below, uses_extends, extended_same, in_left, in_right}
+use Rattle.ca_check.proofs.Grew.{IsRight, Grew, IfDone, if_cond}
+use Rattle.ca_check.proofs.Places.{HavePlaces, Has}
 use Rattle.ca_check.proofs.Sound.{Ground, IsSigned, AreSigned, Stands, Makes, Sound, aimed, weaken, sound_local, sound_cond, NamedSound, sound_block, sound_loops}
 use Rattle.ca_check.proofs.SoundPlain.{PartsSound, means_sound, sound_over_patterns}
 use Rattle.ca_check.proofs.SoundWalk.{sound_walk, sound_parts}
@@ -61,11 +61,11 @@ pub behind_sound : (g : Ground) (qs : List Part) → PartsSound g qs → PartsSo
 behind_sound g [] f = tt
 behind_sound g (h ∷ qs) f = f.2
 
-pub list_parts_sound : (g : Ground) (f : FormTree) → PartsSound g (list_parts f)
-list_parts_sound g (form (group Round fs) p) = sound_parts g fs
-list_parts_sound g (form (group Square fs) p) = tt
-list_parts_sound g (form (group Curly fs) p) = tt
-list_parts_sound g (form (atom a) p) = tt
+pub list_parts_sound : (g : Ground) (f : FormTree) → Has g.rules.scalars f → PartsSound g (list_parts f)
+list_parts_sound g (form (group Round fs) p) y = sound_parts g fs y
+list_parts_sound g (form (group Square fs) p) y = tt
+list_parts_sound g (form (group Curly fs) p) y = tt
+list_parts_sound g (form (atom a) p) y = tt
 
 pub sound_list_top : (g : Ground) (k : Option Special) (qs : List Part) (m : Meaning) → PartsSound g qs → Sound g 0 m → TopSound g (list_top k qs m)
 sound_list_top g None qs m f h = h
@@ -73,15 +73,15 @@ sound_list_top g (Some Special.Def) qs m f h = sound_def_top g qs f
 sound_list_top g (Some Special.Defn) qs m f h = sound_defn_top g qs f
 sound_list_top g (Some k) qs m f h = h
 
-pub sound_top : (g : Ground) (f : FormTree) → TopSound g (top f)
-sound_top g f = sound_list_top g (word_at_head (list_parts f)) (behind_head (list_parts f)) (walk f) (behind_sound g (list_parts f) (list_parts_sound g f)) (sound_walk g f)
+pub sound_top : (g : Ground) (f : FormTree) → Has g.rules.scalars f → TopSound g (top f)
+sound_top g f y = sound_list_top g (word_at_head (list_parts f)) (behind_head (list_parts f)) (walk f) (behind_sound g (list_parts f) (list_parts_sound g f y)) (sound_walk g f y)
 
 -- the functions known so far, behind further names and further functions
-pub signed_more : (k : Known) (b c i : ℕ) (fs : List Signature) → b ≤ c → AreSigned k b i fs → AreSigned k c i fs
+pub signed_more : (k : Rules) (b c i : ℕ) (fs : List Signature) → b ≤ c → AreSigned k b i fs → AreSigned k c i fs
 signed_more k b c i [] l a = tt
 signed_more k b c i (f ∷ fs) l a = (record { takes = a.0.takes; below = below_more b c f.hidden l a.0.below; plain = a.0.plain; bare = a.0.bare }, signed_more k b c (suc i) fs l a.1)
 
-pub signed_behind : (k : Known) (b i : ℕ) (fs : List Signature) (f : Signature) → AreSigned k b i fs → IsSigned k b (i + length fs) f → AreSigned k b i (fs ++ f ∷ [])
+pub signed_behind : (k : Rules) (b i : ℕ) (fs : List Signature) (f : Signature) → AreSigned k b i fs → IsSigned k b (i + length fs) f → AreSigned k b i (fs ++ f ∷ [])
 signed_behind k b i [] f a h = (subst (λ n. IsSigned k b n f) (omega arith) h, tt)
 signed_behind k b i (x ∷ fs) f a h = (a.0, signed_behind k b (suc i) fs f a.1 (subst (λ n. IsSigned k b n f) (omega arith) h))
 
@@ -99,17 +99,19 @@ in_numbers n m [] l u = absurd (omega (arith, l, u))
 in_numbers n m (x ∷ xs) l u = ⊎_elim (λ b. inr (in_numbers (suc n) m xs (omega (arith, b)) (omega (arith, u)))) (λ b. inl (omega (arith, l, b))) (cases_lt n m)
 
 -- the body of a function in a scope of n names of the main text and so many parameters
-pub function_procedure : (k : Known) (n : ℕ) (hidden : List ℕ) (xs : List (List ℕ)) (t : Kernel) → Below n hidden → length (uses n t hidden) ≡ length hidden
-    → Well k (n + length xs) None t → IsProcedure k (record { parameters = numbers n xs ++ hidden; body = t })
-function_procedure k n hidden xs t b e w = record {
-  bound = closed k n hidden (n + length xs) None t (numbers n xs ++ hidden) w
-      (subst (λ us. Only n us t) (extended_same hidden (uses n t hidden) (uses_extends n t hidden) e) (uses_only n t hidden))
-      ((λ m h. in_right m (numbers n xs) hidden h), (λ m l u. in_left m (numbers n xs) hidden (in_numbers n m xs l u)));
-  anew = anew k (n + length xs) None t (numbers n xs ++ hidden) w
-      (below_append (n + length xs) (numbers n xs) hidden (numbers_below n (n + length xs) xs (omega arith)) (below_more n (n + length xs) hidden (omega arith) b));
-  fits = fits k (n + length xs) None t w;
-  source = source k (n + length xs) None t w;
-}
+pub function_procedure : (k : Rules) (n : ℕ) (hidden : List ℕ) (xs : List (List ℕ)) (t : Kernel) → Below n hidden → length (uses n t hidden) ≡ length hidden
+    → Well k (n + length xs) None t → IsRight k (record { parameters = numbers n xs ++ hidden; body = t })
+function_procedure k n hidden xs t b e w = (is_one, scalars_in k (n + length xs) None t w) where
+  is_one : IsProcedure k.known (record { parameters = numbers n xs ++ hidden; body = t })
+  is_one = record {
+    bound = closed k n hidden (n + length xs) None t (numbers n xs ++ hidden) w
+        (subst (λ us. Only n us t) (extended_same hidden (uses n t hidden) (uses_extends n t hidden) e) (uses_only n t hidden))
+        ((λ m h. in_right m (numbers n xs) hidden h), (λ m l u. in_left m (numbers n xs) hidden (in_numbers n m xs l u)));
+    anew = anew k (n + length xs) None t (numbers n xs ++ hidden) w
+        (below_append (n + length xs) (numbers n xs) hidden (numbers_below n (n + length xs) xs (omega arith)) (below_more n (n + length xs) hidden (omega arith) b));
+    fits = fits k (n + length xs) None t w;
+    source = source k (n + length xs) None t w;
+  }
 
 -- a function's body is sound in the function's scope
 pub same_names_sound : (g : Ground) (n : ℕ) (xs : List (List ℕ)) (m : ℕ) → n + length xs ≤ m → NamedSound g m (same_names n xs)
@@ -120,19 +122,19 @@ pub same_names_length : (n : ℕ) (xs : List (List ℕ)) → length (same_names 
 same_names_length n [] = refl
 same_names_length n (x ∷ xs) = ap suc (same_names_length (suc n) xs)
 
-pub sound_over_parameters : (g : Ground) (f : Written) (p : Place) (n m : ℕ) → n + length f.parameters ≤ m → Sound g 0 f.body → Sound g m (over_parameters f p n)
-sound_over_parameters g f p n m l h = sound_cond g m (list_any is_pattern f.parameters) _ f.body (sound_over_patterns g p n f.parameters f.body m l h) (weaken g 0 m f.body (omega arith) h)
+pub sound_over_parameters : (g : Ground) (f : Written) (p : Place) (n m : ℕ) → n + length f.parameters ≤ m → HavePlaces g.rules.scalars f.parameters → Sound g 0 f.body → Sound g m (over_parameters f p n)
+sound_over_parameters g f p n m l k h = sound_cond g m (list_any is_pattern f.parameters) _ f.body (sound_over_patterns g p n f.parameters f.body m l k h) (weaken g 0 m f.body (omega arith) h)
 
 pub names_length : (bs : List Binder) → length (names_of bs) ≡ length bs
 names_length bs = length-map bs whole_name
 
 -- whether in a loop or not, in a scope of n names
-pub body_makes : (k : Known) (f : Written) (p : Place) (t : Tops) (sig : Signature) (s : Gathered) (looping : Bool)
-    → Sound (record { known = k; base = length t.scope }) 0 f.body → AreSigned k (length t.scope) 0 (t.functions ++ sig ∷ [])
+pub body_makes : (k : Rules) (f : Written) (p : Place) (t : Tops) (sig : Signature) (s : Gathered) (looping : Bool)
+    → HavePlaces k.scalars f.parameters → Sound (record { rules = k; base = length t.scope }) 0 f.body → AreSigned k (length t.scope) 0 (t.functions ++ sig ∷ [])
     → IfDone (body_of looping f p (function_env sig t) s) (λ body s2. Grew k s s2 (Well k (length t.scope + length (names_of f.parameters)) None body))
-body_makes k f p t sig s looping h a = by looping where
+body_makes k f p t sig s looping places h a = by looping where
   g : Ground
-  g = record { known = k; base = length t.scope }
+  g = record { rules = k; base = length t.scope }
 
   within : Env
   within = record (function_env sig t) { scope = t.scope ++ names_of f.parameters }
@@ -145,27 +147,27 @@ body_makes k f p t sig s looping h a = by looping where
 
   by : (b : Bool) → IfDone (body_of b f p (function_env sig t) s) (λ body s2. Grew k s s2 (Well k (length t.scope + length (names_of f.parameters)) None body))
   by false = moved (straight None f p (function_env sig t) s)
-      (sound_over_parameters g f p (length t.scope) (length t.scope + length (names_of f.parameters)) (omega (arith, names_length f.parameters)) h within s here)
+      (sound_over_parameters g f p (length t.scope) (length t.scope + length (names_of f.parameters)) (omega (arith, names_length f.parameters)) places h within s here)
   by true = moved (looped f p (function_env sig t) s)
       (sound_loops g (length t.scope + length (names_of f.parameters)) (same_names (length t.scope) (names_of f.parameters)) (over_parameters f p (length t.scope + length f.parameters))
       (same_names_sound g (length t.scope) (names_of f.parameters) (length t.scope + length (names_of f.parameters)) (omega arith))
       (aimed g (length t.scope + length (names_of f.parameters) + length (same_names (length t.scope) (names_of f.parameters))) (length (same_names (length t.scope) (names_of f.parameters)))
       (over_parameters f p (length t.scope + length f.parameters))
       (sound_over_parameters g f p (length t.scope + length f.parameters) (length t.scope + length (names_of f.parameters) + length (same_names (length t.scope) (names_of f.parameters)))
-      (omega (arith, names_length f.parameters, same_names_length (length t.scope) (names_of f.parameters))) h)) within s here)
+      (omega (arith, names_length f.parameters, same_names_length (length t.scope) (names_of f.parameters))) places h)) within s here)
 
 -- a settled body
-pub record Settles (k : Known) (f : Written) (t : Tops) (s : Gathered) (r : Settled) (s2 : Gathered) : Type 0 where
+pub record Settles (k : Rules) (f : Written) (t : Tops) (s : Gathered) (r : Settled) (s2 : Gathered) : Type 0 where
   pub below : Below (length t.scope) r.hidden
   pub same : length (uses (length t.scope) r.body r.hidden) ≡ length r.hidden
   pub grew : AreSigned k (length t.scope) 0 (t.functions ++ signature f r.hidden false ∷ [])
       → Grew k s s2 (Well k (length t.scope + length (names_of f.parameters)) None r.body)
 
-pub settled_settles : (k : Known) (f : Written) (p : Place) (t : Tops) (s : Gathered) (looping : Bool) → Sound (record { known = k; base = length t.scope }) 0 f.body
+pub settled_settles : (k : Rules) (f : Written) (p : Place) (t : Tops) (s : Gathered) (looping : Bool) → HavePlaces k.scalars f.parameters → Sound (record { rules = k; base = length t.scope }) 0 f.body
     → (n : ℕ) (hidden : List ℕ) → Below (length t.scope) hidden → IfDone (settled n looping hidden f p t s) (Settles k f t s)
-settled_settles k f p t s looping h zero hidden b = tt
-settled_settles k f p t s looping h (suc n) hidden b = by (body_of looping f p (function_env (signature f hidden false) t) s)
-    (λ a. body_makes k f p t (signature f hidden false) s looping h a) (λ body. settled_settles k f p t s looping h n (uses (length t.scope) body hidden) (uses_below (length t.scope) body hidden b)) where
+settled_settles k f p t s looping places h zero hidden b = tt
+settled_settles k f p t s looping places h (suc n) hidden b = by (body_of looping f p (function_env (signature f hidden false) t) s)
+    (λ a. body_makes k f p t (signature f hidden false) s looping places h a) (λ body. settled_settles k f p t s looping places h n (uses (length t.scope) body hidden) (uses_below (length t.scope) body hidden b)) where
       by : (o : Outcome Kernel)
           → (AreSigned k (length t.scope) 0 (t.functions ++ signature f hidden false ∷ []) → IfDone o (λ body s2. Grew k s s2 (Well k (length t.scope + length (names_of f.parameters)) None body)))
           → ((body : Kernel) → IfDone (settled n looping (uses (length t.scope) body hidden) f p t s) (Settles k f t s))

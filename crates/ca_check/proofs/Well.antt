@@ -3,30 +3,64 @@
 use Rattle.std.proofs.Common.{◌≡◌, inl, inr, ⊎_elim, ℕ, suc, ◌+◌, ◌<◌, ◌≤◌, List, [], ◌∷◌, ◌++◌, length, refl, sym, ap, ◌∙◌, subst, arith, Option, Some, None, Bool, true, false, cond, ◌&&◌, ◌||◌, not, ◌==◌, nat_lt}
 use Rattle.std.proofs.lemmas.List.{append-nil, append_assoc, length-append}
 use Rattle.std.proofs.lemmas.Bool.{ltb-true, ltb-false, eqb-true, cases_lt, and_parts}
+use Rattle.ca_value.specs.Tree.{Tree, nil, bool, int, text as text_tree, key, vector, map as map_tree, port}
+use Rattle.ca_value.specs.IsValue.{Scalars, IsInteger, IsKeyword}
 use Rattle.ca_term.specs.declared.head.Head.{Head}
 use Rattle.ca_term.specs.declared.head.Head.TheVariants.{Recur, Builtin, Call, Take, Put, Alts, Make, Spawn, Close, Register, Print, Post}
 use Rattle.ca_term.specs.Kernel.{Kernel, Kernels, Bindings, const, var, branch, bind, loop, seq, frame, turn, apply, none, item, empty, binding}
+use Rattle.ca_term.specs.Constants.{IsScalar, HasScalars, HaveScalars, BindingsHaveScalars}
 use Rattle.ca_term.specs.Closed.{IsIn, IsClosed, AreClosed, AreClosedBindings, behind}
 use Rattle.ca_term.specs.Fits.{Known, Suits, Fits, FitTerms, FitInOrder, FitBindings, count_terms, count_bindings, BindsAnew, TermsAnew, BindingsAnew, IsPlainHead, IsPlain, ArePlain, ArePlainBindings}
 use Rattle.ca_term.specs.Source.{IsLiteral, IsFew, IsSource, AreSource, AreSourceBindings}
 use Rattle.ca_forms.specs.Uses.{is_among, noted, uses, uses_items, uses_bindings, is_plain_head, is_plain, are_plain, are_plain_bindings}
 
--- the head suits so many operands, and on a registry there are at most four
-abbrev pub Suited : Known → Option ℕ → Head → ℕ → Type 0
-Suited k target (Register name) n = n ≤ 4
-Suited k target h n = Suits k target h n
+-- what the program knows, and what is said of the integers and keywords in its constants
+pub record Rules : Type 0 where
+  pub known : Known
+  pub scalars : Scalars
 
-pub suited_suits : (k : Known) (target : Option ℕ) (h : Head) (n : ℕ) → Suited k target h n → Suits k target h n
+-- a constant that a script can write, and its scalar is as said
+abbrev pub IsConstant : Scalars → Tree → Type 0
+IsConstant scalars (int z) = IsInteger scalars z
+IsConstant scalars (key s) = (length s ≤ 65_535) × IsKeyword scalars s
+IsConstant scalars v = IsLiteral v
+
+pub constant_literal : (scalars : Scalars) (v : Tree) → IsConstant scalars v → IsLiteral v
+constant_literal scalars nil c = tt
+constant_literal scalars (bool b) c = tt
+constant_literal scalars (int z) c = tt
+constant_literal scalars (text_tree s) c = c
+constant_literal scalars (key s) c = c.0
+constant_literal scalars (vector ts) c = c
+constant_literal scalars (map_tree ps) c = c
+constant_literal scalars (port n) c = c
+
+pub constant_scalar : (scalars : Scalars) (v : Tree) → IsConstant scalars v → IsScalar scalars v
+constant_scalar scalars nil c = tt
+constant_scalar scalars (bool b) c = tt
+constant_scalar scalars (int z) c = c
+constant_scalar scalars (text_tree s) c = tt
+constant_scalar scalars (key s) c = c.1
+constant_scalar scalars (vector ts) c = tt
+constant_scalar scalars (map_tree ps) c = tt
+constant_scalar scalars (port n) c = tt
+
+-- the head suits so many operands, and on a registry there are at most four
+abbrev pub Suited : Rules → Option ℕ → Head → ℕ → Type 0
+Suited k target (Register name) n = n ≤ 4
+Suited k target h n = Suits k.known target h n
+
+pub suited_suits : (k : Rules) (target : Option ℕ) (h : Head) (n : ℕ) → Suited k target h n → Suits k.known target h n
 suited_suits k target (Register name) n s = tt
 suited_suits k target h n s = s
 
-pub suited_few : (k : Known) (target : Option ℕ) (h : Head) (n : ℕ) → Suited k target h n → IsFew h n
+pub suited_few : (k : Rules) (target : Option ℕ) (h : Head) (n : ℕ) → Suited k target h n → IsFew h n
 suited_few k target (Register name) n s = s
 suited_few k target h n s = tt
 
 abbrev mutual
-  pub Well : Known → ℕ → Option ℕ → Kernel → Type 0
-  Well k n target (const v) = IsLiteral v
+  pub Well : Rules → ℕ → Option ℕ → Kernel → Type 0
+  Well k n target (const v) = IsConstant k.scalars v
   Well k n target (var m) = m < n
   Well k n target (branch c a b) = Well k n None c × Well k n target a × Well k n target b
   Well k n target (bind bs body) = WellBindings k n bs × Well k (n + count_bindings bs) target body
@@ -37,29 +71,29 @@ abbrev mutual
   Well k n target (turn names text now) = ⊥
   Well k n target (apply h ts p) = Suited k target h (count_terms ts) × WellTerms k n ts
 
-  pub WellTerms : Known → ℕ → Kernels → Type 0
+  pub WellTerms : Rules → ℕ → Kernels → Type 0
   WellTerms k n none = Unit {0}
   WellTerms k n (item t ts) = Well k n None t × WellTerms k n ts
 
-  pub WellInOrder : Known → ℕ → Option ℕ → Kernels → Type 0
+  pub WellInOrder : Rules → ℕ → Option ℕ → Kernels → Type 0
   WellInOrder k n target none = Unit {0}
   WellInOrder k n target (item t none) = Well k n target t
   WellInOrder k n target (item t (item u us)) = Well k n None t × WellInOrder k n target (item u us)
 
-  pub WellBindings : Known → ℕ → Bindings → Type 0
+  pub WellBindings : Rules → ℕ → Bindings → Type 0
   WellBindings k n empty = Unit {0}
   WellBindings k n (binding m t bs) = (m ≡ n) × Well k n None t × WellBindings k (suc n) bs
 
 -- it fits
 mutual
-  pub fits : (k : Known) (n : ℕ) (target : Option ℕ) (t : Kernel) → Well k n target t → Fits (Suits k) target t
+  pub fits : (k : Rules) (n : ℕ) (target : Option ℕ) (t : Kernel) → Well k n target t → Fits (Suits k.known) target t
   fits k n target (const v) w = tt
   fits k n target (var m) w = tt
   fits k n target (branch c a b) w = (fits k n None c w.0, fits k n target a w.1, fits k n target b w.2)
   fits k n target (bind bs body) w = (bindings_fit k n bs w.0, fits k (n + count_bindings bs) target body w.1)
   fits k n target (loop [] bs body) w = (
     bindings_fit k n bs w.0,
-    subst (λ m. Fits (Suits k) (Some m) body) (omega arith) (fits k (n + count_bindings bs) (Some (count_bindings bs)) body w.1),
+    subst (λ m. Fits (Suits k.known) (Some m) body) (omega arith) (fits k (n + count_bindings bs) (Some (count_bindings bs)) body w.1),
   )
   fits k n target (loop (f ∷ fs) bs body) w = absurd w
   fits k n target (seq ts) w = in_order_fit k n target ts w
@@ -67,23 +101,23 @@ mutual
   fits k n target (turn names text now) w = absurd w
   fits k n target (apply h ts p) w = (suited_suits k target h (count_terms ts) w.0, terms_fit k n ts w.1)
 
-  pub terms_fit : (k : Known) (n : ℕ) (ts : Kernels) → WellTerms k n ts → FitTerms (Suits k) ts
+  pub terms_fit : (k : Rules) (n : ℕ) (ts : Kernels) → WellTerms k n ts → FitTerms (Suits k.known) ts
   terms_fit k n none w = tt
   terms_fit k n (item t ts) w = (fits k n None t w.0, terms_fit k n ts w.1)
 
-  pub in_order_fit : (k : Known) (n : ℕ) (target : Option ℕ) (ts : Kernels) → WellInOrder k n target ts → FitInOrder (Suits k) target ts
+  pub in_order_fit : (k : Rules) (n : ℕ) (target : Option ℕ) (ts : Kernels) → WellInOrder k n target ts → FitInOrder (Suits k.known) target ts
   in_order_fit k n target none w = tt
   in_order_fit k n target (item t none) w = fits k n target t w
   in_order_fit k n target (item t (item u us)) w = (fits k n None t w.0, in_order_fit k n target (item u us) w.1)
 
-  pub bindings_fit : (k : Known) (n : ℕ) (bs : Bindings) → WellBindings k n bs → FitBindings (Suits k) bs
+  pub bindings_fit : (k : Rules) (n : ℕ) (bs : Bindings) → WellBindings k n bs → FitBindings (Suits k.known) bs
   bindings_fit k n empty w = tt
   bindings_fit k n (binding m t bs) w = (fits k n None t w.1, bindings_fit k (suc n) bs w.2)
 
 -- nothing in it runs yet
 mutual
-  pub source : (k : Known) (n : ℕ) (target : Option ℕ) (t : Kernel) → Well k n target t → IsSource t
-  source k n target (const v) w = w
+  pub source : (k : Rules) (n : ℕ) (target : Option ℕ) (t : Kernel) → Well k n target t → IsSource t
+  source k n target (const v) w = constant_literal k.scalars v w
   source k n target (var m) w = tt
   source k n target (branch c a b) w = (source k n None c w.0, source k n target a w.1, source k n target b w.2)
   source k n target (bind bs body) w = (bindings_source k n bs w.0, source k (n + count_bindings bs) target body w.1)
@@ -94,18 +128,45 @@ mutual
   source k n target (turn names text now) w = absurd w
   source k n target (apply h ts p) w = (suited_few k target h (count_terms ts) w.0, terms_source k n ts w.1)
 
-  pub terms_source : (k : Known) (n : ℕ) (ts : Kernels) → WellTerms k n ts → AreSource ts
+  pub terms_source : (k : Rules) (n : ℕ) (ts : Kernels) → WellTerms k n ts → AreSource ts
   terms_source k n none w = tt
   terms_source k n (item t ts) w = (source k n None t w.0, terms_source k n ts w.1)
 
-  pub in_order_source : (k : Known) (n : ℕ) (target : Option ℕ) (ts : Kernels) → WellInOrder k n target ts → AreSource ts
+  pub in_order_source : (k : Rules) (n : ℕ) (target : Option ℕ) (ts : Kernels) → WellInOrder k n target ts → AreSource ts
   in_order_source k n target none w = tt
   in_order_source k n target (item t none) w = (source k n target t w, tt)
   in_order_source k n target (item t (item u us)) w = (source k n None t w.0, in_order_source k n target (item u us) w.1)
 
-  pub bindings_source : (k : Known) (n : ℕ) (bs : Bindings) → WellBindings k n bs → AreSourceBindings bs
+  pub bindings_source : (k : Rules) (n : ℕ) (bs : Bindings) → WellBindings k n bs → AreSourceBindings bs
   bindings_source k n empty w = tt
   bindings_source k n (binding m t bs) w = (source k n None t w.1, bindings_source k (suc n) bs w.2)
+
+-- its constants are as said
+mutual
+  pub scalars_in : (k : Rules) (n : ℕ) (target : Option ℕ) (t : Kernel) → Well k n target t → HasScalars k.scalars t
+  scalars_in k n target (const v) w = constant_scalar k.scalars v w
+  scalars_in k n target (var m) w = tt
+  scalars_in k n target (branch c a b) w = (scalars_in k n None c w.0, scalars_in k n target a w.1, scalars_in k n target b w.2)
+  scalars_in k n target (bind bs body) w = (bindings_scalars k n bs w.0, scalars_in k (n + count_bindings bs) target body w.1)
+  scalars_in k n target (loop [] bs body) w = (bindings_scalars k n bs w.0, scalars_in k (n + count_bindings bs) (Some (count_bindings bs)) body w.1)
+  scalars_in k n target (loop (f ∷ fs) bs body) w = absurd w
+  scalars_in k n target (seq ts) w = in_order_scalars k n target ts w
+  scalars_in k n target (frame body) w = absurd w
+  scalars_in k n target (turn names text now) w = absurd w
+  scalars_in k n target (apply h ts p) w = terms_scalars k n ts w.1
+
+  pub terms_scalars : (k : Rules) (n : ℕ) (ts : Kernels) → WellTerms k n ts → HaveScalars k.scalars ts
+  terms_scalars k n none w = tt
+  terms_scalars k n (item t ts) w = (scalars_in k n None t w.0, terms_scalars k n ts w.1)
+
+  pub in_order_scalars : (k : Rules) (n : ℕ) (target : Option ℕ) (ts : Kernels) → WellInOrder k n target ts → HaveScalars k.scalars ts
+  in_order_scalars k n target none w = tt
+  in_order_scalars k n target (item t none) w = (scalars_in k n target t w, tt)
+  in_order_scalars k n target (item t (item u us)) w = (scalars_in k n None t w.0, in_order_scalars k n target (item u us) w.1)
+
+  pub bindings_scalars : (k : Rules) (n : ℕ) (bs : Bindings) → WellBindings k n bs → BindingsHaveScalars k.scalars bs
+  bindings_scalars k n empty w = tt
+  bindings_scalars k n (binding m t bs) w = (scalars_in k n None t w.1, bindings_scalars k (suc n) bs w.2)
 
 -- it binds its names anew
 abbrev pub Below : ℕ → List ℕ → Type 0
@@ -124,13 +185,13 @@ pub is_new : (n m : ℕ) (ns : List ℕ) → m ≡ n → Below n ns → IsIn m n
 is_new n m [] e g h = h
 is_new n m (x ∷ ns) e g h = ⊎_elim (λ i. omega (arith, e, i, g.0)) (λ i. is_new n m ns e g.1 i) h
 
-pub below_behind : (k : Known) (n : ℕ) (bs : Bindings) (ns : List ℕ) → WellBindings k n bs → Below n ns → Below (n + count_bindings bs) (behind bs ns)
+pub below_behind : (k : Rules) (n : ℕ) (bs : Bindings) (ns : List ℕ) → WellBindings k n bs → Below n ns → Below (n + count_bindings bs) (behind bs ns)
 below_behind k n empty ns w g = subst (λ m. Below m ns) (omega arith) g
 below_behind k n (binding m t bs) ns w g = subst (λ i. Below i (behind bs (m ∷ ns))) (omega arith)
     (below_behind k (suc n) bs (m ∷ ns) w.2 (omega (arith, w.0), below_more n (suc n) ns (omega arith) g))
 
 mutual
-  pub anew : (k : Known) (n : ℕ) (target : Option ℕ) (t : Kernel) (ns : List ℕ) → Well k n target t → Below n ns → BindsAnew ns t
+  pub anew : (k : Rules) (n : ℕ) (target : Option ℕ) (t : Kernel) (ns : List ℕ) → Well k n target t → Below n ns → BindsAnew ns t
   anew k n target (const v) ns w g = tt
   anew k n target (var m) ns w g = tt
   anew k n target (branch c a b) ns w g = (anew k n None c ns w.0 g, anew k n target a ns w.1 g, anew k n target b ns w.2 g)
@@ -149,16 +210,16 @@ mutual
   anew k n target (turn names text now) ns w g = absurd w
   anew k n target (apply h ts p) ns w g = terms_anew k n ts ns w.1 g
 
-  pub terms_anew : (k : Known) (n : ℕ) (ts : Kernels) (ns : List ℕ) → WellTerms k n ts → Below n ns → TermsAnew ns ts
+  pub terms_anew : (k : Rules) (n : ℕ) (ts : Kernels) (ns : List ℕ) → WellTerms k n ts → Below n ns → TermsAnew ns ts
   terms_anew k n none ns w g = tt
   terms_anew k n (item t ts) ns w g = (anew k n None t ns w.0 g, terms_anew k n ts ns w.1 g)
 
-  pub in_order_anew : (k : Known) (n : ℕ) (target : Option ℕ) (ts : Kernels) (ns : List ℕ) → WellInOrder k n target ts → Below n ns → TermsAnew ns ts
+  pub in_order_anew : (k : Rules) (n : ℕ) (target : Option ℕ) (ts : Kernels) (ns : List ℕ) → WellInOrder k n target ts → Below n ns → TermsAnew ns ts
   in_order_anew k n target none ns w g = tt
   in_order_anew k n target (item t none) ns w g = (anew k n target t ns w g, tt)
   in_order_anew k n target (item t (item u us)) ns w g = (anew k n None t ns w.0 g, in_order_anew k n target (item u us) ns w.1 g)
 
-  pub bindings_anew : (k : Known) (n : ℕ) (bs : Bindings) (ns : List ℕ) → WellBindings k n bs → Below n ns → BindingsAnew ns bs
+  pub bindings_anew : (k : Rules) (n : ℕ) (bs : Bindings) (ns : List ℕ) → WellBindings k n bs → Below n ns → BindingsAnew ns bs
   bindings_anew k n empty ns w g = tt
   bindings_anew k n (binding m t bs) ns w g = (
     λ i. is_new n m ns w.0 g i,
@@ -327,7 +388,7 @@ Covers base us n ns = Within us ns × ((m : ℕ) → base ≤ m → m < n → Is
 pub covers_next : (base : ℕ) (us : List ℕ) (n m : ℕ) (ns : List ℕ) → m ≡ n → Covers base us n ns → Covers base us (suc n) (m ∷ ns)
 covers_next base us n m ns e c = (λ x h. inr (c.0 x h), λ x l u. ⊎_elim (λ b. inr (c.1 x l b)) (λ b. inl (omega (arith, e, u, b))) (cases_lt x n))
 
-pub covers_behind : (k : Known) (base : ℕ) (us : List ℕ) (n : ℕ) (bs : Bindings) (ns : List ℕ) → WellBindings k n bs → Covers base us n ns
+pub covers_behind : (k : Rules) (base : ℕ) (us : List ℕ) (n : ℕ) (bs : Bindings) (ns : List ℕ) → WellBindings k n bs → Covers base us n ns
     → Covers base us (n + count_bindings bs) (behind bs ns)
 covers_behind k base us n empty ns w c = subst (λ m. Covers base us m ns) (omega arith) c
 covers_behind k base us n (binding m t bs) ns w c = subst (λ i. Covers base us i (behind bs (m ∷ ns))) (omega arith)
@@ -335,7 +396,7 @@ covers_behind k base us n (binding m t bs) ns w c = subst (λ i. Covers base us 
 
 -- each name is bound
 mutual
-  pub closed : (k : Known) (base : ℕ) (us : List ℕ) (n : ℕ) (target : Option ℕ) (t : Kernel) (ns : List ℕ)
+  pub closed : (k : Rules) (base : ℕ) (us : List ℕ) (n : ℕ) (target : Option ℕ) (t : Kernel) (ns : List ℕ)
       → Well k n target t → Only base us t → Covers base us n ns → IsClosed ns t
   closed k base us n target (const v) ns w o c = tt
   closed k base us n target (var m) ns w o c = ⊎_elim (λ l. c.0 m (o l)) (λ l. c.1 m l w) (cases_lt m base)
@@ -354,18 +415,18 @@ mutual
   closed k base us n target (turn names text now) ns w o c = absurd w
   closed k base us n target (apply h ts p) ns w o c = terms_closed k base us n ts ns w.1 o c
 
-  pub terms_closed : (k : Known) (base : ℕ) (us : List ℕ) (n : ℕ) (ts : Kernels) (ns : List ℕ)
+  pub terms_closed : (k : Rules) (base : ℕ) (us : List ℕ) (n : ℕ) (ts : Kernels) (ns : List ℕ)
       → WellTerms k n ts → OnlyTerms base us ts → Covers base us n ns → AreClosed ns ts
   terms_closed k base us n none ns w o c = tt
   terms_closed k base us n (item t ts) ns w o c = (closed k base us n None t ns w.0 o.0 c, terms_closed k base us n ts ns w.1 o.1 c)
 
-  pub in_order_closed : (k : Known) (base : ℕ) (us : List ℕ) (n : ℕ) (target : Option ℕ) (ts : Kernels) (ns : List ℕ)
+  pub in_order_closed : (k : Rules) (base : ℕ) (us : List ℕ) (n : ℕ) (target : Option ℕ) (ts : Kernels) (ns : List ℕ)
       → WellInOrder k n target ts → OnlyTerms base us ts → Covers base us n ns → AreClosed ns ts
   in_order_closed k base us n target none ns w o c = tt
   in_order_closed k base us n target (item t none) ns w o c = (closed k base us n target t ns w o.0 c, tt)
   in_order_closed k base us n target (item t (item u us2)) ns w o c = (closed k base us n None t ns w.0 o.0 c, in_order_closed k base us n target (item u us2) ns w.1 o.1 c)
 
-  pub bindings_closed : (k : Known) (base : ℕ) (us : List ℕ) (n : ℕ) (bs : Bindings) (ns : List ℕ)
+  pub bindings_closed : (k : Rules) (base : ℕ) (us : List ℕ) (n : ℕ) (bs : Bindings) (ns : List ℕ)
       → WellBindings k n bs → OnlyBindings base us bs → Covers base us n ns → AreClosedBindings ns bs
   bindings_closed k base us n empty ns w o c = tt
   bindings_closed k base us n (binding m t bs) ns w o c = (

@@ -1,6 +1,9 @@
 ghost use Rattle.std.specs.Prelude.{◌≡◌, Ok, Err, All, Some, map};
 ghost use Rattle.ca_term.specs.Program.{ProgramView, IsProgram};
+ghost use Rattle.ca_value.specs.IsValue.{Scalars};
+ghost use Rattle.ca_term.specs.Constants.{ProgramHasScalars};
 ghost use Rattle.ca_reader.specs.Form.{FormTrees};
+ghost use Rattle.ca_reader.specs.Written.{HaveScalars};
 ghost use Rattle.ca_forms.specs.declared.error.CheckErrorKind.TheVariants.{UnknownName, Redefined, BadArity, BadForm, RecurNotTail, ParkOutsideGo, BlockOutsideMain, NotPlain, TooMany};
 ghost use Rattle.ca_check.specs.Expansion.{expansion_of};
 ghost use Rattle.ca_check.specs.Order.{block_place, script_go_blocks};
@@ -17,6 +20,12 @@ pub fn programs_are_checked()
 /// A go body takes exactly the names that it uses from outside, in order of first use, and its result port.
 pub fn captures_are_the_names_used()
     ensures { (forms : FormTrees) (program : ProgramView) → expansion_of forms ≡ Ok program → All IsGoBody program.bodies }
+{}
+
+/// Each integer and each keyword in an accepted script's program is as said, where each in its forms is: integers of 64
+/// bits, and keywords that a script can write.
+pub fn programs_keep_their_scalars()
+    ensures { (scalars : Scalars) (forms : FormTrees) (program : ProgramView) → HaveScalars scalars forms → expansion_of forms ≡ Ok program → ProgramHasScalars scalars program }
 {}
 
 /// Go bodies are numbered in order of the text: one for each go block, an outer one before those within it.

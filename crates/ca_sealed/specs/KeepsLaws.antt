@@ -1,9 +1,12 @@
 -- What each run of an accepted script keeps to.
 use Rattle.std.specs.Prelude.{◌≡◌, List, ◌++◌}
+use Rattle.ca_value.specs.IsValue.{written}
 use Rattle.ca_term.specs.Program.{ProgramView}
 use Rattle.ca_term.specs.Event.{EventView}
 use Rattle.ca_meaning.specs.ChannelLaw.{ChannelLaw}
 use Rattle.ca_meaning.specs.Legal.{Reaches}
+use Rattle.ca_meaning.specs.RunValues.{EventHas}
+use Rattle.ca_meaning.specs.Sound.{Each}
 use Rattle.ca_meaning.specs.State.{State}
 use Rattle.ca_meaning.specs.WaitLaw.{WaitLaw}
 use Rattle.ca_laws.specs.MixLaw.{MixLaw}
@@ -14,6 +17,8 @@ use Rattle.ca_derived_laws.specs.ReduceLaw.{ReduceLaw}
 use Rattle.ca_derived_laws.specs.SplitLaw.{SplitLaw}
 
 pub record KeepsLaws (program : ProgramView) (journal : List EventView) : Type 0 where
+  -- each value in it is one: within the bounds on values, its integers in 64 bits and its keywords as a script can write them
+  pub values : Each (EventHas written) journal
   -- each channel gives what it got in the order of its buffer
   pub channels : ChannelLaw journal
   -- each operation has one event, and each wait is completed once at most

@@ -1,4 +1,5 @@
 use Rattle.std.proofs.Common.{subst}
+use Rattle.ca_value.specs.IsValue.{written}
 use Rattle.ca_meaning.specs.Legal.{Reaches}
 use Rattle.ca_meaning.specs.Steps.{Steps}
 use Rattle.ca_meaning.proofs.ChannelLaws.{channel_law, steps_split}
@@ -10,7 +11,9 @@ use Rattle.ca_derived_laws.proofs.Splitting.{splits_keep}
 use Rattle.ca_sealed.proofs.journals.journals_of_scripts_keep_the_laws.Goals as goal
 
 pub returns : goal.returns
-returns c = λ forms program e journal legal. record {
+returns c = λ forms program h e journal legal. record {
+  values = c.values_of_a_run_are_values.ensures.events written program (c.programs_are_checked.ensures forms program e)
+      (c.programs_keep_their_scalars.ensures written forms program h e) journal legal.state legal.reaches;
   channels = channel_law program journal legal;
   waits = wait_law program journal legal;
   mixes = mix_law program journal;
