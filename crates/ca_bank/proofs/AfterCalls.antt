@@ -16,8 +16,8 @@ use Rattle.ca_meaning.specs.Registry as meaning
 use Rattle.ca_meaning.specs.Wait.{Wait, Handler, brought, handlers, without}
 use Rattle.ca_bank.specs.Kept.{Kept, at, on, enqueued, pruned, queue_at}
 use Rattle.ca_bank.specs.Room.{channel_with}
-use Rattle.ca_bank.specs.Registries.{left_by}
-use Rattle.ca_bank.specs.Registry.{comes_to, registered}
+use Rattle.ca_registry.specs.Registries.{left_by}
+use Rattle.ca_registry.specs.Registry.{comes_to, registered}
 use Rattle.ca_bank.specs.Bank.{with_made, kept_made, registry_made}
 use Rattle.ca_bank.specs.Holds.{Holds, channel_of, with_channel, join_all, and_wait, but_wait}
 use Rattle.ca_bank.specs.Standing.{together, Alone, Registries, Stands, enqueue_from, SameStands, PortMade, ChannelClosed, ValueAdded, ValueRemoved, StalePruned, WaitLeaves, WaitJoins, RegistryChanged, RegistryKept, QueuesJoined}

@@ -1,9 +1,6 @@
 pub mod Queues
 pub mod Seats
 pub mod Tables
-pub mod Members
-pub mod Sources
-pub mod Topics
 pub mod Holding
 pub mod Counts
 pub mod AfterCalls

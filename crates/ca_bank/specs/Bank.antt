@@ -5,13 +5,14 @@ use Rattle.ca_bank.specs.Kept.{Kept, Spares, unattended}
 use Rattle.ca_bank.specs.Room.{kept_view, spares_view, channel_with}
 use Rattle.ca_bank.specs.Shard.{belongs}
 use Rattle.ca_meaning.specs.Registry.{Registry as RegistryView, a_mult, a_mix, a_publication}
-use Rattle.ca_bank.specs.Registry.{registry_view, members_spare}
+use Rattle.ca_registry.specs.Kind.{kind_of}
+use Rattle.ca_registry.specs.Registry.{registry_view, members_spare}
 use Rattle.std.specs.Map.{update}
 use Rattle.ca_bank.specs.declared.bank.Bank.{Bank}
 use Rattle.ca_bank.specs.declared.bank.Made.{Made}
 use Rattle.ca_bank.specs.declared.bank.Made.TheVariants as M
-use Rattle.ca_bank.specs.declared.bank.PortKind.{PortKind}
-use Rattle.ca_bank.specs.declared.bank.PortKind.TheVariants.{Channel, Mult, Mix, Pub}
+use Rattle.ca_registry.specs.declared.kind.PortKind.{PortKind}
+use Rattle.ca_registry.specs.declared.kind.PortKind.TheVariants.{Channel}
 
 abbrev pub kept_at : Bank → ℕ → Option Kept
 kept_at b p = option_map kept_view (get nat_eq b.rooms p)
@@ -60,12 +61,6 @@ abbrev pub ArePlaced : Bank → Type 0
 ArePlaced b = ((p : ℕ) → is_some (kept_at b p) ≡ true → belongs (bank_number b) (bank_count b) p ≡ true) × ((p : ℕ) → is_some (registry_at b p) ≡ true → belongs (bank_number b) (bank_count b) p ≡ true)
 
 -- what a port is
-abbrev pub kind_of : Option RegistryView → Option PortKind
-kind_of None = None
-kind_of (Some (a_mult s ts)) = Some Mult
-kind_of (Some (a_mix o g mode xs)) = Some Mix
-kind_of (Some (a_publication s ts)) = Some Pub
-
 abbrev pub kind_at : Option Kept → Option RegistryView → Option PortKind
 kind_at (Some k) r = Some Channel
 kind_at None r = kind_of r

@@ -5,10 +5,5 @@ pub mod Shard
 pub mod Kept
 pub mod Room
 pub mod Bank
-pub mod Registries
-pub mod Mixes
-pub mod Registry
-pub mod Publications
 pub mod Holds
-pub mod Marks
 pub mod Standing

@@ -14,7 +14,7 @@ use Rattle.ca_meaning.specs.Wait.{Wait, Handler, side_of, port_of, brought, hand
 use Rattle.ca_meaning.specs.State.{Channels, shut_at}
 use Rattle.ca_bank.specs.Kept.{Kept, at, closed, added, removed, enqueued, pruned, queue_at}
 use Rattle.ca_bank.specs.Holds.{Holds, channel_of, join_all, and_wait, but_wait}
-use Rattle.ca_bank.specs.Registry.{comes_to, registered}
+use Rattle.ca_registry.specs.Registry.{comes_to, registered}
 use Rattle.ca_bank.specs.Bank.{with_made, kept_made, registry_made as registry_of_made}
 use Rattle.ca_bank.specs.declared.bank.Made.{Made}
 

@@ -5,32 +5,25 @@ ghost use Rattle.ca_value.specs.Seq.{list};
 ghost use Rattle.ca_value.specs.View.{view, trees};
 ghost use Rattle.ca_term.specs.Event.{port_number};
 ghost use Rattle.ca_bank.specs.Kept.{at, unattended, enqueued, pruned, closed, added, removed, queue_at, is_closed_at, buffer_at, takes_one_more, dropped_at, given_at, queue_spare, buffer_spare, spare_put_on, one_less, spare_in_buffer};
-ghost use Rattle.ca_bank.specs.Registries.{answered, IsCause, members_added};
-ghost use Rattle.ca_bank.specs.Mixes.{TogglesApart};
-ghost use Rattle.ca_bank.specs.Publications.{PlacesItself};
-ghost use Rattle.ca_bank.specs.Registry.{registry_view, comes_to, registered};
+ghost use Rattle.ca_registry.specs.Kind.{kind_of};
+ghost use Rattle.ca_registry.specs.Registries.{answered, IsCause, members_added};
+ghost use Rattle.ca_registry.specs.Mixes.{TogglesApart};
+ghost use Rattle.ca_registry.specs.Publications.{PlacesItself};
+ghost use Rattle.ca_registry.specs.Registry.{registry_view, comes_to, registered};
 ghost use Rattle.ca_bank.specs.Room.{handler_view, kept_view, buffered};
 
 use crate::handler::Handler;
-use crate::registry::{Registry, members_added};
-use crate::registry_error::RegisterError;
 use crate::room::Room;
 use ca_buffers::any::AnyBuffer;
+use ca_registry::kind::PortKind;
+use ca_registry::registry::{Registry, members_added};
+use ca_registry::registry_error::RegisterError;
 use ca_term::event::Side;
 use ca_term::head::RegisterName;
 use ca_value::memory::OutOfMemory;
 use ca_value::value::{Items, PortId, Value};
 use indexmap::IndexMap;
 use std::alloc::Global;
-
-/// What a port is.
-#[derive(Clone, Copy)]
-pub enum PortKind {
-    Channel,
-    Mult,
-    Mix,
-    Pub,
-}
 
 /// What is made at a new port.
 #[derive(Drop)]
@@ -64,7 +57,7 @@ pub struct Bank {
 
 impl Bank {
     ghost use Rattle.ca_bank.specs.Shard.{belongs};
-    ghost use Rattle.ca_bank.specs.Bank.{kept_at, channel_at, spares_at, registry_at, members_spare_at, bank_number, bank_count, channels_spare, registries_spare, SameBank, SameChannels, SameRegistries, ArePlaced, kind_at, kind_of, with_made, kept_made, registry_made};
+    ghost use Rattle.ca_bank.specs.Bank.{kept_at, channel_at, spares_at, registry_at, members_spare_at, bank_number, bank_count, channels_spare, registries_spare, SameBank, SameChannels, SameRegistries, ArePlaced, kind_at, with_made, kept_made, registry_made};
 
     /// The bank of that number, of so many: it has no port, and takes no memory.
     pub fn new(alloc: Global, number: u64, count: u64) -> Bank
