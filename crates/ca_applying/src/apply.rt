@@ -4,19 +4,20 @@ ghost use Rattle.ca_value.specs.View.{view};
 ghost use Rattle.ca_value.specs.Builtins.{admits, builtin_result};
 ghost use Rattle.ca_value.specs.declared.builtin.Builtin.TheVariants.{Get};
 ghost use Rattle.ca_term.specs.Program.{ProgramView};
-ghost use Rattle.ca_term.specs.declared.place.Place.{Place};
-ghost use Rattle.ca_meaning.specs.Applied.{Applied, of_builtin};
+ghost use Rattle.ca_meaning.specs.Applied.{of_builtin};
 ghost use Rattle.ca_meaning.specs.Asks.{one_of, two_of};
 ghost use Rattle.ca_states.specs.Valid.{is_applied};
 ghost use Rattle.ca_states.specs.ValidCode.{valid_code};
 ghost use Rattle.ca_lower.specs.Lowered.{Lowered};
-ghost use Rattle.ca_applying.specs.Returned.{returned_view};
+ghost use Rattle.ca_system.specs.Applications.{ComesTo};
+ghost use Rattle.ca_system.specs.Applied.{application_view, returned_view};
 
 use crate::call::call;
-use crate::returned::Returned;
 use ca_asking::judging::task_fault;
 use ca_states::runner::Start;
 use ca_states::valid_code::ValidCode;
+use ca_system::application::Application;
+use ca_system::returned::Returned;
 use ca_term::head::PlainFunction;
 use ca_value::builtin::Builtin;
 use ca_value::builtin::direct::{apply_one, apply_two};
@@ -59,18 +60,21 @@ pub fn has_function(code: &ValidCode, function: PlainFunction) -> bool
     }
 }
 
-/// The function applied to the value; the keyword is looked up where the function is one. The
-/// code has a function of the program that is named, and it takes one value.
+/// What the application comes to. The code has a function of the program that is named, and it takes one value.
 pub fn apply(
     alloc: Global,
     code: &ValidCode,
-    function: PlainFunction,
-    keyword: &Value,
-    value: &Value,
+    application: Application<'_>,
 ) -> Result<Returned, OutOfMemory>
-    requires { IsTrue (is_applied (valid_code code.now) function) }
-    ensures { IfOk result (λ r. (program : ProgramView) (place : Place) → Lowered program (valid_code code.now) → Applied program function (view keyword.now) place (view value.now) (returned_view r)) }
+    requires { IsTrue (is_applied (valid_code code.now) application.function) }
+    ensures { IfOk result (λ r. (program : ProgramView) → Lowered program (valid_code code.now) → ComesTo program (application_view application.entry) (returned_view r)) }
 {
+    let Application {
+        function,
+        keyword,
+        place: _,
+        value,
+    } = application;
     match function {
         PlainFunction::Defined(number) => call(alloc, code, number, value.copy(alloc)?),
         PlainFunction::Builtin(builtin) => apply_builtin(alloc, builtin, value),

@@ -11,11 +11,12 @@ ghost use Rattle.ca_states.specs.declared.runner.Start.TheVariants.{Function};
 ghost use Rattle.ca_states.specs.Standing.{IsStart};
 ghost use Rattle.ca_states.specs.ValidCode.{valid_code};
 ghost use Rattle.ca_lower.specs.Lowered.{Lowered};
-ghost use Rattle.ca_applying.specs.Returned.{halt_returned, returned_view};
+ghost use Rattle.ca_system.specs.Applied.{returned_view};
+ghost use Rattle.ca_applying.specs.Returned.{halt_returned};
 
-use crate::returned::Returned;
 use ca_states::runner::{Halt, Runner};
 use ca_states::valid_code::ValidCode;
+use ca_system::returned::Returned;
 use ca_term::fault::Fault;
 use ca_value::memory::OutOfMemory;
 use ca_value::seq::Seq;

@@ -1,3 +1,2 @@
 pub mod OutputLaws
-pub mod Resting
 pub mod Sending

@@ -7,12 +7,12 @@ ghost use Rattle.ca_value.specs.Tree.{trees_of};
 ghost use Rattle.ca_meaning.specs.Applied.{has_nil, items_output, outputs_by, outputs_of, without_nil};
 ghost use Rattle.ca_meaning.specs.Asks.{one_of};
 ghost use Rattle.ca_meaning.specs.Operands.{truth};
-ghost use Rattle.ca_applying.specs.Returned.{returned_view};
+ghost use Rattle.ca_system.specs.Applied.{returned_view};
 ghost use Rattle.ca_jobs.specs.Outputs.{outputs_view};
 
-use ca_applying::returned::Returned;
 use ca_asking::operands::is_true;
 use ca_system::operand::is_nil;
+use ca_system::returned::Returned;
 use ca_term::fault::Fault;
 use ca_term::head::Transform;
 use ca_value::memory::OutOfMemory;

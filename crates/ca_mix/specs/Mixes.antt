@@ -4,7 +4,6 @@ use Rattle.ca_term.specs.declared.place.Place.{Place}
 use Rattle.ca_meaning.specs.MixTable.{MixPorts, MixState, mix_reads, mix_chooses, mix_drops, mix_puts}
 use Rattle.ca_meaning.specs.System.{SystemBody, a_mix}
 use Rattle.ca_system.specs.Stands.{next_view}
-use Rattle.ca_system.specs.declared.running.Running.{Running}
 use Rattle.ca_system.specs.declared.stand.Next.{Next}
 use Rattle.ca_mix.specs.declared.mix.Ports.{Ports}
 use Rattle.ca_mix.specs.declared.mix.State.{State}
@@ -22,6 +21,3 @@ state_view (Puts r v) = mix_puts (reading_view r).0 (reading_view r).1 (view v)
 
 abbrev pub mix_body : Ports → Place → Next State → SystemBody
 mix_body k p x = a_mix (ports_view k) p (next_view state_view x)
-
-abbrev pub mix_view : Running Ports State → SystemBody
-mix_view r = mix_body r.kind r.place r.state

@@ -4,7 +4,7 @@
 //! sources (`modes`), and from then on it takes what comes on those that it reads and puts what is heard on the output
 //! (`mix`), until a change of the modes, or the end of a source, makes it read them again.
 //!
-//! Stands on `ca_system`, whose task over a table is the agent. Start with `specs/Mixes.antt`, then `mix`.
+//! Stands on `ca_system`. Start with `specs/Mixes.antt`, then `mix`.
 #![tactic(auto)]
 
 pub mod mix;

@@ -8,13 +8,12 @@ ghost use Rattle.ca_meaning.specs.Asks.{chooses, needing, stop, to};
 ghost use Rattle.ca_meaning.specs.MixTable.{any_of, heard_of, mix_asks, mix_chosen, mix_next, mix_reads, mix_chooses, mix_drops, modes_in, port_trees, read_of};
 ghost use Rattle.ca_meaning.specs.Operands.{truth};
 ghost use Rattle.ca_meaning.specs.System.{new_system};
-ghost use Rattle.ca_system.specs.Stands.{stand_at, next_view};
+ghost use Rattle.ca_system.specs.Stands.{running_body, stand_at, next_view};
 ghost use Rattle.ca_mix.specs.Readings.{reading_view};
-ghost use Rattle.ca_mix.specs.Mixes.{mix_body, mix_view, ports_view, state_view};
+ghost use Rattle.ca_mix.specs.Mixes.{mix_body, ports_view, state_view};
 
 use crate::modes::{Reading, modes_in};
 use ca_asking::operands::{is_true, port_at};
-use ca_states::valid_code::ValidCode;
 use ca_system::asks::{asks, one, puts, registers, two};
 use ca_system::operand::{is_nil, value_and_port};
 use ca_system::running::{Kind, Running};
@@ -53,7 +52,7 @@ pub enum State {
 
 /// The task with these values: the mix, its output, and its change channel.
 pub fn new_mix(values: Items, place: Place) -> Mix
-    ensures { mix_view result ≡ new_system mix_task (trees (list values)) place }
+    ensures { running_body mix_body result ≡ new_system mix_task (trees (list values)) place }
 {
     let values = values.as_slice();
     let ports = Ports {
@@ -69,8 +68,6 @@ impl Kind for Ports {
 
     ghost body = { mix_body };
 
-    ghost over = { λ code k. Unit {0} };
-
     fn ask(&self, alloc: Global, place: Place, state: &State) -> Result<Stand, OutOfMemory> {
         match state {
             State::Reads => self.modes(alloc, place),
@@ -80,13 +77,7 @@ impl Kind for Ports {
         }
     }
 
-    fn next(
-        &self,
-        alloc: Global,
-        _code: &ValidCode,
-        state: State,
-        answer: Value,
-    ) -> Result<Next<State>, OutOfMemory> {
+    fn next(&self, alloc: Global, state: State, answer: Value) -> Result<Next<State>, OutOfMemory> {
         match state {
             State::Reads => after_modes(alloc, &answer),
             State::Chooses(reading) => self.after_choice(alloc, reading, &answer),
@@ -99,9 +90,9 @@ impl Kind for Ports {
 
     ghost faults = { λ k p f. refl };
 
-    ghost stays = { λ program k p v. refl };
+    ghost stays = { λ k p v. refl };
 
-    ghost stays_faulted = { λ program k p f v. refl };
+    ghost stays_faulted = { λ k p f v. refl };
 }
 
 impl Ports {

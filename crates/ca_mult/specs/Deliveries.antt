@@ -4,7 +4,6 @@ use Rattle.ca_term.specs.declared.place.Place.{Place}
 use Rattle.ca_meaning.specs.MultTable.{Delivery as DeliveryView, DeliverState, deliver_puts, deliver_untaps, deliver_answers}
 use Rattle.ca_meaning.specs.System.{SystemBody, a_delivery}
 use Rattle.ca_system.specs.Stands.{next_view}
-use Rattle.ca_system.specs.declared.running.Running.{Running}
 use Rattle.ca_system.specs.declared.stand.Next.{Next}
 use Rattle.ca_mult.specs.declared.deliver.Delivery.{Delivery}
 use Rattle.ca_mult.specs.declared.deliver.Step.{Step}
@@ -20,6 +19,3 @@ step_view Answers = deliver_answers
 
 abbrev pub deliver_body : Delivery → Place → Next Step → SystemBody
 deliver_body k p x = a_delivery (delivery_view k) p (next_view step_view x)
-
-abbrev pub deliver_view : Running Delivery Step → SystemBody
-deliver_view r = deliver_body r.kind r.place r.state

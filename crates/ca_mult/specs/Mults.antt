@@ -6,7 +6,6 @@ use Rattle.ca_term.specs.declared.place.Place.{Place}
 use Rattle.ca_meaning.specs.MultTable.{MultPorts, MultState, mult_takes, mult_reads, mult_spawns, mult_waits, mult_reads_last, mult_closes}
 use Rattle.ca_meaning.specs.System.{SystemBody, a_mult}
 use Rattle.ca_system.specs.Stands.{next_view}
-use Rattle.ca_system.specs.declared.running.Running.{Running}
 use Rattle.ca_system.specs.declared.stand.Next.{Next}
 use Rattle.ca_mult.specs.declared.mult.Ports.{Ports}
 use Rattle.ca_mult.specs.declared.mult.State.{State}
@@ -26,6 +25,3 @@ state_view (Closes c left) = mult_closes c.n (each_of (λ p. p.n) (into_iter_ite
 
 abbrev pub mult_body : Ports → Place → Next State → SystemBody
 mult_body k p x = a_mult (ports_view k) p (next_view state_view x)
-
-abbrev pub mult_view : Running Ports State → SystemBody
-mult_view r = mult_body r.kind r.place r.state

@@ -6,11 +6,10 @@ ghost use Rattle.ca_value.specs.View.{view, trees};
 ghost use Rattle.ca_term.specs.declared.head.SystemTask.TheVariants.{Deliver as deliver_task};
 ghost use Rattle.ca_meaning.specs.MultTable.{deliver_asks, deliver_next, deliver_untaps, deliver_puts};
 ghost use Rattle.ca_meaning.specs.System.{new_system};
-ghost use Rattle.ca_system.specs.Stands.{stand_at, next_view};
-ghost use Rattle.ca_mult.specs.Deliveries.{deliver_body, deliver_view, delivery_view, step_view};
+ghost use Rattle.ca_system.specs.Stands.{running_body, stand_at, next_view};
+ghost use Rattle.ca_mult.specs.Deliveries.{deliver_body, delivery_view, step_view};
 
 use ca_asking::operands::{is_true, port_at, value_at};
-use ca_states::valid_code::ValidCode;
 use ca_system::asks::{puts, registers, two};
 use ca_system::running::{Kind, Running};
 use ca_system::stand::{Next, Stand};
@@ -43,7 +42,7 @@ pub enum Step {
 
 /// The task with these values: the mult, the tapped channel, the value, and the channel of the answers.
 pub fn new_deliver(values: Items, place: Place) -> Deliver
-    ensures { deliver_view result ≡ new_system deliver_task (trees (list values)) place }
+    ensures { running_body deliver_body result ≡ new_system deliver_task (trees (list values)) place }
 {
     let mult = port_at(values.as_slice(), 0);
     let channel = port_at(values.as_slice(), 1);
@@ -62,8 +61,6 @@ impl Kind for Delivery {
 
     ghost body = { deliver_body };
 
-    ghost over = { λ code k. Unit {0} };
-
     fn ask(&self, alloc: Global, place: Place, state: &Step) -> Result<Stand, OutOfMemory> {
         match state {
             Step::Puts => Ok(puts(self.channel, self.value.copy(alloc)?, place)),
@@ -72,13 +69,7 @@ impl Kind for Delivery {
         }
     }
 
-    fn next(
-        &self,
-        _alloc: Global,
-        _code: &ValidCode,
-        state: Step,
-        answer: Value,
-    ) -> Result<Next<Step>, OutOfMemory> {
+    fn next(&self, _alloc: Global, state: Step, answer: Value) -> Result<Next<Step>, OutOfMemory> {
         match state {
             Step::Puts => Ok(after_put(&answer)),
             Step::Untaps => Ok(Next::To(Step::Answers)),
@@ -90,9 +81,9 @@ impl Kind for Delivery {
 
     ghost faults = { λ k p f. refl };
 
-    ghost stays = { λ program k p v. refl };
+    ghost stays = { λ k p v. refl };
 
-    ghost stays_faulted = { λ program k p f v. refl };
+    ghost stays_faulted = { λ k p f v. refl };
 }
 
 impl Delivery {

@@ -4,7 +4,7 @@
 //! for the taps once a value, starts a delivery to each and waits for all their answers (`mult`, over `taps`); a
 //! delivery puts the value, and takes the tap off where that is closed (`deliver`).
 //!
-//! Stands on `ca_system`, whose task over a table is the agent. Start with `specs/Mults.antt`, then `mult`.
+//! Stands on `ca_system`. Start with `specs/Mults.antt`, then `mult`.
 #![tactic(auto)]
 
 pub mod deliver;

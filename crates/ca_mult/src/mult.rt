@@ -9,13 +9,12 @@ ghost use Rattle.ca_term.specs.declared.head.SystemTask.TheVariants.{Mult as mul
 ghost use Rattle.ca_meaning.specs.Asks.{closes_due, spawns, two_of};
 ghost use Rattle.ca_meaning.specs.MultTable.{mult_asks, mult_next, mult_takes, mult_reads, mult_reads_last, mult_closes, acks_due, spawns_due};
 ghost use Rattle.ca_meaning.specs.System.{new_system};
-ghost use Rattle.ca_system.specs.Stands.{stand_at, next_view};
+ghost use Rattle.ca_system.specs.Stands.{running_body, stand_at, next_view};
 ghost use Rattle.ca_mult.specs.Taps.{tap_view};
-ghost use Rattle.ca_mult.specs.Mults.{mult_body, mult_view, ports_view, state_view};
+ghost use Rattle.ca_mult.specs.Mults.{mult_body, ports_view, state_view};
 
 use crate::taps::{Tap, Walk, closing_of, taps_in};
 use ca_asking::operands::port_at;
-use ca_states::valid_code::ValidCode;
 use ca_system::asks::{closes, four, one, registers, spawns, takes};
 use ca_system::operand::is_nil;
 use ca_system::running::{Kind, Running};
@@ -61,7 +60,7 @@ pub enum State {
 
 /// The task with these values: the mult, its source, and the channel of its deliveries' answers.
 pub fn new_mult(values: Items, place: Place) -> Mult
-    ensures { mult_view result ≡ new_system mult_task (trees (list values)) place }
+    ensures { running_body mult_body result ≡ new_system mult_task (trees (list values)) place }
 {
     let values = values.as_slice();
     let ports = Ports {
@@ -77,8 +76,6 @@ impl Kind for Ports {
 
     ghost body = { mult_body };
 
-    ghost over = { λ code k. Unit {0} };
-
     fn ask(&self, alloc: Global, place: Place, state: &State) -> Result<Stand, OutOfMemory> {
         match state {
             State::Takes => Ok(takes(self.source, place)),
@@ -90,13 +87,7 @@ impl Kind for Ports {
         }
     }
 
-    fn next(
-        &self,
-        alloc: Global,
-        _code: &ValidCode,
-        state: State,
-        answer: Value,
-    ) -> Result<Next<State>, OutOfMemory> {
+    fn next(&self, alloc: Global, state: State, answer: Value) -> Result<Next<State>, OutOfMemory> {
         match state {
             State::Takes => Ok(taken(answer)),
             State::Reads(value) => deliveries(alloc, value, &answer),
@@ -111,9 +102,9 @@ impl Kind for Ports {
 
     ghost faults = { λ k p f. refl };
 
-    ghost stays = { λ program k p v. refl };
+    ghost stays = { λ k p v. refl };
 
-    ghost stays_faulted = { λ program k p f v. refl };
+    ghost stays_faulted = { λ k p f v. refl };
 }
 
 impl Ports {

@@ -4,7 +4,6 @@ use Rattle.ca_meaning.specs.Operands.{first_of, rest_of}
 use Rattle.ca_meaning.specs.PipelineTable.{CollectPorts, CollectState, collect_takes, collect_opens, collect_puts, collect_closes, collect_ends}
 use Rattle.ca_meaning.specs.System.{SystemBody, a_collect}
 use Rattle.ca_system.specs.Stands.{next_view}
-use Rattle.ca_system.specs.declared.running.Running.{Running}
 use Rattle.ca_system.specs.declared.stand.Next.{Next}
 use Rattle.ca_pipes.specs.Walks.{left}
 use Rattle.ca_pipes.specs.declared.collect.Ports.{Ports}
@@ -23,6 +22,3 @@ collect_state Ends = collect_ends
 
 abbrev pub collect_body : Ports → Place → Next State → SystemBody
 collect_body k p x = a_collect (collect_ports k) p (next_view collect_state x)
-
-abbrev pub collect_view : Running Ports State → SystemBody
-collect_view r = collect_body r.kind r.place r.state

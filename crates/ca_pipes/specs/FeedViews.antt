@@ -4,7 +4,6 @@ use Rattle.ca_term.specs.declared.place.Place.{Place}
 use Rattle.ca_meaning.specs.PipelineTable.{FeedPorts, FeedState, feed_takes, feed_makes, feed_puts, feed_queues, feed_closes_jobs, feed_closes_replies}
 use Rattle.ca_meaning.specs.System.{SystemBody, a_feed}
 use Rattle.ca_system.specs.Stands.{next_view}
-use Rattle.ca_system.specs.declared.running.Running.{Running}
 use Rattle.ca_system.specs.declared.stand.Next.{Next}
 use Rattle.ca_pipes.specs.declared.feed.Ports.{Ports}
 use Rattle.ca_pipes.specs.declared.feed.State.{State}
@@ -23,6 +22,3 @@ feed_state ClosesReplies = feed_closes_replies
 
 abbrev pub feed_body : Ports → Place → Next State → SystemBody
 feed_body k p x = a_feed (feed_ports k) p (next_view feed_state x)
-
-abbrev pub feed_view : Running Ports State → SystemBody
-feed_view r = feed_body r.kind r.place r.state

@@ -9,7 +9,6 @@ use Rattle.ca_meaning.specs.Operands.{is_nil}
 use Rattle.ca_meaning.specs.Asks.{Next, to, stop, fail, trees_in}
 use Rattle.ca_meaning.specs.PipeTable.{MergeState, merge_puts, inputs_left, without_port}
 use Rattle.ca_meaning.specs.System.{SystemBody, a_merge}
-use Rattle.ca_system.specs.declared.running.Running.{Running}
 use Rattle.ca_system.specs.declared.stand.Next.{Next as NextState}
 use Rattle.ca_system.specs.declared.stand.Next.TheVariants.{To, Stop, Fail}
 use Rattle.ca_pipes.specs.declared.merge.Output.{Output}
@@ -28,9 +27,6 @@ merge_at (Fail f) = fail f
 
 abbrev pub merge_body : Output → Place → NextState State → SystemBody
 merge_body k p x = a_merge k.port.n p (merge_at x)
-
-abbrev pub merge_view : Running Output State → SystemBody
-merge_view r = merge_body r.kind r.place r.state
 
 -- what an alts answers: a value and its port
 abbrev pub chosen_view : Value × PortId → Tree × ℕ

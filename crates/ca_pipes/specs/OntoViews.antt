@@ -4,7 +4,6 @@ use Rattle.ca_meaning.specs.Operands.{first_of, rest_of}
 use Rattle.ca_meaning.specs.PipeTable.{OntoPorts, OntoState, onto_puts, onto_closes, onto_ends}
 use Rattle.ca_meaning.specs.System.{SystemBody, an_onto}
 use Rattle.ca_system.specs.Stands.{next_view}
-use Rattle.ca_system.specs.declared.running.Running.{Running}
 use Rattle.ca_system.specs.declared.stand.Next.{Next}
 use Rattle.ca_pipes.specs.Walks.{left}
 use Rattle.ca_pipes.specs.declared.onto.Ports.{Ports}
@@ -21,6 +20,3 @@ onto_state Ends = onto_ends
 
 abbrev pub onto_body : Ports → Place → Next State → SystemBody
 onto_body k p x = an_onto (onto_ports k) p (next_view onto_state x)
-
-abbrev pub onto_view : Running Ports State → SystemBody
-onto_view r = onto_body r.kind r.place r.state

@@ -4,7 +4,6 @@ use Rattle.ca_term.specs.declared.place.Place.{Place}
 use Rattle.ca_meaning.specs.PipeTable.{PipePorts, PipeState, pipe_takes, pipe_puts, pipe_closes}
 use Rattle.ca_meaning.specs.System.{SystemBody, a_pipe}
 use Rattle.ca_system.specs.Stands.{next_view}
-use Rattle.ca_system.specs.declared.running.Running.{Running}
 use Rattle.ca_system.specs.declared.stand.Next.{Next}
 use Rattle.ca_pipes.specs.declared.pipe.Ports.{Ports}
 use Rattle.ca_pipes.specs.declared.pipe.State.{State}
@@ -20,6 +19,3 @@ pipe_state Closes = pipe_closes
 
 abbrev pub pipe_body : Ports → Place → Next State → SystemBody
 pipe_body k p x = a_pipe (pipe_ports k) p (next_view pipe_state x)
-
-abbrev pub pipe_view : Running Ports State → SystemBody
-pipe_view r = pipe_body r.kind r.place r.state

@@ -6,13 +6,12 @@ ghost use Rattle.ca_term.specs.declared.head.SystemTask.{SystemTask};
 ghost use Rattle.ca_meaning.specs.Asks.{needing, items_in, to};
 ghost use Rattle.ca_meaning.specs.PipelineTable.{collect_next, collect_takes, collect_closes, collect_ends, outputs_left};
 ghost use Rattle.ca_meaning.specs.System.{new_system};
-ghost use Rattle.ca_system.specs.Stands.{next_view};
+ghost use Rattle.ca_system.specs.Stands.{running_body, next_view};
 ghost use Rattle.ca_pipes.specs.Walks.{left};
-ghost use Rattle.ca_pipes.specs.CollectViews.{collect_body, collect_view, collect_ports, collect_state};
+ghost use Rattle.ca_pipes.specs.CollectViews.{collect_body, collect_ports, collect_state};
 
 use crate::walk::Walk;
 use ca_asking::operands::{is_true, port_at, truth_at};
-use ca_states::valid_code::ValidCode;
 use ca_system::asks::{closes, puts, takes};
 use ca_system::operand::is_nil;
 use ca_system::running::{Kind, Running};
@@ -52,7 +51,7 @@ pub enum State {
 /// A new task: its values are the channel of replies, the target, whether the target closes after the last reply, and
 /// the port that closes last.
 pub fn new_collect(values: Items, place: Place) -> Collect
-    ensures { collect_view result ≡ new_system SystemTask.Collect (trees (list values)) place }
+    ensures { running_body collect_body result ≡ new_system SystemTask.Collect (trees (list values)) place }
 {
     let values = values.as_slice();
     let ports = Ports {
@@ -89,8 +88,6 @@ impl Kind for Ports {
 
     ghost body = { collect_body };
 
-    ghost over = { λ code k. Unit {0} };
-
     fn ask(&self, alloc: Global, place: Place, state: &State) -> Result<Stand, OutOfMemory> {
         match state {
             State::Takes => Ok(takes(self.replies, place)),
@@ -104,7 +101,6 @@ impl Kind for Ports {
     fn next(
         &self,
         _alloc: Global,
-        _code: &ValidCode,
         state: State,
         answer: Value,
     ) -> Result<Next<State>, OutOfMemory> {
@@ -127,9 +123,9 @@ impl Kind for Ports {
 
     ghost faults = { λ k p f. refl };
 
-    ghost stays = { λ program k p v. refl };
+    ghost stays = { λ k p v. refl };
 
-    ghost stays_faulted = { λ program k p f v. refl };
+    ghost stays_faulted = { λ k p f v. refl };
 }
 
 impl Ports {

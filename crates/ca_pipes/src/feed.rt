@@ -7,11 +7,10 @@ ghost use Rattle.ca_term.specs.declared.head.SystemTask.{SystemTask};
 ghost use Rattle.ca_meaning.specs.Asks.{pair_of};
 ghost use Rattle.ca_meaning.specs.PipelineTable.{feed_next, feed_takes, feed_makes};
 ghost use Rattle.ca_meaning.specs.System.{new_system};
-ghost use Rattle.ca_system.specs.Stands.{next_view};
-ghost use Rattle.ca_pipes.specs.FeedViews.{feed_body, feed_view, feed_state};
+ghost use Rattle.ca_system.specs.Stands.{running_body, next_view};
+ghost use Rattle.ca_pipes.specs.FeedViews.{feed_body, feed_state};
 
 use ca_asking::operands::port_at;
-use ca_states::valid_code::ValidCode;
 use ca_system::asks::{closes, makes, puts, takes};
 use ca_system::operand::is_nil;
 use ca_system::running::{Kind, Running};
@@ -52,7 +51,7 @@ pub enum State {
 
 /// A new task: its values are the source, the channel of jobs, and that of replies.
 pub fn new_feed(values: Items, place: Place) -> Feed
-    ensures { feed_view result ≡ new_system SystemTask.Feed (trees (list values)) place }
+    ensures { running_body feed_body result ≡ new_system SystemTask.Feed (trees (list values)) place }
 {
     let values = values.as_slice();
     let ports = Ports {
@@ -79,8 +78,6 @@ impl Kind for Ports {
 
     ghost body = { feed_body };
 
-    ghost over = { λ code k. Unit {0} };
-
     fn ask(&self, alloc: Global, place: Place, state: &State) -> Result<Stand, OutOfMemory> {
         match state {
             State::Takes => Ok(takes(self.source, place)),
@@ -95,7 +92,6 @@ impl Kind for Ports {
     fn next(
         &self,
         _alloc: Global,
-        _code: &ValidCode,
         state: State,
         answer: Value,
     ) -> Result<Next<State>, OutOfMemory> {
@@ -113,9 +109,9 @@ impl Kind for Ports {
 
     ghost faults = { λ k p f. refl };
 
-    ghost stays = { λ program k p v. refl };
+    ghost stays = { λ k p v. refl };
 
-    ghost stays_faulted = { λ program k p f v. refl };
+    ghost stays_faulted = { λ k p f v. refl };
 }
 
 // What follows on a value, or on nil at the end of the source.

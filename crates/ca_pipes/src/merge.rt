@@ -7,11 +7,10 @@ ghost use Rattle.ca_term.specs.declared.head.SystemTask.{SystemTask};
 ghost use Rattle.ca_meaning.specs.Asks.{follows, needing, value_and_port, pair_of, stands_at, trees_in};
 ghost use Rattle.ca_meaning.specs.PipeTable.{merge_asks, merge_next, inputs_left, is_port as is_port_tree, without_port};
 ghost use Rattle.ca_meaning.specs.System.{new_system};
-ghost use Rattle.ca_system.specs.Stands.{stand_at};
-ghost use Rattle.ca_pipes.specs.MergeViews.{merge_body, merge_view, merge_at, chosen_view, after_choice_of};
+ghost use Rattle.ca_system.specs.Stands.{running_body, stand_at};
+ghost use Rattle.ca_pipes.specs.MergeViews.{merge_body, merge_at, chosen_view, after_choice_of};
 
 use ca_asking::operands::{port_at, value_at};
-use ca_states::valid_code::ValidCode;
 use ca_system::asks::{chooses, closes, puts};
 use ca_system::operand::{is_nil, items_of, value_and_port};
 use ca_system::running::{Kind, Running};
@@ -43,7 +42,7 @@ pub enum State {
 
 /// A new task: its values are the vector of its inputs, and the output.
 pub fn new_merge(values: Items, place: Place) -> Merge
-    ensures { merge_view result ≡ new_system SystemTask.Merge (trees (list values)) place }
+    ensures { running_body merge_body result ≡ new_system SystemTask.Merge (trees (list values)) place }
 {
     let output = Output {
         port: port_at(values.as_slice(), 1),
@@ -56,8 +55,6 @@ impl Kind for Output {
 
     ghost body = { merge_body };
 
-    ghost over = { λ code k. Unit {0} };
-
     fn ask(&self, alloc: Global, place: Place, state: &State) -> Result<Stand, OutOfMemory> {
         match state {
             State::Chooses(inputs) => before_choice(alloc, self.port, place, inputs),
@@ -65,13 +62,7 @@ impl Kind for Output {
         }
     }
 
-    fn next(
-        &self,
-        alloc: Global,
-        _code: &ValidCode,
-        state: State,
-        answer: Value,
-    ) -> Result<Next<State>, OutOfMemory> {
+    fn next(&self, alloc: Global, state: State, answer: Value) -> Result<Next<State>, OutOfMemory> {
         match state {
             State::Chooses(inputs) => after_alts(alloc, &answer, inputs),
             State::Puts(inputs, _) => Ok(Next::To(State::Chooses(inputs))),
@@ -82,9 +73,9 @@ impl Kind for Output {
 
     ghost faults = { λ k p f. refl };
 
-    ghost stays = { λ program k p v. refl };
+    ghost stays = { λ k p v. refl };
 
-    ghost stays_faulted = { λ program k p f v. refl };
+    ghost stays_faulted = { λ k p f v. refl };
 }
 
 // Where it stands before a choice.

@@ -6,13 +6,12 @@ ghost use Rattle.ca_term.specs.declared.head.SystemTask.{SystemTask};
 ghost use Rattle.ca_meaning.specs.Operands.{port_number, truth as truth_of, first_of, second_of, third_of};
 ghost use Rattle.ca_meaning.specs.PipeTable.{onto_over, items_left};
 ghost use Rattle.ca_meaning.specs.System.{new_system, fourth_of};
-ghost use Rattle.ca_system.specs.Stands.{next_view};
+ghost use Rattle.ca_system.specs.Stands.{running_body, next_view};
 ghost use Rattle.ca_pipes.specs.Walks.{left};
-ghost use Rattle.ca_pipes.specs.OntoViews.{onto_body, onto_view, onto_ports, onto_state};
+ghost use Rattle.ca_pipes.specs.OntoViews.{onto_body, onto_ports, onto_state};
 
 use crate::walk::Walk;
 use ca_asking::operands::{is_true, port_at, truth_at, value_at};
-use ca_states::valid_code::ValidCode;
 use ca_system::asks::{closes, puts};
 use ca_system::running::{Kind, Running};
 use ca_system::stand::{Next, Stand};
@@ -45,7 +44,7 @@ pub enum State {
 /// A new task: its values are the target, the vector, whether the target closes at the end, and the port that closes
 /// last.
 pub fn new_onto(values: Items, place: Place) -> Onto
-    ensures { onto_view result ≡ new_system SystemTask.Onto (trees (list values)) place }
+    ensures { running_body onto_body result ≡ new_system SystemTask.Onto (trees (list values)) place }
 {
     let ports = Ports::of(values.as_slice());
     let first = ports.go_on(Walk::new(value_at(values, 1)));
@@ -56,8 +55,6 @@ impl Kind for Ports {
     type State = State;
 
     ghost body = { onto_body };
-
-    ghost over = { λ code k. Unit {0} };
 
     fn ask(&self, alloc: Global, place: Place, state: &State) -> Result<Stand, OutOfMemory> {
         match state {
@@ -70,7 +67,6 @@ impl Kind for Ports {
     fn next(
         &self,
         _alloc: Global,
-        _code: &ValidCode,
         state: State,
         answer: Value,
     ) -> Result<Next<State>, OutOfMemory> {
@@ -91,9 +87,9 @@ impl Kind for Ports {
 
     ghost faults = { λ k p f. refl };
 
-    ghost stays = { λ program k p v. refl };
+    ghost stays = { λ k p v. refl };
 
-    ghost stays_faulted = { λ program k p f v. refl };
+    ghost stays_faulted = { λ k p f v. refl };
 }
 
 impl Ports {

@@ -5,11 +5,10 @@ ghost use Rattle.ca_value.specs.View.{view, trees};
 ghost use Rattle.ca_term.specs.declared.head.SystemTask.{SystemTask};
 ghost use Rattle.ca_meaning.specs.PipeTable.{pipe_next, pipe_takes};
 ghost use Rattle.ca_meaning.specs.System.{new_system};
-ghost use Rattle.ca_system.specs.Stands.{next_view};
-ghost use Rattle.ca_pipes.specs.PipeViews.{pipe_body, pipe_view, pipe_ports, pipe_state};
+ghost use Rattle.ca_system.specs.Stands.{running_body, next_view};
+ghost use Rattle.ca_pipes.specs.PipeViews.{pipe_body, pipe_ports, pipe_state};
 
 use ca_asking::operands::{is_true, port_at, truth_at};
-use ca_states::valid_code::ValidCode;
 use ca_system::asks::{closes, puts, takes};
 use ca_system::operand::is_nil;
 use ca_system::running::{Kind, Running};
@@ -42,7 +41,7 @@ pub enum State {
 
 /// A new task: its values are the source, the target, and whether the target closes at the end of the source.
 pub fn new_pipe(values: Items, place: Place) -> Pipe
-    ensures { pipe_view result ≡ new_system SystemTask.Pipe (trees (list values)) place }
+    ensures { running_body pipe_body result ≡ new_system SystemTask.Pipe (trees (list values)) place }
 {
     let values = values.as_slice();
     let ports = Ports {
@@ -58,8 +57,6 @@ impl Kind for Ports {
 
     ghost body = { pipe_body };
 
-    ghost over = { λ code k. Unit {0} };
-
     fn ask(&self, alloc: Global, place: Place, state: &State) -> Result<Stand, OutOfMemory> {
         match state {
             State::Takes => Ok(takes(self.source, place)),
@@ -71,7 +68,6 @@ impl Kind for Ports {
     fn next(
         &self,
         _alloc: Global,
-        _code: &ValidCode,
         state: State,
         answer: Value,
     ) -> Result<Next<State>, OutOfMemory> {
@@ -92,9 +88,9 @@ impl Kind for Ports {
 
     ghost faults = { λ k p f. refl };
 
-    ghost stays = { λ program k p v. refl };
+    ghost stays = { λ k p v. refl };
 
-    ghost stays_faulted = { λ program k p f v. refl };
+    ghost stays_faulted = { λ k p f v. refl };
 }
 
 impl Ports {

@@ -1,11 +1,10 @@
 //! The task of a publication.
 //!
 //! The one model: it is a body of its table in the meaning, reached by a view of `specs/`. Of each value of its source it
-//! makes the topic by a plain function, asks its registry for the topic's channel and puts the value there
+//! asks for the topic, which a plain function makes; it asks its registry for the topic's channel and puts the value there
 //! (`publication`); `answers` reads the registry's answers.
 //!
-//! Stands on `ca_system`, whose task over a table is the agent, and on `ca_applying`. Start with
-//! `specs/Publications.antt`, then `publication`.
+//! Stands on `ca_system`. Start with `specs/Publications.antt`, then `publication`.
 #![tactic(auto)]
 
 mod answers;

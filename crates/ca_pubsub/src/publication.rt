@@ -1,33 +1,27 @@
 //! The task of a publication: each value that it takes from the source goes to the channel of its topic.
 ghost use Rattle.std.proofs.Common.{refl};
-ghost use Rattle.std.specs.Prelude.{◌≡◌, map, IfOk, IsTrue, cond};
+ghost use Rattle.std.specs.Prelude.{◌≡◌, map, option_map, IfOk, cond};
 ghost use Rattle.std.specs.Vec.Iter.{into_iter_items};
 ghost use Rattle.ca_value.specs.Seq.{list};
 ghost use Rattle.ca_value.specs.View.{view, trees};
-ghost use Rattle.ca_term.specs.declared.place.Place.{Place};
 ghost use Rattle.ca_term.specs.declared.head.SystemTask.TheVariants.{Pub as pub_task};
-ghost use Rattle.ca_term.specs.Program.{ProgramView};
 ghost use Rattle.ca_meaning.specs.Asks.{to, needing, closes_due, registers, one_of, two_of};
 ghost use Rattle.ca_term.specs.declared.head.RegisterName.TheVariants.{Find, Topics};
 ghost use Rattle.ca_value.specs.Tree.{port};
 ghost use Rattle.ca_meaning.specs.Operands.{is_nil};
-ghost use Rattle.ca_meaning.specs.PubTable.{pub_next, pub_takes, pub_sorts, pub_puts, pub_reads_last, pub_closes, channel_of_pair, sorted_by};
+ghost use Rattle.ca_meaning.specs.PubTable.{pub_next, pub_takes, pub_puts, pub_reads_last, pub_closes, channel_of_pair};
 ghost use Rattle.ca_meaning.specs.System.{new_system};
-ghost use Rattle.ca_states.specs.Code.{CodeView};
-ghost use Rattle.ca_states.specs.Valid.{is_applied};
-ghost use Rattle.ca_states.specs.ValidCode.{valid_code};
-ghost use Rattle.ca_lower.specs.Lowered.{Lowered};
-ghost use Rattle.ca_applying.specs.Returned.{returned_view};
-ghost use Rattle.ca_system.specs.Stands.{stand_at, next_view};
-ghost use Rattle.ca_pubsub.specs.Publications.{pub_over, Rests, pub_body, pub_view, ports_view, state_view};
+ghost use Rattle.ca_system.specs.Applications.{applied, pending, topic_made};
+ghost use Rattle.ca_system.specs.Applied.{application_view, returned_view};
+ghost use Rattle.ca_system.specs.Stands.{running_body, stand_at, next_view};
+ghost use Rattle.ca_pubsub.specs.Publications.{pub_body, state_view};
 
 use crate::answers::{channel_of, ports_in};
-use ca_applying::apply::apply;
-use ca_applying::returned::Returned;
 use ca_asking::operands::{port_at, value_at};
-use ca_states::valid_code::ValidCode;
+use ca_system::application::Application;
 use ca_system::asks::{closes, one, puts, registers, takes, two};
 use ca_system::operand::is_nil;
+use ca_system::returned::Returned;
 use ca_system::running::{Kind, Running};
 use ca_system::stand::{Next, Stand};
 use ca_term::fault::Fault;
@@ -36,6 +30,7 @@ use ca_term::place::Place;
 use ca_value::memory::OutOfMemory;
 use ca_value::value::{Items, PortId, Value};
 use std::alloc::Global;
+use std::mem;
 use std::vec::IntoIter;
 
 /// The task of a publication.
@@ -55,6 +50,8 @@ pub struct Ports {
 pub enum State {
     /// It takes the next value.
     Takes,
+    /// It makes the topic of this value.
+    Sorts(Value),
     /// It asks for the channel of this topic, for the value.
     Finds {
         topic: Value,
@@ -77,8 +74,7 @@ pub enum State {
 /// The task with this topic function and these values: the publication, its source, and the keyword where that is the
 /// function.
 pub fn new_pub(topic: PlainFunction, values: Items, place: Place) -> Pub
-    ensures new { pub_view result ≡ new_system (pub_task topic) (trees (list values)) place }
-    ensures topic { (code : CodeView) → IsTrue (is_applied code topic) → pub_over code result.kind }
+    ensures { running_body pub_body result ≡ new_system (pub_task topic) (trees (list values)) place }
 {
     let publication = port_at(values.as_slice(), 0);
     let source = port_at(values.as_slice(), 1);
@@ -91,16 +87,52 @@ pub fn new_pub(topic: PlainFunction, values: Items, place: Place) -> Pub
     Running::new(ports, place, Next::To(State::Takes))
 }
 
+/// The topic function with its value, where the task is about to apply it.
+pub fn pending_topic(task: &Pub) -> Option<Application<'_>>
+    ensures { option_map application_view result ≡ pending (running_body pub_body task.now) }
+{
+    match &task.state {
+        Next::To(State::Sorts(value)) => Some(Application {
+            function: task.kind.topic,
+            keyword: &task.kind.keyword,
+            place: task.place,
+            value,
+        }),
+        _ => None,
+    }
+}
+
+/// Goes on with what the topic function came to.
+pub fn topic_made(task: &mut Pub, returned: Returned)
+    ensures { running_body pub_body task.new ≡ applied (returned_view returned) (running_body pub_body task.old) }
+{
+    match mem::replace(&mut task.state, Next::Stop) {
+        Next::To(state) => task.state = sorted(state, returned),
+        Next::Stop => {}
+        Next::Fail(fault) => task.state = Next::Fail(fault),
+    }
+}
+
+// The channel of the topic is asked for, or the task has the function's fault.
+fn sorted(state: State, returned: Returned) -> Next<State>
+    ensures { next_view state_view result ≡ topic_made (returned_view returned) (to (state_view state)) }
+{
+    match (state, returned) {
+        (State::Sorts(value), Returned::Value(topic)) => Next::To(State::Finds { topic, value }),
+        (State::Sorts(_), Returned::Fault(fault)) => Next::Fail(fault),
+        (state, _) => Next::To(state),
+    }
+}
+
 impl Kind for Ports {
     type State = State;
 
     ghost body = { pub_body };
 
-    ghost over = { pub_over };
-
     fn ask(&self, alloc: Global, place: Place, state: &State) -> Result<Stand, OutOfMemory> {
         match state {
             State::Takes => Ok(takes(self.source, place)),
+            State::Sorts(_) => unreachable!(),
             State::Finds { topic, value: _ } => self.find(alloc, topic, place),
             State::Puts { channel, value } => Ok(puts(*channel, value.copy(alloc)?, place)),
             State::ReadsLast => self.topics(alloc, place),
@@ -108,16 +140,10 @@ impl Kind for Ports {
         }
     }
 
-    #[tactic(auto, using(crate::proofs::Resting::at_rest))]
-    fn next(
-        &self,
-        alloc: Global,
-        code: &ValidCode,
-        state: State,
-        answer: Value,
-    ) -> Result<Next<State>, OutOfMemory> {
+    fn next(&self, alloc: Global, state: State, answer: Value) -> Result<Next<State>, OutOfMemory> {
         match state {
-            State::Takes => self.taken(alloc, code, answer),
+            State::Takes => Ok(taken(answer)),
+            State::Sorts(value) => Ok(Next::To(State::Sorts(value))),
             State::Finds { topic: _, value } => Ok(found(&answer, value)),
             State::Puts { .. } => Ok(Next::To(State::Takes)),
             State::ReadsLast => closings(alloc, &answer),
@@ -129,9 +155,9 @@ impl Kind for Ports {
 
     ghost faults = { λ k p f. refl };
 
-    ghost stays = { λ program k p v. refl };
+    ghost stays = { λ k p v. refl };
 
-    ghost stays_faulted = { λ program k p f v. refl };
+    ghost stays_faulted = { λ k p f v. refl };
 }
 
 impl Ports {
@@ -150,46 +176,16 @@ impl Ports {
         let values = one(alloc, Value::Port(self.publication))?;
         Ok(registers(RegisterName::Topics, values, place))
     }
-
-    // The topic of the value is made.
-    fn sort(
-        &self,
-        alloc: Global,
-        code: &ValidCode,
-        value: Value,
-    ) -> Result<Next<State>, OutOfMemory>
-        requires { IsTrue (is_applied (valid_code code.now) self.now.topic) }
-        ensures { IfOk result (λ n. (program : ProgramView) (place : Place) → Lowered program (valid_code code.now) → Rests program (ports_view self.now) place (to (pub_sorts (view value))) (next_view state_view n)) }
-    {
-        let topic = apply(alloc, code, self.topic, &self.keyword, &value)?;
-        Ok(sorted(value, topic))
-    }
-
-    // What follows on a value of the source, or on its end.
-    fn taken(
-        &self,
-        alloc: Global,
-        code: &ValidCode,
-        answer: Value,
-    ) -> Result<Next<State>, OutOfMemory>
-        requires { IsTrue (is_applied (valid_code code.now) self.now.topic) }
-        ensures { IfOk result (λ n. (program : ProgramView) (place : Place) → Lowered program (valid_code code.now) → Rests program (ports_view self.now) place (pub_next (view answer) pub_takes) (next_view state_view n)) }
-    {
-        if is_nil(&answer) {
-            Ok(Next::To(State::ReadsLast))
-        } else {
-            self.sort(alloc, code, answer)
-        }
-    }
 }
 
-// The topic that the function came to, or its fault.
-fn sorted(value: Value, topic: Returned) -> Next<State>
-    ensures { next_view state_view result ≡ sorted_by (view value) (returned_view topic) }
+// What follows on a value of the source, or on its end.
+fn taken(answer: Value) -> Next<State>
+    ensures { next_view state_view result ≡ pub_next (view answer) pub_takes }
 {
-    match topic {
-        Returned::Value(topic) => Next::To(State::Finds { topic, value }),
-        Returned::Fault(fault) => Next::Fail(fault),
+    if is_nil(&answer) {
+        Next::To(State::ReadsLast)
+    } else {
+        Next::To(State::Sorts(answer))
     }
 }
 

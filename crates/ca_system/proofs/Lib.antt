@@ -1,2 +1,3 @@
+pub mod Applications
 pub mod Operands
 pub mod Sending

@@ -1,22 +1,11 @@
--- A system task may go to another thread where its table may.
+-- A running task of a kind may go to another thread where the kind may.
 use denote.RattleType.{RattleType}
 use denote.Param.Send.{IsSend, sendable}
 use denote.Param.SendFields.{declared_send, variants_send}
-use Rattle.ca_value.proofs.Crosses.{value_send}
 use Rattle.ca_term.proofs.fault.Fault.TheSendSync as fault
 use Rattle.ca_term.proofs.place.Place.TheSendSync as place
-use Rattle.ca_states.proofs.Sending.{want_send}
 use Rattle.ca_system.specs.contracts.running.Running as Running
 use Rattle.ca_system.specs.contracts.stand.Next as Next
-use Rattle.ca_system.specs.contracts.stand.Stand as Stand
-use Rattle.ca_system.specs.contracts.task.Stage as Stage
-use Rattle.ca_system.specs.contracts.task.SystemTask as SystemTask
-
-stand_send : IsSend Stand.the_row
-stand_send = variants_send Stand.enum (search (sendable, want_send, fault.the_send, place.the_send) depth 20)
-
-stage_send : IsSend Stage.the_row
-stage_send = variants_send Stage.enum (search (sendable, value_send, stand_send) depth 20)
 
 -- what follows on an answer, where a state may
 pub next_send : (S : RattleType) → IsSend S → IsSend (Next.the_row S)
@@ -25,6 +14,3 @@ next_send S s = variants_send (Next.enum S) (search (sendable, s), (tt, (search 
 -- a task of a kind, where the kind may and its states
 pub running_send : (K S : RattleType) → IsSend K → IsSend S → IsSend (Running.the_row K S)
 running_send K S k s = declared_send (Running.the_type K S) (search (sendable, k), (search (sendable, place.the_send) depth 20, (search (sendable, s, next_send), tt)))
-
-pub task_send : (T : RattleType) → IsSend T → IsSend (SystemTask.the_row T)
-task_send T t = declared_send (SystemTask.the_type T) (search (sendable, t), (search (sendable, stage_send), tt))

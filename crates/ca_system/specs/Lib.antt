@@ -1,3 +1,3 @@
+pub mod Applications
 pub mod Stands
-pub mod Systems
-pub mod SystemLaws
+pub mod Applied

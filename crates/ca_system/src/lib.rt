@@ -1,19 +1,17 @@
-//! System tasks as agents: a table of states becomes a task.
+//! The tables of the system's tasks, whatever the kind: rows of states become a body of the meaning.
 //!
-//! The one model: a table tells where it stands and follows an answer to its next state (`table`). A kind of task says
-//! what each of its states asks for and what follows, and a running task of the kind is a table (`running`). A system
-//! task is a table with where it is paused (`task`), and a lawful agent whatever its table (`agent`): it stands for the
-//! table's body in the meaning, asks for what that body asks, and goes on as it does. The words that rows are written
-//! with stand in `asks` and `operand`.
+//! The one model: a kind of task says what each of its states asks for and what follows on an answer, and a running task
+//! of the kind is a body of its table in the meaning (`running`). Where it applies a plain function, it tells which one,
+//! and takes what that comes to from whoever can apply it: compiled code, or the text itself (`application`, `returned`).
+//! So no table knows of code. The words that rows are written with stand in `asks` and `operand`.
 //!
-//! Stands on `ca_agent`, and on `ca_asking` for an alts and for operands by their place. Start with
-//! `specs/Systems.antt`, then `table`, `running` and `agent`.
+//! Stands on `ca_meaning`, and on `ca_asking` for an alts and for operands by their place. Start with
+//! `specs/Applications.antt`, then `stand` and `running`.
 #![tactic(auto)]
 
-mod agent;
+pub mod application;
 pub mod asks;
 pub mod operand;
+pub mod returned;
 pub mod running;
 pub mod stand;
-pub mod table;
-pub mod task;

@@ -1,19 +1,26 @@
 -- A task of a run may go to another thread.
 use denote.Param.Send.{IsSend, sendable}
-use denote.Param.SendFields.{variants_send}
+use denote.Param.SendFields.{declared_send, variants_send}
 use Rattle.std.proofs.Crossing.{crosses}
-use Rattle.ca_jobs.proofs.Sending.{job_send}
+use Rattle.ca_value.proofs.Crosses.{value_send}
+use Rattle.ca_term.proofs.fault.Fault.TheSendSync as fault
+use Rattle.ca_term.proofs.place.Place.TheSendSync as place
+use Rattle.ca_states.proofs.Sending.{want_send}
 use Rattle.ca_machine.proofs.Sending.{machine_send}
-use Rattle.ca_mix.proofs.Sending.{mix_send}
-use Rattle.ca_mult.proofs.Sending.{deliver_send, mult_send}
-use Rattle.ca_pipes.proofs.Sending.{collect_send, feed_send, merge_send, onto_send, pipe_send}
-use Rattle.ca_pubsub.proofs.Sending.{pub_send}
-use Rattle.ca_system.proofs.Sending.{task_send as system_send}
-use Rattle.ca_tasks.specs.contracts.kind.Kind as Kind
+use Rattle.ca_system.specs.contracts.stand.Stand as Stand
+use Rattle.ca_system_tasks.proofs.Sending.{table_send}
+use Rattle.ca_tasks.specs.contracts.system.Stage as Stage
+use Rattle.ca_tasks.specs.contracts.system.SystemTask as SystemTask
 use Rattle.ca_tasks.specs.contracts.task.AnyTask as AnyTask
 
-kind_send : IsSend Kind.the_row
-kind_send = variants_send Kind.enum (search (sendable, mult_send, deliver_send, mix_send, pub_send, pipe_send, merge_send, onto_send, feed_send, job_send, collect_send) depth 20)
+stand_send : IsSend Stand.the_row
+stand_send = variants_send Stand.enum (search (sendable, want_send, fault.the_send, place.the_send) depth 20)
+
+stage_send : IsSend Stage.the_row
+stage_send = variants_send Stage.enum (search (sendable, value_send, stand_send) depth 20)
+
+system_send : IsSend SystemTask.the_row
+system_send = declared_send SystemTask.the_type (search (sendable, table_send, stage_send) depth 20)
 
 pub task_send : IsSend AnyTask.the_row
-task_send = variants_send AnyTask.enum (search (sendable, crosses, machine_send, kind_send, system_send) depth 20)
+task_send = variants_send AnyTask.enum (search (sendable, crosses, machine_send, system_send) depth 20)

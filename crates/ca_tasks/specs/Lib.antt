@@ -1,3 +1,4 @@
-pub mod Kinds
+pub mod Systems
+pub mod SystemLaws
 pub mod Tasks
 pub mod TaskLaws

@@ -1,5 +1,5 @@
 -- A task of a run is a lawful agent, since its machine is, or its system task.
-use Rattle.std.proofs.Common.{◌≡◌, sym, subst}
+use Rattle.std.proofs.Common.{◌≡◌}
 use Rattle.ca_value.specs.Tree.{Tree}
 use Rattle.ca_term.specs.Operation.{SeedView, WantView}
 use Rattle.ca_term.specs.Program.{ProgramView}
@@ -8,30 +8,30 @@ use Rattle.ca_meaning.specs.Task.{TaskBody, BodyRest, body_at, body_fill, new_ta
 use Rattle.ca_states.specs.Code.{CodeView}
 use Rattle.ca_machine.specs.MachineLaws as M
 use Rattle.ca_machine.specs.View.{machine_view}
-use Rattle.ca_system.specs.SystemLaws as S
 use Rattle.ca_tasks.specs.declared.task.AnyTask.{AnyTask}
 use Rattle.ca_tasks.specs.declared.task.AnyTask.TheVariants.{Text, System}
-use Rattle.ca_tasks.specs.Kinds.{kind_over}
-use Rattle.ca_tasks.specs.Tasks.{advances, gives, over, place, seen, stands, starts}
+use Rattle.ca_tasks.specs.SystemLaws as S
+use Rattle.ca_tasks.specs.Systems.{system_view}
+use Rattle.ca_tasks.specs.Tasks.{advances, gives, over, place, stands, starts}
 
 pub advanced : (P : ProgramView) (a c : AnyTask) (b : TaskBody) → stands P a b → advances P a c → stands P c b × (place c ≡ body_at b)
 advanced P (Text m) (Text n) b st go_on = M.advanced P (machine_view m.value) (machine_view n.value) b st go_on
 advanced P (Text m) (System t) b st go_on = absurd go_on
 advanced P (System t) (Text m) b st go_on = absurd go_on
-advanced P (System t) (System u) b st go_on = S.advanced P (seen t.value) (seen u.value) b st go_on
+advanced P (System t) (System u) b st go_on = S.advanced P (system_view t.value) (system_view u.value) b st go_on
 
 pub answered : (P : ProgramView) (a c : AnyTask) (b : TaskBody) (w : WantView) (v : Tree) → stands P a b → place a ≡ body_at b → place a ≡ at_op w → gives a v c → (d : TaskBody) × BodyRest P (body_fill v b) d × stands P c d
 answered P (Text m) (Text n) b w v st at is g = M.answered P (machine_view m.value) (machine_view n.value) b w v st is g
 answered P (Text m) (System t) b w v st at is g = absurd g
 answered P (System t) (Text m) b w v st at is g = absurd g
-answered P (System t) (System u) b w v st at is g = S.answered P (seen t.value) (seen u.value) b w v st is g.0
+answered P (System t) (System u) b w v st at is g = S.answered P (system_view t.value) (system_view u.value) b w v st is g
 
 pub stays : (C : CodeView) (a c : AnyTask) (v : Tree) → gives a v c → over C a → over C c
 stays C (Text m) (Text n) v g = M.stays_over C (machine_view m.value) (machine_view n.value) v g
 stays C (Text m) (System t) v g = absurd g
 stays C (System t) (Text m) v g = absurd g
-stays C (System t) (System u) v g = subst (kind_over C) (sym g.1)
+stays C (System t) (System u) v g = S.stays_over C (system_view t.value) (system_view u.value) v g
 
 pub started : (P : ProgramView) (seed : SeedView) (a : AnyTask) → starts P seed a → (b : TaskBody) × BodyRest P (new_task P seed) b × stands P a b
 started P seed (Text m) s = M.started P seed (machine_view m.value) s
-started P seed (System t) s = S.started P seed (seen t.value) s
+started P seed (System t) s = S.started P seed (system_view t.value) s

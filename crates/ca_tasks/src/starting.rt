@@ -1,20 +1,20 @@
 //! New tasks of the seeds that a run starts.
 ghost use Rattle.std.specs.Prelude.{◌≡◌, IfOk, IfSome, true};
 ghost use Rattle.ca_value.specs.Seq.{list};
+ghost use Rattle.ca_value.specs.Tree.{Trees};
 ghost use Rattle.ca_value.specs.View.{trees};
+ghost use Rattle.ca_term.specs.declared.place.Place.{Place};
 ghost use Rattle.ca_states.specs.ValidCode.{valid_code};
 ghost use Rattle.ca_meaning.specs.System.{new_system};
-ghost use Rattle.ca_system.specs.Systems.{rests};
-ghost use Rattle.ca_tasks.specs.Kinds.{HasFunction, kind_over};
-ghost use Rattle.ca_tasks.specs.Tasks.{seen};
+ghost use Rattle.ca_tasks.specs.Systems.{IsOver, goes_on, system_view};
 
-use crate::kind::Kind;
+use crate::system::SystemTask as Running;
 use crate::task::AnyTask;
 use ca_agent::starting::Starting;
 use ca_applying::apply::has_function;
 use ca_machine::machine::Machine;
 use ca_states::valid_code::ValidCode;
-use ca_system::task::SystemTask as Running;
+use ca_system_tasks::table::SystemTable;
 use ca_term::copy::copy_values;
 use ca_term::head::SystemTask;
 use ca_term::operation::{Seed, SystemSeed};
@@ -23,7 +23,7 @@ use std::alloc::Global;
 
 // Whether the code has the function that the task applies, if it applies one.
 fn has_function_of(code: &ValidCode, task: SystemTask) -> bool
-    ensures { result ≡ true → HasFunction (valid_code code.now) task }
+    ensures { result ≡ true → (values : Trees) (place : Place) → IsOver (valid_code code.now) (new_system task values place) }
 {
     match task {
         SystemTask::Pub(function) | SystemTask::Job(_, function) => has_function(code, function),
@@ -38,15 +38,16 @@ fn system_for(
     alloc: Global,
     code: &ValidCode,
     seed: &SystemSeed,
-) -> Result<Option<Running<Kind>>, OutOfMemory>
-    ensures starts { IfOk result (λ o. IfSome o (λ t. seen t ≡ rests (new_system seed.now.kind (trees (list seed.now.values)) seed.now.place))) }
-    ensures over { IfOk result (λ o. IfSome o (λ t. kind_over (valid_code code.now) t.table)) }
+) -> Result<Option<Running>, OutOfMemory>
+    ensures starts { IfOk result (λ o. IfSome o (λ t. system_view t ≡ goes_on (new_system seed.now.kind (trees (list seed.now.values)) seed.now.place))) }
+    ensures over { IfOk result (λ o. IfSome o (λ t. IsOver (valid_code code.now) (system_view t).body)) }
 {
     if !has_function_of(code, seed.kind) {
         return Ok(None);
     }
     let values = copy_values(alloc, seed.values.as_slice())?;
-    Ok(Some(Running::new(Kind::new(seed.kind, values, seed.place))))
+    let table = SystemTable::new(seed.kind, values, seed.place);
+    Ok(Some(Running::new(table)))
 }
 
 impl Starting for AnyTask {

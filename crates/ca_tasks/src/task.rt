@@ -6,10 +6,9 @@ ghost use Rattle.ca_meaning.specs.Task.{TaskBody, BodyRest, script};
 ghost use Rattle.ca_lower.specs.Lowered.{Lowered};
 ghost use Rattle.ca_tasks.specs.Tasks.{over, stands};
 
-use crate::kind::Kind;
+use crate::system::SystemTask;
 use ca_machine::machine::Machine;
 use ca_states::valid_code::ValidCode;
-use ca_system::task::SystemTask;
 use ca_value::memory::OutOfMemory;
 use std::alloc::Global;
 
@@ -18,7 +17,7 @@ use std::alloc::Global;
 #[derive(Drop)]
 pub enum AnyTask {
     Text(Box<Machine>),
-    System(Box<SystemTask<Kind>>),
+    System(Box<SystemTask>),
 }
 
 impl AnyTask {
