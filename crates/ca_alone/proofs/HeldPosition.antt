@@ -15,12 +15,14 @@ use Rattle.ca_agent.specs.Agents.{Advanced}
 use Rattle.ca_turns.specs.declared.rule.View.{View}
 use Rattle.ca_commit.specs.Agents.{TaskAgent, advances_of, place_of, stands_of}
 use Rattle.ca_commit.specs.Applying.{event_of}
-use Rattle.ca_commit.specs.Contents.{Kept, TimersPart, home, whole}
+use Rattle.ca_commit.specs.Contents.{Kept, Parts, TimersPart, home, whole}
+use Rattle.ca_commit.specs.Deciding.{seen_in}
 use Rattle.ca_commit.specs.Finding.{rests}
 use Rattle.ca_commit.specs.Planning.{Planned, planned}
 use Rattle.ca_commit.specs.Settling.{served_in}
-use Rattle.ca_commit.specs.Showing.{channels_held, registries_held, seen}
+use Rattle.ca_commit.specs.Showing.{channels_held}
 use Rattle.ca_commit.specs.declared.held.Held.{Held}
+use Rattle.ca_commit.proofs.Laid.{IsPart}
 use Rattle.ca_table.specs.Draws.{drawn_touches}
 use Rattle.ca_table.specs.LoneHands.{HoldsLeft, left_now}
 use Rattle.ca_table.specs.OneCode.{advances_over, stands_over}
@@ -68,19 +70,19 @@ module _ {A : Type 0} (over : CodeView → A → Type 0) (place : A → At) (sta
   pub with_rest : (held : Held A) (p : ℕ) (f : ℕ → Option Kept) → LiesIn held (parts_now v) → channels_held held.banks (home p) ≡ Some f → served_in held p ≡ rests → Stands P → Stands (λ w. P w × (CanSettle w.state p → ⊥))
   with_rest held p f l bank e = stands_with (λ w. CanSettle w.state p → ⊥) (λ r x. held_rests_settle_not (place_of place) (stands_of (stands_over over code stands)) program 1 held (parts_now v) x.at.state p f x.alone.position.run.stand l bank e)
 
-  -- the held channels tell which of them the event may bring to settle
-  pub with_stirred : (held : Held A) (e : EventView) → LiesIn held (parts_now v) → HoldsDone (channels_held held.banks) e → Stands P → Stands (λ w. P w × (stirred w.state e ≡ stirs_in (whole (channels_held held.banks)) e))
-  with_stirred held e l there = stands_with (λ w. stirred w.state e ≡ stirs_in (whole (channels_held held.banks)) e) (λ r x. held_stirs (place_of place) (stands_of (stands_over over code stands)) program 1 (parts_now v) x.at.state x.alone.position.run.stand (channels_held held.banks) l.banks e there)
+  -- channels that lie so among all parts tell which of them the event may bring to settle
+  pub with_stirred : (old : Parts (TaskAgent A)) (e : EventView) → IsPart old (parts_now v) → HoldsDone old.bank e → Stands P → Stands (λ w. P w × (stirred w.state e ≡ stirs_in (whole old.bank) e))
+  with_stirred old e l there = stands_with (λ w. stirred w.state e ≡ stirs_in (whole old.bank) e) (λ r x. held_stirs (place_of place) (stands_of (stands_over over code stands)) program 1 (parts_now v) x.at.state x.alone.position.run.stand old.bank l.banks e there)
 
-  -- .. where it is that of a plan
-  pub with_plan_stirred : (held : Held A) (want : WantView) (start t u p w m : ℕ) (q : Planned) (e : EventView) → LiesIn held (parts_now v) → q ≡ planned (seen held.banks held.shards) want.op start → e ≡ event_of (channels_held held.banks) (registries_held held.banks) t u p w m q → Stands P → Stands (λ w. P w × (stirred w.state e ≡ stirs_in (whole (channels_held held.banks)) e))
-  with_plan_stirred held want start t u p w m q e l is came = with_stirred held e l (subst (HoldsDone (channels_held held.banks)) (sym came) (planned_holds held want.op start t u p w m q is))
+  -- .. where it is that of a plan over such parts
+  pub with_plan_stirred : (old : Parts (TaskAgent A)) (want : WantView) (start t u p w m : ℕ) (q : Planned) (e : EventView) → IsPart old (parts_now v) → q ≡ planned (seen_in old) want.op start → e ≡ event_of old.bank old.registry t u p w m q → Stands P → Stands (λ w. P w × (stirred w.state e ≡ stirs_in (whole old.bank) e))
+  with_plan_stirred old want start t u p w m q e l is came = with_stirred old e l (subst (HoldsDone old.bank) (sym came) (planned_holds old want.op start t u p w m q is))
 
-  -- the event of a plan over what is held takes the branch that the schedule chooses
-  pub with_choice : Advanced stands place advances → HoldsLeft drawn_touches v → (c : PartSeen A) (l : LaneSeen A) (held : Held A) (t : ℕ) (agent a : TaskAgent A) (want : WantView) (u p w m : ℕ) (q : Planned) (e : EventView) → get_elem? v.held 0 ≡ core.some (Some c) → c.held ≡ seen_lane l → l.task ≡ Some (t, agent)
-      → advances_of (advances_over over code advances) program agent a → LiesIn held (parts_now v) → place a.agent ≡ at_op want → q ≡ planned (seen held.banks held.shards) want.op a.alts → e ≡ event_of (channels_held held.banks) (registries_held held.banks) t u p w m q → Stands P → Stands (λ w. P w × ChoosesWell w.state w.desk e)
-  with_choice law h c l held t agent a want u p w m q e at is task advanced within paused plan came = stands_with (λ w. ChoosesWell w.state w.desk e)
-      (λ r x. subst (ChoosesWell x.at.state x.at.desk) (sym came) (planned_chooses place (stands_over over code stands) (advances_over over code advances) (advanced_over over code place stands advances law) program (parts_now v) x.at.state x.alone.position.run.stand x.at.desk x.alone.position.reads held within
+  -- the event of a plan over such parts takes the branch that the schedule chooses
+  pub with_choice : Advanced stands place advances → HoldsLeft drawn_touches v → (c : PartSeen A) (l : LaneSeen A) (old : Parts (TaskAgent A)) (t : ℕ) (agent a : TaskAgent A) (want : WantView) (u p w m : ℕ) (q : Planned) (e : EventView) → get_elem? v.held 0 ≡ core.some (Some c) → c.held ≡ seen_lane l → l.task ≡ Some (t, agent)
+      → advances_of (advances_over over code advances) program agent a → IsPart old (parts_now v) → place a.agent ≡ at_op want → q ≡ planned (seen_in old) want.op a.alts → e ≡ event_of old.bank old.registry t u p w m q → Stands P → Stands (λ w. P w × ChoosesWell w.state w.desk e)
+  with_choice law h c l old t agent a want u p w m q e at is task advanced within paused plan came = stands_with (λ w. ChoosesWell w.state w.desk e)
+      (λ r x. subst (ChoosesWell x.at.state x.at.desk) (sym came) (planned_chooses place (stands_over over code stands) (advances_over over code advances) (advanced_over over code place stands advances law) program (parts_now v) x.at.state x.alone.position.run.stand x.at.desk x.alone.position.reads old within
       (lane_of_seen l) (lane_there v h c l at is) t agent a task advanced want paused u p w m q plan))
 
 -- a Tick is due where the clock's answer isn't before the first deadline

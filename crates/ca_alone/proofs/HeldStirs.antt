@@ -12,16 +12,13 @@ use Rattle.ca_meaning.specs.Wait.{port_of}
 use Rattle.ca_commit.specs.Agents.{TaskAgent}
 use Rattle.ca_commit.specs.Applying.{event_of}
 use Rattle.ca_commit.specs.Contents.{Kept, Parts, at_key, channel_of, home, whole}
-use Rattle.ca_commit.specs.Deciding.{PlanTells}
+use Rattle.ca_commit.specs.Deciding.{PlanTells, seen_in}
 use Rattle.ca_commit.specs.Planning.{Planned, planned, to_close, to_default, to_do, to_look, to_make, to_meet, to_park, to_post, to_print, to_prune, to_refuse, to_register, to_spawn}
-use Rattle.ca_commit.specs.Showing.{channels_held, registries_held, seen}
-use Rattle.ca_commit.specs.declared.held.Held.{Held}
 use Rattle.ca_commit.proofs.Laid.{Within}
 use Rattle.ca_commit.proofs.PlanTold.{plan_tells}
 use Rattle.ca_commit.proofs.Steps.{StandsFor}
 use Rattle.ca_solo.specs.Stirs.{done_stirred, stirred}
 use Rattle.ca_alone.specs.Stirring.{HoldsDone, stirs_in}
-use Rattle.ca_alone.proofs.HeldWithin.{shown_parts}
 
 module _ {A : Type 0} (place : TaskAgent A → At) (stands : ProgramView → TaskAgent A → Option ℕ → TaskBody → Type 0) (program : ProgramView) (n : ℕ) (now : Parts (TaskAgent A)) (s : State) (st : StandsFor place stands program n now s) (held : ℕ → Option (ℕ → Option Kept)) (within : Within held now.bank) where
   -- the channel is that of the state
@@ -51,9 +48,9 @@ in_part {X} parts p x e = by (parts (home p)) refl e where
   by None is k = absurd (let z : None ≡ Some x = k in cc)
   by (Some f) is k = (f, is)
 
-module _ {A : Type 0} (held : Held A) (op : OpView) (start t u p v m : ℕ) where
-  told_holds : (q : Planned) → PlanTells (shown_parts held) op q → HoldsDone (channels_held held.banks) (event_of (channels_held held.banks) (registries_held held.banks) t u p v m q)
-  told_holds (to_do k b alts) x = in_part (channels_held held.banks) (port_of b) x.2.kept x.2.there
+module _ {A : Type 0} (old : Parts (TaskAgent A)) (op : OpView) (start t u p v m : ℕ) where
+  told_holds : (q : Planned) → PlanTells old op q → HoldsDone old.bank (event_of old.bank old.registry t u p v m q)
+  told_holds (to_do k b alts) x = in_part old.bank (port_of b) x.2.kept x.2.there
   told_holds (to_meet k b alts wait o) x = tt
   told_holds (to_park bs) x = tt
   told_holds (to_post bs) x = tt
@@ -68,5 +65,5 @@ module _ {A : Type 0} (held : Held A) (op : OpView) (start t u p v m : ℕ) wher
   told_holds (to_refuse f) x = tt
 
   -- the event of a plan is done at a channel whose bank is held
-  pub planned_holds : (q : Planned) → q ≡ planned (seen held.banks held.shards) op start → HoldsDone (channels_held held.banks) (event_of (channels_held held.banks) (registries_held held.banks) t u p v m q)
-  planned_holds q is = told_holds q (subst (PlanTells (shown_parts held) op) (sym is) (plan_tells (shown_parts held) op start))
+  pub planned_holds : (q : Planned) → q ≡ planned (seen_in old) op start → HoldsDone old.bank (event_of old.bank old.registry t u p v m q)
+  planned_holds q is = told_holds q (subst (PlanTells old op) (sym is) (plan_tells old op start))

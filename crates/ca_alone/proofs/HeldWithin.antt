@@ -1,5 +1,5 @@
 -- What a lone worker has moved out of its hand lies among all parts as it was settled.
-use Rattle.std.proofs.Common.{◌≡◌, ◌∙◌, ⊎_elim, ℕ, ◌+◌, ◌<◌, ◌≤◌, List, refl, sym, ap, subst, arith, Option, Some, None, eqb}
+use Rattle.std.proofs.Common.{◌≡◌, ◌∙◌, ⊎_elim, ℕ, ◌+◌, ◌<◌, ◌≤◌, List, refl, sym, ap, subst, arith, Bool, true, false, cond, Option, Some, None, eqb, eqb-true}
 use Rattle.std.specs.Prelude.{option_map}
 use Rattle.std.specs.Map.{update}
 use Rattle.std.proofs.lemmas.Bool.{cases_lt}
@@ -13,8 +13,8 @@ use Rattle.ca_states.specs.declared.valid_code.ValidCode.{ValidCode}
 use Rattle.ca_turns.specs.Hands.{TableId}
 use Rattle.ca_turns.specs.declared.rule.View.{View}
 use Rattle.ca_commit.specs.Agents.{TaskAgent}
-use Rattle.ca_commit.specs.Contents.{Parts}
-use Rattle.ca_commit.specs.Gathered.{bank_of, channels_of, registries_of, shard_of, sorted}
+use Rattle.ca_commit.specs.Contents.{Content, LaneView, Parts}
+use Rattle.ca_commit.specs.Gathered.{bank_of, channels_of, lane_of, ready_of, registries_of, shard_of, sorted, timers_of}
 use Rattle.ca_commit.specs.Listing.{listed}
 use Rattle.ca_commit.specs.Listings.{parts}
 use Rattle.ca_commit.specs.Numbers.{number_of_bank, number_of_shard}
@@ -23,12 +23,13 @@ use Rattle.ca_commit.specs.declared.held.Held.{Held}
 use Rattle.ca_commit.specs.declared.held.HeldBank.{HeldBank}
 use Rattle.ca_commit.specs.declared.held.HeldShard.{HeldShard}
 use Rattle.ca_commit.proofs.Laid.{IsPart, Within}
-use Rattle.ca_table.specs.Carriers.{IsCarrying}
-use Rattle.ca_table.specs.Carrying.{Carries, IsPlace, Place, bank_place, number_at, part_at, shard_place}
+use Rattle.ca_table.specs.Carriers.{IsCarrying, was}
+use Rattle.ca_table.specs.Carrying.{Carries, IsPlace, Place, bank_place, carried, lane_place, number_at, part_at, ready_place, shard_place, timers_place}
 use Rattle.ca_table.specs.Draws.{drawn_touches}
 use Rattle.ca_table.specs.Grips.{nothing as nothing_held}
 use Rattle.ca_table.specs.Lifting.{lifted}
-use Rattle.ca_table.specs.LoneHands.{HoldsLeft}
+use Rattle.ca_table.specs.LoneHands.{HoldsLeft, left_now}
+use Rattle.ca_table.specs.Running.{contents_at}
 use Rattle.ca_table.specs.Parts.{away, bank_seen, part_of, part_seen, shard_seen}
 use Rattle.ca_table.specs.Seen.{HeldSeen, PartSeen, held_of, seen_bank, seen_shard}
 use Rattle.ca_table.specs.declared.drawn.Drawn.{Drawn}
@@ -108,6 +109,37 @@ module _ {A C : Type 0} (over : CodeView → A → Type 0) (stands_as : ProgramV
           let x : Part A C × PartSeen A = (away 1 code, part_seen least faults readings (part_of 1 code (V.Shard s))) in
           let there : h.shards i ≡ Some x = ap (λ (f : ℕ → Option (Part A C × PartSeen A)). f i) ss ∙ ap (option_map _) e in
           (x.1, carried_settled (shard_place i) x (few h.shards i x c.sorted.few_shards there) there, refl)
+
+-- all that the only worker carries lies among all parts as it was settled
+module _ {A C : Type 0} (over : CodeView → A → Type 0) (stands_as : ProgramView → A → TaskBody → Type 0) (program : ProgramView) (code : ValidCode) (id : TableId) (w : Worker A C) (h : Carries (Part A C × PartSeen A)) (c : IsCarrying over stands_as program code id 1 w h) (left : HoldsLeft drawn_touches w.hand.view) where
+  abbrev Carried : Type 0
+  Carried = Part A C × PartSeen A
+
+  abbrev all : Parts (TaskAgent A)
+  all = parts_now w.hand.view
+
+  -- a part that is carried, as one of its kind
+  shown_by : {Y : Type 0} (z : Place) → IsPlace z → (as_kind : Option (Content (TaskAgent A)) → Option Y) → as_kind None ≡ None → (o : Option Carried) → part_at z h ≡ o → (y : Y) → as_kind (option_map was o) ≡ Some y → as_kind (contents_at (left_now drawn_touches w.hand.view) (number_at 1 0 z)) ≡ Some y
+  shown_by z is as_kind none None there y e = absurd (let k : None ≡ Some y = sym none ∙ e in cc)
+  shown_by z is as_kind none (Some x) there y e = ap as_kind (held_there w.hand.view left (number_at 1 0 z) x.1 (carried_settled over stands_as program code id w h c z x is there)) ∙ e
+
+  in_few : {Y : Type 0} (f : ℕ → Option Carried) (as_kind : Option (Content (TaskAgent A)) → Option Y) → as_kind None ≡ None → ((i : ℕ) → 16 ≤ i → f i ≡ None) → (i : ℕ) (y : Y) → as_kind (option_map was (f i)) ≡ Some y → i < 16
+  in_few f as_kind none few i y e = ⊎_elim (λ lt. lt) (λ ge. absurd (let k : None ≡ Some y = sym none ∙ sym (ap (λ o. as_kind (option_map was o)) (few i ge)) ∙ e in cc)) (cases_lt i 16)
+
+  lane_shown : (b : Bool) (v : ℕ) → eqb w.number v ≡ b → (y : LaneView (TaskAgent A)) → cond b (sorted lane_of (option_map was h.lane)) None ≡ Some y → all.lane v ≡ Some y
+  lane_shown true v e y is = let first : w.number ≡ 0 = omega (arith, c.one.below) in let at : v ≡ 0 = sym (eqb-true w.number v e) ∙ first in
+      ap all.lane at ∙ shown_by lane_place tt (sorted lane_of) refl h.lane refl y is
+  lane_shown false v e y is = absurd (let k : None ≡ Some y = is in cc)
+
+  pub carried_part : IsPart (carried was w.number h) all
+  carried_part = record {
+    lanes = λ v y e. lane_shown (eqb w.number v) v refl y e;
+    banks = λ i y e. shown_by (bank_place i) (in_few h.banks (λ o. channels_of (sorted bank_of o)) refl c.sorted.few_banks i y e) (λ o. channels_of (sorted bank_of o)) refl (h.banks i) refl y e;
+    registries = λ i y e. shown_by (bank_place i) (in_few h.banks (λ o. registries_of (sorted bank_of o)) refl c.sorted.few_banks i y e) (λ o. registries_of (sorted bank_of o)) refl (h.banks i) refl y e;
+    shards = λ i y e. shown_by (shard_place i) (in_few h.shards (sorted shard_of) refl c.sorted.few_shards i y e) (sorted shard_of) refl (h.shards i) refl y e;
+    readys = λ r y e. shown_by (ready_place r) tt (sorted ready_of) refl (h.ready r) refl y e;
+    clocks = λ y e. shown_by timers_place tt (sorted timers_of) refl h.timers refl y e;
+  }
 
 -- and the lane of one that has moved out no other part
 pub seated_settled : {A C : Type 0} (over : CodeView → A → Type 0) (stands_as : ProgramView → A → TaskBody → Type 0) (program : ProgramView) (code : ValidCode) (id : TableId) (w : Worker A C) (lane : Lane A) → IsSeated over stands_as program code id 1 w lane → get_elem? w.hand.view.held 0 ≡ core.some (Some (part_of_lane 1 code lane))

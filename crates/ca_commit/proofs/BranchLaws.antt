@@ -54,12 +54,12 @@ pub count_step : (x : Seen) (vs : List Value) (i : ℕ) (v : Value) (rest : Plan
     → all_counted x (branches_in (drop i vs)) rest ≡ counted_for x (branch_of (view v)) (all_counted x (branches_in (drop (i + 1) vs)) rest)
 count_step x vs i v rest lt e = ap (λ bs. all_counted x bs rest) (cut_branches vs i v lt e)
 
-drop_in : (vs : List Value) (n : ℕ) → branches_in (drop n vs) ≡ drop n (branches_in vs)
+pub drop_in : (vs : List Value) (n : ℕ) → branches_in (drop n vs) ≡ drop n (branches_in vs)
 drop_in vs zero = refl
 drop_in [] (suc n) = refl
 drop_in (v ∷ vs) (suc n) = drop_in vs n
 
-take_in : (vs : List Value) (n : ℕ) → branches_in (take n vs) ≡ take n (branches_in vs)
+pub take_in : (vs : List Value) (n : ℕ) → branches_in (take n vs) ≡ take n (branches_in vs)
 take_in vs zero = refl
 take_in [] (suc n) = refl
 take_in (v ∷ vs) (suc n) = ap (λ bs. branch_of (view v) ∷ bs) (take_in vs n)

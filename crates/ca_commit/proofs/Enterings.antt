@@ -4,7 +4,7 @@ use Rattle.ca_value.specs.Tree.{Tree, Trees}
 use Rattle.ca_term.specs.declared.fault.Fault.{Fault}
 use Rattle.ca_term.specs.declared.head.RegisterName.{RegisterName}
 use Rattle.ca_meaning.specs.Registry.{Registered, Registry, answers, refuses}
-use Rattle.ca_bank.specs.Registries.{answered, refused}
+use Rattle.ca_registry.specs.Registries.{answered, refused}
 use Rattle.ca_commit.specs.Contents.{whole}
 use Rattle.ca_commit.specs.Entering.{HasMembersRoom, answer_of}
 use Rattle.ca_commit.specs.declared.held.HeldBank.{HeldBank}

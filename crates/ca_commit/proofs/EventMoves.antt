@@ -9,8 +9,8 @@ use Rattle.ca_meaning.specs.Channel.{channel_made}
 use Rattle.ca_meaning.specs.Operands.{rest_of}
 use Rattle.ca_meaning.specs.Registry.{Registered, Registry, answers, registry_made}
 use Rattle.ca_bank.specs.Kept.{closed, pruned, unattended}
-use Rattle.ca_bank.specs.Registries.{answered, left_by}
-use Rattle.ca_bank.specs.Registry.{registered}
+use Rattle.ca_registry.specs.Registries.{answered, left_by}
+use Rattle.ca_registry.specs.Registry.{registered}
 use Rattle.ca_commit.specs.Agents.{advances_of, alts_at, gives_of, place_of, starts_of}
 use Rattle.ca_commit.specs.ChannelMoves.{Joins, MovesClose, MovesPost}
 use Rattle.ca_commit.specs.Contents.{Kept, LaneView, Parked, Parts, TimersPart, at_key, home, nobody, on, owner, put_on, whole}
@@ -19,9 +19,10 @@ use Rattle.ca_commit.specs.EventMoves.{AllStay, CloseMoves, DefaultMoves, Goes, 
 use Rattle.ca_commit.specs.Listing.{changed_at}
 use Rattle.ca_commit.specs.Moves.{Alters, Becomes, FewIn, NoneReadyIn, Stays}
 use Rattle.ca_commit.specs.NewPort.{Times, moment_for}
-use Rattle.ca_commit.specs.Parking.{front_port, front_value, is_alts_at, queued_from, waiting_as}
+use Rattle.ca_commit.specs.Parking.{front_port, front_value, queued_from, waiting_as}
 use Rattle.ca_commit.specs.Replies.{counted_alts, or_nil}
 use Rattle.ca_commit.specs.Running.{Placed, or_was}
+use Rattle.ca_commit.specs.Standing.{is_alts_at}
 use Rattle.ca_commit.specs.TaskMoves.{MakesTimed, MovesMake, MovesPrint, MovesRegister, MovesSpawn}
 use Rattle.ca_commit.proofs.Altered.{alters, alters_held}
 use Rattle.ca_commit.proofs.Everywhere.{closed_shuts, queued_joins}

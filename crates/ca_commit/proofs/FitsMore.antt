@@ -14,7 +14,7 @@ use Rattle.ca_commit.specs.Contents.{Kept, Parts, at_key, channel_of, home, whol
 use Rattle.ca_commit.specs.Moves.{FitIn, Shows}
 use Rattle.ca_commit.specs.Planning.{state_of}
 use Rattle.ca_commit.specs.Registering.{keys_pass}
-use Rattle.ca_commit.proofs.RegisterLaws.{refused_keys, same_table}
+use Rattle.ca_registry.proofs.KeyLaws.{refused_keys, same_table}
 
 pub first_none : (f g : Option Fault) → or_else f g ≡ None → f ≡ None
 first_none None g e = refl

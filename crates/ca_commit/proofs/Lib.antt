@@ -35,8 +35,6 @@ pub mod Listed
 pub mod Fronts
 pub mod BranchLaws
 pub mod QueueLaws
-pub mod FitLaws
-pub mod RegisterLaws
 pub mod Findings
 pub mod Turns
 pub mod FitsMore
@@ -62,6 +60,14 @@ pub mod PlanMoving
 pub mod Stales
 pub mod NamesTold
 pub mod Ends
+pub mod InPlace
+pub mod PlainPlans
+pub mod PlacesApplied
+pub mod ServesLaws
+pub mod ChoosingLaws
+pub mod AltsPlans
+pub mod PlacesSettled
+pub mod Just
 pub mod PlansRight
 pub mod SettleMoves
 pub mod PlansApart

@@ -19,7 +19,7 @@ use Rattle.ca_commit.specs.Planning.{state_of}
 use Rattle.ca_commit.specs.Registering.{keys_pass}
 use Rattle.ca_commit.proofs.Among.{among_first, among_left, among_right}
 use Rattle.ca_commit.proofs.FitsMore.{first_none}
-use Rattle.ca_commit.proofs.RegisterLaws.{refused_keys, same_table}
+use Rattle.ca_registry.proofs.KeyLaws.{refused_keys, same_table}
 
 module _ (s t : State) where
   abbrev pub SameAt : ℕ → Type 0

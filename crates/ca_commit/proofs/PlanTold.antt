@@ -15,7 +15,7 @@ use Rattle.ca_meaning.specs.Registry.{Registered, Registry, answers, refuses}
 use Rattle.ca_meaning.specs.State.{State}
 use Rattle.ca_meaning.specs.Wait.{Handler, head, port_of, side_of}
 use Rattle.ca_bank.specs.Kept.{queue_at}
-use Rattle.ca_bank.specs.Registry.{comes_to}
+use Rattle.ca_registry.specs.Registry.{comes_to}
 use Rattle.ca_commit.specs.Asks.{Asks, row_raw}
 use Rattle.ca_commit.specs.Contents.{Kept, Parked, Parts, alive_in, at_key, channel_of, home, on, whole}
 use Rattle.ca_commit.specs.Deciding.{HasPartner, IsAlone, IsAnswered, IsPost, IsStale, PlanTells, seen_in}
@@ -26,7 +26,7 @@ use Rattle.ca_commit.specs.Planning.{Planned, Seen, all_asked, all_counted, aske
 use Rattle.ca_commit.proofs.Findings.{Says, found, is_here, lives}
 use Rattle.ca_commit.specs.Registering.{keys_pass}
 use Rattle.ca_commit.proofs.FitsMore.{first_none, fits_in, passes, register_more, second_none}
-use Rattle.ca_commit.proofs.RegisterLaws.{refused_keys, same_table}
+use Rattle.ca_registry.proofs.KeyLaws.{refused_keys, same_table}
 use Rattle.ca_commit.proofs.Laid.{same_map}
 use Rattle.ca_commit.proofs.Stales.{found_stale}
 use Rattle.ca_commit.proofs.Turns.{Decides, NoneDecides, from_tells}

@@ -18,7 +18,7 @@ use Rattle.ca_commit.specs.Holds.{groups}
 use Rattle.ca_commit.specs.Planning.{Planned, Seen, all_asked, all_counted, asked, chosen, counted, decided, fitting, found_of, in_turn, is_alts, otherwise, planned, starting, state_of, to_park, to_post, to_refuse, unless_refused}
 use Rattle.ca_commit.specs.Registering.{AreApart, keys_pass}
 use Rattle.ca_commit.proofs.FitsMore.{second_none}
-use Rattle.ca_commit.proofs.RegisterLaws.{apart_by, refused_keys}
+use Rattle.ca_registry.proofs.KeyLaws.{apart_by, refused_keys}
 
 one_of : (b : Bool) (p q : Planned) → KeepsApart p → KeepsApart q → KeepsApart (cond b p q)
 one_of true p q f g = f

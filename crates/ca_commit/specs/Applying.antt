@@ -12,9 +12,9 @@ use Rattle.ca_meaning.specs.Operands.{rest_of}
 use Rattle.ca_meaning.specs.Registry.{Registry, registry_made}
 use Rattle.ca_meaning.specs.Wait.{port_of, side_of, told}
 use Rattle.ca_bank.specs.Kept.{closed, pruned, unattended}
-use Rattle.ca_bank.specs.Mixes.{TogglesApart}
-use Rattle.ca_bank.specs.Publications.{PlacesItself}
-use Rattle.ca_bank.specs.Registry.{registered}
+use Rattle.ca_registry.specs.Mixes.{TogglesApart}
+use Rattle.ca_registry.specs.Publications.{PlacesItself}
+use Rattle.ca_registry.specs.Registry.{registered}
 use Rattle.ca_commit.specs.Agents.{TaskAgent}
 use Rattle.ca_commit.specs.Contents.{Kept, Parked, home, whole}
 use Rattle.ca_commit.specs.Entering.{IsMadeToRegister, answer_of, registry_of}

@@ -16,7 +16,7 @@ use Rattle.ca_meaning.specs.Row.{completes, meets}
 use Rattle.ca_meaning.specs.State.{State}
 use Rattle.ca_meaning.specs.TaskSteps.{kind_of, result_of}
 use Rattle.ca_meaning.specs.Wait.{Handler, port_of, side_of}
-use Rattle.ca_bank.specs.Registry.{comes_to}
+use Rattle.ca_registry.specs.Registry.{comes_to}
 use Rattle.ca_commit.specs.Asks.{Asks, row_raw}
 use Rattle.ca_commit.specs.Contents.{Kept, Parked, Parts, alive_in, home, on, whole}
 use Rattle.ca_commit.specs.Finding.{glance}

@@ -6,8 +6,8 @@ use Rattle.ca_term.specs.declared.head.RegisterName.{RegisterName}
 use Rattle.ca_meaning.specs.Operands.{first_of, port_number, rest_of}
 use Rattle.ca_meaning.specs.Registry.{Registry}
 use Rattle.ca_bank.specs.Bank.{members_spare_at}
-use Rattle.ca_bank.specs.Registries.{answered, members_added}
-use Rattle.ca_bank.specs.Registry.{comes_to}
+use Rattle.ca_registry.specs.Registries.{answered, members_added}
+use Rattle.ca_registry.specs.Registry.{comes_to}
 use Rattle.ca_commit.specs.Contents.{home, whole}
 use Rattle.ca_commit.specs.Listing.{listed}
 use Rattle.ca_commit.specs.Listings.{parts}

@@ -17,7 +17,7 @@ use Rattle.ca_meaning.specs.Registry.{Registry, registry_made}
 use Rattle.ca_meaning.specs.TaskSteps.{moments}
 use Rattle.ca_meaning.specs.Wait.{is_among, told}
 use Rattle.ca_bank.specs.Kept.{closed, pruned, unattended}
-use Rattle.ca_bank.specs.Registry.{registered}
+use Rattle.ca_registry.specs.Registry.{registered}
 use Rattle.ca_commit.specs.Agents.{TaskAgent, advances_of, gives_of, parks_of, place_of, starts_of, wakes_of}
 use Rattle.ca_commit.specs.ChannelMoves.{MovesClose, MovesDefault, MovesPark, MovesPost, MovesSettle}
 use Rattle.ca_commit.specs.Contents.{Counts, Kept, Parked, Parts, TimersPart, home, nobody, owner, whole}

@@ -21,9 +21,9 @@ pub mod Listings
 pub mod Numbers
 pub mod Finding
 pub mod Planning
+pub mod Standing
 pub mod Showing
 pub mod Found
-pub mod Needs
 pub mod Plans
 pub mod Branching
 pub mod Registering
@@ -31,6 +31,8 @@ pub mod Deciding
 pub mod Replies
 pub mod Making
 pub mod Waking
+pub mod Sights
+pub mod InPlace
 pub mod Settling
 pub mod Parking
 pub mod NewPort
@@ -42,3 +44,11 @@ pub mod Applying
 pub mod PlanMoves
 pub mod Naming
 pub mod Ending
+pub mod PlainPlans
+pub mod PlacesApplied
+pub mod ServesSeen
+pub mod Choosing
+pub mod AltsPlans
+pub mod PlacesSettled
+pub mod Just
+pub mod JustPlain

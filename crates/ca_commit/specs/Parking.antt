@@ -1,17 +1,17 @@
 -- What a new wait does to held parts, and the room that it needs.
-use Rattle.std.specs.Prelude.{◌≡◌, ℕ, suc, ◌≤◌, List, [], ◌∷◌, length, Option, option_map, is_some, Bool, true, false}
+use Rattle.std.specs.Prelude.{◌≡◌, ℕ, suc, ◌≤◌, List, [], ◌∷◌, length, Option, option_map, is_some, true}
 use Rattle.ca_value.specs.Tree.{Tree, nil}
 use Rattle.ca_term.specs.declared.event.Side.{Side}
 use Rattle.ca_term.specs.Event.{BranchView}
-use Rattle.ca_meaning.specs.Body.{At, at_op, ended, faulted, local, nowhere}
+use Rattle.ca_meaning.specs.Body.{At}
 use Rattle.ca_meaning.specs.Wait.{brought, port_of, side_of}
 use Rattle.ca_bank.specs.Kept.{Spares, enqueued, queue_spare}
 use Rattle.ca_commit.specs.Agents.{TaskAgent}
 use Rattle.ca_commit.specs.Contents.{Kept, whole}
 use Rattle.ca_commit.specs.Listing.{changed_at}
-use Rattle.ca_commit.specs.Planning.{is_alts}
 use Rattle.ca_commit.specs.Replies.{counted_alts}
 use Rattle.ca_commit.specs.Showing.{channels_held, spares_held}
+use Rattle.ca_commit.specs.Standing.{is_alts_at}
 use Rattle.ca_commit.specs.Waking.{HasShardRoom}
 use Rattle.ca_commit.specs.declared.held.Held.{Held}
 
@@ -42,13 +42,6 @@ front_port (b ∷ bs) = port_of b
 abbrev pub front_value : List BranchView → Tree
 front_value [] = nil
 front_value (b ∷ bs) = brought b
-
-abbrev pub is_alts_at : At → Bool
-is_alts_at (at_op want) = is_alts want.op
-is_alts_at local = false
-is_alts_at (ended v) = false
-is_alts_at (faulted f p) = false
-is_alts_at nowhere = false
 
 -- the task as it waits: an alts is counted
 abbrev pub waiting_as : {A : Type 0} → (A → At) → TaskAgent A → TaskAgent A

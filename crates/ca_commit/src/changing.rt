@@ -2,19 +2,25 @@
 ghost use Rattle.std.specs.Prelude.{◌≡◌, ◌<◌, ℕ, is_some, option_map, true};
 ghost use Rattle.ca_value.specs.Seq.{list};
 ghost use Rattle.ca_value.specs.View.{trees, view};
+ghost use Rattle.ca_term.specs.declared.event.Side.TheVariants.{Put};
 ghost use Rattle.ca_bank.specs.Bank.{kept_made, registry_made};
-ghost use Rattle.ca_bank.specs.Kept.{added, buffer_spare, closed, enqueued, one_less, pruned, queue_spare, removed, takes_one_more};
-ghost use Rattle.ca_bank.specs.Mixes.{TogglesApart};
-ghost use Rattle.ca_bank.specs.Registry.{registered};
+ghost use Rattle.ca_bank.specs.Kept.{buffer_spare, closed, enqueued, one_less, pruned, queue_spare};
+ghost use Rattle.ca_registry.specs.Mixes.{TogglesApart};
+ghost use Rattle.ca_registry.specs.Registry.{registered};
 ghost use Rattle.ca_bank.specs.Room.{handler_view};
+ghost use Rattle.ca_commit.specs.Branching.{branch_by};
 ghost use Rattle.ca_commit.specs.Contents.{whole};
 ghost use Rattle.ca_commit.specs.Entering.{HasMembersRoom};
 ghost use Rattle.ca_commit.specs.Listing.{changed_at};
 ghost use Rattle.ca_commit.specs.NewPort.{HasPortRoom};
+ghost use Rattle.ca_commit.specs.Replies.{HasDoneRoom, done_change};
 ghost use Rattle.ca_commit.specs.Running.{or_was};
+ghost use Rattle.ca_commit.specs.Settling.{HasRoomToServe, settle_change};
 ghost use Rattle.ca_commit.specs.Showing.{channels_held, registries_held, spares_held};
 
 use crate::held::Banks;
+use crate::in_place::change_done;
+use crate::settle_in_place::change_settled;
 use ca_bank::bank::Made;
 use ca_bank::handler::Handler;
 use ca_term::event::Side;
@@ -32,25 +38,28 @@ pub(crate) fn close(banks: &mut Banks, port: PortId)
     }
 }
 
-// The channel's buffer gets the value, and a value that is dropped is let go.
-pub(crate) fn add(banks: &mut Banks, port: PortId, value: Value)
-    requires room { takes_one_more (whole (channels_held banks.old) port.n) ≡ true }
-    requires spare { 0 < buffer_spare (whole (spares_held banks.old) port.n) }
-    ensures channels { (i : ℕ) → channels_held banks.new i ≡ changed_at port.n (option_map (added (view value))) (channels_held banks.old) i }
+// A branch is done in its channel, if its bank is held: `brought` is the value of a put.
+pub(crate) fn do_in(banks: &mut Banks, port: PortId, brought: Option<Value>)
+    requires { HasDoneRoom (whole (channels_held banks.old) port.n) (whole (spares_held banks.old) port.n) (branch_by port.n (option_map view brought)) }
+    ensures channels { (i : ℕ) → channels_held banks.new i ≡ changed_at port.n (option_map (done_change (branch_by port.n (option_map view brought)))) (channels_held banks.old) i }
     ensures registries { (i : ℕ) → registries_held banks.new i ≡ registries_held banks.old i }
 {
-    if let Some(place) = banks.place(port.n % 16) {
-        let _ = banks.items[place].bank.add(port, value);
+    match banks.place(port.n % 16) {
+        Some(place) => change_done(&mut banks.items[place].bank, port, brought),
+        None => {}
     }
 }
 
-// The oldest value leaves the channel's buffer, but a promise's.
-pub(crate) fn remove(banks: &mut Banks, port: PortId)
-    ensures channels { (i : ℕ) → channels_held banks.new i ≡ changed_at port.n (option_map removed) (channels_held banks.old) i }
+// The channel serves a side, if its bank is held: a value that moves in was made before.
+pub(crate) fn serve_in(banks: &mut Banks, port: PortId, side: Side, value: Value)
+    requires room { HasRoomToServe (whole (channels_held banks.old) port.n) side }
+    requires spare { side ≡ Put → 0 < buffer_spare (whole (spares_held banks.old) port.n) }
+    ensures channels { (i : ℕ) → channels_held banks.new i ≡ changed_at port.n (option_map (settle_change side (view value))) (channels_held banks.old) i }
     ensures registries { (i : ℕ) → registries_held banks.new i ≡ registries_held banks.old i }
 {
-    if let Some(place) = banks.place(port.n % 16) {
-        let _ = banks.items[place].bank.remove(port);
+    match banks.place(port.n % 16) {
+        Some(place) => change_settled(&mut banks.items[place].bank, port, side, value),
+        None => {}
     }
 }
 

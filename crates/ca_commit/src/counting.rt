@@ -19,7 +19,7 @@ use ca_term::fault::Fault;
 use ca_value::value::PortId;
 
 // How many waits may stand on one side of a channel.
-const MOST_WAITS: u64 = 1024;
+pub(crate) const MOST_WAITS: u64 = 1024;
 
 // The wait of the handler at that place of the queue.
 fn wait_at(bank: &Bank, port: PortId, side: Side, place: u64) -> WaitId

@@ -9,12 +9,17 @@ ghost use Rattle.ca_commit.specs.Finding.{glance, rests_on_stale, settle_at};
 ghost use Rattle.ca_commit.specs.Applying.{KeepsApart};
 ghost use Rattle.ca_commit.specs.Planning.{Seen, planned, state_of};
 ghost use Rattle.ca_commit.specs.Registering.{AreApart};
+ghost use Rattle.ca_commit.specs.AltsPlans.{AltsDone, AltsMeets, AltsStale};
 ghost use Rattle.ca_commit.specs.Agents.{TaskAgent, advances_of, gives_of, place_of};
 ghost use Rattle.ca_commit.specs.Drawings.{DoneMoves, MeetMoves};
 ghost use Rattle.ca_commit.specs.EventMoves.{CloseMoves, DefaultMoves, MakeMoves, ParkMoves, PostMoves, PrintMoves, PruneMoves, RegisterMoves, ResultCloses, SettleMoves, SpawnMoves, TickMoves};
 ghost use Rattle.ca_commit.specs.PlanMoves.{PlanMoves};
 ghost use Rattle.ca_commit.specs.Ending.{EndMoves, FaultMoves, RefusedMoves};
 ghost use Rattle.ca_commit.specs.Naming.{NamesHeld};
+ghost use Rattle.ca_commit.specs.JustPlain.{PlainJust};
+ghost use Rattle.ca_commit.specs.PlacesApplied.{DoneApplies, MeetApplies, ParkApplies, PostApplies};
+ghost use Rattle.ca_commit.specs.PlacesSettled.{PruneApplies, SettleApplies, StaleServed};
+ghost use Rattle.ca_commit.specs.PlainPlans.{PlainDone, PlainMeets, PlainStale, PlainWaits};
 
 use ca_agent::agent::Agent;
 
@@ -60,6 +65,44 @@ pub fn calls_are_moves<A: Agent>()
 /// So what the calls of a plan's event promise is how that event moves the parts, whichever it is.
 pub fn plans_are_moves<A: Agent>()
     ensures { PlanMoves A.place A.advances A.gives A.starts }
+{}
+
+/// What is seen of a take or a put in its channel decides what it becomes over all that is held, from whichever branch one
+/// begins: there is one.
+pub fn plain_is_planned<A>()
+    ensures done { PlainDone A }
+    ensures meets { PlainMeets A }
+    ensures stale { PlainStale A }
+    ensures waits { PlainWaits A }
+{}
+
+/// So does what `choose` tells of an alts over the banks of its ports.
+pub fn alts_is_planned<A>()
+    ensures done { AltsDone A }
+    ensures meets { AltsMeets A }
+    ensures stale { AltsStale A }
+{}
+
+/// What the calls of `in_place` promise, over a bank that lies among the parts, is that the plan of the task's operation
+/// was applied to all of them.
+pub fn places_are_applied<A: Agent>()
+    ensures done { DoneApplies A.place A.advances A.gives A.starts }
+    ensures meet { MeetApplies A.place A.advances A.gives A.starts }
+    ensures park { ParkApplies A.place A.advances A.gives A.starts }
+    ensures post { PostApplies A.place A.advances A.gives A.starts }
+{}
+
+/// So are the calls of `settle_in_place`: a channel serves whoever waits in front, where that wait lives, or its stale handler
+/// is pruned.
+pub fn places_settle<A: Agent>()
+    ensures settle { SettleApplies A.place A.gives }
+    ensures stale { StaleServed A }
+    ensures prune { PruneApplies A }
+{}
+
+/// A call of `in_place` for a take or a put is drawn over the bank of its channel alone, and over no shard but those of its own line.
+pub fn plain_touch_just<A>()
+    ensures { PlainJust A }
 {}
 
 /// Where the banks of all ports that an operation names are held, and refuse its operands, these are refused whatever is

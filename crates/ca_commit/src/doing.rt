@@ -3,9 +3,10 @@ ghost use Rattle.std.specs.Prelude.{◌≡◌, ◌+◌, ◌<◌, ◌^◌, ◌%�
 ghost use Rattle.ca_value.specs.View.{view};
 ghost use Rattle.ca_term.specs.Event.{branch_view, done, event_view};
 ghost use Rattle.ca_meaning.specs.BodyViews.{is_at_op};
-ghost use Rattle.ca_meaning.specs.Wait.{port_of};
+ghost use Rattle.ca_meaning.specs.Wait.{brought, port_of};
 ghost use Rattle.ca_bank.specs.Bank.{kept_at};
 ghost use Rattle.ca_bank.specs.Kept.{is_closed_at};
+ghost use Rattle.ca_commit.specs.Branching.{branch_by};
 ghost use Rattle.ca_commit.specs.Contents.{whole};
 ghost use Rattle.ca_commit.specs.Finding.{held_at};
 ghost use Rattle.ca_commit.specs.Listing.{changed_at};
@@ -16,8 +17,9 @@ ghost use Rattle.ca_commit.specs.Making.{IsMadeForDone, IsDoneRow, KeepsOthers};
 ghost use Rattle.ca_commit.specs.Tasks.{agent_of};
 ghost use Rattle.ca_meaning.specs.Wait.{head};
 
-use crate::changing::{add, remove};
+use crate::changing::do_in;
 use crate::held::{Applied, Banks, Held};
+use crate::in_place::first_copy;
 use crate::planned::Chosen;
 use crate::replying::{goes_on, reply, taken};
 use crate::reserving::reserve_buffer;
@@ -29,19 +31,6 @@ use ca_term::event::{Branch, Event};
 use ca_value::memory::OutOfMemory;
 use ca_value::value::{PortId, Value};
 use std::alloc::Global;
-
-// A copy of the first value that the channel holds, or nil.
-fn first_copy(alloc: Global, bank: &Bank, port: PortId) -> Result<Value, OutOfMemory>
-    ensures { IfOk result (λ v. view v ≡ or_nil (head (held_at (kept_at bank.now port.n)))) }
-{
-    match bank.buffer(port) {
-        Some(buffer) => match buffer.first() {
-            Some(value) => value.copy(alloc),
-            None => Ok(Value::Nil),
-        },
-        None => Ok(Value::Nil),
-    }
-}
 
 // Whether the channel is closed.
 fn is_closed(banks: &Banks, port: PortId) -> bool
@@ -81,6 +70,17 @@ pub(crate) fn port_in(branch: &Branch) -> PortId
     }
 }
 
+// The value where the branch is a put.
+fn brought_of(branch: &Branch, value: Value) -> Option<Value>
+    requires { view value ≡ brought (branch_view branch.now) }
+    ensures { branch_by (port_of (branch_view branch.now)) (option_map view result) ≡ branch_view branch.now }
+{
+    match branch {
+        Branch::Take(_) => None,
+        Branch::Put(_, _) => Some(value),
+    }
+}
+
 // What the branch does to its channel.
 fn change(banks: &mut Banks, chosen: Chosen) -> Branch
     requires twice { IsTwice chosen }
@@ -94,18 +94,9 @@ fn change(banks: &mut Banks, chosen: Chosen) -> Branch
         value,
         ..
     } = chosen;
-    match operation {
-        Branch::Take(port) => {
-            remove(banks, port);
-            Branch::Take(port)
-        }
-        Branch::Put(port, shown) => {
-            if !is_closed(banks, port) {
-                add(banks, port, value);
-            }
-            Branch::Put(port, shown)
-        }
-    }
+    let port = port_in(&operation);
+    do_in(banks, port, brought_of(&operation, value));
+    operation
 }
 
 /// Makes what the branch needs: its answer for the event and for the task, and room in its channel's buffer. Nothing

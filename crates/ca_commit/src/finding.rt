@@ -1,15 +1,16 @@
 // What becomes of a branch, as far as the held parts tell.
 ghost use Rattle.std.specs.Prelude.{◌≡◌, ◌≤◌, ℕ, ◌+◌, ◌%◌, Some, None, option_map};
-ghost use Rattle.ca_term.specs.declared.event.Side.TheVariants.{Take, Put};
 ghost use Rattle.ca_bank.specs.Bank.{kept_at};
 ghost use Rattle.ca_bank.specs.Kept.{is_closed_at, takes_one_more};
 ghost use Rattle.ca_bank.specs.Room.{handler_view, kept_view};
 ghost use Rattle.ca_commit.specs.Contents.{whole};
-ghost use Rattle.ca_commit.specs.Finding.{glance, is_promise_at, holds_one, front_at, asking, find_rival, find_taker, find_putter, put_at, take_at};
+ghost use Rattle.ca_commit.specs.Finding.{glance, is_promise_at, holds_one, front_at, asking, put_at, take_at};
 ghost use Rattle.ca_commit.specs.Found.{glance_view, finding_view};
 ghost use Rattle.ca_commit.specs.Showing.{channels_held, waits_held};
+ghost use Rattle.ca_commit.specs.Sights.{found_by};
 
 use crate::held::{Banks, Shards};
+use crate::sight::{Sight, put_sight, take_sight};
 use ca_bank::bank::Bank;
 use ca_bank::handler::Handler;
 use ca_bank::room::Room;
@@ -72,7 +73,7 @@ pub(crate) fn front(room: &Room, side: Side) -> Option<&Handler>
 }
 
 // Whether the channel is a promise.
-fn is_promise(room: &Room) -> bool
+pub(crate) fn is_promise(room: &Room) -> bool
     ensures { result ≡ is_promise_at (Some (kept_view room.now)) }
 {
     match room.buffer() {
@@ -91,68 +92,18 @@ pub(crate) fn holds_one(room: &Room) -> bool
     }
 }
 
-fn find_rival<A: Drop>(shards: &Shards<A>, room: &Room) -> Finding
-    ensures { finding_view result ≡ find_rival (glance (waits_held shards.now)) (front_at Put (Some (kept_view room.now))) }
+// What is found where that is seen.
+fn asked<A: Drop>(shards: &Shards<A>, sight: Sight) -> Finding
+    ensures { finding_view result ≡ found_by sight (glance (waits_held shards.now)) }
 {
-    match front(room, Side::Put) {
-        Some(handler) => asking(shards, Side::Put, handler.wait, Finding::Unready),
-        None => Finding::Alone,
-    }
-}
-
-fn find_taker<A: Drop>(shards: &Shards<A>, room: &Room) -> Finding
-    ensures { finding_view result ≡ find_taker (glance (waits_held shards.now)) (takes_one_more (Some (kept_view room.now))) (front_at Take (Some (kept_view room.now))) (front_at Put (Some (kept_view room.now))) }
-{
-    match front(room, Side::Take) {
-        Some(handler) => {
-            let live = Finding::Partner(handler.wait, handler.branch);
-            asking(shards, Side::Take, handler.wait, live)
+    match sight {
+        Sight::Unready | Sight::Crowded => Finding::Unready,
+        Sight::Alone => Finding::Alone,
+        Sight::Meets(side, partner) => {
+            let live = Finding::Partner(partner.wait, partner.branch);
+            asking(shards, side, partner.wait, live)
         }
-        None => {
-            if room.has_room() {
-                find_rival(shards, room)
-            } else {
-                Finding::Unready
-            }
-        }
-    }
-}
-
-fn find_putter<A: Drop>(shards: &Shards<A>, room: &Room) -> Finding
-    ensures { finding_view result ≡ find_putter (glance (waits_held shards.now)) (is_closed_at (Some (kept_view room.now))) (front_at Put (Some (kept_view room.now))) }
-{
-    match front(room, Side::Put) {
-        Some(handler) => {
-            let live = Finding::Partner(handler.wait, handler.branch);
-            asking(shards, Side::Put, handler.wait, live)
-        }
-        None => {
-            if room.is_closed() {
-                Finding::Alone
-            } else {
-                Finding::Unready
-            }
-        }
-    }
-}
-
-fn put_in<A: Drop>(shards: &Shards<A>, room: &Room) -> Finding
-    ensures { finding_view result ≡ put_at (glance (waits_held shards.now)) (Some (kept_view room.now)) }
-{
-    if room.is_closed() || is_promise(room) {
-        Finding::Alone
-    } else {
-        find_taker(shards, room)
-    }
-}
-
-fn take_in<A: Drop>(shards: &Shards<A>, room: &Room) -> Finding
-    ensures { finding_view result ≡ take_at (glance (waits_held shards.now)) (Some (kept_view room.now)) }
-{
-    if holds_one(room) {
-        Finding::Alone
-    } else {
-        find_putter(shards, room)
+        Sight::Rivals(wait) => asking(shards, Side::Put, wait, Finding::Unready),
     }
 }
 
@@ -161,7 +112,7 @@ fn put_at<A: Drop>(shards: &Shards<A>, bank: &Bank, port: PortId) -> Finding
     ensures { finding_view result ≡ put_at (glance (waits_held shards.now)) (kept_at bank.now port.n) }
 {
     match bank.room(port) {
-        Some(room) => put_in(shards, room),
+        Some(room) => asked(shards, put_sight(room)),
         None => Finding::Unready,
     }
 }
@@ -171,7 +122,7 @@ fn take_at<A: Drop>(shards: &Shards<A>, bank: &Bank, port: PortId) -> Finding
     ensures { finding_view result ≡ take_at (glance (waits_held shards.now)) (kept_at bank.now port.n) }
 {
     match bank.room(port) {
-        Some(room) => take_in(shards, room),
+        Some(room) => asked(shards, take_sight(room)),
         None => Finding::Unready,
     }
 }

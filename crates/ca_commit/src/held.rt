@@ -1,4 +1,4 @@
-ghost use Rattle.std.specs.Prelude.{◌≡◌, ◌≤◌, ◌<◌, ℕ, None, [], IfOk};
+ghost use Rattle.std.specs.Prelude.{◌≡◌, ◌≤◌, ◌<◌, ℕ, None, [], IfOk, is_some};
 ghost use Rattle.ca_bank.specs.Bank.{bank_number, bank_count};
 ghost use Rattle.ca_bank.specs.Shard.{shard_number, shard_count};
 
@@ -6,7 +6,7 @@ use crate::listing::{Listing, Numbered};
 use crate::task::{Ready, Task};
 use ca_bank::bank::Bank;
 use ca_bank::shard::Shard;
-use ca_term::event::Event;
+use ca_term::event::{Event, WaitId};
 use ca_timers::timers::Timers;
 use ca_value::memory::OutOfMemory;
 use ca_value::seq::Seq;
@@ -70,6 +70,17 @@ impl<A: Drop> HeldShard<A> {
     {
         let shard = Box::new(alloc, shard)?;
         Ok(HeldShard { number, shard })
+    }
+}
+
+impl<A: Drop> HeldShard<A> {
+    ghost use Rattle.ca_commit.specs.Showing.{shard_in};
+
+    /// Whether the wait lives, where it is one of this shard.
+    pub fn lives(&self, wait: WaitId) -> bool
+        ensures { result ≡ is_some (shard_in self.now wait.n) }
+    {
+        self.shard.parked(wait).is_some()
     }
 }
 

@@ -7,18 +7,23 @@
 //! the plan needs is made by `applying::reserve`; then `applying::apply` is the event, and takes no memory. What it does
 //! to the held parts is one function of the plan, and `decisions` tells that this is how the event moves them.
 //!
+//! The common events need no plan: `sight` tells what is seen of a branch in its channel alone, and the calls of `in_place`
+//! and `settle_in_place` make the event where the parts lie. Both ways are made of the same functions over one bank or
+//! shard, and `decisions` tells that such a call is the plan of its operation, applied.
+//!
 //! The one model: contents of parts by their numbers. What an event touches is gathered into maps that have these parts
 //! alone, so nothing that it says can hang on another part.
 //!
 //! Stands on `ca_value`, `ca_term`, `ca_meaning`, `ca_agent`, `ca_timers` and `ca_bank`. Start with
 //! `specs/Contents.antt`, `specs/Touched.antt` and `specs/Moving.antt`, then `laws`; for decision with
 //! `specs/Finding.antt` and `specs/Planning.antt`, then `finding` and `planning`; for what an event does with
-//! `specs/Applying.antt`, then `applying`.
+//! `specs/Applying.antt`, then `applying`; for the calls in place with `specs/InPlace.antt`, then `sight` and `in_place`.
 #![tactic(auto)]
 
 pub mod applying;
 mod branching;
 mod changing;
+pub mod choosing;
 pub mod clock;
 mod counting;
 pub mod decisions;
@@ -28,6 +33,7 @@ pub mod finding;
 mod fit;
 pub mod going;
 pub mod held;
+pub mod in_place;
 pub mod laws;
 pub mod listing;
 pub mod making;
@@ -41,6 +47,9 @@ mod registering;
 mod replying;
 mod reserving;
 pub mod serving;
+pub mod settle_in_place;
 pub mod settling;
+pub mod sight;
+pub mod standing;
 pub mod task;
 mod waiting;

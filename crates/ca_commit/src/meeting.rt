@@ -14,7 +14,7 @@ ghost use Rattle.ca_commit.specs.Contents.{whole};
 ghost use Rattle.ca_commit.specs.Finding.{front_at};
 ghost use Rattle.ca_commit.specs.Listing.{changed_at};
 ghost use Rattle.ca_commit.specs.Replies.{GoesOn, reply_by};
-ghost use Rattle.ca_commit.specs.Showing.{channels_held, registries_held, waits_held};
+ghost use Rattle.ca_commit.specs.Showing.{channels_held, registries_held, waits_held, waits_of};
 ghost use Rattle.ca_commit.specs.Tasks.{agent_of};
 ghost use Rattle.ca_commit.specs.Waking.{HasReadyRoom, IsMadeFor, IsMadeForMeeting, IsPaused, KeepsNumbers, WakesBy, passing, ready_in, value_in};
 
@@ -27,7 +27,7 @@ use crate::task::{Ready, Task};
 use crate::waiting::{take_out, wake};
 use ca_agent::agent::Agent;
 use ca_bank::bank::Bank;
-use ca_bank::shard::Parked;
+use ca_bank::shard::{Parked, Shard};
 use ca_term::event::{Branch, Event, Side, WaitId};
 use ca_term::operation::Op;
 use ca_value::memory::OutOfMemory;
@@ -35,7 +35,7 @@ use ca_value::value::{PortId, Value};
 use std::alloc::Global;
 
 // A copy of the value that the handler in front of the queue of puts brings, or nil.
-fn front_value(alloc: Global, bank: &Bank, port: PortId) -> Result<Value, OutOfMemory>
+pub(crate) fn front_value(alloc: Global, bank: &Bank, port: PortId) -> Result<Value, OutOfMemory>
     ensures { IfOk result (λ v. view v ≡ value_in (front_at Put (kept_at bank.now port.n))) }
 {
     match bank.handler(port, Side::Put, 0) {
@@ -94,6 +94,24 @@ fn answer_of<A: Agent>(
 }
 
 // The answer of whoever waits there, if it is a task.
+pub(crate) fn partner_in<A: Agent>(
+    alloc: Global,
+    shard: &Shard<Task<A>>,
+    wait: WaitId,
+    port: PortId,
+    value: &Value,
+) -> Result<Option<Value>, OutOfMemory>
+    requires { IsPaused A.place (waits_of shard.now wait.n) }
+    ensures { IfOk result (λ o. IsMadeFor A.place (waits_of shard.now wait.n) port.n (view value.now) o) }
+{
+    match shard.parked(wait) {
+        Some(Parked::Owner(task)) => Ok(Some(answer_of(alloc, &task.agent, port, value)?)),
+        Some(Parked::Nobody) => Ok(None),
+        None => Ok(None),
+    }
+}
+
+// The same, in the shards that are held.
 #[inline(always)]
 pub(crate) fn partner<A: Agent>(
     alloc: Global,
@@ -106,11 +124,7 @@ pub(crate) fn partner<A: Agent>(
     ensures { IfOk result (λ o. IsMadeFor A.place (whole (waits_held shards.now) wait.n) port.n (view value.now) o) }
 {
     match shards.get(wait.n % 16) {
-        Some(held) => match held.shard.parked(wait) {
-            Some(Parked::Owner(task)) => Ok(Some(answer_of(alloc, &task.agent, port, value)?)),
-            Some(Parked::Nobody) => Ok(None),
-            None => Ok(None),
-        },
+        Some(held) => partner_in(alloc, &held.shard, wait, port, value),
         None => Ok(None),
     }
 }
@@ -136,7 +150,7 @@ pub(crate) fn side_in(branch: &Branch) -> Side
     }
 }
 
-fn opposite(side: Side) -> Side
+pub(crate) fn opposite(side: Side) -> Side
     ensures { result ≡ other_side side }
 {
     match side {

@@ -8,9 +8,11 @@ ghost use Rattle.ca_term.specs.Event.{branch_view, event_view, parked, posted};
 ghost use Rattle.ca_meaning.specs.BodyViews.{is_at_op};
 ghost use Rattle.ca_meaning.specs.Wait.{brought, port_of, side_of};
 ghost use Rattle.ca_bank.specs.Kept.{enqueued, one_less, queue_spare};
+ghost use Rattle.ca_bank.specs.Room.{handler_view};
 ghost use Rattle.ca_commit.specs.Contents.{home, nobody, owner, whole};
+ghost use Rattle.ca_commit.specs.InPlace.{CanCount};
 ghost use Rattle.ca_commit.specs.Listing.{changed_at};
-ghost use Rattle.ca_commit.specs.Parking.{AreChannels, IsMadeToWait, QueuesTake, front_port, front_value, is_alts_at, queued_from, waiting_as};
+ghost use Rattle.ca_commit.specs.Parking.{AreChannels, IsMadeToWait, QueuesTake, front_port, front_value, queued_from, waiting_as};
 ghost use Rattle.ca_commit.specs.Plans.{AreTwice, handled};
 ghost use Rattle.ca_commit.specs.Replies.{GoesOn};
 ghost use Rattle.ca_commit.specs.Showing.{channels_held, registries_held, spares_held, waits_held};
@@ -24,13 +26,13 @@ use crate::meeting::side_in;
 use crate::planned::{Handlers, Joining};
 use crate::replying::goes_on;
 use crate::reserving::{reserve_queue, reserve_shard};
+use crate::standing::is_alts;
 use crate::task::Task;
 use crate::waiting::put_in;
 use ca_agent::agent::Agent;
 use ca_bank::handler::Handler;
 use ca_bank::shard::Parked;
 use ca_term::event::{Branch, Event, Side, WaitId};
-use ca_term::operation::Op;
 use ca_value::memory::OutOfMemory;
 use ca_value::seq::Seq;
 use ca_value::value::{PortId, Value};
@@ -48,6 +50,24 @@ fn reserve_queues(banks: &mut Banks, branches: &[Branch]) -> Result<(), OutOfMem
     Ok(())
 }
 
+// A branch as it stands in the queue of its channel, of a wait that has this number for it.
+pub(crate) fn handler_of(wait: WaitId, number: u64, branch: Branch) -> (PortId, Side, Handler)
+    ensures port { result.0.n ≡ port_of (branch_view branch) }
+    ensures side { result.1 ≡ side_of (branch_view branch) }
+    ensures handler { handler_view result.2 ≡ record { wait = wait.n; branch = number; value = brought (branch_view branch) } }
+{
+    let (port, side, value) = match branch {
+        Branch::Take(port) => (port, Side::Take, None),
+        Branch::Put(port, value) => (port, Side::Put, Some(value)),
+    };
+    let handler = Handler {
+        wait,
+        branch: number,
+        value,
+    };
+    (port, side, handler)
+}
+
 // The branch of that number stands last in its queue.
 #[inline(always)]
 fn queue_one(banks: &mut Banks, wait: WaitId, number: u64, branch: Branch)
@@ -56,20 +76,8 @@ fn queue_one(banks: &mut Banks, wait: WaitId, number: u64, branch: Branch)
     ensures registries { (i : ℕ) → registries_held banks.new i ≡ registries_held banks.old i }
     ensures spares { (i : ℕ) → spares_held banks.new i ≡ changed_at (port_of (branch_view branch)) (option_map (one_less (side_of (branch_view branch)))) (spares_held banks.old) i }
 {
-    let (port, side, value) = match branch {
-        Branch::Take(port) => (port, Side::Take, None),
-        Branch::Put(port, value) => (port, Side::Put, Some(value)),
-    };
-    enqueue(
-        banks,
-        port,
-        side,
-        Handler {
-            wait,
-            branch: number,
-            value,
-        },
-    );
+    let (port, side, handler) = handler_of(wait, number, branch);
+    enqueue(banks, port, side, handler);
 }
 
 // All of the list, in order.
@@ -100,21 +108,11 @@ fn queue_all(banks: &mut Banks, wait: WaitId, handlers: Handlers)
     }
 }
 
-// Whether the agent is paused at an alts.
-fn is_alts<A: Agent>(agent: &A) -> bool
-    requires { is_at_op (A.place agent.now) ≡ true }
-    ensures { result ≡ is_alts_at (A.place agent.now) }
-{
-    match &agent.want().op {
-        Op::Alts { .. } => true,
-        _ => false,
-    }
-}
-
-// The task as it waits.
-fn waiting<A: Agent>(task: Task<A>) -> Task<A>
+/// The task as it waits.
+#[inline(always)]
+pub(crate) fn waiting<A: Agent>(task: Task<A>) -> Task<A>
     requires at { is_at_op (A.place task.agent) ≡ true }
-    requires count { task.alts + 1 < 2 ^ 64 }
+    requires count { CanCount A.place task }
     ensures number { result.number ≡ task.number }
     ensures agent { agent_of result ≡ waiting_as A.place (agent_of task) }
 {

@@ -12,12 +12,13 @@ ghost use Rattle.ca_commit.specs.Plans.{plan_view, HasCopies, AreTwice};
 ghost use Rattle.ca_commit.specs.Branching.{branches_in, branch_by, plan_or, put_as, HaveCopies, single};
 
 use crate::branching::{branch, branches, count_for, look_at, parts_of};
-use crate::fit::{bad_choice, bad_put, not_a_channel};
 use crate::held::{Banks, Held, Shards};
-use crate::making::{bad_make, bad_seed, copy_what, kind_of, result_of};
+use crate::making::copy_what;
 use crate::planned::{Handlers, Joining, Plan};
 use crate::registering::bad_register;
 use ca_asking::operands::port_of;
+use ca_registry::fit::{bad_choice, bad_put, bad_seed, bad_what, not_a_channel};
+use ca_registry::seed::{kind_of, result_of};
 use ca_term::copy::copy_values;
 use ca_term::event::Branch;
 use ca_term::head::RegisterName;
@@ -146,8 +147,8 @@ fn plan_put<A: Drop>(
     }
 }
 
-// The number of the branch that is looked at first.
-fn first_number(priority: bool, start: u64, count: usize) -> usize
+/// The number of the branch that is looked at first.
+pub(crate) fn first_number(priority: bool, start: u64, count: usize) -> usize
     requires { 0 < count }
     ensures number { result ≡ cond priority 0 (start % count) }
     ensures within { result ≤ count }
@@ -256,7 +257,7 @@ fn plan_make(alloc: Global, banks: &Banks, what: &What) -> Result<Plan, OutOfMem
     ensures plan { (see : ℕ → Glance) (start : ℕ) → IfOk result (λ p. plan_view p ≡ planned (seen_by banks.now see) (making (what_view what.now)) start) }
     ensures copies { IfOk result HasCopies }
 {
-    match bad_make(banks, what) {
+    match bad_what(banks, what) {
         Some(fault) => Ok(Plan::Refused(fault)),
         None => Ok(Plan::Make(copy_what(alloc, what)?)),
     }
@@ -314,7 +315,7 @@ fn plan_register(
 ///
 /// What it answers is told by the ports of the held banks and the waits of the held shards alone; a port whose bank
 /// isn't held counts as none. The keys of a toggle, where they are channels, are different ones, and a topic is equal to
-/// itself: so it is of all values (`ca_bank::apart` has the tests).
+/// itself: so it is of all values (`ca_registry::apart` has the tests).
 pub fn plan<A: Drop>(
     alloc: Global,
     held: &Held<A>,

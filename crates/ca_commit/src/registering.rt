@@ -1,82 +1,28 @@
 // Whether an operation on a registry is refused.
-ghost use Rattle.std.specs.Prelude.{◌≡◌, ◌<◌, IfOk, length, drop, map, true};
-ghost use Rattle.ca_value.specs.View.{view, trees, tree_pairs};
+ghost use Rattle.std.specs.Prelude.{◌≡◌, IfOk, true};
+ghost use Rattle.ca_value.specs.View.{trees};
 ghost use Rattle.ca_meaning.specs.Operands.{or_else, first_of, rest_of, port_number};
 ghost use Rattle.ca_meaning.specs.Refusal.{fault_of_registered, is_channel, needs_to_register, registered_at, registering_gives, unmet};
 ghost use Rattle.ca_meaning.specs.Registry.{all_channels, pairs_in};
 ghost use Rattle.ca_commit.specs.Showing.{registries_held, state_held};
-ghost use Rattle.ca_commit.specs.Registering.{RegistersApart, keys_pass};
+ghost use Rattle.ca_commit.specs.Registering.{RegistersApart};
 ghost use Rattle.ca_commit.specs.Contents.{whole};
 ghost use Rattle.ca_bank.specs.Bank.{registry_at};
-ghost use Rattle.ca_bank.specs.Mixes.{TogglesApart};
-ghost use Rattle.ca_bank.specs.Publications.{PlacesItself};
-ghost use Rattle.ca_bank.specs.Registry.{comes_to};
+ghost use Rattle.ca_registry.specs.Mixes.{TogglesApart};
+ghost use Rattle.ca_registry.specs.Publications.{PlacesItself};
+ghost use Rattle.ca_registry.specs.Registry.{comes_to};
 
-use crate::fit::{Need, is_channel, unmet};
 use crate::held::Banks;
 use ca_asking::operands::port_of;
 use ca_bank::bank::Bank;
-use ca_bank::registry_error::RegisterError;
+use ca_registry::fit::{keys_pass, unmet};
+use ca_registry::need::needs_to_register;
+use ca_registry::registry_error::RegisterError;
 use ca_term::fault::Fault;
 use ca_term::head::RegisterName;
 use ca_value::memory::OutOfMemory;
-use ca_value::value::{Pair, PortId, Value};
+use ca_value::value::{PortId, Value};
 use std::alloc::Global;
-
-// The fault of the operands.
-fn bad_operands(banks: &Banks, name: RegisterName, args: &[Value]) -> Option<Fault>
-    ensures { result ≡ unmet (state_held banks.now) (needs_to_register name) (trees args.now) }
-{
-    match name {
-        RegisterName::Tap | RegisterName::Untap => unmet(banks, &[Need::Mult, Need::Channel], args),
-        RegisterName::UntapAll | RegisterName::Taps => unmet(banks, &[Need::Mult], args),
-        RegisterName::Admix | RegisterName::Unmix => {
-            unmet(banks, &[Need::Mix, Need::Channel], args)
-        }
-        RegisterName::UnmixAll | RegisterName::Toggle => unmet(banks, &[Need::Mix], args),
-        RegisterName::SoloMode | RegisterName::Modes => unmet(banks, &[Need::Mix], args),
-        RegisterName::Place => {
-            let needs = [Need::Publication, Need::Anything, Need::Mult, Need::Channel];
-            unmet(banks, &needs, args)
-        }
-        RegisterName::Find | RegisterName::Drop => unmet(banks, &[Need::Publication], args),
-        RegisterName::Clear | RegisterName::Topics => unmet(banks, &[Need::Publication], args),
-    }
-}
-
-fn all_channels(banks: &Banks, pairs: &[Pair]) -> bool
-    ensures { result ≡ all_channels (is_channel (state_held banks.now)) (tree_pairs pairs.now) }
-{
-    for pair in pairs {
-        if !is_channel(banks, &pair.key) {
-            return false;
-        }
-    }
-    true
-}
-
-// Whether each key of a toggle is a channel.
-fn keys_are_channels(banks: &Banks, toggle: &Value) -> bool
-    ensures { result ≡ all_channels (is_channel (state_held banks.now)) (pairs_in (view toggle.now)) }
-{
-    match toggle {
-        Value::Map(pairs) => all_channels(banks, pairs.as_slice()),
-        _ => true,
-    }
-}
-
-// The toggle of an operation: the operand behind its mix, or nil for an operation of another name.
-fn toggles_channels(banks: &Banks, name: RegisterName, rest: &[Value]) -> bool
-    ensures { result ≡ keys_pass (state_held banks.now) name (trees rest.now) }
-{
-    match name {
-        RegisterName::Toggle => match rest.first() {
-            Some(toggle) => keys_are_channels(banks, toggle),
-            None => true,
-        },
-        _ => true,
-    }
-}
 
 // What the table says of the operation on a registry of this bank, whose keys are channels.
 fn table_fault(
@@ -99,7 +45,7 @@ fn table_fault(
 }
 
 // What the table says of the operation.
-#[tactic(auto, using(crate::proofs::RegisterLaws::refused_keys, crate::proofs::RegisterLaws::same_table, crate::proofs::RegisterLaws::apart_by))]
+#[tactic(auto, using(ca_registry::proofs::KeyLaws::refused_keys, ca_registry::proofs::KeyLaws::same_table, ca_registry::proofs::KeyLaws::apart_by))]
 fn registry_fault(
     alloc: Global,
     banks: &Banks,
@@ -114,7 +60,7 @@ fn registry_fault(
     match banks.get(port.n % 16) {
         None => Ok(Some(Fault::NotAPort)),
         Some(held) => {
-            if !toggles_channels(banks, name, rest) {
+            if !keys_pass(banks, name, rest) {
                 return Ok(Some(Fault::NotAPort));
             }
             table_fault(alloc, &held.bank, port, name, rest)
@@ -132,7 +78,7 @@ pub(crate) fn bad_register(
     requires apart { RegistersApart (state_held banks.now) name (trees args.now) }
     ensures { IfOk result (λ o. o ≡ or_else (unmet (state_held banks.now) (needs_to_register name) (trees args.now)) (fault_of_registered (registering_gives (state_held banks.now) name (trees args.now)))) }
 {
-    if let Some(fault) = bad_operands(banks, name, args) {
+    if let Some(fault) = unmet(banks, needs_to_register(name), args) {
         return Ok(Some(fault));
     }
     match args.first() {

@@ -44,7 +44,26 @@ pub(crate) fn taken(slot: &mut Option<Value>) -> Value
     }
 }
 
-// The task goes on with the answer of that branch, and an alts is counted.
+/// The task goes on with the answer of that branch, and an alts is counted.
+#[inline(always)]
+pub(crate) fn answer_task<A: Agent>(
+    task: &mut Task<A>,
+    value: Value,
+    branch: Option<u64>,
+    of_alts: bool,
+)
+    requires at { is_at_op (A.place task.old.agent) ≡ true }
+    requires count { of_alts ≡ true → task.old.alts + 1 < 2 ^ 64 }
+    ensures number { task.new.number ≡ task.old.number }
+    ensures agent { GoesOn A.gives of_alts (agent_of task.old) (view value) (agent_of task.new) }
+{
+    task.agent.give(Outcome { value, branch });
+    if of_alts {
+        task.alts += 1;
+    }
+}
+
+// The same of a task by itself.
 pub(crate) fn goes_on<A: Agent>(
     task: Task<A>,
     value: Value,
@@ -57,9 +76,6 @@ pub(crate) fn goes_on<A: Agent>(
     ensures agent { GoesOn A.gives of_alts (agent_of task) (view value) (agent_of result) }
 {
     let mut task = task;
-    task.agent.give(Outcome { value, branch });
-    if of_alts {
-        task.alts += 1;
-    }
+    answer_task(&mut task, value, branch, of_alts);
     task
 }

@@ -1,16 +1,19 @@
-// What a channel settles by itself, as far as the held parts tell.
-ghost use Rattle.std.specs.Prelude.{◌≡◌, ◌%◌, ◌&&◌, Some};
+//! What a channel settles by itself: the channel tells which wait it would serve, and the held parts whether that lives.
+
+ghost use Rattle.std.specs.Prelude.{◌≡◌, ◌%◌, ◌&&◌, ℕ, Some};
 ghost use Rattle.ca_term.specs.declared.event.Side.TheVariants.{Put, Take};
 ghost use Rattle.ca_bank.specs.Bank.{kept_at};
 ghost use Rattle.ca_bank.specs.Kept.{is_closed_at, takes_one_more};
 ghost use Rattle.ca_bank.specs.Room.{kept_view};
 ghost use Rattle.ca_commit.specs.Contents.{whole};
-ghost use Rattle.ca_commit.specs.Finding.{front_at, glance, holds_one, is_fixed_at, serve_front, serve_taker, settle_at};
+ghost use Rattle.ca_commit.specs.Finding.{Glance as PureGlance, front_at, glance, holds_one, is_fixed_at, serve_front, serve_taker, settle_at};
 ghost use Rattle.ca_commit.specs.Found.{serving_view};
-ghost use Rattle.ca_commit.specs.Showing.{channels_held, waits_held};
+ghost use Rattle.ca_commit.specs.ServesSeen.{HasRoomFor, IsOf, served_by};
+ghost use Rattle.ca_commit.specs.Showing.{bank_in, channels_held, waits_held};
 
 use crate::finding::{Glance, front, glance_of, holds_one};
-use crate::held::{Banks, Shards};
+use crate::held::{Banks, HeldBank, Shards};
+use crate::sight::Partner;
 use ca_bank::bank::Bank;
 use ca_bank::room::Room;
 use ca_buffers::any::AnyBuffer;
@@ -29,6 +32,14 @@ pub enum Serving {
     Unheld(WaitId),
 }
 
+/// What a channel does by itself, before a wait is asked.
+#[derive(Clone, Copy)]
+pub enum Serves {
+    Nothing,
+    /// It serves the one in front of the side, if that wait lives.
+    Front(Side, Partner),
+}
+
 fn is_fixed(room: &Room) -> bool
     ensures { result ≡ is_fixed_at (Some (kept_view room.now)) }
 {
@@ -38,37 +49,69 @@ fn is_fixed(room: &Room) -> bool
     }
 }
 
-// The handler in front of the side, if there is one.
-fn serve_front<A: Drop>(shards: &Shards<A>, room: &Room, side: Side) -> Serving
-    ensures { serving_view result ≡ serve_front (glance (waits_held shards.now)) side (front_at side (Some (kept_view room.now))) }
+// The one in front of the side, if there is one.
+#[tactic(auto, using(crate::proofs::ServesLaws::front_serves))]
+fn front_served(room: &Room, side: Side) -> Serves
+    ensures serves { (see : ℕ → PureGlance) → served_by result see ≡ serve_front see side (front_at side (Some (kept_view room.now))) }
+    ensures side { IsOf side result }
 {
     match front(room, side) {
-        Some(handler) => match glance_of(shards, handler.wait) {
-            Glance::Here => Serving::Serves(side, handler.wait, handler.branch),
-            Glance::Gone => Serving::Stale(side),
-            Glance::Unseen => Serving::Unheld(handler.wait),
-        },
-        None => Serving::Rests,
+        Some(handler) => Serves::Front(
+            side,
+            Partner {
+                wait: handler.wait,
+                branch: handler.branch,
+            },
+        ),
+        None => Serves::Nothing,
     }
 }
 
-fn serve_taker<A: Drop>(shards: &Shards<A>, room: &Room) -> Serving
-    ensures { serving_view result ≡ serve_taker (glance (waits_held shards.now)) (holds_one (Some (kept_view room.now))) (is_closed_at (Some (kept_view room.now))) (front_at Take (Some (kept_view room.now))) }
+fn taker_served(room: &Room) -> Serves
+    ensures serves { (see : ℕ → PureGlance) → served_by result see ≡ serve_taker see (holds_one (Some (kept_view room.now))) (is_closed_at (Some (kept_view room.now))) (front_at Take (Some (kept_view room.now))) }
+    ensures side { IsOf Take result }
 {
     if holds_one(room) || room.is_closed() {
-        serve_front(shards, room, Side::Take)
+        front_served(room, Side::Take)
     } else {
-        Serving::Rests
+        Serves::Nothing
+    }
+}
+
+// What the channel serves.
+#[tactic(auto, using(crate::proofs::ServesLaws::takers_have, crate::proofs::ServesLaws::putters_have))]
+fn served(room: &Room) -> Serves
+    ensures serves { (see : ℕ → PureGlance) → served_by result see ≡ settle_at see (Some (kept_view room.now)) }
+    ensures room { HasRoomFor result (Some (kept_view room.now)) }
+{
+    if is_fixed(room) && room.has_room() && front(room, Side::Put).is_some() {
+        front_served(room, Side::Put)
+    } else {
+        taker_served(room)
     }
 }
 
 fn settle_in<A: Drop>(shards: &Shards<A>, room: &Room) -> Serving
     ensures { serving_view result ≡ settle_at (glance (waits_held shards.now)) (Some (kept_view room.now)) }
 {
-    if is_fixed(room) && room.has_room() && front(room, Side::Put).is_some() {
-        serve_front(shards, room, Side::Put)
-    } else {
-        serve_taker(shards, room)
+    match served(room) {
+        Serves::Nothing => Serving::Rests,
+        Serves::Front(side, partner) => match glance_of(shards, partner.wait) {
+            Glance::Here => Serving::Serves(side, partner.wait, partner.branch),
+            Glance::Gone => Serving::Stale(side),
+            Glance::Unseen => Serving::Unheld(partner.wait),
+        },
+    }
+}
+
+/// What the channel serves, before the wait in front is asked; what is no channel of this bank serves nothing.
+pub fn serves_of(held: &HeldBank, port: PortId) -> Serves
+    ensures serves { (see : ℕ → PureGlance) → served_by result see ≡ settle_at see (bank_in held.now port.n) }
+    ensures room { HasRoomFor result (bank_in held.now port.n) }
+{
+    match held.bank.room(port) {
+        Some(room) => served(room),
+        None => Serves::Nothing,
     }
 }
 

@@ -8,11 +8,11 @@ ghost use Rattle.ca_meaning.specs.Wait.{told};
 ghost use Rattle.ca_bank.specs.Kept.{buffer_at, buffer_spare};
 ghost use Rattle.ca_commit.specs.Contents.{whole};
 ghost use Rattle.ca_commit.specs.Listing.{changed_at};
-ghost use Rattle.ca_commit.specs.Settling.{HasRoomToServe, IsMadeToServe, IsMadeToSettle, Settles, filled, served_in, settle_change, settling};
+ghost use Rattle.ca_commit.specs.Settling.{HasRoomToServe, IsMadeToServe, IsMadeToSettle, Settles, served_in, settle_change, settling};
 ghost use Rattle.ca_commit.specs.Showing.{channels_held, registries_held, spares_held, waits_held};
 ghost use Rattle.ca_commit.specs.Waking.{IsPaused, KeepsNumbers, WakesBy, ready_in};
 
-use crate::changing::{add, prune, remove};
+use crate::changing::serve_in;
 use crate::doing::first_held;
 use crate::held::{Banks, Held};
 use crate::meeting::{offered, partner, reserve_ready, told};
@@ -78,30 +78,6 @@ pub fn reserve_serving<A: Agent>(
     Ok(())
 }
 
-// The value moves in, or the oldest one leaves.
-fn fill(banks: &mut Banks, port: PortId, side: Side, value: Value)
-    requires room { HasRoomToServe (whole (channels_held banks.old) port.n) side }
-    requires spare { side ≡ Put → 0 < buffer_spare (whole (spares_held banks.old) port.n) }
-    ensures channels { (i : ℕ) → channels_held banks.new i ≡ changed_at port.n (option_map (filled side (view value))) (channels_held banks.old) i }
-    ensures registries { (i : ℕ) → registries_held banks.new i ≡ registries_held banks.old i }
-{
-    match side {
-        Side::Put => add(banks, port, value),
-        Side::Take => remove(banks, port),
-    }
-}
-
-// What serving that side does to the channel; a value that moves in was made before.
-fn change(banks: &mut Banks, port: PortId, side: Side, value: Value)
-    requires room { HasRoomToServe (whole (channels_held banks.old) port.n) side }
-    requires spare { side ≡ Put → 0 < buffer_spare (whole (spares_held banks.old) port.n) }
-    ensures channels { (i : ℕ) → channels_held banks.new i ≡ changed_at port.n (option_map (settle_change side (view value))) (channels_held banks.old) i }
-    ensures registries { (i : ℕ) → registries_held banks.new i ≡ registries_held banks.old i }
-{
-    fill(banks, port, side, value);
-    prune(banks, port, side, 0);
-}
-
 /// The channel serves that branch of the wait, which stands in front of the side: the value moves in, or a taker gets
 /// it, and whoever waited goes on. It takes no memory.
 pub fn serve<A: Agent>(
@@ -125,7 +101,7 @@ pub fn serve<A: Agent>(
     let value = taken(&mut held.spare.value);
     let again = taken(&mut held.spare.answer);
     let partner = held.spare.partner.take();
-    change(&mut held.banks, port, side, again);
+    serve_in(&mut held.banks, port, side, again);
     let parked = take_out(&mut held.shards, wait);
     wake(&mut held.ready, parked, partner, branch);
     Event::Settle {

@@ -7,7 +7,7 @@ use Rattle.ca_term.specs.Operation.{SeedView}
 use Rattle.ca_term.specs.Program.{ProgramView}
 use Rattle.ca_meaning.specs.Body.{At}
 use Rattle.ca_meaning.specs.Task.{TaskBody}
-use Rattle.ca_bank.specs.Registry.{registry_view}
+use Rattle.ca_registry.specs.Registry.{registry_view}
 use Rattle.ca_bank.specs.Room.{kept_view}
 use Rattle.ca_turns.specs.Hands.{Held as Hand, IsHolding, TableId}
 use Rattle.ca_commit.specs.Agents.{TaskAgent}

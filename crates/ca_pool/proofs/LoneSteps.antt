@@ -6,9 +6,9 @@ use Rattle.ca_value.specs.Tree.{Tree}
 use Rattle.ca_term.specs.declared.event.Ending.{Ending}
 use Rattle.ca_term.specs.declared.event.Ending.TheVariants.{Ended, Faulted}
 use Rattle.ca_term.specs.Event.{EventView, over as over_event}
-use Rattle.ca_term.specs.Operation.{SeedView}
+use Rattle.ca_term.specs.Operation.{SeedView, WantView}
 use Rattle.ca_term.specs.Program.{ProgramView, program_view}
-use Rattle.ca_meaning.specs.Body.{At}
+use Rattle.ca_meaning.specs.Body.{At, at_op}
 use Rattle.ca_meaning.specs.Cost.{cost}
 use Rattle.ca_meaning.specs.EndsLaw.{is_of}
 use Rattle.ca_meaning.specs.Legal.{is_end_of_main}
@@ -21,15 +21,19 @@ use Rattle.ca_states.specs.declared.valid_code.ValidCode.{ValidCode}
 use Rattle.ca_turns.specs.Hands.{TableId}
 use Rattle.ca_turns.specs.declared.rule.Turn.{Turn}
 use Rattle.ca_turns.specs.declared.rule.View.{View}
+use Rattle.ca_commit.specs.Agents.{TaskAgent}
 use Rattle.ca_commit.specs.Applying.{Channels, IsPlanFor, Members, event_of}
-use Rattle.ca_commit.specs.Contents.{Kept, whole}
-use Rattle.ca_commit.specs.Planning.{Planned, to_close, to_default, to_do, to_look, to_make, to_meet, to_park, to_post, to_print, to_prune, to_refuse, to_register, to_spawn}
+use Rattle.ca_commit.specs.Contents.{Kept, Parts, whole}
+use Rattle.ca_commit.specs.Deciding.{seen_in}
+use Rattle.ca_commit.specs.Planning.{Planned, planned, to_close, to_default, to_do, to_look, to_make, to_meet, to_park, to_post, to_print, to_prune, to_refuse, to_register, to_spawn}
 use Rattle.ca_commit.specs.Showing.{channels_held, registries_held}
 use Rattle.ca_commit.specs.Tasks.{agent_of}
 use Rattle.ca_commit.specs.Touched as said
 use Rattle.ca_commit.specs.declared.held.Held.{Held}
 use Rattle.ca_commit.specs.declared.task.Task.{Task}
-use Rattle.ca_table.specs.Carrying.{lane_place}
+use Rattle.ca_commit.proofs.Laid.{IsPart}
+use Rattle.ca_table.specs.Carriers.{IsCarrying, was}
+use Rattle.ca_table.specs.Carrying.{Carries, carried, lane_place}
 use Rattle.ca_table.specs.Draws.{drawn_touches, turn_view}
 use Rattle.ca_table.specs.Grips.{SameHand}
 use Rattle.ca_table.specs.LoneHands.{DrewTurn, HoldsLeft}
@@ -50,7 +54,7 @@ use Rattle.ca_alone.specs.Standing.{ChoosesWell, IsOn}
 use Rattle.ca_alone.specs.Stirring.{stirs_in}
 use Rattle.ca_alone.proofs.HeldDesk.{parts_now}
 use Rattle.ca_alone.proofs.HeldPosition.{with_choice, with_lane, with_plan_stirred, with_stirred}
-use Rattle.ca_alone.proofs.HeldWithin.{LiesIn, carried_lies, carried_settled}
+use Rattle.ca_alone.proofs.HeldWithin.{carried_lies, carried_part, carried_settled, lies_part, shown_parts}
 use Rattle.ca_alone.proofs.Standings.{stands_as as as_kind}
 use Rattle.ca_alone.proofs.Stopping.{makes}
 use Rattle.ca_pool.specs.AtEvent.{HasTaken}
@@ -140,8 +144,8 @@ module _ {A C : Type 0} (over : CodeView → A → Type 0) (place : A → At) (s
   Drew1 what w v = (t : Turn (PartSeen A) Drawn) × (v.hand.view.turns ≡ w.hand.view.turns ++ t ∷ []) × (t.event.what ≡ what)
 
   -- the only worker, by the program of its run
-  module _ (program : ProgramView) (l lane : Lane A) (clock : Option (ClockBox C)) (held : Held A) (w v : Worker A C) (task : Task A) (carries : HasTaken over stands_as code id program 1 l shows clock held w) (gone : HasGone over advances program code l lane task) (alone : IsLone w)
-      (same : SameWorker w v) (hand : SameHand w.hand v.hand) (few : lane.since < patience) where
+  module _ (program : ProgramView) (l lane : Lane A) (h : Carries (Part A C × PartSeen A)) (out : Part A C) (old : Parts (TaskAgent A)) (w v : Worker A C) (task : Task A) (carries : IsCarrying over stands_as program code id 1 w h) (there : h.lane ≡ Some (out, part_of_lane 1 code l))
+      (lies : IsPart old (parts_now w.hand.view)) (gone : HasGone over advances program code l lane task) (alone : IsLone w) (same : SameWorker w v) (hand : SameHand w.hand v.hand) (few : lane.since < patience) where
     abbrev view : View (PartSeen A) Drawn
     view = w.hand.view
 
@@ -152,10 +156,7 @@ module _ {A C : Type 0} (over : CodeView → A → Type 0) (place : A → At) (s
     left = carries.one.left alone.1
 
     lane_held : get_elem? view.held 0 ≡ core.some (Some (part_of_lane 1 code l))
-    lane_held = carried_settled over stands_as program code id w (taken shows 1 code w.number l clock held) carries lane_place (away 1 code, part_of_lane 1 code l) tt refl
-
-    lies : LiesIn held (parts_now view)
-    lies = carried_lies over stands_as program code id w (taken shows 1 code w.number l clock held) carries least faults readings held left refl refl
+    lane_held = carried_settled over stands_as program code id w h carries lane_place (out, part_of_lane 1 code l) tt there
 
     abbrev Laned : Position → Type 0
     Laned x = MaySettle to_turn [] x × (x.desk.lane ≡ lane_read (lane_seen l).task (lane_seen l).since)
@@ -168,7 +169,7 @@ module _ {A C : Type 0} (over : CodeView → A → Type 0) (place : A → At) (s
 
     -- .. and what may settle after the event
     abbrev Stirred : EventView → Position → Type 0
-    Stirred e x = Laned x × (stirred x.state e ≡ stirs_in (whole (channels_held held.banks)) e)
+    Stirred e x = Laned x × (stirred x.state e ≡ stirs_in (whole old.bank) e)
 
     abbrev Facts : EventView → List ℕ → Position → Type 0
     Facts e us x = MaySettle to_turn [] x × IsOn x.desk.lane × (stirred x.state e ≡ us) × ChoosesWell x.state x.desk e
@@ -184,12 +185,12 @@ module _ {A C : Type 0} (over : CodeView → A → Type 0) (place : A → At) (s
         }
 
     -- the event of a plan
-    planned_steps : (u p k m : ℕ) (q : Planned) (e : EventView) (us : List ℕ) → IsPlanFor place held q (agent_of task) → e ≡ event_of (channels_held held.banks) (registries_held held.banks) task.number u p k m q → us ≡ stirred_of (whole (channels_held held.banks)) q
+    planned_steps : (want : WantView) (u p k m : ℕ) (q : Planned) (e : EventView) (us : List ℕ) → place task.agent ≡ at_op want → q ≡ planned (seen_in old) want.op task.alts → e ≡ event_of old.bank old.registry task.number u p k m q → us ≡ stirred_of (whole old.bank) q
         → DrewTurn (said.shown e) view v.hand.view → Here (MaySettle to_turn []) view → (most : ℕ) → cost (shown_by view.turns) < most → Steps us false most v
-    planned_steps u p k m q e us plan is stirs drew h most below =
-        let cs = channels_held held.banks in let rs = registries_held held.banks in let want = plan.0 in
-        let on_it = with_plan_stirred over place stands_as advances gives starts program (valid_code code) view Laned held want (agent_of task).alts task.number u p k m q e lies plan.2 is (laned h) in
-        let chosen = with_choice over place stands_as advances gives starts program (valid_code code) view (Stirred e) advance_law left (part_of_lane 1 code l) (lane_seen l) held task.number gone.left.agent (agent_of task) want u p k m q e lane_held refl gone.left.was gone.left.advanced lies plan.1 plan.2 is on_it in
+    planned_steps want u p k m q e us at plan is stirs drew h most below =
+        let cs = old.bank in let rs = old.registry in
+        let on_it = with_plan_stirred over place stands_as advances gives starts program (valid_code code) view Laned old want task.alts task.number u p k m q e lies plan is (laned h) in
+        let chosen = with_choice over place stands_as advances gives starts program (valid_code code) view (Stirred e) advance_law left (part_of_lane 1 code l) (lane_seen l) old task.number gone.left.agent (agent_of task) want u p k m q e lane_held refl gone.left.was gone.left.advanced lies at plan is on_it in
         steps e us false
         (as_kind over place stands_as advances gives starts advance_law answer_law start_law program (valid_code code) {P = λ x. Stirred e x × ChoosesWell x.state x.desk e} {Q = Facts e us} view (λ x f. (f.0.0.0, lane_on x f.0.0.1, f.0.1 ∙ ap (stirs_in (whole cs)) is ∙ planned_stirs cs rs task.number u p k m (whole cs) q ∙ sym stirs, f.1)) chosen)
         (ap (is_of task.number) is ∙ planned_is_of cs rs task.number u p k m q)
@@ -199,26 +200,49 @@ module _ {A C : Type 0} (over : CodeView → A → Type 0) (place : A → At) (s
     -- the end of the task
     end_steps : (ending : Ending) (us : List ℕ) (b : Bool) → us ≡ stirred_at_end ending → is_end_of_main (over_event task.number ending) ≡ b → DrewTurn (said.shown (over_event task.number ending)) view v.hand.view → Here (MaySettle to_turn []) view → (most : ℕ) → cost (shown_by view.turns) < most → Steps us b most v
     end_steps ending us b stirs main drew h most below =
-        let e = over_event task.number ending in let ports = whole (channels_held held.banks) in
-        let on_it = with_stirred over place stands_as advances gives starts program (valid_code code) view Laned held e lies tt (laned h) in
+        let e = over_event task.number ending in let ports = whole old.bank in
+        let on_it = with_stirred over place stands_as advances gives starts program (valid_code code) view Laned old e lies tt (laned h) in
         steps e us b (as_kind over place stands_as advances gives starts advance_law answer_law start_law program (valid_code code) {P = Stirred e} {Q = Facts e us} view (λ x f. (f.0.0, lane_on x f.0.1, f.1 ∙ end_stirs ports task.number ending ∙ sym stirs, tt)) on_it) (self task.number) main drew most below
 
+  -- what a worker that may go on draws
+  module _ (w v : Worker A C) (hand : SameHand w.hand v.hand) where
+    drew_shown : (e : EventView) (what : Turned) → turn_view what ≡ said.shown e → Drew1 what w v → DrewTurn (said.shown e) w.hand.view v.hand.view
+    drew_shown e what is drew = drew_turn w v (said.shown e) drew.0 hand drew.1 (ap turn_view drew.2 ∙ is)
+
+    stands_by : (program : ProgramView) → program_view w.program.value ≡ program → (most : ℕ) → Goes most w → StandsAt over place stands_as advances gives starts program (valid_code code) (MaySettle to_turn []) w.hand.view
+    stands_by program is most may = subst (λ (p : ProgramView). StandsAt over place stands_as advances gives starts p (valid_code code) (MaySettle to_turn []) w.hand.view) is may.at.at
+
+  -- an event that is made where the parts lie
+  module _ (program : ProgramView) (n : ℕ) (l lane : Lane A) (h : Carries (Part A C × PartSeen A)) (out : Part A C) (w v : Worker A C) (task : Task A) (carries : IsCarrying over stands_as program code id n w h) (there : h.lane ≡ Some (out, part_of_lane n code l)) (gone : HasGone over advances program code l lane task)
+      (same : SameWorker w v) (hand : SameHand w.hand v.hand) (few : lane.since < patience) (most : ℕ) (may : Goes most w) where
+    abbrev old : Parts (TaskAgent A)
+    old = carried was w.number h
+
+    pub place_leads : (want : WantView) (u p k m : ℕ) (q : Planned) (e : EventView) (us : List ℕ) → place task.agent ≡ at_op want → q ≡ planned (seen_in old) want.op task.alts → e ≡ event_of old.bank old.registry task.number u p k m q → us ≡ stirred_of (whole old.bank) q
+        → (what : Turned) → turn_view what ≡ said.shown e → Drew1 what w v → Steps us false most v
+    place_leads want u p k m q e us at plan is stirs what shows_it drew =
+        let lone : n ≡ 1 = sym carries.one.of ∙ may.at.lone.0 in
+        let one = subst (λ (k : ℕ). IsCarrying over stands_as program code id k w h) lone carries in
+        planned_steps program l lane h out old w v task one (there ∙ ap (λ k. Some (out, part_of_lane k code l)) lone) (carried_part over stands_as program code id w h one (one.one.left may.at.lone.1)) gone may.at.lone same hand few
+        want u p k m q e us at plan is stirs (drew_shown w v hand e what shows_it drew) (stands_by w v hand program carries.one.of_program most may) most may.below
+
+  -- one over what was moved out for it
   module _ (program : ProgramView) (n : ℕ) (l lane : Lane A) (clock : Option (ClockBox C)) (held : Held A) (w v : Worker A C) (task : Task A) (carries : HasTaken over stands_as code id program n l shows clock held w) (gone : HasGone over advances program code l lane task)
       (same : SameWorker w v) (hand : SameHand w.hand v.hand) (few : lane.since < patience) (most : ℕ) (may : Goes most w) where
     by_one : HasTaken over stands_as code id program 1 l shows clock held w
     by_one = subst (λ (k : ℕ). HasTaken over stands_as code id program k l shows clock held w) (sym carries.one.of ∙ may.at.lone.0) carries
 
-    stands_there : StandsAt over place stands_as advances gives starts program (valid_code code) (MaySettle to_turn []) w.hand.view
-    stands_there = subst (λ (p : ProgramView). StandsAt over place stands_as advances gives starts p (valid_code code) (MaySettle to_turn []) w.hand.view) carries.one.of_program may.at.at
-
-    drew_shown : (e : EventView) (what : Turned) → turn_view what ≡ said.shown e → Drew1 what w v → DrewTurn (said.shown e) w.hand.view v.hand.view
-    drew_shown e what is drew = drew_turn w v (said.shown e) drew.0 hand drew.1 (ap turn_view drew.2 ∙ is)
+    lies_there : IsPart (shown_parts held) (parts_now w.hand.view)
+    lies_there = lies_part held (parts_now w.hand.view) (carried_lies over stands_as program code id w (taken shows 1 code w.number l clock held) by_one least faults readings held (by_one.one.left may.at.lone.1) refl refl)
 
     -- an event of a plan
     pub plan_leads : (u : ℕ) (q : Planned) (e : EventView) (us : List ℕ) → IsPlanFor place held q (agent_of task) → e ≡ event_of (channels_held held.banks) (registries_held held.banks) task.number u held.new_port held.new_wait held.moment q
         → us ≡ stirred_of (whole (channels_held held.banks)) q → (what : Turned) → turn_view what ≡ said.shown e → Drew1 what w v → Steps us false most v
-    plan_leads u q e us plan is stirs what shows_it drew = planned_steps program l lane clock held w v task by_one gone may.at.lone same hand few u held.new_port held.new_wait held.moment q e us plan is stirs
-        (drew_shown e what shows_it drew) stands_there most may.below
+    plan_leads u q e us plan is stirs what shows_it drew =
+        planned_steps program l lane (taken shows 1 code w.number l clock held) (away 1 code) (shown_parts held) w v task by_one refl lies_there gone may.at.lone same hand few plan.0 u held.new_port held.new_wait held.moment q e us plan.1 plan.2 is stirs
+        (drew_shown w v hand e what shows_it drew) (stands_by w v hand program carries.one.of_program most may) most may.below
 
     pub end_leads : (ending : Ending) (us : List ℕ) (b : Bool) → us ≡ stirred_at_end ending → is_end_of_main (over_event task.number ending) ≡ b → (what : Turned) → turn_view what ≡ said.shown (over_event task.number ending) → Drew1 what w v → Steps us b most v
-    end_leads ending us b stirs main what shows_it drew = end_steps program l lane clock held w v task by_one gone may.at.lone same hand few ending us b stirs main (drew_shown (over_event task.number ending) what shows_it drew) stands_there most may.below
+    end_leads ending us b stirs main what shows_it drew =
+        end_steps program l lane (taken shows 1 code w.number l clock held) (away 1 code) (shown_parts held) w v task by_one refl lies_there gone may.at.lone same hand few ending us b stirs main
+        (drew_shown w v hand (over_event task.number ending) what shows_it drew) (stands_by w v hand program carries.one.of_program most may) most may.below

@@ -3,7 +3,7 @@ use Rattle.std.proofs.Common.{◌≡◌, ◌∙◌, ℕ, refl, sym, ap, subst, t
 use Rattle.std.specs.Prelude.{option_map}
 use Rattle.std.specs.FinMap as map
 use Rattle.ca_bank.specs.Bank.{kept_at, registry_at}
-use Rattle.ca_bank.specs.Registry.{registry_view}
+use Rattle.ca_registry.specs.Registry.{registry_view}
 use Rattle.ca_bank.specs.Room.{kept_view}
 use Rattle.ca_bank.specs.declared.bank.Bank.{Bank}
 use Rattle.ca_bank.specs.declared.shard.Shard.{Shard}

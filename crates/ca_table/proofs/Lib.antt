@@ -52,3 +52,5 @@ pub mod Lifted
 pub mod PlanCovered
 pub mod HaltMoved
 pub mod SettleMoved
+pub mod PlacesDrawn
+pub mod Spots

@@ -28,7 +28,7 @@ pub no_stall : (e : EventView) → said.shown e ≢ said.stalls
 no_stall e s = cc
 
 -- what the event of a plan names is what the plan needs
-names_needed : (cs : Channels) (rs : Members) (w t u p v m : ℕ) (q : Planned) → IsEvent q → names_of w (said.shown (event_of cs rs t u p v m q)) ≡ needed w p v q
+pub names_needed : (cs : Channels) (rs : Members) (w t u p v m : ℕ) (q : Planned) → IsEvent q → names_of w (said.shown (event_of cs rs t u p v m q)) ≡ needed w p v q
 names_needed cs rs w t u p v m (to_do k b alts) is = refl
 names_needed cs rs w t u p v m (to_meet k b alts wait o) is = refl
 names_needed cs rs w t u p v m (to_park bs) is = refl

@@ -18,12 +18,13 @@ use Rattle.ca_commit.specs.Applying.{IsPlanFor, event_of, number_of}
 use Rattle.ca_commit.specs.Contents.{LaneView, TimersPart, home, whole}
 use Rattle.ca_commit.specs.Deciding.{IsStale}
 use Rattle.ca_commit.specs.Finding.{glance, serves, settle_at}
+use Rattle.ca_commit.specs.Gathered.{Alike}
 use Rattle.ca_commit.specs.Listing.{changed_at, listed}
 use Rattle.ca_commit.specs.Listings.{parts}
 use Rattle.ca_commit.specs.Naming.{named_ports}
 use Rattle.ca_commit.specs.Numbers.{number_of_bank, number_of_shard}
 use Rattle.ca_commit.specs.Planning.{Planned, to_refuse}
-use Rattle.ca_commit.specs.PlanMoves.{TimesTo}
+use Rattle.ca_commit.specs.PlanMoves.{IsApplied, TimesTo}
 use Rattle.ca_commit.specs.Settling.{IsSettled}
 use Rattle.ca_commit.specs.Showing.{channels_held, registries_held, waits_held}
 use Rattle.ca_commit.specs.TaskMoves.{MarksEnd}
@@ -38,10 +39,11 @@ use Rattle.ca_states.specs.declared.valid_code.ValidCode.{ValidCode}
 use Rattle.ca_table.specs.OneCode.{advances_over, gives_over, starts_over}
 use Rattle.ca_table.specs.Bearing.{IsMadeOf, ShowSame, parts_held}
 use Rattle.ca_table.specs.Carriers.{IsMoved, is_now, was}
-use Rattle.ca_table.specs.Carrying.{Carries}
+use Rattle.ca_table.specs.Carrying.{Carries, Each, carried}
 use Rattle.ca_table.specs.Committing.{IsDone, IsDue}
+use Rattle.ca_table.specs.Covering.{plain}
 use Rattle.ca_table.specs.Halting.{KeepAll, LeavesLane}
-use Rattle.ca_table.specs.Needing.{Brings, drawn_with, needs_ready, needs_timers, own_if}
+use Rattle.ca_table.specs.Needing.{Brings, drawn_with, needs_ready, needs_timers, own_if, ports_needed, waits_needed}
 use Rattle.ca_table.specs.Seen.{PartSeen}
 use Rattle.ca_table.specs.declared.part.Part.{Part}
 
@@ -74,6 +76,15 @@ module _ {A C : Type 0} (over_code : CodeView → A → Type 0) (place : A → A
       → e ≡ event_of (channels_held held.banks) (registries_held held.banks) task.number (number_of spawned) held.new_port held.new_wait held.moment q
       → Brings ports looked (needs_timers q) (own_if (needs_ready q) w) h
       → IsMoved over_code place advances gives starts seen code n w (drawn_with w n (shown e) ports looked) h
+
+  -- The event of a plan that was applied to just the parts that it needs, where they lie. It names all that it touches.
+  abbrev pub PlacesDraw : Type 0
+  PlacesDraw = (w n t u p v m : ℕ) (q : Planned) (h : Carries (Part A C × PartSeen A)) (e : EventView)
+      → IsApplied place (advances_over over_code (valid_code code) advances) (gives_over over_code (valid_code code) gives) (starts_over over_code (valid_code code) starts) w n t u p v m q (carried was w h) (carried (is_now seen) w h)
+      → e ≡ event_of (carried was w h).bank (carried was w h).registry t u p v m q
+      → Each (λ x. Alike n (was x) (is_now seen x)) h
+      → Brings (ports_needed p q) (waits_needed v q) (needs_timers q) (own_if (needs_ready q) w) h
+      → IsMoved over_code place advances gives starts seen code n w (plain w n (shown e)) h
 
   -- the end of a task, which touches the timers where it is that of the main text
   pub record Ends (w n : ℕ) (h : Carries (Part A C × PartSeen A)) (at : At) (lane lane2 : LaneView (TaskAgent A)) (timers timers2 : Option TimersPart) (held held2 : Held A) (task : Task A) (ports looked : List ℕ) : Type 0 where

@@ -5,7 +5,7 @@ use Rattle.std.specs.Ordering.{nat_cmp}
 use Rattle.indexmap.specs.IndexMap.{IndexMap}
 use Rattle.ca_states.specs.ValidCode.{valid_code}
 use Rattle.ca_states.specs.declared.valid_code.ValidCode.{ValidCode}
-use Rattle.ca_bank.specs.Registry.{registry_view}
+use Rattle.ca_registry.specs.Registry.{registry_view}
 use Rattle.ca_bank.specs.Room.{kept_view}
 use Rattle.ca_bank.specs.declared.bank.Bank.{Bank}
 use Rattle.ca_bank.specs.declared.shard.Shard.{Shard}

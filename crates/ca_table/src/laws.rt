@@ -1,7 +1,7 @@
 //! What a worker may draw over what it carries.
 
 ghost use Rattle.ca_states.specs.declared.valid_code.ValidCode.{ValidCode};
-ghost use Rattle.ca_table.specs.DrawnEvents.{EndsDraw, FaultsDraw, PartsStay, PlansDraw, PrunesDraw, RefusalsDraw, ReservingKeeps, SettlesDraw};
+ghost use Rattle.ca_table.specs.DrawnEvents.{EndsDraw, FaultsDraw, PartsStay, PlacesDraw, PlansDraw, PrunesDraw, RefusalsDraw, ReservingKeeps, SettlesDraw};
 ghost use Rattle.ca_table.specs.Parts.{part_seen};
 
 use ca_agent::agent::Agent;
@@ -10,6 +10,11 @@ use ca_timers::clock::Clock;
 /// The event of a plan, once it was applied to what is carried: the lane, and just what the event needs beside it.
 pub fn plans_are_drawn<A: Agent, C: Clock + Drop>()
     ensures { (code : ValidCode) → PlansDraw A.over A.place A.advances A.gives A.starts (part_seen C.least C.faults C.readings) code }
+{}
+
+/// The same event, made where the parts lie that it needs, and no others.
+pub fn places_are_drawn<A: Agent, C: Clock + Drop>()
+    ensures { (code : ValidCode) → PlacesDraw A.over A.place A.advances A.gives A.starts (part_seen C.least C.faults C.readings) code }
 {}
 
 /// The end of the lane's task: by a value, by a fault of its own, or at an operation that is refused.

@@ -18,6 +18,7 @@ pub mod gathering;
 pub mod handling;
 mod holding;
 pub mod homes;
+pub mod in_hand;
 pub mod laws;
 pub mod lifting;
 mod moving;

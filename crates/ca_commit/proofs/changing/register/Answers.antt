@@ -3,8 +3,8 @@ use Rattle.ca_value.specs.Seq.{list}
 use Rattle.ca_value.specs.View.{trees}
 use Rattle.ca_meaning.specs.Registry.{Registry}
 use Rattle.ca_bank.specs.Bank.{members_spare_at, kept_at, registry_at}
-use Rattle.ca_bank.specs.Registries.{members_added}
-use Rattle.ca_bank.specs.Registry.{registered}
+use Rattle.ca_registry.specs.Registries.{members_added}
+use Rattle.ca_registry.specs.Registry.{registered}
 use Rattle.ca_bank.specs.declared.bank.Bank.{Bank}
 use Rattle.ca_commit.specs.Contents.{home}
 use Rattle.ca_commit.specs.Numbers.{number_of_bank}

@@ -5,7 +5,7 @@ use Rattle.ca_meaning.specs.Registry.{Registry}
 use Rattle.ca_states.specs.ValidCode.{valid_code}
 use Rattle.ca_bank.specs.Kept.{Kept}
 use Rattle.ca_bank.specs.declared.bank.Bank.{Bank}
-use Rattle.ca_bank.specs.Registry.{registry_view}
+use Rattle.ca_registry.specs.Registry.{registry_view}
 use Rattle.ca_bank.specs.Room.{kept_view}
 use Rattle.ca_table.specs.Opening.{part_of}
 use Rattle.ca_table.specs.Parts.{bank_seen}

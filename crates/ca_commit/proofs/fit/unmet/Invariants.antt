@@ -1,9 +1,0 @@
-use Rattle.std.proofs.Common.{◌≡◌, drop, map}
-use Rattle.ca_value.specs.View.{trees}
-use Rattle.ca_meaning.specs.Refusal.{unmet}
-use Rattle.ca_commit.specs.Needs.{need_view, from_place}
-use Rattle.ca_commit.specs.Showing.{state_held}
-use Rattle.ca_commit.proofs.fit.unmet.Given as goal
-
-abbrev pub invariant-loop-place : goal.invariant-loop-place
-invariant-loop-place l = unmet (state_held l.banks) (map need_view (drop l.place l.needs)) (from_place l.place (trees l.values)) ≡ unmet (state_held l.banks) (map need_view l.needs) (trees l.values)

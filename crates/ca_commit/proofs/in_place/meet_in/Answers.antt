@@ -1,0 +1,14 @@
+use Rattle.std.proofs.Common.{ap, Some, option_map}
+use Rattle.ca_value.specs.View.{view}
+use Rattle.ca_term.specs.Event.{branch_view}
+use Rattle.ca_bank.specs.Bank.{kept_at}
+use Rattle.ca_commit.specs.Showing.{parked_view, waits_of}
+use Rattle.ca_commit.specs.Standing.{branch_no}
+use Rattle.ca_commit.specs.Tasks.{tasks_in}
+use Rattle.ca_commit.proofs.InPlace.{wakes_met}
+use Rattle.ca_commit.proofs.in_place.meet_in.Goals as goal
+
+pub returns-clause-wakes : goal.returns-clause-wakes
+returns-clause-wakes g c = wakes_met g.A.Agent.place g.A.Agent.gives (kept_at c.args.bank.now) (branch_no (g.A.Agent.place c.args.task.now.agent) c.args.number) (branch_view c.in_ok-branch.branch) c.port_in-port.result.n c.side_in-side.result c.opposite.result (view c.in_ok-value.value) (view c.in_ok-theirs.theirs)
+    (waits_of c.args.shard.now c.args.partner.wait.n) (option_map parked_view c.take_wait-parked.result) c.in_ok-woken.woken (Some (tasks_in c.args.ready.now)) (Some (tasks_in c.reserve.new.self)) (Some (tasks_in c.wake_in.new.ready))
+    c.in_ok-branch.ensures c.port_in-port.ensures c.side_in-side.ensures c.opposite.ensures c.in_ok-value.ensures c.in_ok-theirs.ensures c.in_ok-woken.ensures c.take_wait-parked.ensures.parked (ap Some c.reserve.ensures.tasks) c.wake_in.ensures
