@@ -11,6 +11,7 @@ pub mod Branches
 pub mod Cuts
 pub mod Cutting
 pub mod Latest
+pub mod Lengths
 pub mod Quick
 pub mod Tallying
 pub mod QuickLists

@@ -14,3 +14,4 @@ pub mod Found
 pub mod Mains
 pub mod Latest
 pub mod Spoken
+pub mod Shown

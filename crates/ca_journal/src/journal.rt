@@ -5,6 +5,8 @@ ghost use Rattle.ca_journal.specs.Rising.{all_rise};
 
 use crate::entries::Entries;
 use crate::walk::Front;
+use ca_value::memory::OutOfMemory;
+use std::alloc::Global;
 
 /// The events of a run, in order of number: the lists of all workers, as they are. Of two events of one number that of
 /// the earlier list stands first.
@@ -20,9 +22,25 @@ pub struct Journal {
 }
 
 impl Journal {
-    ghost use Rattle.std.specs.Prelude.{take, IfSome};
+    ghost use Rattle.std.specs.Prelude.{take, IfOk, IfSome};
     ghost use Rattle.ca_journal.specs.Events.{events};
-    ghost use Rattle.ca_journal.specs.Merge.{events_of};
+    ghost use Rattle.ca_journal.specs.Merge.{Ascends, events_of};
+
+    /// The events of one list, whose numbers never fall.
+    #[tactic(auto, using(crate::proofs::OnlyList::of_one, crate::proofs::OnlyList::one_rises))]
+    pub fn of(alloc: Global, list: Entries) -> Result<Journal, OutOfMemory>
+        requires { Ascends (entries list) }
+        ensures { IfOk result (λ j. events j ≡ events_of (entries list)) }
+    {
+        let mut lists = Vec::new(alloc);
+        lists.push(list)?;
+        let fronts = Vec::with_capacity(alloc, 1)?;
+        Ok(Journal {
+            lists,
+            fronts,
+            kept: None,
+        })
+    }
 
     /// The list where there is just one, whose events are all kept.
     pub(crate) fn only_list(&self) -> Option<&Entries>

@@ -12,7 +12,7 @@
 //! its budget. Texts grow geometrically.
 //!
 //! Stands on `ca_value`, `ca_term`, `ca_meaning` and `itoa`. Start with `note` and `entries`, then `merge`, `journal` and
-//! `walk`; `line` has the lines of the journal, one function for each kind of event.
+//! `walk`; `shown` has the event that a note stands for; `line` has the lines of the journal, one function for each kind of event.
 #![tactic(auto)]
 
 pub mod cut;
@@ -22,13 +22,14 @@ pub mod fits;
 pub mod journal;
 pub mod last;
 mod least;
-mod line;
+pub mod line;
 mod main_end;
 pub mod merge;
 mod name;
 pub mod note;
 pub mod output;
-mod part;
+pub mod part;
 pub mod print;
+pub mod shown;
 mod tally;
 pub mod walk;

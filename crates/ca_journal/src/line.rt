@@ -32,6 +32,16 @@ pub(crate) fn append_line(number: u64, note: &Note, into: &mut Text) -> Result<(
     into.append(b"\n")
 }
 
+/// The same of an event.
+pub fn append_event_line(number: u64, event: &Event, into: &mut Text) -> Result<(), OutOfMemory>
+    ensures { OnOk result (list into.new ≡ list into.old ++ event_line number (event_view event.now)) }
+{
+    append_numbered(b"", number, into)?;
+    into.append(b" ")?;
+    append_event(event, into)?;
+    into.append(b"\n")
+}
+
 fn append_note(note: &Note, into: &mut Text) -> Result<(), OutOfMemory>
     ensures { OnOk result (list into.new ≡ list into.old ++ event_text (note_view note.now)) }
 {

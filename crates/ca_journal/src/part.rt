@@ -1,3 +1,4 @@
+// Parts of lines, which a journal's lines share with those of a report.
 ghost use Rattle.std.specs.Prelude.{◌≡◌, ◌∷◌, ◌++◌, OnOk, option_map, decimal, map};
 ghost use Rattle.ca_value.specs.Seq.{list};
 ghost use Rattle.ca_value.specs.View.{view, trees};
@@ -15,12 +16,8 @@ use ca_value::memory::OutOfMemory;
 use ca_value::seq::Text;
 use ca_value::value::{PortId, Value};
 
-// Some text and behind it a number, in decimal.
-pub(crate) fn append_numbered(
-    before: &[u8],
-    number: u64,
-    into: &mut Text,
-) -> Result<(), OutOfMemory>
+/// Some text and behind it a number, in decimal.
+pub fn append_numbered(before: &[u8], number: u64, into: &mut Text) -> Result<(), OutOfMemory>
     ensures { OnOk result (list into.new ≡ list into.old ++ (before.now ++ decimal number)) }
 {
     into.append(before)?;
@@ -55,12 +52,8 @@ fn append_moment(moment: Option<u64>, into: &mut Text) -> Result<(), OutOfMemory
     }
 }
 
-// What is made at a new port.
-pub(crate) fn append_what(
-    what: &What,
-    moment: Option<u64>,
-    into: &mut Text,
-) -> Result<(), OutOfMemory>
+/// What is made at a new port, with the moment of a timeout's making.
+pub fn append_what(what: &What, moment: Option<u64>, into: &mut Text) -> Result<(), OutOfMemory>
     ensures { OnOk result (list into.new ≡ list into.old ++ what_text (what_view what.now) moment) }
 {
     match what {
@@ -102,9 +95,9 @@ pub(crate) fn append_put(port: PortId, value: &Value, into: &mut Text) -> Result
     value.append_readable(into)
 }
 
-// The operations of a wait, joined by a comma and a space.
+/// The operations of a wait, joined by a comma and a space.
 #[tactic(auto, using(crate::proofs::Branches::more_cons))]
-pub(crate) fn append_branches(branches: &[Branch], into: &mut Text) -> Result<(), OutOfMemory>
+pub fn append_branches(branches: &[Branch], into: &mut Text) -> Result<(), OutOfMemory>
     ensures { OnOk result (list into.new ≡ list into.old ++ branches_text (map branch_view branches.now)) }
 {
     let Some((first, rest)) = branches.split_first() else {

@@ -1,5 +1,6 @@
-ghost use Rattle.std.specs.Prelude.{◌≡◌, IfOk};
+ghost use Rattle.std.specs.Prelude.{◌≡◌, ◌≤◌, List, length, IfOk};
 ghost use Rattle.ca_value.specs.Seq.{list};
+ghost use Rattle.ca_term.specs.Event.{EventView};
 ghost use Rattle.ca_meaning.specs.Journal.{journal_text};
 ghost use Rattle.ca_journal.specs.Events.{events};
 
@@ -23,3 +24,8 @@ pub fn print(alloc: Global, journal: &Journal) -> Result<Text, OutOfMemory>
     }
     Ok(text)
 }
+
+/// A journal has no more events than its text has bytes.
+pub fn texts_are_as_long_as_journals()
+    ensures { (journal : List EventView) → length journal ≤ length (journal_text journal) }
+{}

@@ -23,7 +23,7 @@ pub struct Front {
 
 /// A walk over the events, in order. Each step costs a look at the front of each list.
 #[derive(Drop)]
-pub(crate) struct Walk<'a> {
+pub struct Walk<'a> {
     pub(crate) lists: &'a [Entries],
     pub(crate) fronts: Vec<Front>,
     // So many events more are kept; all where this tells none.
@@ -40,7 +40,7 @@ impl<'a> Walk<'a> {
     ghost use Rattle.ca_journal.specs.Note.{note_view};
 
     /// A walk from the first event on.
-    pub(crate) fn of(alloc: Global, journal: &'a Journal) -> Result<Walk<'a>, OutOfMemory>
+    pub fn of(alloc: Global, journal: &'a Journal) -> Result<Walk<'a>, OutOfMemory>
         ensures { IfOk result (λ w. coming w ≡ events journal.now) }
     {
         let lists = journal.lists.as_slice();
@@ -65,7 +65,7 @@ impl<'a> Walk<'a> {
 
     /// The next entry, or none where the walk is over.
     #[tactic(auto, using(crate::proofs::Rising::all_ascend_rise, crate::proofs::Rising::all_rise_ascend))]
-    pub(crate) fn next(&mut self) -> Option<&'a Entry>
+    pub fn next(&mut self) -> Option<&'a Entry>
         ensures order { coming self.old ≡ option_to_list (option_map (λ e. note_view e.now.note) result) ++ coming self.new }
         ensures none { IfNone result (coming self.old ≡ []) }
         ensures lists { self.new.lists ≡ self.old.lists }

@@ -1,0 +1,9 @@
+pub mod Numbers
+pub mod Loops
+pub mod TextBack
+pub mod ValueBack
+pub mod FieldBack
+pub mod EventBack
+pub mod ValueTold
+pub mod EventTold
+pub mod Lines

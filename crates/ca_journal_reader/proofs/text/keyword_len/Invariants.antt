@@ -1,0 +1,7 @@
+use Rattle.std.proofs.Common.{◌≡◌, ◌+◌, drop}
+use Rattle.std.specs.List.{prefix_len}
+use Rattle.ca_value.specs.IsValue.{is_keyword_byte}
+use Rattle.ca_journal_reader.proofs.text.keyword_len.Given as goal
+
+abbrev pub invariant-loop-index : goal.invariant-loop-index
+invariant-loop-index l = prefix_len is_keyword_byte l.rest ≡ l.index + prefix_len is_keyword_byte (drop l.index l.rest)

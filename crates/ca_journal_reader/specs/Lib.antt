@@ -1,0 +1,9 @@
+pub mod Input
+pub mod Errors
+pub mod Front
+pub mod Found
+pub mod Words
+pub mod ValueText
+pub mod FieldText
+pub mod EventText
+pub mod Made
