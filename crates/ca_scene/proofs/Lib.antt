@@ -1,0 +1,10 @@
+pub mod Sames
+pub mod Asked
+pub mod Complete
+pub mod Soundly
+pub mod Queues
+pub mod Branches
+pub mod Waitings
+pub mod Ends
+pub mod Brought
+pub mod Dues

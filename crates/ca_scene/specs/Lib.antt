@@ -1,0 +1,7 @@
+pub mod Same
+pub mod Admits
+pub mod Admitted
+pub mod Standing
+pub mod Scene
+pub mod Look
+pub mod Registering
