@@ -1,0 +1,10 @@
+use Rattle.std.proofs.Common.{◌≡◌, ◌<◌, ◌-◌, ap, sym, ◌∙◌, length, get_or, eqb, rules}
+use Rattle.ca_scene.specs.declared.room.Handler.{Handler}
+use Rattle.ca_replay.proofs.Joinings.{ends_last}
+use Rattle.ca_replay.proofs.joining.ends_with.Goals as goal
+
+pub returns-in-Some : goal.returns-in-Some
+returns-in-Some c =
+    let some : 0 < length c.args.queue.now.items = search rules in
+    let last : c.in-Some.handler.now ≡ get_or c.args.queue.now.items (length c.args.queue.now.items - 1) c.in-Some.handler.now = search rules in
+    ends_last c.args.wait c.args.queue.now.items c.in-Some.handler.now some ∙ ap (λ (h : Handler). eqb c.args.wait h.wait) (sym last)

@@ -1,0 +1,12 @@
+pub mod Changes
+pub mod Goings
+pub mod Judged
+pub mod MainEnd
+pub mod Moves
+pub mod Possible
+pub mod Replies
+pub mod Rooms
+pub mod SceneOf
+pub mod Seeds
+pub mod Verdict
+pub mod World

@@ -1,0 +1,34 @@
+//! A task closes a channel.
+ghost use Rattle.std.specs.Prelude.{◌≡◌, OnOk, true};
+ghost use Rattle.ca_term.specs.Event.{closed};
+ghost use Rattle.ca_term.specs.Program.{program_view};
+ghost use Rattle.ca_meaning.specs.Steps.{Step};
+ghost use Rattle.ca_scene.specs.Admits.{admits};
+ghost use Rattle.ca_scene.specs.Scene.{scene_state};
+ghost use Rattle.ca_replay.specs.SceneOf.{IsSceneOf};
+
+use crate::changing::shut;
+use crate::going::go_on;
+use ca_scene::scene::Scene;
+use ca_term::program::Program;
+use ca_value::memory::OutOfMemory;
+use ca_value::value::Value;
+use std::alloc::Global;
+
+/// The task closes the channel.
+pub(crate) fn close(
+    scene: &mut Scene,
+    alloc: Global,
+    program: &Program,
+    task: u64,
+    port: u64,
+) -> Result<(), OutOfMemory>
+    requires scene { IsSceneOf (program_view program.now) scene.old }
+    requires admitted { admits (scene_state scene.old) (closed task port) ≡ true }
+    ensures step { OnOk result (Step (program_view program.now) (scene_state scene.old) (closed task port) (scene_state scene.new)) }
+    ensures scene { OnOk result (IsSceneOf (program_view program.now) scene.new) }
+{
+    go_on(scene, alloc, program, task, Value::Nil)?;
+    shut(scene, port);
+    Ok(())
+}
