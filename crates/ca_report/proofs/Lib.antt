@@ -1,0 +1,11 @@
+pub mod Counting
+pub mod Balancing
+pub mod Marking
+pub mod Placing
+pub mod Telling
+pub mod Dropping
+pub mod Tallying
+pub mod Entries
+pub mod Seeing
+pub mod Reporting
+pub mod Worked
