@@ -11,7 +11,7 @@ use Rattle.ca_term.specs.Event.{EventView}
 use Rattle.ca_words.specs.declared.command.Command.{Command}
 use Rattle.ca_run.specs.declared.run.ScriptRun.{ScriptRun}
 use Rattle.ca_run.specs.declared.answer.Answer.{Answer}
-use Rattle.ca_run.specs.declared.answer.Answer.TheVariants.{Usage, Refused, Accepted, Ran}
+use Rattle.ca_run.specs.declared.answer.Answer.TheVariants.{Usage, Refused, Accepted, Ran, Found}
 use Rattle.ca_run.specs.Top.{ClockSpan, ToldNothing, reads, workers_of}
 use Rattle.ca_run.specs.Answers.{AnswersTo, RunsNothing, journal_of}
 use Rattle.ca_run.proofs.Finishes.{same_command}
@@ -34,6 +34,7 @@ pub silent_of : (asked : Option Command) (span : ClockSpan) (before after : Opti
 silent_of asked span before after Usage j h e none = no_journal j e
 silent_of asked span before after (Refused r) j h e none = no_journal j e
 silent_of asked span before after Accepted j h e none = no_journal j e
+silent_of asked span before after (Found f) j h e none = no_journal j e
 silent_of asked span before after (Ran m shown) j h e none = silent_for asked span before after m shown h (subst (λ x. NoTimeouts (events x)) (sym (same_journal m.journal j e)) none)
 
 -- an answer without a journal is none of a run
@@ -41,6 +42,7 @@ pub without_run : (a : Answer) → journal_of a ≡ None → RunsNothing a
 without_run Usage e = tt
 without_run (Refused r) e = tt
 without_run Accepted e = tt
+without_run (Found f) e = tt
 without_run (Ran m shown) e = absurd (let z : Some m.journal ≡ None = e in cc)
 
 -- where the source stays as it is unless a script is to be read, it does for a command that reads none

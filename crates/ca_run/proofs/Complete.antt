@@ -1,5 +1,5 @@
 -- The status of a call in which no device failed.
-use Rattle.std.proofs.Common.{◌≡◌, ℕ, suc, ◌≤◌, ◌+◌, List, ◌++◌, length, length-append, Option, Some, None, Result, Ok, Err, MatchOption, option_map, is_ok, Bool, true, false, refl, sym, ap, subst, ◌∙◌, inl, inr, append-nil, arith}
+use Rattle.std.proofs.Common.{◌≡◌, ◌⊎◌, ℕ, suc, ◌<◌, ◌≤◌, ◌+◌, List, ◌++◌, length, length-append, Option, Some, None, Result, Ok, Err, MatchOption, option_map, is_ok, Bool, true, false, refl, sym, ap, subst, ◌∙◌, inl, inr, append-nil, arith}
 use Rattle.std.specs.Io.KnownBytes.{Consumes, IsAtEnd}
 use Rattle.ca_timers.specs.Causes.{Rose, HasCause}
 use Rattle.ca_term.specs.declared.place.Place.{Place}
@@ -10,13 +10,18 @@ use Rattle.ca_derived.specs.Outcome.{made, refused}
 use Rattle.ca_forms.specs.declared.error.CheckErrorKind.{CheckErrorKind}
 use Rattle.ca_check.specs.Expansion.{expansion_of}
 use Rattle.ca_words.specs.declared.command.Command.{Command}
-use Rattle.ca_words.specs.declared.command.Command.TheVariants.{Check, Load, Run}
+use Rattle.ca_words.specs.declared.command.Command.TheVariants.{Check, Load, Run, Replay, Report}
 use Rattle.ca_run.specs.declared.run.ScriptEnd.{ScriptEnd}
 use Rattle.ca_run.specs.declared.answer.Answer.{Answer}
-use Rattle.ca_run.specs.declared.answer.Answer.TheVariants.{Usage, Refused, Accepted, Ran}
-use Rattle.ca_run.specs.Top.{ClockSpan, HasProgram, HasScript, IsComplete, IsDone, IsScript, IsSteady, IsTooLong, ReadWhole, Refused as RefusedFrom, RefusedFor, greatest_length, runs}
+use Rattle.ca_run.specs.declared.answer.Answer.TheVariants.{Usage, Refused, Accepted, Ran, Found}
+use Rattle.ca_run.specs.declared.finding.Finding.{Finding}
+use Rattle.ca_run.specs.Findings.{finding_status}
+use Rattle.ca_run.specs.Inputs.{HasProgram, ReadWhole, greatest_input, greatest_length}
+use Rattle.ca_run.specs.Marker.{IsParted}
+use Rattle.ca_run.specs.Top.{ClockSpan, HasScript, IsComplete, IsDone, IsLongPart, IsParts, IsRefused, IsScript, IsSteady, IsTooLong, ReadPart, ReadParts, Refused as RefusedFrom, RefusedFor, judges, runs}
+use Rattle.ca_run.proofs.Markers.{one_script}
 use Rattle.ca_run.specs.Answers.{AnswersTo, refusal_line, status_of, status_of_end}
-use Rattle.ca_run.proofs.Finishes.{end_of_run}
+use Rattle.ca_run.proofs.Finishes.{end_of_run, finding_is}
 
 -- a text that has a program is not refused
 not_refused : (input line : List ℕ) → RefusedFor input line → HasProgram input → ⊥
@@ -45,37 +50,68 @@ all_of (Some xs) (Some ys) input read e c w =
     let same : xs ≡ input = cc in
     sym (append-nil read) ∙ ap (λ z. read ++ z) (sym w) ∙ sym c ∙ same
 
--- nor is what a source tells to be a script
-short_enough : (before after : Option (List ℕ)) (line : List ℕ) → IsTooLong before after line → IsScript before → ⊥
-short_enough before after line t g =
-    let within : length t.0 ≤ length g.0 = front_of before after g.0 t.0 g.1 t.1 in
-    let past : length t.0 ≡ suc greatest_length = t.2 in
-    let short : length g.0 ≤ greatest_length = g.2 in omega (arith, within, past, short)
+-- nor is what a source tells to be no longer than so many bytes
+short_enough : (most : ℕ) (before after : Option (List ℕ)) (input line : List ℕ) → IsTooLong most before after line → before ≡ Some input → length input ≤ most → ⊥
+short_enough most before after input line t told short =
+    let within : length t.0 ≤ length input = front_of before after input t.0 told t.1 in
+    let past : length t.0 ≡ suc most = t.2 in omega (arith, within, past, short)
 
-read_script : (before after : Option (List ℕ)) (input line : List ℕ) → ReadWhole before after input → RefusedFor input line → IsScript before → ⊥
+read_script : (before after : Option (List ℕ)) (input line : List ℕ) → ReadWhole greatest_length before after input → RefusedFor input line → IsScript before → ⊥
 read_script before after input line r f g = not_refused input line f (subst HasProgram (sym (all_of before after g.0 input g.1 r.read r.whole)) g.3)
 
+-- nor is the part before the marker line, where it is told to be a script
+same_part : (before after : Option (List ℕ)) (script journal : List ℕ) → ReadParts before after script journal → (g : IsParts before) → script ≡ g.1
+same_part before after script journal r g =
+    let same : r.0 ≡ g.0 = all_of before after g.0 r.0 g.3 r.1.read r.1.whole in
+    one_script g.0 script journal g.1 g.2 (subst (λ (z : List ℕ). IsParted z script journal) same r.2) g.5
+
+long_part : (before after : Option (List ℕ)) (line : List ℕ) → IsLongPart before after line → IsParts before → ⊥
+long_part before after line h g =
+    let same : length h.0 ≡ length g.1 = ap length (same_part before after h.0 h.1 h.2 g) in
+    let long : greatest_length < length h.0 = h.3 in
+    let short : length g.1 ≤ greatest_length = g.6 in omega (arith, same, long, short)
+
+read_part : (before after : Option (List ℕ)) (script line : List ℕ) → ReadPart before after script → RefusedFor script line → IsParts before → ⊥
+read_part before after script line r f g = not_refused script line f (subst HasProgram (sym (same_part before after script r.0 r.1 g)) g.7)
+
 refused_script : (c : Command) (before after : Option (List ℕ)) (line : List ℕ) → RefusedFrom c before after line → HasScript c before → ⊥
-refused_script (Run workers budget journal) before after line (inl t) g = short_enough before after line t g
+refused_script (Run workers budget journal) before after line (inl t) g = short_enough greatest_length before after g.0 line t g.1 g.2
 refused_script (Run workers budget journal) before after line (inr r) g = read_script before after r.0 line r.1 r.2 g
-refused_script Check before after line (inl t) g = short_enough before after line t g
+refused_script Check before after line (inl t) g = short_enough greatest_length before after g.0 line t g.1 g.2
 refused_script Check before after line (inr r) g = read_script before after r.0 line r.1 r.2 g
 refused_script (Load n workers) before after line r g = not_refused r.0 line r.2 (subst HasProgram (sym r.1.1) g)
+refused_script Replay before after line (inl t) g = short_enough greatest_input before after g.0 line t g.3 g.4
+refused_script Replay before after line (inr (inl h)) g = long_part before after line h g
+refused_script Replay before after line (inr (inr r)) g = read_part before after r.0 line r.1 r.2 g
+refused_script Report before after line (inl t) g = short_enough greatest_input before after g.0 line t g.3 g.4
+refused_script Report before after line (inr (inl h)) g = long_part before after line h g
+refused_script Report before after line (inr (inr r)) g = read_part before after r.0 line r.1 r.2 g
 
 run_done : (c : Command) (e : ScriptEnd) → runs c ≡ true → IsDone c (status_of_end e)
 run_done (Run workers budget journal) e r = end_of_run e
 run_done Check e r = absurd (let z : false ≡ true = r in cc)
 run_done (Load n workers) e r = end_of_run e
+run_done Replay e r = absurd (let z : false ≡ true = r in cc)
+run_done Report e r = absurd (let z : false ≡ true = r in cc)
+
+found_done : (c : Command) (f : Finding) → judges c ≡ true → IsDone c (finding_status f)
+found_done (Run workers budget journal) f r = absurd (let z : false ≡ true = r in cc)
+found_done Check f r = absurd (let z : false ≡ true = r in cc)
+found_done (Load n workers) f r = absurd (let z : false ≡ true = r in cc)
+found_done Replay f r = finding_is f
+found_done Report f r = finding_is f
 
 complete_by : (asked : Option Command) (span : ClockSpan) (before after : Option (List ℕ)) (a : Answer) → AnswersTo asked span before after a → IsComplete asked before (status_of a)
 complete_by None span before after Usage h = inl refl
 complete_by None span before after (Refused r) h = absurd h
 complete_by None span before after Accepted h = absurd h
 complete_by None span before after (Ran m shown) h = absurd h
+complete_by None span before after (Found f) h = absurd h
 complete_by (Some c) span before after Usage h = absurd h
 complete_by (Some c) span before after (Refused r) h = inr (inl (refl, refused_script c before after (refusal_line r) h))
 complete_by (Some c) span before after Accepted h = inl (subst (λ (d : Command). IsDone d 0) (sym h.0) refl)
 complete_by (Some c) span before after (Ran m shown) h = inl (run_done c m.end h.0)
+complete_by (Some c) span before after (Found f) h = inl (found_done c f h.0)
 
 -- a sink that did not fail took the whole text
 all_written : {T E : Type 0} (wrote : Result T E) (w : Bool) (faults faults2 : ℕ) → w ≡ is_ok wrote → HasCause faults faults2 wrote → IsSteady faults faults2 → w ≡ true

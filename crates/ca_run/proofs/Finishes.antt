@@ -1,18 +1,22 @@
 -- How a call ends, by its answer.
-use Rattle.std.proofs.Common.{◌≡◌, ◌≢◌, ℕ, List, codes, ap, take, subst, Option, Some, None, Result, Ok, Err, Bool, true, false, refl, sym, ◌∙◌, ◌⊎◌, inl, inr, OnOk, OnErr, is_ok, IsSome, arith, ◌<◌, ◌≤◌}
+use Rattle.std.proofs.Common.{◌≡◌, ◌≢◌, ⊎_elim, ℕ, List, codes, ap, take, subst, Option, Some, None, Result, Ok, Err, Bool, true, false, refl, sym, ◌∙◌, ◌⊎◌, inl, inr, OnOk, OnErr, is_ok, IsSome, arith, ◌<◌, ◌≤◌}
 use Rattle.std.specs.Io.KnownBytes.{Appends}
 use Rattle.ca_meaning.specs.Ends.{RunEnd, ended, faulted, limit, stuck}
 use Rattle.ca_words.specs.declared.command.Command.{Command}
-use Rattle.ca_words.specs.declared.command.Command.TheVariants.{Check}
+use Rattle.ca_words.specs.declared.command.Command.TheVariants.{Check, Load, Run, Replay, Report}
 use Rattle.ca_run.specs.declared.run.ScriptRun.{ScriptRun}
 use Rattle.ca_run.specs.declared.run.ScriptEnd.{ScriptEnd}
 use Rattle.ca_run.specs.declared.run.ScriptEnd.TheVariants.{Ended, Faulted, Limit, Stuck}
 use Rattle.ca_run.specs.declared.answer.Refusal.{Refusal}
 use Rattle.ca_run.specs.declared.answer.Answer.{Answer}
-use Rattle.ca_run.specs.declared.answer.Answer.TheVariants.{Usage, Refused, Accepted, Ran}
+use Rattle.ca_run.specs.declared.answer.Answer.TheVariants.{Usage, Refused, Accepted, Ran, Found}
 use Rattle.ca_journal.specs.declared.journal.Journal.{Journal}
 use Rattle.ca_journal.specs.Events.{events}
-use Rattle.ca_run.specs.Top.{ClockSpan, Refused as RefusedFrom, Accepted as AcceptedFrom, Completed, CompletedFor, Partly, RunText, runs, usage}
+use Rattle.ca_run.specs.declared.finding.Finding.{Finding}
+use Rattle.ca_run.specs.declared.finding.Finding.TheVariants.{NoJournal, BadLine, IllegalAt, Stands, Lines}
+use Rattle.ca_run.specs.Findings.{finding_status, finding_text, Finds, IsFinding, IsRejected, IsReplayed, IsReported}
+use Rattle.ca_run.specs.Inputs.{ReadWhole, greatest_input}
+use Rattle.ca_run.specs.Top.{ClockSpan, Refused as RefusedFrom, Accepted as AcceptedFrom, Completed, CompletedFor, Partly, RunText, JudgesJournal, Writes, judges, runs, usage}
 use Rattle.ca_run.specs.Answers.{answer_text, status_of, status_of_end, journal_of, refusal_line, end_of, line_of_end, AnswersTo, RunsNothing}
 
 on_ok : {T E : Type 0} (r : Result T E) (P : Type 0) → OnOk r P → is_ok r ≡ true → P
@@ -24,7 +28,7 @@ on_err (Ok x) P h e = cc
 on_err (Err x) P h e = h
 
 -- numbers that differ
-differ : (m n : ℕ) → m < n → m ≢ n
+pub differ : (m n : ℕ) → m < n → m ≢ n
 differ m n h e = omega arith
 
 -- another status than 7 is that of an answer whose text was written
@@ -38,20 +42,32 @@ end_under_six (Faulted f p) = omega arith
 end_under_six Limit = omega arith
 end_under_six Stuck = omega arith
 
-under_six : (a : Answer) → status_of a < 6
-under_six Usage = omega arith
-under_six (Refused r) = omega arith
-under_six Accepted = omega arith
-under_six (Ran m shown) = end_under_six m.end
+pub finding_is : (f : Finding) → (finding_status f ≡ 0) ⊎ (finding_status f ≡ 10)
+finding_is NoJournal = inr refl
+finding_is (BadLine k) = inr refl
+finding_is (IllegalAt k) = inr refl
+finding_is (Stands s) = inl refl
+finding_is (Lines t) = inl refl
+
+-- a finding has no other status
+other_finding : {G : Type 0} (f : Finding) (n : ℕ) → 0 < n → n < 10 → finding_status f ≡ n → G
+other_finding f n some below e = absurd (⊎_elim (λ z. omega (arith, z, e, some)) (λ t. omega (arith, t, e, below)) (finding_is f))
+
+not_seven : (a : Answer) → status_of a ≢ 7
+not_seven Usage e = omega (arith, e)
+not_seven (Refused r) e = omega (arith, e)
+not_seven Accepted e = omega (arith, e)
+not_seven (Ran m shown) e = let k = end_under_six m.end in omega (arith, k, e)
+not_seven (Found f) e = other_finding f 7 (omega arith) (omega arith) e
 
 unwritten_when : (w : Bool) (s : ℕ) (a : Answer) → (w ≡ true → s ≡ status_of a) → s ≡ 7 → w ≡ false
-unwritten_when true s a h e = let u : status_of a < 6 = under_six a in let k : status_of a ≡ 7 = sym (h refl) ∙ e in absurd (omega arith)
+unwritten_when true s a h e = absurd (not_seven a (sym (h refl) ∙ e))
 unwritten_when false s a h e = refl
 
 -- at another status than 7 the answer's whole text was written
-pub whole_text : {T E : Type 0} (wrote : Result T E) (w : Bool) (s n : ℕ) (a : Answer) (held room taken : Option (List ℕ)) (piece : List ℕ) → w ≡ is_ok wrote → (w ≡ false → s ≡ 7) → (w ≡ true → s ≡ status_of a) → OnOk wrote (Appends room taken piece) → piece ≡ answer_text a → room ≡ held → s ≡ n → n < 7 → (status_of a ≡ n) × Appends held taken (answer_text a)
+pub whole_text : {T E : Type 0} (wrote : Result T E) (w : Bool) (s n : ℕ) (a : Answer) (held room taken : Option (List ℕ)) (piece : List ℕ) → w ≡ is_ok wrote → (w ≡ false → s ≡ 7) → (w ≡ true → s ≡ status_of a) → OnOk wrote (Appends room taken piece) → piece ≡ answer_text a → room ≡ held → s ≡ n → n ≢ 7 → (status_of a ≡ n) × Appends held taken (answer_text a)
 whole_text wrote w s n a held room taken piece is lost done ok words same e l =
-    let yes : w ≡ true = written_when w s n lost e (differ n 7 l) in
+    let yes : w ≡ true = written_when w s n lost e l in
     let all : Appends room taken piece = on_ok wrote (Appends room taken piece) ok (sym is ∙ yes) in
     (sym (done yes) ∙ e, subst (λ h. Appends h taken (answer_text a)) same (subst (Appends room taken) words all))
 
@@ -63,8 +79,12 @@ part_text wrote w s a held room taken piece is done err words same e =
     (part.0, subst (λ h. Appends h taken (take part.0 (answer_text a))) same (subst (λ t. Appends room taken (take part.0 t)) words part.1))
 
 -- no answer has a greater status
-pub known_of : (a : Answer) → status_of a ≤ 9
-known_of a = let k = under_six a in omega (arith, k)
+pub known_of : (a : Answer) → status_of a ≤ 10
+known_of Usage = omega arith
+known_of (Refused r) = omega arith
+known_of Accepted = omega arith
+known_of (Ran m shown) = let k = end_under_six m.end in omega (arith, k)
+known_of (Found f) = ⊎_elim (λ z. omega (arith, z)) (λ t. omega (arith, t)) (finding_is f)
 
 -- the status of an end
 abbrev pub number_of : RunEnd → ℕ
@@ -97,6 +117,12 @@ no_end faulted n a b q = omega (arith, b, q)
 no_end limit n a b q = omega (arith, b, q)
 no_end stuck n a b q = omega (arith, b, q)
 
+number_small : (want : RunEnd) → number_of want < 10
+number_small ended = omega arith
+number_small faulted = omega arith
+number_small limit = omega arith
+number_small stuck = omega arith
+
 -- A run that has come to an end has completed with it.
 completed : (c : Command) (span : ClockSpan) (before after held taken : Option (List ℕ)) (m : ScriptRun) (shown : Bool) → AnswersTo (Some c) span before after (Ran m shown) → Appends held taken (answer_text (Ran m shown)) → Completed c before after held taken (Some span) (Some m.journal) (end_of m.end)
 completed c span before after held taken m shown h p = (h.2, (answer_text (Ran m shown), subst (λ (b : Bool). RunText b (events m.journal) (end_of m.end) (answer_text (Ran m shown))) h.1 (line_of_end m.end, h.3, refl), p))
@@ -110,6 +136,7 @@ pub ends_of : (asked : Option Command) (span : ClockSpan) (before after held tak
 ends_of asked span before after held taken Usage want some s h p = absurd (no_end want 1 (omega arith) (omega arith) s)
 ends_of asked span before after held taken (Refused r) want some s h p = absurd (no_end want 2 (omega arith) (omega arith) s)
 ends_of asked span before after held taken Accepted want some s h p = absurd (omega (arith, some, s))
+ends_of asked span before after held taken (Found f) want some s h p = other_finding f (number_of want) some (number_small want) s
 ends_of asked span before after held taken (Ran m shown) want some s h p = run_for asked span before after held taken m shown want s h p
 
 pub same_command : (c d : Command) → Some c ≡ Some d → c ≡ d
@@ -119,6 +146,24 @@ same_command c d e = cc
 check_asked : (asked : Option Command) (span : ClockSpan) (before after : Option (List ℕ)) → AnswersTo asked span before after Accepted → asked ≡ Some Check
 check_asked None span before after h = absurd h
 check_asked (Some c) span before after h = ap Some h.0
+
+-- a finding is one of a command that judges a journal
+abbrev pub FoundFor : Option Command → Option (List ℕ) → Option (List ℕ) → Finding → Type 0
+FoundFor asked before after f = (c : Command) × (asked ≡ Some c) × (judges c ≡ true) × ((input : List ℕ) × ReadWhole greatest_input before after input × IsFinding c input f)
+
+found_for : (asked : Option Command) (span : ClockSpan) (before after : Option (List ℕ)) (f : Finding) → AnswersTo asked span before after (Found f) → FoundFor asked before after f
+found_for None span before after f h = absurd h
+found_for (Some c) span before after f h = (c, refl, h.0, h.1)
+
+not_run : {G : Type 0} (c : Command) → judges c ≡ true → runs c ≡ true → G
+not_run (Run workers budget journal) j r = absurd (let z : false ≡ true = j in cc)
+not_run Check j r = absurd (let z : false ≡ true = j in cc)
+not_run (Load n workers) j r = absurd (let z : false ≡ true = j in cc)
+not_run Replay j r = absurd (let z : false ≡ true = r in cc)
+not_run Report j r = absurd (let z : false ≡ true = r in cc)
+
+never_found : {G : Type 0} (asked : Option Command) (before after : Option (List ℕ)) (f : Finding) (c : Command) → asked ≡ Some c → judges c ≡ false → FoundFor asked before after f → G
+never_found asked before after f c e off h = absurd (let z : true ≡ false = sym h.2 ∙ ap judges (same_command h.0 c (sym h.1 ∙ e)) ∙ off in cc)
 
 never_checks : {G : Type 0} (c : Command) → c ≡ Check → runs c ≡ true → G
 never_checks c e r = absurd (let z : false ≡ true = sym (ap runs e) ∙ r in cc)
@@ -130,6 +175,9 @@ pub ended_of : (asked : Option Command) (span : ClockSpan) (before after held ta
 ended_of asked span before after held taken Usage c q r s h p = absurd (omega (arith, s))
 ended_of asked span before after held taken (Refused f) c q r s h p = absurd (omega (arith, s))
 ended_of asked span before after held taken Accepted c q r s h p = never_checks c (same_command c Check (sym q ∙ check_asked asked span before after h)) r
+ended_of asked span before after held taken (Found f) c q r s h p =
+    let found = found_for asked span before after f h in
+    not_run c (ap judges (sym (same_command found.0 c (sym found.1 ∙ q))) ∙ found.2) r
 ended_of asked span before after held taken (Ran m shown) c q r s h p = of_command asked before after held taken (Some span) (Some m.journal) ended c q (run_for asked span before after held taken m shown ended s h p)
 
 accepted_by : (asked : Option Command) (span : ClockSpan) (before after : Option (List ℕ)) → AnswersTo asked span before after Accepted → AcceptedFrom before after
@@ -144,6 +192,7 @@ pub accepted_of : (asked : Option Command) (span : ClockSpan) (before after held
 accepted_of asked span before after held taken Usage q s h p = absurd (omega (arith, s))
 accepted_of asked span before after held taken (Refused r) q s h p = absurd (omega (arith, s))
 accepted_of asked span before after held taken Accepted q s h p = (accepted_by asked span before after h, p)
+accepted_of asked span before after held taken (Found f) q s h p = never_found asked before after f Check q refl (found_for asked span before after f h)
 accepted_of asked span before after held taken (Ran m shown) q s h p = no_run asked span before after m shown q h
 
 -- the line of a refusal
@@ -165,6 +214,7 @@ nothing : (a : Answer) (n : ℕ) → status_of a ≡ n → (n ≡ 1) ⊎ ((n ≡
 nothing Usage n e k = tt
 nothing (Refused r) n e k = tt
 nothing Accepted n e k = tt
+nothing (Found f) n e k = tt
 nothing (Ran m shown) n e (inl q) = absurd (end_not m.end 1 (omega arith) (omega arith) (e ∙ q))
 nothing (Ran m shown) n e (inr (inl q)) = absurd (end_not m.end 2 (omega arith) (omega arith) (e ∙ q))
 nothing (Ran m shown) n e (inr (inr q)) = let u : status_of_end m.end < 6 = end_under_six m.end in let k : status_of_end m.end ≡ 6 = e ∙ q in absurd (omega (arith, u, k))
@@ -178,6 +228,7 @@ pub refused_of : (asked : Option Command) (span : ClockSpan) (before after held 
 refused_of asked span before after held taken Usage s h p = absurd (omega (arith, s))
 refused_of asked span before after held taken (Refused r) s h p = refusal_of asked span before after held taken r h p
 refused_of asked span before after held taken Accepted s h p = absurd (omega (arith, s))
+refused_of asked span before after held taken (Found f) s h p = other_finding f 2 (omega arith) (omega arith) s
 refused_of asked span before after held taken (Ran m shown) s h p = absurd (end_not m.end 2 (omega arith) (omega arith) s)
 
 unasked : (asked : Option Command) (span : ClockSpan) (before after : Option (List ℕ)) → AnswersTo asked span before after Usage → asked ≡ None
@@ -188,6 +239,7 @@ pub usage_of : (asked : Option Command) (span : ClockSpan) (before after held ta
 usage_of asked span before after held taken Usage s h p = (unasked asked span before after h, p)
 usage_of asked span before after held taken (Refused r) s h p = absurd (omega (arith, s))
 usage_of asked span before after held taken Accepted s h p = absurd (omega (arith, s))
+usage_of asked span before after held taken (Found f) s h p = other_finding f 1 (omega arith) (omega arith) s
 usage_of asked span before after held taken (Ran m shown) s h p = absurd (end_not m.end 1 (omega arith) (omega arith) s)
 
 told_refusal : (asked : Option Command) (span : ClockSpan) (before after held taken : Option (List ℕ)) (r : Refusal) (n : ℕ) → AnswersTo asked span before after (Refused r) → Appends held taken (take n (refusal_line r)) → Partly asked before after held taken (Some span) None
@@ -196,7 +248,7 @@ told_refusal (Some c) span before after held taken r n h p = record { text = ref
 
 told_accepted : (asked : Option Command) (span : ClockSpan) (before after held taken : Option (List ℕ)) (n : ℕ) → AnswersTo asked span before after Accepted → Appends held taken (take n (codes "ok\n")) → Partly asked before after held taken (Some span) None
 told_accepted None span before after held taken n h p = absurd h
-told_accepted (Some c) span before after held taken n h p = record { text = codes "ok\n"; count = n; prefix = p; source = inr (h.0, h.1, refl) }
+told_accepted (Some c) span before after held taken n h p = record { text = codes "ok\n"; count = n; prefix = p; source = inr (inl (h.0, h.1, refl)) }
 
 told_run : (asked : Option Command) (span : ClockSpan) (before after held taken : Option (List ℕ)) (m : ScriptRun) (shown : Bool) (n : ℕ) → AnswersTo asked span before after (Ran m shown) → Appends held taken (take n (answer_text (Ran m shown))) → Partly asked before after held taken (Some span) (Some m.journal)
 told_run None span before after held taken m shown n h p = absurd h
@@ -207,10 +259,31 @@ told_run (Some c) span before after held taken m shown n h p = record {
   source = (c, refl, (span, refl, (end_of m.end, h.2, subst (λ (b : Bool). RunText b (events m.journal) (end_of m.end) (answer_text (Ran m shown))) h.1 (line_of_end m.end, h.3, refl))));
 }
 
+-- what is told of a finding
+finds_of : (c : Command) (input : List ℕ) (f : Finding) → judges c ≡ true → IsFinding c input f → Finds c input (finding_text f)
+finds_of (Run workers budget journal) input f j h = absurd (let z : false ≡ true = j in cc)
+finds_of Check input f j h = absurd (let z : false ≡ true = j in cc)
+finds_of (Load n workers) input f j h = absurd (let z : false ≡ true = j in cc)
+finds_of Replay input NoJournal j h = inl h
+finds_of Replay input (BadLine k) j h = inl h
+finds_of Replay input (IllegalAt k) j h = inl h
+finds_of Replay input (Stands s) j h = inr h.1
+finds_of Replay input (Lines t) j h = absurd (let z : Replay ≡ Report = h.0 in cc)
+finds_of Report input NoJournal j h = inl h
+finds_of Report input (BadLine k) j h = inl h
+finds_of Report input (IllegalAt k) j h = inl h
+finds_of Report input (Stands s) j h = absurd (let z : Report ≡ Replay = h.0 in cc)
+finds_of Report input (Lines t) j h = inr h.1
+
+told_finding : (asked : Option Command) (span : ClockSpan) (before after held taken : Option (List ℕ)) (f : Finding) (n : ℕ) → AnswersTo asked span before after (Found f) → Appends held taken (take n (finding_text f)) → Partly asked before after held taken (Some span) None
+told_finding None span before after held taken f n h p = absurd h
+told_finding (Some c) span before after held taken f n h p = record { text = finding_text f; count = n; prefix = p; source = inr (inr (h.1.0, h.1.1, finds_of c h.1.0 f h.0 h.1.2)) }
+
 pub partly_of : (asked : Option Command) (span : ClockSpan) (before after held taken : Option (List ℕ)) (a : Answer) (n : ℕ) → AnswersTo asked span before after a → Appends held taken (take n (answer_text a)) → Partly asked before after held taken (Some span) (journal_of a)
 partly_of asked span before after held taken Usage n h p = rw (unasked asked span before after h) (record { text = usage; count = n; prefix = p; source = refl })
 partly_of asked span before after held taken (Refused r) n h p = told_refusal asked span before after held taken r n h p
 partly_of asked span before after held taken Accepted n h p = told_accepted asked span before after held taken n h p
+partly_of asked span before after held taken (Found f) n h p = told_finding asked span before after held taken f n h p
 partly_of asked span before after held taken (Ran m shown) n h p = told_run asked span before after held taken m shown n h p
 
 -- a command that runs a script was asked for
@@ -238,6 +311,7 @@ journal_when : (asked : Option Command) (span : ClockSpan) (before after : Optio
 journal_when asked span before after Usage h g = absurd (nothing_there g)
 journal_when asked span before after (Refused r) h g = absurd (nothing_there g)
 journal_when asked span before after Accepted h g = absurd (nothing_there g)
+journal_when asked span before after (Found f) h g = absurd (nothing_there g)
 journal_when asked span before after (Ran m shown) h g = (run_asked asked span before after m shown h, end_of_run m.end)
 
 pub close_journal : (asked : Option Command) (span : ClockSpan) (before after : Option (List ℕ)) (a : Answer) (w : Bool) (s : ℕ) → (w ≡ false → s ≡ 7) → (w ≡ true → s ≡ status_of a) → AnswersTo asked span before after a → IsSome (journal_of a) → RunAsked asked × ((s ≡ 0) ⊎ ((3 ≤ s × s ≤ 5) ⊎ (s ≡ 7)))
@@ -254,8 +328,71 @@ asked_of None span before after Usage s h = absurd (omega (arith, s))
 asked_of None span before after (Refused r) s h = absurd h
 asked_of None span before after Accepted s h = absurd h
 asked_of None span before after (Ran m shown) s h = absurd h
+asked_of None span before after (Found f) s h = absurd h
 asked_of (Some c) span before after a s h = (c, refl)
 
 pub close_asked : (asked : Option Command) (span : ClockSpan) (before after : Option (List ℕ)) (a : Answer) (w : Bool) (s : ℕ) → (w ≡ false → s ≡ 7) → (w ≡ true → s ≡ status_of a) → AnswersTo asked span before after a → s ≡ 0 → (command : Command) × (asked ≡ Some command)
 close_asked asked span before after a true s lost done h e = asked_of asked span before after a (sym (done refl) ∙ e) h
 close_asked asked span before after a false s lost done h e = absurd (let k = lost refl in omega (arith, k, e))
+
+-- ---- what is found of a journal
+
+no_end_but : {G : Type 0} (e : ScriptEnd) → status_of_end e ≡ 10 → G
+no_end_but e s = absurd (let k = end_under_six e in omega (arith, k, s))
+
+never_ran : {G : Type 0} (asked : Option Command) (span : ClockSpan) (before after : Option (List ℕ)) (m : ScriptRun) (shown : Bool) (c : Command) → asked ≡ Some c → judges c ≡ true → AnswersTo asked span before after (Ran m shown) → G
+never_ran asked span before after m shown c q j h =
+    let r = run_asked asked span before after m shown h in
+    not_run c j (ap runs (sym (same_command r.0 c (sym r.1 ∙ q))) ∙ r.2)
+
+never_accepted : {G : Type 0} (asked : Option Command) (span : ClockSpan) (before after : Option (List ℕ)) (c : Command) → asked ≡ Some c → judges c ≡ true → AnswersTo asked span before after Accepted → G
+never_accepted asked span before after c q j h =
+    absurd (let z : false ≡ true = ap judges (same_command Check c (sym (check_asked asked span before after h) ∙ q)) ∙ j in cc)
+
+rejected_by : (c : Command) (input : List ℕ) (f : Finding) → finding_status f ≡ 10 → IsFinding c input f → IsRejected input (finding_text f)
+rejected_by c input NoJournal s h = h
+rejected_by c input (BadLine k) s h = h
+rejected_by c input (IllegalAt k) s h = h
+rejected_by c input (Stands t) s h = absurd (omega (arith, s))
+rejected_by c input (Lines t) s h = absurd (omega (arith, s))
+
+pub rejected_of : (asked : Option Command) (span : ClockSpan) (before after held taken : Option (List ℕ)) (a : Answer) → status_of a ≡ 10 → AnswersTo asked span before after a → Appends held taken (answer_text a) → JudgesJournal asked × Writes IsRejected before after held taken
+rejected_of asked span before after held taken Usage s h p = absurd (omega (arith, s))
+rejected_of asked span before after held taken (Refused r) s h p = absurd (omega (arith, s))
+rejected_of asked span before after held taken Accepted s h p = absurd (omega (arith, s))
+rejected_of asked span before after held taken (Ran m shown) s h p = no_end_but m.end s
+rejected_of asked span before after held taken (Found f) s h p =
+    let found = found_for asked span before after f h in
+    ((found.0, found.1, found.2), (found.3.0, finding_text f, found.3.1, rejected_by found.0 found.3.0 f s found.3.2, p))
+
+replayed_by : (c : Command) (input : List ℕ) (f : Finding) → c ≡ Replay → finding_status f ≡ 0 → IsFinding c input f → IsReplayed input (finding_text f)
+replayed_by c input NoJournal e s h = absurd (omega (arith, s))
+replayed_by c input (BadLine k) e s h = absurd (omega (arith, s))
+replayed_by c input (IllegalAt k) e s h = absurd (omega (arith, s))
+replayed_by c input (Stands t) e s h = h.1
+replayed_by c input (Lines t) e s h = absurd (let z : Report ≡ Replay = sym h.0 ∙ e in cc)
+
+pub replayed_of : (asked : Option Command) (span : ClockSpan) (before after held taken : Option (List ℕ)) (a : Answer) → asked ≡ Some Replay → status_of a ≡ 0 → AnswersTo asked span before after a → Appends held taken (answer_text a) → Writes IsReplayed before after held taken
+replayed_of asked span before after held taken Usage q s h p = absurd (omega (arith, s))
+replayed_of asked span before after held taken (Refused r) q s h p = absurd (omega (arith, s))
+replayed_of asked span before after held taken Accepted q s h p = never_accepted asked span before after Replay q refl h
+replayed_of asked span before after held taken (Ran m shown) q s h p = never_ran asked span before after m shown Replay q refl h
+replayed_of asked span before after held taken (Found f) q s h p =
+    let found = found_for asked span before after f h in
+    (found.3.0, finding_text f, found.3.1, replayed_by found.0 found.3.0 f (same_command found.0 Replay (sym found.1 ∙ q)) s found.3.2, p)
+
+reported_by : (c : Command) (input : List ℕ) (f : Finding) → c ≡ Report → finding_status f ≡ 0 → IsFinding c input f → IsReported input (finding_text f)
+reported_by c input NoJournal e s h = absurd (omega (arith, s))
+reported_by c input (BadLine k) e s h = absurd (omega (arith, s))
+reported_by c input (IllegalAt k) e s h = absurd (omega (arith, s))
+reported_by c input (Stands t) e s h = absurd (let z : Replay ≡ Report = sym h.0 ∙ e in cc)
+reported_by c input (Lines t) e s h = h.1
+
+pub reported_of : (asked : Option Command) (span : ClockSpan) (before after held taken : Option (List ℕ)) (a : Answer) → asked ≡ Some Report → status_of a ≡ 0 → AnswersTo asked span before after a → Appends held taken (answer_text a) → Writes IsReported before after held taken
+reported_of asked span before after held taken Usage q s h p = absurd (omega (arith, s))
+reported_of asked span before after held taken (Refused r) q s h p = absurd (omega (arith, s))
+reported_of asked span before after held taken Accepted q s h p = never_accepted asked span before after Report q refl h
+reported_of asked span before after held taken (Ran m shown) q s h p = never_ran asked span before after m shown Report q refl h
+reported_of asked span before after held taken (Found f) q s h p =
+    let found = found_for asked span before after f h in
+    (found.3.0, finding_text f, found.3.1, reported_by found.0 found.3.0 f (same_command found.0 Report (sym found.1 ∙ q)) s found.3.2, p)

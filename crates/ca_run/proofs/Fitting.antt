@@ -5,9 +5,9 @@ use Rattle.std.specs.List.{list_all}
 use Rattle.std.specs.Str.{bytes_eq}
 use Rattle.std.specs.Str.Parse.{digits_value}
 use Rattle.std.proofs.lemmas.Bool.Decides.{nat_tests}
-use Rattle.ca_words.specs.Words.{Text, bare, between, number_of, setting, one_number, is_number, is_run_word, is_load_word, joined, workers_in, budget_in, workers_of, budget_of, journal_of, run_with, load_with, run_words, load_words, check_words, command_in}
+use Rattle.ca_words.specs.Words.{Text, bare, between, number_of, setting, one_number, is_number, is_run_word, is_load_word, joined, workers_in, budget_in, workers_of, budget_of, journal_of, run_with, load_with, run_words, load_words, alone, command_in}
 use Rattle.ca_words.specs.declared.command.Command.{Command}
-use Rattle.ca_words.specs.declared.command.Command.TheVariants.{Check, Load, Run}
+use Rattle.ca_words.specs.declared.command.Command.TheVariants.{Check, Load, Run, Replay, Report}
 use Rattle.ca_run.specs.Answers.{IsFit}
 
 same : {A : Type 0} (x y : A) → Some x ≡ Some y → x ≡ y
@@ -58,9 +58,9 @@ load_fits (Some n) (Some w) c hw e = subst IsFit (same (Load n w) c e) (hw w ref
 load_fits (Some n) None c hw e = absurd (let q : None ≡ Some c = e in cc)
 load_fits None w c hw e = absurd (let q : None ≡ Some c = e in cc)
 
-check_fits : (ws : List Text) (c : Command) → check_words ws ≡ Some c → IsFit c
-check_fits [] c e = subst IsFit (same Check c e) tt
-check_fits (w ∷ ws) c e = absurd (let q : None ≡ Some c = e in cc)
+alone_fits : (d : Command) (ws : List Text) (c : Command) → IsFit d → alone d ws ≡ Some c → IsFit c
+alone_fits d [] c fit e = subst IsFit (same d c e) fit
+alone_fits d (w ∷ ws) c fit e = absurd (let q : None ≡ Some c = e in cc)
 
 run_words_fit : (ws : List Text) (c : Command) → run_words ws ≡ Some c → IsFit c
 run_words_fit ws c e =
@@ -76,12 +76,15 @@ load_words_fit ws c e =
     (taken (list_all is_load_word ws) (load_with (one_number 1 20000 (filter_map bare ws)) (workers_of ws)) c e).1
 
 -- a choice by the command's name
-named : (r k l : Bool) (ws : List Text) (c : Command) → (if r then run_words ws else (if k then check_words ws else (if l then load_words ws else None))) ≡ Some c → IsFit c
-named true k l ws c e = run_words_fit ws c e
-named false true l ws c e = check_fits ws c e
-named false false true ws c e = load_words_fit ws c e
-named false false false ws c e = absurd (let q : None ≡ Some c = e in cc)
+named : (r k l p q : Bool) (ws : List Text) (c : Command)
+    → (if r then run_words ws else (if k then alone Check ws else (if l then load_words ws else (if p then alone Replay ws else (if q then alone Report ws else None))))) ≡ Some c → IsFit c
+named true k l p q ws c e = run_words_fit ws c e
+named false true l p q ws c e = alone_fits Check ws c tt e
+named false false true p q ws c e = load_words_fit ws c e
+named false false false true q ws c e = alone_fits Replay ws c tt e
+named false false false false true ws c e = alone_fits Report ws c tt e
+named false false false false false ws c e = absurd (let o : None ≡ Some c = e in cc)
 
 pub asked_fits : (ws : List Text) (c : Command) → command_in ws ≡ Some c → IsFit c
 asked_fits [] c e = absurd (let q : None ≡ Some c = e in cc)
-asked_fits (w ∷ ws) c e = named (bytes_eq w (codes "run")) (bytes_eq w (codes "check")) (bytes_eq w (codes "load")) (joined ws) c e
+asked_fits (w ∷ ws) c e = named (bytes_eq w (codes "run")) (bytes_eq w (codes "check")) (bytes_eq w (codes "load")) (bytes_eq w (codes "replay")) (bytes_eq w (codes "report")) (joined ws) c e

@@ -4,26 +4,25 @@ use Rattle.ca_term.specs.Event.{EventView}
 use Rattle.ca_term.specs.Program.{ProgramView}
 use Rattle.ca_meaning.specs.Ends.{RunEnd}
 use Rattle.ca_meaning.specs.Legal.{Legal}
-use Rattle.ca_reader.specs.Form.{FormTrees}
-use Rattle.ca_check.specs.Expansion.{expansion_of}
 use Rattle.ca_journal.specs.declared.journal.Journal.{Journal}
 use Rattle.ca_journal.specs.Events.{events}
 use Rattle.ca_sealed.specs.KeepsLaws.{KeepsLaws}
 use Rattle.ca_words.specs.declared.command.Command.{Command}
 use Rattle.ca_run.specs.declared.run.ScriptRun.{ScriptRun}
 use Rattle.ca_run.specs.declared.answer.Answer.{Answer}
-use Rattle.ca_run.specs.declared.answer.Answer.TheVariants.{Usage, Refused, Accepted, Ran}
+use Rattle.ca_run.specs.declared.answer.Answer.TheVariants.{Usage, Refused, Accepted, Ran, Found}
 use Rattle.ca_run.specs.Answers.{AnswersTo, journal_of}
+use Rattle.ca_run.specs.Inputs.{ProgramOf}
 use Rattle.ca_run.specs.Top.{ClockSpan, IsLawful, Ran as RanFrom}
 
 -- the law of each program that a script has
 abbrev KeepAll : Type 0
-KeepAll = (forms : FormTrees) (program : ProgramView) → expansion_of forms ≡ Ok program → (journal : List EventView) → Legal program journal → KeepsLaws program journal
+KeepAll = (input : List ℕ) (program : ProgramView) → ProgramOf input program → (journal : List EventView) → Legal program journal → KeepsLaws program journal
 
 ran : KeepAll → (c : Command) (span : ClockSpan) (before after : Option (List ℕ)) (journal : List EventView) (end : RunEnd) → RanFrom c span before after journal end → IsLawful (Some c) before after journal
 ran keep c span before after journal end r =
     let run = r.2 in
-    (c, r.0, run.program, refl, r.1, run.is_program, run.legal, keep run.is_program.0 run.program run.is_program.2 journal run.legal)
+    (c, r.0, run.program, refl, r.1, run.is_program, run.legal, keep r.0 run.program run.is_program journal run.legal)
 
 ran_for : KeepAll → (asked : Option Command) (span : ClockSpan) (before after : Option (List ℕ)) (m : ScriptRun) (shown : Bool) → AnswersTo asked span before after (Ran m shown) → IsLawful asked before after (events m.journal)
 ran_for keep None span before after m shown h = absurd h
@@ -40,3 +39,4 @@ lawful_of keep asked span before after Usage j h e = no_journal j e
 lawful_of keep asked span before after (Refused r) j h e = no_journal j e
 lawful_of keep asked span before after Accepted j h e = no_journal j e
 lawful_of keep asked span before after (Ran m shown) j h e = subst (λ x. IsLawful asked before after (events x)) (same_journal m.journal j e) (ran_for keep asked span before after m shown h)
+lawful_of keep asked span before after (Found f) j h e = no_journal j e

@@ -1,11 +1,11 @@
 -- The text, the status and the journal of an answer, and when the answer is right.
-use Rattle.std.specs.Prelude.{◌≡◌, ◌<◌, ◌≤◌, ℕ, zero, suc, List, [], ◌++◌, codes, cond, true, Option, Some, None}
+use Rattle.std.specs.Prelude.{◌≡◌, ◌<◌, ◌≤◌, ◌⊎◌, ℕ, zero, suc, List, [], ◌++◌, length, codes, cond, true, Option, Some, None}
 use Rattle.ca_term.specs.declared.event.Ending.{Ending}
 use Rattle.ca_term.specs.declared.event.Ending.TheVariants.{Ended as EndedEnding, Faulted as FaultedEnding}
 use Rattle.ca_term.specs.declared.fault.Fault.{Fault}
 use Rattle.ca_term.specs.declared.place.Place.{Place}
 use Rattle.ca_term.specs.Event.{EventView, over}
-use Rattle.ca_term.specs.Program.{ProgramView}
+use Rattle.ca_term.specs.Program.{ProgramView, program_view}
 use Rattle.ca_meaning.specs.Journal.{journal_text}
 use Rattle.ca_meaning.specs.Texts.{output, fault_line}
 use Rattle.ca_meaning.specs.Legal.{Legal}
@@ -14,19 +14,23 @@ use Rattle.ca_reader.specs.Kind.{kind_name}
 use Rattle.ca_derived.specs.Kind.{kind_name as forms_kind_name}
 use Rattle.ca_forms.specs.Kind.{kind_name as check_kind_name}
 use Rattle.ca_words.specs.declared.command.Command.{Command}
-use Rattle.ca_words.specs.declared.command.Command.TheVariants.{Check, Load, Run}
+use Rattle.ca_words.specs.declared.command.Command.TheVariants.{Check, Load, Run, Replay, Report}
 use Rattle.ca_table.specs.Moments.{KeepsTime}
 use Rattle.ca_pool.specs.PoolEnds.{IsSolo}
 use Rattle.ca_run.specs.declared.run.ScriptRun.{ScriptRun}
 use Rattle.ca_run.specs.declared.run.ScriptEnd.{ScriptEnd}
 use Rattle.ca_run.specs.declared.run.ScriptEnd.TheVariants.{Ended, Faulted, Limit, Stuck}
 use Rattle.ca_run.specs.declared.answer.Answer.{Answer}
-use Rattle.ca_run.specs.declared.answer.Answer.TheVariants.{Usage, Refused, Accepted, Ran}
+use Rattle.ca_run.specs.declared.answer.Answer.TheVariants.{Usage, Refused, Accepted, Ran, Found}
 use Rattle.ca_run.specs.declared.answer.Refusal.{Refusal}
+use Rattle.ca_run.specs.declared.answer.Scripted.{Scripted}
 use Rattle.ca_run.specs.declared.answer.Refusal.TheVariants.{TooLong, Unreadable, Underived, Unchecked}
 use Rattle.ca_journal.specs.declared.journal.Journal.{Journal}
 use Rattle.ca_journal.specs.Events.{events}
-use Rattle.ca_run.specs.Top.{ClockSpan, budget_of, runs, shows_journal, usage, error_line, first_place, HasProgram, RefusedFor, RunOf, EndLine, workers_of, Refused as RefusedFrom, Accepted as AcceptedFrom, Ran as RanFrom}
+use Rattle.ca_run.specs.Findings.{finding_status, finding_text, IsFinding}
+use Rattle.ca_run.specs.Inputs.{greatest_input, greatest_length, HasProgram, ProgramOf, ReadWhole}
+use Rattle.ca_run.specs.Marker.{IsParted}
+use Rattle.ca_run.specs.Top.{ClockSpan, budget_of, judges, runs, shows_journal, usage, error_line, first_place, RefusedFor, RunOf, EndLine, workers_of, Refused as RefusedFrom, Accepted as AcceptedFrom, Ran as RanFrom}
 
 abbrev pub refusal_line : Refusal → List ℕ
 refusal_line TooLong = error_line (codes "TooLong") first_place
@@ -62,6 +66,7 @@ answer_text Usage = usage
 answer_text (Refused r) = refusal_line r
 answer_text Accepted = codes "ok\n"
 answer_text (Ran m shown) = output (events m.journal) ++ (cond shown (journal_text (events m.journal)) [] ++ line_of_end m.end)
+answer_text (Found f) = finding_text f
 
 abbrev pub status_of_end : ScriptEnd → ℕ
 status_of_end Ended = 0
@@ -74,12 +79,14 @@ status_of Usage = 1
 status_of (Refused r) = 2
 status_of Accepted = 0
 status_of (Ran m shown) = status_of_end m.end
+status_of (Found f) = finding_status f
 
 abbrev pub journal_of : Answer → Option Journal
 journal_of Usage = None
 journal_of (Refused r) = None
 journal_of Accepted = None
 journal_of (Ran m shown) = Some m.journal
+journal_of (Found f) = None
 
 -- an answer without a run
 abbrev pub RunsNothing : Answer → Type 0
@@ -87,6 +94,7 @@ RunsNothing Usage = Unit {0}
 RunsNothing (Refused r) = Unit {0}
 RunsNothing Accepted = Unit {0}
 RunsNothing (Ran m shown) = ⊥
+RunsNothing (Found f) = Unit {0}
 
 -- The run of the program has come to that end for the budget, which its line tells. Its moments are answers of the clock
 -- in that span; with one worker it is the schedule's over them.
@@ -102,19 +110,41 @@ abbrev pub IsFit : Command → Type 0
 IsFit (Run workers budget journal) = ((0 < workers) × (workers ≤ 16)) × (0 < budget)
 IsFit Check = Unit {0}
 IsFit (Load n workers) = (0 < workers) × (workers ≤ 16)
+IsFit Replay = Unit {0}
+IsFit Report = Unit {0}
 
 -- what a program comes to under a command, with the clock in that span where it runs
 abbrev pub JudgedProgram : Command → ClockSpan → ProgramView → Answer → Type 0
 JudgedProgram command span program Usage = ⊥
 JudgedProgram command span program (Refused r) = ⊥
 JudgedProgram command span program Accepted = command ≡ Check
+JudgedProgram command span program (Found f) = ⊥
 JudgedProgram command span program (Ran m shown) = (runs command ≡ true) × (shown ≡ shows_journal command) × IsRun (workers_of command) (budget_of command) span program m
+
+-- a text's program, or the line with which it is refused
+abbrev pub IsScripted : List ℕ → Scripted → Type 0
+IsScripted input (Scripted.Program program) = ProgramOf input (program_view program)
+IsScripted input (Scripted.Refused r) = RefusedFor input (refusal_line r)
+
+-- what an input of a script and a journal is refused for
+abbrev pub RefusedPart : List ℕ → List ℕ → Type 0
+RefusedPart input line = (script : List ℕ) × (journal : List ℕ) × IsParted input script journal
+    × (((greatest_length < length script) × (line ≡ error_line (codes "TooLong") first_place)) ⊎ ((length script ≤ greatest_length) × RefusedFor script line))
+
+-- what it comes to
+abbrev pub JudgedInput : Command → List ℕ → Answer → Type 0
+JudgedInput command input Usage = ⊥
+JudgedInput command input (Refused r) = RefusedPart input (refusal_line r)
+JudgedInput command input Accepted = ⊥
+JudgedInput command input (Ran m shown) = ⊥
+JudgedInput command input (Found f) = IsFinding command input f
 
 -- what a text comes to under a command
 abbrev pub Judged : Command → ClockSpan → List ℕ → Answer → Type 0
 Judged command span input Usage = ⊥
 Judged command span input (Refused r) = RefusedFor input (refusal_line r)
 Judged command span input Accepted = (command ≡ Check) × HasProgram input
+Judged command span input (Found f) = ⊥
 Judged command span input (Ran m shown) = (runs command ≡ true) × (shown ≡ shows_journal command) × RunOf (workers_of command) (budget_of command) span input (events m.journal) (end_of m.end) × EndLine (events m.journal) (end_of m.end) (line_of_end m.end)
 
 -- what the words and the source come to
@@ -123,8 +153,10 @@ AnswersTo None span before after Usage = Unit {0}
 AnswersTo None span before after (Refused r) = ⊥
 AnswersTo None span before after Accepted = ⊥
 AnswersTo None span before after (Ran m shown) = ⊥
+AnswersTo None span before after (Found f) = ⊥
 AnswersTo (Some c) span before after Usage = ⊥
 AnswersTo (Some c) span before after (Refused r) = RefusedFrom c before after (refusal_line r)
 AnswersTo (Some c) span before after Accepted = (c ≡ Check) × AcceptedFrom before after
 AnswersTo (Some c) span before after (Ran m shown) = (runs c ≡ true) × (shown ≡ shows_journal c) × RanFrom c span before after (events m.journal) (end_of m.end)
     × EndLine (events m.journal) (end_of m.end) (line_of_end m.end)
+AnswersTo (Some c) span before after (Found f) = (judges c ≡ true) × ((input : List ℕ) × ReadWhole greatest_input before after input × IsFinding c input f)

@@ -2,6 +2,10 @@ pub mod Memory
 pub mod Failing
 pub mod Standard
 pub mod Generator
+pub mod Marker
+pub mod Inputs
+pub mod Findings
 pub mod Top
 pub mod Answers
 pub mod Stops
+pub mod Written

@@ -1,5 +1,5 @@
 -- What the top call answers.
-use Rattle.std.specs.Prelude.{◌≡◌, ℕ, suc, ◌≤◌, ◌⊎◌, List, [], ◌∷◌, ◌++◌, length, take, codes, decimal, cond, Bool, true, false, Option, Some, None, Ok, Err, MatchOption, option_map}
+use Rattle.std.specs.Prelude.{◌≡◌, ℕ, suc, ◌<◌, ◌≤◌, ◌⊎◌, List, [], ◌∷◌, ◌++◌, length, take, codes, decimal, cond, Bool, true, false, Option, Some, None, Ok, Err, MatchOption, option_map}
 use Rattle.std.specs.Io.KnownBytes.{Consumes, Appends, IsAtEnd}
 use Rattle.ca_value.specs.declared.value.PortId.{PortId}
 use Rattle.ca_term.specs.declared.place.Place.{Place}
@@ -24,59 +24,64 @@ use Rattle.ca_forms.specs.declared.error.CheckErrorKind.{CheckErrorKind}
 use Rattle.ca_forms.specs.Kind.{kind_name as check_kind_name}
 use Rattle.ca_check.specs.Expansion.{expansion_of}
 use Rattle.ca_words.specs.declared.command.Command.{Command}
-use Rattle.ca_words.specs.declared.command.Command.TheVariants.{Check, Load, Run}
+use Rattle.ca_words.specs.declared.command.Command.TheVariants.{Check, Load, Run, Replay, Report}
 use Rattle.ca_journal.specs.declared.journal.Journal.{Journal}
 use Rattle.ca_journal.specs.Events.{events}
 use Rattle.ca_sealed.specs.KeepsLaws.{KeepsLaws}
 use Rattle.ca_table.specs.Moments.{KeepsTime, WentOn}
 use Rattle.ca_pool.specs.PoolEnds.{IsSolo}
+use Rattle.ca_run.specs.Findings.{Finds}
 use Rattle.ca_run.specs.Generator.{load_text}
-
--- the greatest length of a script, in bytes
-abbrev pub greatest_length : ℕ
-greatest_length = 1_048_576
+use Rattle.ca_run.specs.Inputs.{greatest_input, greatest_length, Derives, HasProgram, ProgramOf, ReadWhole}
+use Rattle.ca_run.specs.Marker.{IsParted}
 
 -- what the events of a run may cost together; a run of the generator's script may cost the most that can be asked for
 abbrev pub budget_of : Command → ℕ
 budget_of (Run workers budget journal) = budget
 budget_of Check = 0
 budget_of (Load n workers) = 4_000_000
+budget_of Replay = 0
+budget_of Report = 0
 
 -- how many workers run it
 abbrev pub workers_of : Command → ℕ
 workers_of (Run workers budget journal) = workers
 workers_of Check = 0
 workers_of (Load n workers) = workers
+workers_of Replay = 0
+workers_of Report = 0
 
 -- a script is run, and not only checked
 abbrev pub runs : Command → Bool
 runs (Run workers budget journal) = true
 runs Check = false
 runs (Load n workers) = true
+runs Replay = false
+runs Report = false
 
 -- its script is read from the source
 abbrev pub reads : Command → Bool
 reads (Run workers budget journal) = true
 reads Check = true
 reads (Load n workers) = false
+reads Replay = true
+reads Report = true
+
+-- a journal is read behind the script, to be judged
+abbrev pub judges : Command → Bool
+judges (Run workers budget journal) = false
+judges Check = false
+judges (Load n workers) = false
+judges Replay = true
+judges Report = true
 
 -- the journal follows what the run prints
 abbrev pub shows_journal : Command → Bool
 shows_journal (Run workers budget journal) = journal
 shows_journal Check = false
 shows_journal (Load n workers) = false
-
--- the text reads to these forms, and they are expanded to those derived
-abbrev pub Derives : List ℕ → FormTrees → Type 0
-Derives input derived = (forms : FormTrees) × Reads input forms × (expand forms ≡ made derived)
-
--- the text is a script, and this is its program
-abbrev pub ProgramOf : List ℕ → ProgramView → Type 0
-ProgramOf input program = (derived : FormTrees) × Derives input derived × (expansion_of derived ≡ Ok program)
-
--- the text is a script that has a program
-abbrev pub HasProgram : List ℕ → Type 0
-HasProgram input = (program : ProgramView) × ProgramOf input program
+shows_journal Replay = false
+shows_journal Report = false
 
 -- A clock that a call was given and hands back: the moment that no answer of it lies below, and what it had told of its
 -- answers before and has told after.
@@ -111,17 +116,21 @@ EndLine journal faulted line = (fault : FaultKind) × (place : Place) × (result
 EndLine journal limit line = line ≡ codes "budget\n"
 EndLine journal stuck line = line ≡ codes "stuck\n"
 
--- this was read; it is all that the source had, and no longer than a script may be
-pub record ReadWhole (before after : Option (List ℕ)) (input : List ℕ) : Type 0 where
-  pub read : Consumes before after input
-  pub whole : IsAtEnd after
-  pub short : length input ≤ greatest_length
+-- what was read is parted at its first marker line
+abbrev pub ReadParts : Option (List ℕ) → Option (List ℕ) → List ℕ → List ℕ → Type 0
+ReadParts before after script journal = (input : List ℕ) × ReadWhole greatest_input before after input × IsParted input script journal
 
--- the script of a command: what was read, or the generator's, for which nothing is read
+-- the part before the marker line, which is no longer than a script may be
+abbrev pub ReadPart : Option (List ℕ) → Option (List ℕ) → List ℕ → Type 0
+ReadPart before after script = (journal : List ℕ) × ReadParts before after script journal × (length script ≤ greatest_length)
+
+-- the script of a command: what was read, or its part before the marker line, or the generator's, for which nothing is read
 abbrev pub Given : Command → Option (List ℕ) → Option (List ℕ) → List ℕ → Type 0
-Given (Run workers budget journal) before after input = ReadWhole before after input
-Given Check before after input = ReadWhole before after input
-Given (Load n workers) before after input = (after ≡ before) × (input ≡ load_text n)
+Given (Run workers budget journal) before after script = ReadWhole greatest_length before after script
+Given Check before after script = ReadWhole greatest_length before after script
+Given (Load n workers) before after script = (after ≡ before) × (script ≡ load_text n)
+Given Replay before after script = ReadPart before after script
+Given Report before after script = ReadPart before after script
 
 -- the events are a run of the command's script, with the clock in that span
 abbrev pub Ran : Command → ClockSpan → Option (List ℕ) → Option (List ℕ) → List EventView → RunEnd → Type 0
@@ -134,11 +143,15 @@ IsLawful asked before after journal =
 
 -- what was read is a script that has a program
 abbrev pub Accepted : Option (List ℕ) → Option (List ℕ) → Type 0
-Accepted before after = (input : List ℕ) × ReadWhole before after input × HasProgram input
+Accepted before after = (input : List ℕ) × ReadWhole greatest_length before after input × HasProgram input
 
 -- a command that reads its script was asked for
 abbrev pub ReadsScript : Option Command → Type 0
 ReadsScript asked = (command : Command) × (asked ≡ Some command) × (reads command ≡ true)
+
+-- a command that judges a journal was asked for
+abbrev pub JudgesJournal : Option Command → Type 0
+JudgesJournal asked = (command : Command) × (asked ≡ Some command) × (judges command ≡ true)
 
 -- a command that runs its script was asked for, and this has a program
 abbrev pub RunsScript : Option Command → Option (List ℕ) → Option (List ℕ) → Type 0
@@ -169,23 +182,29 @@ IsMistaken input line = (derived : FormTrees) × (k : CheckErrorKind) × (p : Pl
 abbrev pub RefusedFor : List ℕ → List ℕ → Type 0
 RefusedFor input line = IsUnreadable input line ⊎ (IsUnderived input line ⊎ IsMistaken input line)
 
--- the source was longer than a script may be, and was read to one byte past that length
-abbrev pub IsTooLong : Option (List ℕ) → Option (List ℕ) → List ℕ → Type 0
-IsTooLong before after line = (input : List ℕ) × Consumes before after input × (length input ≡ suc greatest_length) × (line ≡ error_line (codes "TooLong") first_place)
+-- the source was longer than so many bytes, and was read to one byte past them
+abbrev pub IsTooLong : ℕ → Option (List ℕ) → Option (List ℕ) → List ℕ → Type 0
+IsTooLong most before after line = (input : List ℕ) × Consumes before after input × (length input ≡ suc most) × (line ≡ error_line (codes "TooLong") first_place)
+
+-- the part before the marker line is longer than a script may be
+abbrev pub IsLongPart : Option (List ℕ) → Option (List ℕ) → List ℕ → Type 0
+IsLongPart before after line = (script : List ℕ) × (journal : List ℕ) × ReadParts before after script journal × (greatest_length < length script) × (line ≡ error_line (codes "TooLong") first_place)
 
 -- the command's script is refused with this line
 abbrev pub IsRefused : Command → Option (List ℕ) → Option (List ℕ) → List ℕ → Type 0
 IsRefused command before after line = (input : List ℕ) × Given command before after input × RefusedFor input line
 
--- what was read is refused with this line: it is too long, or it is the whole source, short enough, and is refused
+-- what was read is refused with this line: it or its script is too long, or it is the whole source and its script is refused
 abbrev pub Refused : Command → Option (List ℕ) → Option (List ℕ) → List ℕ → Type 0
-Refused (Run workers budget journal) before after line = IsTooLong before after line ⊎ IsRefused (Run workers budget journal) before after line
-Refused Check before after line = IsTooLong before after line ⊎ IsRefused Check before after line
+Refused (Run workers budget journal) before after line = IsTooLong greatest_length before after line ⊎ IsRefused (Run workers budget journal) before after line
+Refused Check before after line = IsTooLong greatest_length before after line ⊎ IsRefused Check before after line
 Refused (Load n workers) before after line = IsRefused (Load n workers) before after line
+Refused Replay before after line = IsTooLong greatest_input before after line ⊎ (IsLongPart before after line ⊎ IsRefused Replay before after line)
+Refused Report before after line = IsTooLong greatest_input before after line ⊎ (IsLongPart before after line ⊎ IsRefused Report before after line)
 
 -- the line that says which words are admitted
 abbrev pub usage : List ℕ
-usage = codes "usage: run [--workers N] [--budget N] [--journal] / check / load N [--workers N]\n"
+usage = codes "usage: run [--workers N] [--budget N] [--journal] / check / load N [--workers N] / replay / report\n"
 
 -- What a run writes: what it prints, its journal where that is asked for, and the line of its end.
 abbrev pub RunText : Bool → List EventView → RunEnd → List ℕ → Type 0
@@ -200,10 +219,18 @@ Completed command before after held taken clock journal end = MatchOption clock 
 abbrev pub CompletedFor : Option Command → Option (List ℕ) → Option (List ℕ) → Option (List ℕ) → Option (List ℕ) → Option ClockSpan → Option Journal → RunEnd → Type 0
 CompletedFor asked before after held taken clock journal end = (command : Command) × (asked ≡ Some command) × (runs command ≡ true) × Completed command before after held taken clock journal end
 
--- the text of an answer without a run: the usage line, a refusal's or that of a script that is accepted
+-- what was read whole is told this of
+abbrev pub Found : Command → Option (List ℕ) → Option (List ℕ) → List ℕ → Type 0
+Found command before after text = (input : List ℕ) × ReadWhole greatest_input before after input × Finds command input text
+
+-- the text of an answer without a run: the usage line, a refusal's, that of a script that is accepted, or what is found of a journal
 abbrev pub Told : Option Command → Option (List ℕ) → Option (List ℕ) → List ℕ → Type 0
 Told None before after text = text ≡ usage
-Told (Some command) before after text = Refused command before after text ⊎ ((command ≡ Check) × Accepted before after × (text ≡ codes "ok\n"))
+Told (Some command) before after text = Refused command before after text ⊎ (((command ≡ Check) × Accepted before after × (text ≡ codes "ok\n")) ⊎ Found command before after text)
+
+-- What was read whole is such that this line is right, which was taken.
+abbrev pub Writes : (List ℕ → List ℕ → Type 0) → Option (List ℕ) → Option (List ℕ) → Option (List ℕ) → Option (List ℕ) → Type 0
+Writes IsRight before after held taken = (input : List ℕ) × (line : List ℕ) × ReadWhole greatest_input before after input × IsRight input line × Appends held taken line
 
 -- a prefix of a text was taken: that of a run, whose journal and clock are handed back, or another with no journal
 pub record Partly (command : Option Command) (before after held taken : Option (List ℕ)) (clock : Option ClockSpan) (journal : Option Journal) : Type 0 where
@@ -231,17 +258,26 @@ pub record NoneRose (source source2 sink sink2 clock : ℕ) (clock2 : Option ℕ
 abbrev pub IsScript : Option (List ℕ) → Type 0
 IsScript left = (input : List ℕ) × (left ≡ Some input) × (length input ≤ greatest_length) × HasProgram input
 
+-- it is a script and a journal, with a marker line between them; neither it nor the script is longer than one may be, and this has a program
+abbrev pub IsParts : Option (List ℕ) → Type 0
+IsParts left = (input : List ℕ) × (script : List ℕ) × (journal : List ℕ) × (left ≡ Some input) × (length input ≤ greatest_input) × IsParted input script journal
+    × (length script ≤ greatest_length) × HasProgram script
+
 -- the text that a command is to be done on is told, and is a script: what the source has to give, or the generator's
 abbrev pub HasScript : Command → Option (List ℕ) → Type 0
 HasScript (Run workers budget journal) left = IsScript left
 HasScript Check left = IsScript left
 HasScript (Load n workers) left = HasProgram (load_text n)
+HasScript Replay left = IsParts left
+HasScript Report left = IsParts left
 
--- the statuses of an accepted script: those of a run's ends, or that of a check
+-- the statuses of an accepted script: those of a run's ends, that of a check, or those of what is found of a journal
 abbrev pub IsDone : Command → ℕ → Type 0
 IsDone (Run workers budget journal) status = (status ≡ 0) ⊎ (3 ≤ status × status ≤ 5)
 IsDone Check status = status ≡ 0
 IsDone (Load n workers) status = (status ≡ 0) ⊎ (3 ≤ status × status ≤ 5)
+IsDone Replay status = (status ≡ 0) ⊎ (status ≡ 10)
+IsDone Report status = (status ≡ 0) ⊎ (status ≡ 10)
 
 -- The status where no device failed: with other words than a command's it is 1, with a command's that of an accepted
 -- script, or 2, but not where it is told that there is such a script; or there was not the memory, and it is 8.

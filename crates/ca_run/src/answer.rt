@@ -5,11 +5,13 @@ ghost use Rattle.ca_meaning.specs.Journal.{journal_text};
 ghost use Rattle.ca_meaning.specs.Texts.{output};
 ghost use Rattle.ca_journal.specs.Events.{events};
 ghost use Rattle.ca_timers.specs.Causes.{Rose};
-ghost use Rattle.ca_run.specs.Top.{error_line, runs, span_between, HasProgram};
-ghost use Rattle.ca_run.specs.Answers.{answer_text, line_of_end, refusal_line, IsFit, Judged, JudgedProgram, RunsNothing};
+ghost use Rattle.ca_run.specs.Inputs.{HasProgram};
+ghost use Rattle.ca_run.specs.Top.{error_line, judges, runs, span_between};
+ghost use Rattle.ca_run.specs.Answers.{answer_text, line_of_end, refusal_line, IsFit, IsScripted, Judged, JudgedProgram, RunsNothing};
 ghost use Rattle.ca_run.specs.Stops.{clock_left};
 ghost use Rattle.ca_run.specs.declared.stop.Stop.TheVariants.{ClockFailed, SourceFailed};
 
+use crate::finding::{Finding, text_of_finding};
 use crate::run::{ScriptEnd, ScriptRun, run_script};
 use crate::stop::Stop;
 use ca_check::check::check;
@@ -35,6 +37,9 @@ use std::thread::Threads;
 /// The budget of a run of the generator's script.
 const LOAD_BUDGET: u64 = 4_000_000;
 
+/// The greatest length of a script, in bytes.
+pub(crate) const GREATEST_LENGTH: u64 = 1_048_576;
+
 /// Why a script is refused, with the place where it is.
 #[derive(Clone, Copy)]
 pub enum Refusal {
@@ -57,6 +62,16 @@ pub enum Answer {
     Accepted,
     /// The run, and whether its journal was asked for.
     Ran(ScriptRun, bool),
+    /// What is found of a journal.
+    Found(Finding),
+}
+
+/// What a text comes to as a script.
+#[derive(Drop)]
+pub enum Scripted {
+    /// It has this program.
+    Program(Program),
+    Refused(Refusal),
 }
 
 /// The run of a text or that it is accepted, or why it is refused. The clock comes back as the run left it; where nothing
@@ -70,7 +85,8 @@ pub fn judge_text<R: Threads + Wait + Sync, C: Clock + Drop + Send, G: Gate + Sy
     clock: C,
     gate: &G,
 ) -> Result<(Answer, C), Stop<C>>
-    requires { IsFit command }
+    requires fit { IsFit command }
+    requires unjudged { judges command ≡ false }
     ensures judged { IfOk result (λ j. Judged command (span_between C.least C.readings clock j.1) input.now j.0) }
     ensures unasked { IfOk result (λ j. RunsNothing j.0 → j.1 ≡ clock) }
     ensures idle { runs command ≡ false → clock_left result ≡ Some clock }
@@ -78,28 +94,38 @@ pub fn judge_text<R: Threads + Wait + Sync, C: Clock + Drop + Send, G: Gate + Sy
     ensures ran { (c : C) → result ≡ Err (ClockFailed c) → (runs command ≡ true) × HasProgram input.now }
     ensures unbroken { (c : C) → result ≢ Err (SourceFailed c) }
 {
+    match program_of(alloc, input) {
+        Ok(Scripted::Program(program)) => answer_of(rt, alloc, command, &program, clock, gate),
+        Ok(Scripted::Refused(refusal)) => Ok((Answer::Refused(refusal), clock)),
+        Err(OutOfMemory) => Err(Stop::OutOfMemory(Some(clock))),
+    }
+}
+
+/// The program of a text, or why it has none.
+pub(crate) fn program_of(alloc: Global, input: &[u8]) -> Result<Scripted, OutOfMemory>
+    ensures { IfOk result (IsScripted input.now) }
+{
     let forms = match read(alloc, input) {
         Ok(forms) => forms,
         Err(ReadError::Fault(kind, place)) => {
-            return Ok((Answer::Refused(Refusal::Unreadable(kind, place)), clock));
+            return Ok(Scripted::Refused(Refusal::Unreadable(kind, place)));
         }
-        Err(ReadError::OutOfMemory) => return Err(Stop::OutOfMemory(Some(clock))),
+        Err(ReadError::OutOfMemory) => return Err(OutOfMemory),
     };
     let derived = match expand(alloc, &forms) {
         Ok(derived) => derived,
         Err(FormsError::Fault(kind, place)) => {
-            return Ok((Answer::Refused(Refusal::Underived(kind, place)), clock));
+            return Ok(Scripted::Refused(Refusal::Underived(kind, place)));
         }
-        Err(FormsError::OutOfMemory) => return Err(Stop::OutOfMemory(Some(clock))),
+        Err(FormsError::OutOfMemory) => return Err(OutOfMemory),
     };
-    let program = match check(alloc, &derived) {
-        Ok(program) => program,
+    match check(alloc, &derived) {
+        Ok(program) => Ok(Scripted::Program(program)),
         Err(CheckError::Fault(kind, place)) => {
-            return Ok((Answer::Refused(Refusal::Unchecked(kind, place)), clock));
+            Ok(Scripted::Refused(Refusal::Unchecked(kind, place)))
         }
-        Err(CheckError::OutOfMemory) => return Err(Stop::OutOfMemory(Some(clock))),
-    };
-    answer_of(rt, alloc, command, &program, clock, gate)
+        Err(CheckError::OutOfMemory) => Err(OutOfMemory),
+    }
 }
 
 // What a program comes to.
@@ -111,7 +137,8 @@ fn answer_of<R: Threads + Wait + Sync, C: Clock + Drop + Send, G: Gate + Sync>(
     clock: C,
     gate: &G,
 ) -> Result<(Answer, C), Stop<C>>
-    requires { IsFit command }
+    requires fit { IsFit command }
+    requires unjudged { judges command ≡ false }
     ensures judged { IfOk result (λ j. JudgedProgram command (span_between C.least C.readings clock j.1) (program_view program.now) j.0) }
     ensures unasked { IfOk result (λ j. RunsNothing j.0 → j.1 ≡ clock) }
     ensures idle { runs command ≡ false → clock_left result ≡ Some clock }
@@ -127,6 +154,7 @@ fn answer_of<R: Threads + Wait + Sync, C: Clock + Drop + Send, G: Gate + Sync>(
             journal,
         } => (workers, budget, journal),
         Command::Load { workers, .. } => (workers, LOAD_BUDGET, false),
+        Command::Replay | Command::Report => unreachable!(),
     };
     match run_script(rt, alloc, program, workers, budget, clock, gate) {
         Ok((run, clock)) => Ok((Answer::Ran(run, shown), clock)),
@@ -142,11 +170,12 @@ pub fn text_of(alloc: Global, answer: &Answer) -> Result<Text, OutOfMemory>
     match answer {
         Answer::Usage => Text::from_bytes(
             alloc,
-            b"usage: run [--workers N] [--budget N] [--journal] / check / load N [--workers N]\n",
+            b"usage: run [--workers N] [--budget N] [--journal] / check / load N [--workers N] / replay / report\n",
         ),
         Answer::Refused(refusal) => line_of(alloc, *refusal),
         Answer::Accepted => Text::from_bytes(alloc, b"ok\n"),
         Answer::Ran(run, shown) => text_of_run(alloc, run, *shown),
+        Answer::Found(finding) => text_of_finding(alloc, finding),
     }
 }
 

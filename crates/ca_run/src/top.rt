@@ -6,21 +6,23 @@ ghost use Rattle.ca_meaning.specs.Ends.{ended, faulted, limit, stuck};
 ghost use Rattle.ca_meaning.specs.Solo.{NoTimeouts};
 ghost use Rattle.ca_timers.specs.Causes.{Rose};
 ghost use Rattle.ca_words.specs.Words.{command_in};
-ghost use Rattle.ca_words.specs.declared.command.Command.TheVariants.{Check, Load};
-ghost use Rattle.ca_run.specs.Top.{Accepted, Completed, CompletedFor, IsComplete, IsLawful, NoneRose, ReadsScript, Refused, RunsScript, Partly, ToldNothing, reads, runs, span_between, span_of, usage};
+ghost use Rattle.ca_words.specs.declared.command.Command.TheVariants.{Check, Load, Replay, Report};
+ghost use Rattle.ca_run.specs.Findings.{finding_status, IsRejected, IsReplayed, IsReported};
+ghost use Rattle.ca_run.specs.Top.{Accepted, ClockSpan, Completed, CompletedFor, IsComplete, IsLawful, NoneRose, ReadsScript, Refused, RunsScript, Partly, ToldNothing, JudgesJournal, Writes, judges, reads, runs, span_between, span_of, usage};
 ghost use Rattle.ca_run.specs.Answers.{status_of, journal_of, AnswersTo, IsFit, RunsNothing};
 ghost use Rattle.ca_run.specs.Stops.{clock_left};
 ghost use Rattle.ca_run.specs.declared.answer.Answer.{Answer};
 ghost use Rattle.ca_run.specs.declared.stop.Stop.TheVariants.{ClockFailed, SourceFailed};
 
-use crate::answer::{Answer, Refusal, judge_text, text_of};
+use crate::answer::{Answer, GREATEST_LENGTH, Refusal, judge_text, text_of};
 use crate::device::{ReadError, Sink, Source, read_all, write_all};
+use crate::finding::{Finding, find};
 use crate::generator::load_script;
+use crate::laws::journals_of_a_text_keep_the_laws;
 use crate::run::ScriptEnd;
 use crate::stop::Stop;
 use ca_journal::journal::Journal;
 use ca_pool::gate::Gate;
-use ca_sealed::journals::journals_of_scripts_keep_the_laws;
 use ca_timers::clock::Clock;
 use ca_value::memory;
 use ca_words::command::{Command, WordsError};
@@ -29,8 +31,8 @@ use std::alloc::Global;
 use std::sync::Wait;
 use std::thread::Threads;
 
-/// The greatest length of a script, in bytes.
-const GREATEST_LENGTH: u64 = 1_048_576;
+/// The greatest length of an input of a script and a journal, in bytes.
+const GREATEST_INPUT: u64 = 67_108_864;
 
 /// How a call of the program ended: its exit status, the journal of the run that it made, and the clock as the call left
 /// it, None only at status 8.
@@ -65,6 +67,7 @@ fn judge_source<R: Threads + Wait + Sync, S: Source, C: Clock + Drop + Send, G: 
 ) -> Result<(Answer, C), Stop<C>>
     requires fit { IsFit command }
     requires read { reads command ≡ true }
+    requires unjudged { judges command ≡ false }
     ensures answers { (j : Answer × C) → result ≡ Ok j → AnswersTo (Some command) (span_between C.least C.readings clock j.1) (S.left source.old) (S.left source.new) j.0 }
     ensures later { S.faults source.old ≤ S.faults source.new }
     ensures broken { (c : C) → result ≡ Err (SourceFailed c) → Rose (S.faults source.old) (S.faults source.new) × (c ≡ clock) }
@@ -82,6 +85,35 @@ fn judge_source<R: Threads + Wait + Sync, S: Source, C: Clock + Drop + Send, G: 
         return Ok((Answer::Refused(Refusal::TooLong), clock));
     }
     judge_text(rt, alloc, command, input.as_slice(), clock, gate)
+}
+
+// What the source's script and journal come to.
+#[tactic(auto, using(crate::proofs::Judgements::answers_by_input))]
+fn judge_input<S: Source, C: Clock + Drop>(
+    alloc: Global,
+    command: Command,
+    source: &mut S,
+    clock: C,
+) -> Result<(Answer, C), Stop<C>>
+    requires { judges command ≡ true }
+    ensures answers { (span : ClockSpan) (j : Answer × C) → result ≡ Ok j → AnswersTo (Some command) span (S.left source.old) (S.left source.new) j.0 }
+    ensures later { S.faults source.old ≤ S.faults source.new }
+    ensures broken { (c : C) → result ≡ Err (SourceFailed c) → Rose (S.faults source.old) (S.faults source.new) }
+    ensures unfailed { (c : C) → result ≢ Err (ClockFailed c) }
+    ensures idle { clock_left result ≡ Some clock }
+{
+    let input = match read_all(alloc, source, GREATEST_INPUT) {
+        Ok(input) => input,
+        Err(ReadError::Broken) => return Err(Stop::SourceFailed(clock)),
+        Err(ReadError::OutOfMemory) => return Err(Stop::OutOfMemory(Some(clock))),
+    };
+    if input.len() > GREATEST_INPUT {
+        return Ok((Answer::Refused(Refusal::TooLong), clock));
+    }
+    match find(alloc, command, input.as_slice()) {
+        Ok(answer) => Ok((answer, clock)),
+        Err(memory::OutOfMemory) => Err(Stop::OutOfMemory(Some(clock))),
+    }
 }
 
 // What the generator's script for the number comes to.
@@ -136,16 +168,18 @@ fn judge<R: Threads + Wait + Sync, S: Source, C: Clock + Drop + Send, G: Gate + 
         Command::Run { .. } | Command::Check => {
             judge_source(rt, alloc, command, source, clock, gate)
         }
+        Command::Replay | Command::Report => judge_input(alloc, command, source, clock),
     }
 }
 
-/// Reads the words and the source, runs the script or checks it, and writes what it prints, or `ok`.
+/// Reads the words and the source, runs the script, checks it or judges a journal beside it, and writes what it prints, `ok`,
+/// or what is found.
 ///
 /// The words are those after the program's name. The text is made whole, and room for it in the sink, before the first
-/// write. Status 0 is a run to the main text's end, or an accepted script, 1 wrong words, 2 a refused script, 3 a fault of
-/// the main text, 4 a run in which nothing can go on, 5 one that reached its budget, 6 a failed source, 7 a failed sink, 8
-/// want of memory and 9 a failed clock. The clock goes in by value and comes back as the call left it; only a run that was
-/// given up for want of memory keeps it.
+/// write. Status 0 is a run to the main text's end, an accepted script or a legal journal, 1 wrong words, 2 a refused script,
+/// 3 a fault of the main text, 4 a run in which nothing can go on, 5 one that reached its budget, 6 a failed source, 7 a
+/// failed sink, 8 want of memory, 9 a failed clock and 10 an input without a journal, or a journal that isn't legal. The
+/// clock goes in by value and comes back as the call left it; only a run that was given up for want of memory keeps it.
 pub fn main_call<
     R: Threads + Wait + Sync,
     S: Source,
@@ -177,6 +211,10 @@ pub fn main_call<
     ensures accepted { command_in (map string_bytes words.now) ≡ Some Check → result.status ≡ 0 → Accepted (S.left source.old) (S.left source.new) × Appends (K.held sink.old) (K.held sink.new) (codes "ok\n") }
     ensures usage { result.status ≡ 1 → (command_in (map string_bytes words.now) ≡ None) × Appends (K.held sink.old) (K.held sink.new) usage }
     ensures refused { result.status ≡ 2 → (command : Command) × (line : List ℕ) × (command_in (map string_bytes words.now) ≡ Some command) × Refused command (S.left source.old) (S.left source.new) line × Appends (K.held sink.old) (K.held sink.new) line }
+    // What is found of a journal.
+    ensures replayed { command_in (map string_bytes words.now) ≡ Some Replay → result.status ≡ 0 → Writes IsReplayed (S.left source.old) (S.left source.new) (K.held sink.old) (K.held sink.new) }
+    ensures reported { command_in (map string_bytes words.now) ≡ Some Report → result.status ≡ 0 → Writes IsReported (S.left source.old) (S.left source.new) (K.held sink.old) (K.held sink.new) }
+    ensures rejected { result.status ≡ 10 → JudgesJournal (command_in (map string_bytes words.now)) × Writes IsRejected (S.left source.old) (S.left source.new) (K.held sink.old) (K.held sink.new) }
     ensures read { result.status ≡ 6 → ReadsScript (command_in (map string_bytes words.now)) × Rose (S.faults source.old) (S.faults source.new) }
     ensures unread { (command : Command) → command_in (map string_bytes words.now) ≡ Some command → reads command ≡ false → source.new ≡ source.old }
     ensures write { result.status ≡ 7 → Rose (K.faults sink.old) (K.faults sink.new) }
@@ -189,14 +227,14 @@ pub fn main_call<
     ensures waited { result.status ≡ 9 → (c : C) × (result.clock ≡ Some c) × Rose (C.faults clock) (C.faults c) }
     ensures ran { result.status ≡ 9 → RunsScript (command_in (map string_bytes words.now)) (S.left source.old) (S.left source.new) }
     ensures silent { (result.status ≡ 6) ⊎ ((result.status ≡ 8) ⊎ (result.status ≡ 9)) → K.held sink.new ≡ K.held sink.old }
-    ensures known { result.status ≤ 9 }
+    ensures known { result.status ≤ 10 }
     ensures done { result.status ≡ 0 → (command : Command) × (command_in (map string_bytes words.now) ≡ Some command) }
     // Where no device failed, an accepted script comes to its end, or there was not the memory: the clauses above say of each
     // end which it is and what was written.
     ensures complete { NoneRose (S.faults source.old) (S.faults source.new) (K.faults sink.old) (K.faults sink.new) (C.faults clock) (option_map C.faults result.clock) → IsComplete (command_in (map string_bytes words.now)) (S.left source.old) result.status }
     ensures journal { IsSome result.journal → ((command : Command) × (command_in (map string_bytes words.now) ≡ Some command) × (runs command ≡ true)) × ((result.status ≡ 0) ⊎ ((3 ≤ result.status × result.status ≤ 5) ⊎ (result.status ≡ 7))) }
 {
-    journals_of_scripts_keep_the_laws();
+    journals_of_a_text_keep_the_laws();
     let Ok(asked) = asked(alloc, words) else {
         return without_journal(8, Some(clock));
     };
@@ -243,6 +281,10 @@ fn close<C: Drop>(answer: Answer, written: bool, clock: C) -> Finish<C>
             journal: Some(run.journal),
             clock: Some(clock),
         },
+        Answer::Found(finding) => {
+            drop(finding);
+            without_journal(status, Some(clock))
+        }
         Answer::Usage | Answer::Refused(_) | Answer::Accepted => {
             without_journal(status, Some(clock))
         }
@@ -262,5 +304,15 @@ fn status_of(answer: &Answer) -> u8
             ScriptEnd::Stuck => 4,
             ScriptEnd::Limit => 5,
         },
+        Answer::Found(finding) => status_of_finding(finding),
+    }
+}
+
+fn status_of_finding(finding: &Finding) -> u8
+    ensures { result ≡ finding_status finding.now }
+{
+    match finding {
+        Finding::NoJournal | Finding::BadLine(_) | Finding::IllegalAt(_) => 10,
+        Finding::Stands(_) | Finding::Lines(_) => 0,
     }
 }

@@ -1,7 +1,7 @@
 -- The definition at words that are written out.
 use Rattle.std.proofs.Common.{◌≡◌, refl, true, false, [], ◌∷◌, Some, None, codes}
 use Rattle.ca_words.specs.Words.{command_in}
-use Rattle.ca_words.specs.declared.command.Command.TheVariants.{Run, Load}
+use Rattle.ca_words.specs.declared.command.Command.TheVariants.{Run, Load, Replay, Report}
 
 number_last : command_in (codes "load" ∷ codes "--workers=2" ∷ codes "5" ∷ []) ≡ Some (Load 5 2)
 number_last = refl
@@ -32,3 +32,12 @@ all_budget = refl
 
 all_three : command_in (codes "run" ∷ codes "--journal" ∷ codes "--workers=16" ∷ codes "--budget" ∷ codes "1" ∷ []) ≡ Some (Run 16 1 true)
 all_three = refl
+
+replayed : command_in (codes "replay" ∷ []) ≡ Some Replay
+replayed = refl
+
+reported : command_in (codes "report" ∷ []) ≡ Some Report
+reported = refl
+
+no_options : command_in (codes "replay" ∷ codes "--workers=2" ∷ []) ≡ None
+no_options = refl

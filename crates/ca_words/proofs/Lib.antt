@@ -12,6 +12,6 @@ pub mod RunWords
 pub mod RunTheorem
 pub mod LoadWords
 pub mod LoadTheorem
-pub mod CheckTheorem
+pub mod AloneTheorem
 pub mod Whole
 pub mod Examples

@@ -76,6 +76,36 @@ module _ (ws : List Text) where
   pub load_entered : subcommand_of command_line (codes "load" ∷ ws) ≡ Some (codes "load", rows_after load_rules [] ws)
   load_entered = ap (λ (w : Walk). entered P w.stopped) load_walk
 
+  replay_walk : walk P.top.rules (names_of P) nothing_held (codes "replay" ∷ ws) ≡ met (codes "replay") ws
+  unfolding walked
+  replay_walk = sym (walk_stopped P.top.rules (names_of P) (walk_from nothing_held) (codes "replay") [] ws)
+
+  replay_turns : walk_fault P.top (names_of P) (walk_from nothing_held) (codes "replay" ∷ ws) ≡ []
+  unfolding walk_fault walked
+  replay_turns = no_more (codes "replay") [] ws
+
+  pub replay_fault : fault_of command_line (codes "replay" ∷ ws) ≡ below (leaf (codes "replay") []) ws
+  unfolding defaults_fault
+  replay_fault = ap₂ from_walk replay_turns replay_walk ∙ no_second (below (leaf (codes "replay") []) ws)
+
+  pub replay_entered : subcommand_of command_line (codes "replay" ∷ ws) ≡ Some (codes "replay", rows_after [] [] ws)
+  replay_entered = ap (λ (w : Walk). entered P w.stopped) replay_walk
+
+  report_walk : walk P.top.rules (names_of P) nothing_held (codes "report" ∷ ws) ≡ met (codes "report") ws
+  unfolding walked
+  report_walk = sym (walk_stopped P.top.rules (names_of P) (walk_from nothing_held) (codes "report") [] ws)
+
+  report_turns : walk_fault P.top (names_of P) (walk_from nothing_held) (codes "report" ∷ ws) ≡ []
+  unfolding walk_fault walked
+  report_turns = no_more (codes "report") [] ws
+
+  pub report_fault : fault_of command_line (codes "report" ∷ ws) ≡ below (leaf (codes "report") []) ws
+  unfolding defaults_fault
+  report_fault = ap₂ from_walk report_turns report_walk ∙ no_second (below (leaf (codes "report") []) ws)
+
+  pub report_entered : subcommand_of command_line (codes "report" ∷ ws) ≡ Some (codes "report", rows_after [] [] ws)
+  report_entered = ap (λ (w : Walk). entered P w.stopped) report_walk
+
   -- ---- below the name
 
   module _ (m : Text) (c : List Rule) where

@@ -7,14 +7,19 @@ use Rattle.ca_words.specs.Words.{Text, after, bare, load_with, one_number, run_w
 use Rattle.ca_words.specs.declared.command.Command.{Command}
 use Rattle.ca_words.specs.declared.command.Command.TheVariants as command
 use Rattle.ca_words.specs.declared.name.Name.{Name}
-use Rattle.ca_words.specs.declared.name.Name.TheVariants.{Run, Check, Load}
+use Rattle.ca_words.specs.declared.name.Name.TheVariants.{Run, Check, Load, Replay, Report}
 
 -- no `--`, and no word that begins with a single `-`
 abbrev pub is_open : Text → Bool
 is_open word = is_some (bare word) || (is_some (after (codes "--") word) && not (bytes_eq word (codes "--")))
 
 abbrev pub name_of : Text → Option Name
-name_of w = if bytes_eq w (codes "run") then Some Run else (if bytes_eq w (codes "check") then Some Check else (if bytes_eq w (codes "load") then Some Load else None))
+name_of w =
+    if bytes_eq w (codes "run") then Some Run
+    else (if bytes_eq w (codes "check") then Some Check
+    else (if bytes_eq w (codes "load") then Some Load
+    else (if bytes_eq w (codes "replay") then Some Replay
+    else (if bytes_eq w (codes "report") then Some Report else None))))
 
 -- the command that the words name, where the words after it are such as clap may read
 abbrev pub name_in : List Text → Option Name
@@ -34,3 +39,5 @@ Reads Run rows c = (journal : Bool) → one_of (codes "journal") rows ≡ Some (
 Reads Check rows c = c ≡ Some command.Check
 Reads Load rows c = c ≡ load_with (one_number 1 20000 (option_to_list (first_of (codes "n") rows)))
     (setting 1 1 16 (option_to_list (first_of (codes "workers") rows)))
+Reads Replay rows c = c ≡ Some command.Replay
+Reads Report rows c = c ≡ Some command.Report

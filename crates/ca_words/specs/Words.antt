@@ -4,7 +4,7 @@ use Rattle.std.specs.List.{list_all}
 use Rattle.std.specs.Str.{bytes_eq}
 use Rattle.std.specs.Str.Parse.{digits_value}
 use Rattle.ca_words.specs.declared.command.Command.{Command}
-use Rattle.ca_words.specs.declared.command.Command.TheVariants.{Run, Check, Load}
+use Rattle.ca_words.specs.declared.command.Command.TheVariants.{Run, Check, Load, Replay, Report}
 
 -- a word, as its bytes
 abbrev pub Text : Type 0
@@ -109,14 +109,17 @@ run_words ws = if list_all is_run_word ws then run_with (workers_of ws) (budget_
 abbrev pub load_words : List Text → Option Command
 load_words ws = if list_all is_load_word ws then load_with (one_number 1 20000 (filter_map bare ws)) (workers_of ws) else None
 
-abbrev pub check_words : List Text → Option Command
-check_words [] = Some Check
-check_words (w ∷ ws) = None
+-- a command that has no words of its own
+abbrev pub alone : Command → List Text → Option Command
+alone command [] = Some command
+alone command (w ∷ ws) = None
 
 -- what the words after the command_line's name ask for
 abbrev pub command_in : List Text → Option Command
 command_in [] = None
 command_in (w ∷ ws) =
     if bytes_eq w (codes "run") then run_words (joined ws)
-    else (if bytes_eq w (codes "check") then check_words (joined ws)
-    else (if bytes_eq w (codes "load") then load_words (joined ws) else None))
+    else (if bytes_eq w (codes "check") then alone Check (joined ws)
+    else (if bytes_eq w (codes "load") then load_words (joined ws)
+    else (if bytes_eq w (codes "replay") then alone Replay (joined ws)
+    else (if bytes_eq w (codes "report") then alone Report (joined ws) else None))))

@@ -23,6 +23,10 @@ pub enum Command {
         /// The number of workers, 1 to 16.
         workers: u64,
     },
+    /// To say whether a journal is a legal run of a script.
+    Replay,
+    /// To say what each channel did in a journal, and who still waits.
+    Report,
 }
 
 /// Why words are no command.

@@ -1,4 +1,4 @@
-//! What clap is told of the command line: one command with three subcommands.
+//! What clap is told of the command line: one command with five subcommands.
 
 ghost use Rattle.std.specs.Prelude.{◌≡◌, false, IfOk};
 ghost use Rattle.clap.specs.Words.{app_of};
@@ -43,6 +43,8 @@ pub fn command_line<'a>(alloc: Global) -> Result<clap::Command<'a>, AllocError>
     let run = run_line(alloc)?;
     let check = clap::Command::new(alloc, "check");
     let load = load_line(alloc)?;
+    let replay = clap::Command::new(alloc, "replay");
+    let report = clap::Command::new(alloc, "report");
     let start = clap::Command::new(alloc, "runzolev")
         .no_binary_name(true)
         .disable_help_flag(true)
@@ -50,5 +52,7 @@ pub fn command_line<'a>(alloc: Global) -> Result<clap::Command<'a>, AllocError>
     let one = start.subcommand(run)?;
     let two = one.subcommand(check)?;
     let three = two.subcommand(load)?;
-    Ok(three)
+    let four = three.subcommand(replay)?;
+    let five = four.subcommand(report)?;
+    Ok(five)
 }

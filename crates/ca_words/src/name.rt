@@ -11,6 +11,8 @@ pub enum Name {
     Run,
     Check,
     Load,
+    Replay,
+    Report,
 }
 
 /// The command that the words name, or None where they name none or one of the others is not for clap to read.
@@ -33,6 +35,10 @@ fn name_of(word: &str) -> Option<Name>
         Some(Name::Check)
     } else if is_word(word, "load") {
         Some(Name::Load)
+    } else if is_word(word, "replay") {
+        Some(Name::Replay)
+    } else if is_word(word, "report") {
+        Some(Name::Report)
     } else {
         None
     }

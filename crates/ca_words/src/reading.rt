@@ -67,6 +67,8 @@ fn read(name: Name, matches: &ArgMatches) -> Option<Command>
         Name::Run => read_run(matches),
         Name::Check => Some(Command::Check),
         Name::Load => read_load(matches),
+        Name::Replay => Some(Command::Replay),
+        Name::Report => Some(Command::Report),
     }
 }
 

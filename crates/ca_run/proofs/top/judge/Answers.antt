@@ -34,3 +34,13 @@ returns-in-Run-clause-broken g c = λ x e.
 pub returns-in-Run-clause-ran : goal.returns-in-Run-clause-ran
 returns-in-Run-clause-ran g c = λ x e.
     subst (λ o. RunsScript o (g.S.Source.left c.args.source.now) (g.S.Source.left c.judge_source.new.source)) (sym c.in-Some.is) (c.judge_source.ensures.ran x e)
+
+pub returns-in-Replay-clause-unread : goal.returns-in-Replay-clause-unread
+returns-in-Replay-clause-unread g c = λ silent. absurd (
+    let yes : reads c.in-Some.command ≡ true = search rules in
+    let z : true ≡ false = sym yes ∙ silent c.in-Some.command c.in-Some.is in cc)
+
+pub returns-in-Replay-clause-answers : goal.returns-in-Replay-clause-answers
+returns-in-Replay-clause-answers g c = λ j e.
+    let span = span_between g.C.Clock.least g.C.Clock.readings c.args.clock j.1 in
+    subst (λ o. AnswersTo o span (g.S.Source.left c.args.source.now) (g.S.Source.left c.judge_input.new.source) j.0) (sym c.in-Some.is) (c.judge_input.ensures.answers span j e)

@@ -2,7 +2,8 @@ use Rattle.std.proofs.Common.{◌≡◌, refl, rules, subst}
 use Rattle.ca_value.specs.Seq.{list}
 use Rattle.ca_words.specs.declared.command.Command.TheVariants.{Load}
 use Rattle.ca_run.specs.Answers.{Judged}
-use Rattle.ca_run.specs.Top.{HasProgram, span_between}
+use Rattle.ca_run.specs.Inputs.{HasProgram}
+use Rattle.ca_run.specs.Top.{span_between}
 use Rattle.ca_run.proofs.Judgements.{answers_by_load}
 use Rattle.ca_run.proofs.top.judge_load.Goals as goal
 

@@ -8,7 +8,7 @@ use Rattle.ca_meaning.specs.Ends.{ended, faulted, limit, stuck}
 use Rattle.ca_run.proofs.Causes.{not_eight, read_nothing, silent_of, without_run}
 use Rattle.ca_run.proofs.Complete.{close_complete, unfinished}
 use Rattle.ca_run.proofs.Lawful.{lawful_of}
-use Rattle.ca_run.proofs.Finishes.{whole_text, part_text, ended_of, ends_of, accepted_of, refused_of, usage_of, partly_of, close_journal, close_asked, runs_nothing}
+use Rattle.ca_run.proofs.Finishes.{differ, whole_text, part_text, ended_of, ends_of, accepted_of, refused_of, usage_of, partly_of, close_journal, close_asked, runs_nothing, replayed_of, reported_of, rejected_of}
 use Rattle.ca_run.proofs.top.main_call.Goals as goal
 
 pub returns-clause-ended : goal.returns-clause-ended
@@ -22,7 +22,7 @@ returns-clause-ended g c = λ command is runs e.
     let asked = command_in (map string_bytes c.args.words.now) in
     let answers : AnswersTo asked span left after a = subst (λ q. AnswersTo q span left after a) c.in-Ok.ensures.command (c.in-Ok-judge.ensures.answers c.in-Ok-judge.judged refl) in
     let words : c.as_slice.result.now ≡ answer_text a = search rules in
-    let text = whole_text c.write_all.result c.is_ok-written.result c.close.result.status 0 a held (g.K.Sink.held c.reserve.new.self) taken c.as_slice.result.now c.is_ok-written.ensures.value c.close.ensures.lost c.close.ensures.done c.write_all.ensures.ok words c.reserve.ensures.held e (omega arith) in
+    let text = whole_text c.write_all.result c.is_ok-written.result c.close.result.status 0 a held (g.K.Sink.held c.reserve.new.self) taken c.as_slice.result.now c.is_ok-written.ensures.value c.close.ensures.lost c.close.ensures.done c.write_all.ensures.ok words c.reserve.ensures.held e (differ 0 7 (omega arith)) in
     subst (λ o. Completed command left after held taken (span_of g.C.Clock.least g.C.Clock.readings c.args.clock o) c.close.result.journal ended) (sym c.close.ensures.clock)
     (subst (λ j. Completed command left after held taken (Some span) j ended) (sym c.close.ensures.journal) (ended_of asked span left after held taken a command is runs text.0 answers text.1))
 
@@ -37,7 +37,7 @@ returns-clause-faulted g c = λ e.
     let asked = command_in (map string_bytes c.args.words.now) in
     let answers : AnswersTo asked span left after a = subst (λ q. AnswersTo q span left after a) c.in-Ok.ensures.command (c.in-Ok-judge.ensures.answers c.in-Ok-judge.judged refl) in
     let words : c.as_slice.result.now ≡ answer_text a = search rules in
-    let text = whole_text c.write_all.result c.is_ok-written.result c.close.result.status 3 a held (g.K.Sink.held c.reserve.new.self) taken c.as_slice.result.now c.is_ok-written.ensures.value c.close.ensures.lost c.close.ensures.done c.write_all.ensures.ok words c.reserve.ensures.held e (omega arith) in
+    let text = whole_text c.write_all.result c.is_ok-written.result c.close.result.status 3 a held (g.K.Sink.held c.reserve.new.self) taken c.as_slice.result.now c.is_ok-written.ensures.value c.close.ensures.lost c.close.ensures.done c.write_all.ensures.ok words c.reserve.ensures.held e (differ 3 7 (omega arith)) in
     subst (λ o. CompletedFor asked left after held taken (span_of g.C.Clock.least g.C.Clock.readings c.args.clock o) c.close.result.journal faulted) (sym c.close.ensures.clock)
     (subst (λ j. CompletedFor asked left after held taken (Some span) j faulted) (sym c.close.ensures.journal) (ends_of asked span left after held taken a faulted (omega arith) text.0 answers text.1))
 
@@ -52,7 +52,7 @@ returns-clause-stuck g c = λ e.
     let asked = command_in (map string_bytes c.args.words.now) in
     let answers : AnswersTo asked span left after a = subst (λ q. AnswersTo q span left after a) c.in-Ok.ensures.command (c.in-Ok-judge.ensures.answers c.in-Ok-judge.judged refl) in
     let words : c.as_slice.result.now ≡ answer_text a = search rules in
-    let text = whole_text c.write_all.result c.is_ok-written.result c.close.result.status 4 a held (g.K.Sink.held c.reserve.new.self) taken c.as_slice.result.now c.is_ok-written.ensures.value c.close.ensures.lost c.close.ensures.done c.write_all.ensures.ok words c.reserve.ensures.held e (omega arith) in
+    let text = whole_text c.write_all.result c.is_ok-written.result c.close.result.status 4 a held (g.K.Sink.held c.reserve.new.self) taken c.as_slice.result.now c.is_ok-written.ensures.value c.close.ensures.lost c.close.ensures.done c.write_all.ensures.ok words c.reserve.ensures.held e (differ 4 7 (omega arith)) in
     subst (λ o. CompletedFor asked left after held taken (span_of g.C.Clock.least g.C.Clock.readings c.args.clock o) c.close.result.journal stuck) (sym c.close.ensures.clock)
     (subst (λ j. CompletedFor asked left after held taken (Some span) j stuck) (sym c.close.ensures.journal) (ends_of asked span left after held taken a stuck (omega arith) text.0 answers text.1))
 
@@ -67,7 +67,7 @@ returns-clause-limit g c = λ e.
     let asked = command_in (map string_bytes c.args.words.now) in
     let answers : AnswersTo asked span left after a = subst (λ q. AnswersTo q span left after a) c.in-Ok.ensures.command (c.in-Ok-judge.ensures.answers c.in-Ok-judge.judged refl) in
     let words : c.as_slice.result.now ≡ answer_text a = search rules in
-    let text = whole_text c.write_all.result c.is_ok-written.result c.close.result.status 5 a held (g.K.Sink.held c.reserve.new.self) taken c.as_slice.result.now c.is_ok-written.ensures.value c.close.ensures.lost c.close.ensures.done c.write_all.ensures.ok words c.reserve.ensures.held e (omega arith) in
+    let text = whole_text c.write_all.result c.is_ok-written.result c.close.result.status 5 a held (g.K.Sink.held c.reserve.new.self) taken c.as_slice.result.now c.is_ok-written.ensures.value c.close.ensures.lost c.close.ensures.done c.write_all.ensures.ok words c.reserve.ensures.held e (differ 5 7 (omega arith)) in
     subst (λ o. CompletedFor asked left after held taken (span_of g.C.Clock.least g.C.Clock.readings c.args.clock o) c.close.result.journal limit) (sym c.close.ensures.clock)
     (subst (λ j. CompletedFor asked left after held taken (Some span) j limit) (sym c.close.ensures.journal) (ends_of asked span left after held taken a limit (omega arith) text.0 answers text.1))
 
@@ -82,7 +82,7 @@ returns-clause-accepted g c = λ is e.
     let asked = command_in (map string_bytes c.args.words.now) in
     let answers : AnswersTo asked span left after a = subst (λ q. AnswersTo q span left after a) c.in-Ok.ensures.command (c.in-Ok-judge.ensures.answers c.in-Ok-judge.judged refl) in
     let words : c.as_slice.result.now ≡ answer_text a = search rules in
-    let text = whole_text c.write_all.result c.is_ok-written.result c.close.result.status 0 a held (g.K.Sink.held c.reserve.new.self) taken c.as_slice.result.now c.is_ok-written.ensures.value c.close.ensures.lost c.close.ensures.done c.write_all.ensures.ok words c.reserve.ensures.held e (omega arith) in
+    let text = whole_text c.write_all.result c.is_ok-written.result c.close.result.status 0 a held (g.K.Sink.held c.reserve.new.self) taken c.as_slice.result.now c.is_ok-written.ensures.value c.close.ensures.lost c.close.ensures.done c.write_all.ensures.ok words c.reserve.ensures.held e (differ 0 7 (omega arith)) in
     accepted_of asked span left after held taken a is text.0 answers text.1
 
 pub returns-clause-usage : goal.returns-clause-usage
@@ -96,7 +96,7 @@ returns-clause-usage g c = λ e.
     let asked = command_in (map string_bytes c.args.words.now) in
     let answers : AnswersTo asked span left after a = subst (λ q. AnswersTo q span left after a) c.in-Ok.ensures.command (c.in-Ok-judge.ensures.answers c.in-Ok-judge.judged refl) in
     let words : c.as_slice.result.now ≡ answer_text a = search rules in
-    let text = whole_text c.write_all.result c.is_ok-written.result c.close.result.status 1 a held (g.K.Sink.held c.reserve.new.self) taken c.as_slice.result.now c.is_ok-written.ensures.value c.close.ensures.lost c.close.ensures.done c.write_all.ensures.ok words c.reserve.ensures.held e (omega arith) in
+    let text = whole_text c.write_all.result c.is_ok-written.result c.close.result.status 1 a held (g.K.Sink.held c.reserve.new.self) taken c.as_slice.result.now c.is_ok-written.ensures.value c.close.ensures.lost c.close.ensures.done c.write_all.ensures.ok words c.reserve.ensures.held e (differ 1 7 (omega arith)) in
     usage_of asked span left after held taken a text.0 answers text.1
 
 pub returns-clause-refused : goal.returns-clause-refused
@@ -110,7 +110,7 @@ returns-clause-refused g c = λ e.
     let asked = command_in (map string_bytes c.args.words.now) in
     let answers : AnswersTo asked span left after a = subst (λ q. AnswersTo q span left after a) c.in-Ok.ensures.command (c.in-Ok-judge.ensures.answers c.in-Ok-judge.judged refl) in
     let words : c.as_slice.result.now ≡ answer_text a = search rules in
-    let text = whole_text c.write_all.result c.is_ok-written.result c.close.result.status 2 a held (g.K.Sink.held c.reserve.new.self) taken c.as_slice.result.now c.is_ok-written.ensures.value c.close.ensures.lost c.close.ensures.done c.write_all.ensures.ok words c.reserve.ensures.held e (omega arith) in
+    let text = whole_text c.write_all.result c.is_ok-written.result c.close.result.status 2 a held (g.K.Sink.held c.reserve.new.self) taken c.as_slice.result.now c.is_ok-written.ensures.value c.close.ensures.lost c.close.ensures.done c.write_all.ensures.ok words c.reserve.ensures.held e (differ 2 7 (omega arith)) in
     refused_of asked span left after held taken a text.0 answers text.1
 
 pub returns-clause-partial : goal.returns-clause-partial
@@ -165,7 +165,7 @@ returns-clause-laws g c = λ j e.
     let after = g.S.Source.left c.judge.new.source in
     let asked = command_in (map string_bytes c.args.words.now) in
     let answers : AnswersTo asked span left after a = subst (λ q. AnswersTo q span left after a) c.in-Ok.ensures.command (c.in-Ok-judge.ensures.answers c.in-Ok-judge.judged refl) in
-    lawful_of c.journals_of_scripts_keep_the_laws.ensures asked span left after a j answers (sym c.close.ensures.journal ∙ e)
+    lawful_of c.journals_of_a_text_keep_the_laws.ensures asked span left after a j answers (sym c.close.ensures.journal ∙ e)
 
 pub returns-clause-unrun : goal.returns-clause-unrun
 returns-clause-unrun g c = λ e none. c.close.ensures.clock ∙ ap Some (c.in-Ok-judge.ensures.unasked c.in-Ok-judge.judged refl (without_run c.in-Ok-judge.judged.0 (sym c.close.ensures.journal ∙ none)))
@@ -218,3 +218,45 @@ pub returns-then-is_err-clause-unasked : goal.returns-then-is_err-clause-unasked
 returns-then-is_err-clause-unasked g c =
     ⊎_elim (not_eight c.without_journal-then-is_err.result.status c.without_journal-then-is_err.ensures.status)
     (λ k. c.without_journal-then-is_err.ensures.clock ∙ c.in-Ok-judge.ensures.idle (λ x is. k x (sym c.in-Ok.ensures.command ∙ is)))
+
+pub returns-clause-replayed : goal.returns-clause-replayed
+returns-clause-replayed g c = λ is e.
+    let a = c.in-Ok-judge.judged.0 in
+    let span = span_between g.C.Clock.least g.C.Clock.readings c.args.clock c.in-Ok-judge.judged.1 in
+    let left = g.S.Source.left c.args.source.now in
+    let after = g.S.Source.left c.judge.new.source in
+    let held = g.K.Sink.held c.args.sink.now in
+    let taken = g.K.Sink.held c.write_all.new.sink in
+    let asked = command_in (map string_bytes c.args.words.now) in
+    let answers : AnswersTo asked span left after a = subst (λ q. AnswersTo q span left after a) c.in-Ok.ensures.command (c.in-Ok-judge.ensures.answers c.in-Ok-judge.judged refl) in
+    let words : c.as_slice.result.now ≡ answer_text a = search rules in
+    let text = whole_text c.write_all.result c.is_ok-written.result c.close.result.status 0 a held (g.K.Sink.held c.reserve.new.self) taken c.as_slice.result.now c.is_ok-written.ensures.value c.close.ensures.lost c.close.ensures.done c.write_all.ensures.ok words c.reserve.ensures.held e (differ 0 7 (omega arith)) in
+    replayed_of asked span left after held taken a is text.0 answers text.1
+
+pub returns-clause-reported : goal.returns-clause-reported
+returns-clause-reported g c = λ is e.
+    let a = c.in-Ok-judge.judged.0 in
+    let span = span_between g.C.Clock.least g.C.Clock.readings c.args.clock c.in-Ok-judge.judged.1 in
+    let left = g.S.Source.left c.args.source.now in
+    let after = g.S.Source.left c.judge.new.source in
+    let held = g.K.Sink.held c.args.sink.now in
+    let taken = g.K.Sink.held c.write_all.new.sink in
+    let asked = command_in (map string_bytes c.args.words.now) in
+    let answers : AnswersTo asked span left after a = subst (λ q. AnswersTo q span left after a) c.in-Ok.ensures.command (c.in-Ok-judge.ensures.answers c.in-Ok-judge.judged refl) in
+    let words : c.as_slice.result.now ≡ answer_text a = search rules in
+    let text = whole_text c.write_all.result c.is_ok-written.result c.close.result.status 0 a held (g.K.Sink.held c.reserve.new.self) taken c.as_slice.result.now c.is_ok-written.ensures.value c.close.ensures.lost c.close.ensures.done c.write_all.ensures.ok words c.reserve.ensures.held e (differ 0 7 (omega arith)) in
+    reported_of asked span left after held taken a is text.0 answers text.1
+
+pub returns-clause-rejected : goal.returns-clause-rejected
+returns-clause-rejected g c = λ e.
+    let a = c.in-Ok-judge.judged.0 in
+    let span = span_between g.C.Clock.least g.C.Clock.readings c.args.clock c.in-Ok-judge.judged.1 in
+    let left = g.S.Source.left c.args.source.now in
+    let after = g.S.Source.left c.judge.new.source in
+    let held = g.K.Sink.held c.args.sink.now in
+    let taken = g.K.Sink.held c.write_all.new.sink in
+    let asked = command_in (map string_bytes c.args.words.now) in
+    let answers : AnswersTo asked span left after a = subst (λ q. AnswersTo q span left after a) c.in-Ok.ensures.command (c.in-Ok-judge.ensures.answers c.in-Ok-judge.judged refl) in
+    let words : c.as_slice.result.now ≡ answer_text a = search rules in
+    let text = whole_text c.write_all.result c.is_ok-written.result c.close.result.status 10 a held (g.K.Sink.held c.reserve.new.self) taken c.as_slice.result.now c.is_ok-written.ensures.value c.close.ensures.lost c.close.ensures.done c.write_all.ensures.ok words c.reserve.ensures.held e (λ z. differ 7 10 (omega arith) (sym z)) in
+    rejected_of asked span left after held taken a text.0 answers text.1
