@@ -1,10 +1,12 @@
 #!/usr/bin/env bash
 # Runs each script of this folder and of examples/ with a program and says where it differs from what is stored beside it:
-# the output with one worker and with four (of the examples with sixteen too), and with one worker the journal.
+# the output with one worker and with four (of the examples with sixteen too), and with one worker the journal. The journals of
+# its runs with 1, 4 and 16 workers are given back to `replay`, which must find them legal and standing as the run ended. The
+# inputs of journals/ are judged by `replay` and `report`.
 #
 #   conformance/compare.sh [--output] [PROGRAM]     the program is ../runzolev if none is named
 #
-# With --output journals and the places of faults aren't compared: for a runner that tells none.
+# With --output journals and the places of faults aren't compared, and none is judged: for a runner that tells none.
 #
 # The last line is 'N passed, M failed'; the exit status is 1 where one failed.
 set -u
@@ -47,6 +49,60 @@ writes_it() {
     return 1
 }
 
+# How a journal stands at this line of a run's end.
+standing() {
+    case $(cat "$room/end") in
+    stuck) echo "legal stuck" ;;
+    fault*) echo "legal faulted" ;;
+    *) echo "legal ended" ;;
+    esac
+}
+
+# Whether the journal of a run of the script is legal and stands as the run ended. In what the run writes the journal stands
+# between the output and the line of the end.
+replays_it() {
+    local tries=1 output end
+    output=$(wc -c <"$room/output")
+    end=$(wc -c <"$room/end")
+    if grep -q '(timeout ' "$name.clj"; then tries=3; fi
+    while [ "$((tries--))" -gt 0 ]; do
+        "$program" run --journal "$@" <"$name.clj" >"$room/written" 2>/dev/null
+        { cat "$name.clj"; echo; echo ';;; journal'; tail -c +"$((output + 1))" "$room/written" | head -c -"$end"; } >"$room/journal"
+        if [ "$("$program" replay <"$room/journal" 2>/dev/null)" = "$(standing)" ]; then return; fi
+    done
+    return 1
+}
+
+# Replays the journals of the script's runs.
+replay() {
+    local workers
+    for workers; do
+        if replays_it --workers "$workers"; then
+            passed=$((passed + 1))
+        else
+            failed=$((failed + 1))
+            echo "$name: the journal with $workers workers isn't legal, or stands otherwise"
+        fi
+    done
+}
+
+# What is found of each input of a script and a journal.
+judge() {
+    local input command
+    for input in "$1"/*.in; do
+        name=${input%.in}
+        for command in replay report; do
+            { "$program" "$command" <"$input"; echo "status $?"; } >"$room/written" 2>/dev/null
+            if cmp -s "$room/written" "$name.$command"; then
+                passed=$((passed + 1))
+            else
+                failed=$((failed + 1))
+                echo "$name differs by $command"
+            fi
+        done
+    done
+}
+
 # Compares what the program writes with what was expected.
 expect() {
     local what=$1
@@ -68,6 +124,7 @@ compare() {
         split "$name"
         cat "$room/output" "$room/end" >"$room/expected"
         for workers; do expect "with $workers workers" --workers "$workers"; done
+        if $full; then replay 1 4 16; fi
         if $full && [ -f "$name.journal" ]; then
             cat "$room/output" "$name.journal" "$room/end" >"$room/expected"
             expect "with one worker, the journal among it" --journal
@@ -79,5 +136,6 @@ compare() {
 
 compare conformance 4
 compare examples 4 16
+if $full; then judge conformance/journals; fi
 echo "$passed passed, $failed failed"
 [ "$failed" -eq 0 ]

@@ -7,14 +7,37 @@
 //! from 0. The clock is one in memory, which stands until it is waited for; `rise=N` has it rise by N at each look, and
 //! `askings` has the answer tell how often it was asked. `spaces=N` puts N spaces behind the script. `cuts` cuts the script
 //! after each of its bytes: the answer has each answer that differs from that of a byte less, behind the number of bytes.
+//!
+//! What no contract can speak of is shown by two workers that are held at gates: `gate=both` holds whoever passes first until
+//! the other has passed too, so both work; `gate=held` holds one until the other has picked and advanced tasks, so one goes
+//! on while the other stands; `gate=disjoint` has one worker make events while the other holds all banks and shards but one,
+//! so an event needs the parts that it touches alone. The answer says whether a wait at the gate was given up, which a test
+//! fails by. `slow` has the clock take milliseconds to tell the moment, and `runs=N` runs the script N times: the answer has
+//! each that differs from the one before it, behind its number.
+//!
+//! The journal of each run is judged by `replay` beside its script: the answer tells what that writes, behind `replay`, where it
+//! isn't that the journal is legal and stands as the run ended; `unjudged` leaves it out, where a script takes very many turns.
+//! `replay: SCRIPT|;;; journal|LINES` is a row of its own, and so is one of `report`.
+//!
 //! Empty lines and comments are written as they stand, so the lines of both files go together. A row is added by writing a
 //! line into each: what the language's rules or core.async answer, never what this program did.
 //!
-//! Stands on `ca_run`, with no claim of its own; start with `answer_text`.
+//! Stands on `ca_run`, and in `beside` on the workers of `ca_pool` and the parts of `ca_table` themselves, with no claim of
+//! its own; start with `answer_text`.
 #![tactic(auto)]
 
 mod answer;
+mod beside;
+mod both;
 mod clock;
+mod differing;
+mod disjoint;
+mod gate;
+mod held;
+mod opened;
+mod passing;
+mod replayed;
+mod rest;
 mod row;
 
 use std::io;

@@ -1,4 +1,0 @@
-pub mod Bodies
-pub mod BodyLaws
-pub mod Pauses
-pub mod View
