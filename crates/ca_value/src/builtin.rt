@@ -4,6 +4,7 @@ ghost use Rattle.ca_value.specs.View.{view, views, trees};
 ghost use Rattle.ca_value.specs.Outcome.{outcome, judged, IsFault};
 ghost use Rattle.ca_value.specs.IsValue.{Scalars, IsValue, AreValues};
 ghost use Rattle.ca_value.specs.Maps.{contains_of};
+ghost use Rattle.ca_value.specs.Vectors.{part_of};
 ghost use Rattle.ca_value.specs.Builtins.{answer, builtin_result, admits};
 
 pub mod direct;
@@ -14,7 +15,6 @@ mod names;
 mod numbers;
 mod predicates;
 mod range;
-mod rows;
 pub mod scalars;
 mod text;
 mod vectors;
@@ -22,8 +22,9 @@ mod vectors;
 use crate::fault::ApplyError;
 use crate::memory::OutOfMemory;
 use crate::value::{Items, Value};
-use judge::{bool_value, int_value};
-use kinds::{Answer, both, first_and_rest, only};
+use judge::{bool_value, int_value, judge};
+use kinds::{Answer, both, first_and_rest, one_and_option, only, two_and_option};
+use maps::Half;
 use numbers::{Choice, Operation, Order};
 use predicates::Test;
 use std::alloc::Global;
@@ -129,27 +130,27 @@ fn evaluate(alloc: Global, builtin: Builtin, args: Items) -> Result<Answer<Value
         Builtin::IsNeg => Ok(bool_value(Test::Negative.passes_value(&only(args)))),
         Builtin::IsEven => Ok(bool_value(Test::Even.passes_value(&only(args)))),
         Builtin::IsOdd => Ok(bool_value(Test::Odd.passes_value(&only(args)))),
-        Builtin::Str => rows::str(alloc, args),
-        Builtin::Vector => rows::vector(alloc, args),
-        Builtin::HashMap => rows::hash_map(alloc, args),
-        Builtin::Conj => rows::conj(alloc, args),
-        Builtin::Nth => rows::nth(alloc, args),
-        Builtin::Get => rows::get(alloc, args),
+        Builtin::Str => Ok(judge(Ok(text::str(alloc, args)?))),
+        Builtin::Vector => Ok(judge(Ok(Value::vector(alloc, args)?))),
+        Builtin::HashMap => Ok(judge(Ok(maps::hash_map(alloc, args)?))),
+        Builtin::Conj => Ok(judge(vectors::conj(alloc, first_and_rest(args))?)),
+        Builtin::Nth => Ok(judge(vectors::nth(alloc, two_and_option(args))?)),
+        Builtin::Get => Ok(judge(maps::get(alloc, two_and_option(args))?)),
         Builtin::Count => Ok(int_value(maps::count(&only(args)))),
         Builtin::IsEmpty => Ok(bool_value(maps::is_empty(&only(args)))),
-        Builtin::First => rows::first(alloc, args),
-        Builtin::Last => rows::last(alloc, args),
-        Builtin::Peek => rows::last(alloc, args),
-        Builtin::Pop => rows::pop(alloc, args),
-        Builtin::Subvec => rows::subvec(alloc, args),
-        Builtin::Assoc => rows::assoc(alloc, args),
-        Builtin::Dissoc => rows::dissoc(alloc, args),
-        Builtin::Keys => rows::keys(alloc, args),
-        Builtin::Vals => rows::vals(alloc, args),
+        Builtin::First => Ok(judge(vectors::first(alloc, &only(args))?)),
+        Builtin::Last => Ok(judge(vectors::last(alloc, &only(args))?)),
+        Builtin::Peek => Ok(judge(vectors::last(alloc, &only(args))?)),
+        Builtin::Pop => Ok(judge(vectors::pop(alloc, only(args))?)),
+        Builtin::Subvec => Ok(judge(vectors::subvec(alloc, two_and_option(args))?)),
+        Builtin::Assoc => Ok(judge(maps::assoc(alloc, first_and_rest(args))?)),
+        Builtin::Dissoc => Ok(judge(maps::dissoc(alloc, first_and_rest(args))?)),
+        Builtin::Keys => Ok(judge(maps::halves(alloc, &only(args), Half::Key)?)),
+        Builtin::Vals => Ok(judge(maps::halves(alloc, &only(args), Half::Value)?)),
         Builtin::Contains => Ok(bool_value(contains(both(args)))),
-        Builtin::Range => rows::range(alloc, args),
-        Builtin::Part => rows::part(alloc, args),
-        Builtin::Items => rows::items(alloc, args),
+        Builtin::Range => range::range(alloc, one_and_option(args)),
+        Builtin::Part => Ok(judge(part(alloc, both(args))?)),
+        Builtin::Items => Ok(judge(maps::items(alloc, only(args))?)),
         Builtin::WorkerCount => Ok(int_value(numbers::worker_count(&only(args)))),
     }
 }
@@ -159,4 +160,11 @@ fn contains(args: (Value, Value)) -> Answer<bool>
     ensures { result ≡ contains_of (view args.0) (view args.1) }
 {
     maps::contains(&args.0, &args.1)
+}
+
+// The part of two values that are let go.
+fn part(alloc: Global, args: (Value, Value)) -> Result<Answer<Value>, OutOfMemory>
+    ensures { IfOk result (λ r. outcome r ≡ part_of (view args.0) (view args.1)) }
+{
+    vectors::part(alloc, &args.0, &args.1)
 }

@@ -54,6 +54,7 @@ fn set_all(alloc: Global, mut map: Map, args: Items) -> Result<Map, OutOfMemory>
 }
 
 /// The map of keys and values that stand in turn.
+#[inline(never)]
 pub fn hash_map(alloc: Global, args: Items) -> Result<Value, OutOfMemory>
     ensures { IfOk result (λ v. view v ≡ map_from (put_all [] (paired (views (list args))))) }
 {
@@ -64,6 +65,7 @@ pub fn hash_map(alloc: Global, args: Items) -> Result<Value, OutOfMemory>
 
 /// The value of a key of a map, or the item of a vector at an index; else the default, which is nil
 /// where none is given.
+#[inline(never)]
 #[tactic(auto, using(crate::proofs::VectorLaws::view_unwrap_or))]
 pub fn get(alloc: Global, args: (Value, Value, Option<Value>)) -> Result<Answer<Value>, OutOfMemory>
     ensures { IfOk result (λ r. outcome r ≡ get_of (view args.0) (view args.1) (unwrap_or (option_map view args.2) nil)) }
@@ -123,6 +125,7 @@ pub enum Half {
 }
 
 /// The collection with keys or places set, in order.
+#[inline(never)]
 #[tactic(auto, using(crate::proofs::Lists::items_of_trees_of, crate::proofs::Lists::entries_of_pairs_of))]
 pub fn assoc(alloc: Global, args: (Value, Items)) -> Result<Answer<Value>, OutOfMemory>
     ensures { IfOk result (λ r. outcome r ≡ assoc_of (view args.0) (views (list args.1))) }
@@ -251,6 +254,7 @@ fn without_keys(mut pairs: Pairs, keys: &[Value]) -> Pairs
 }
 
 /// The map without the keys; of nil nil.
+#[inline(never)]
 #[tactic(auto, using(crate::proofs::Lists::entries_of_pairs_of))]
 pub fn dissoc(alloc: Global, args: (Value, Items)) -> Result<Answer<Value>, OutOfMemory>
     ensures { IfOk result (λ r. outcome r ≡ dissoc_of (view args.0) (views (list args.1))) }
@@ -275,6 +279,7 @@ pub fn is_empty(collection: &Value) -> Answer<bool>
 }
 
 /// The keys, or the values, of a map in order, or nil.
+#[inline(never)]
 #[tactic(auto, using(crate::proofs::Lists::entries_of_pairs_of))]
 pub fn halves(alloc: Global, collection: &Value, half: Half) -> Result<Answer<Value>, OutOfMemory>
     ensures { IfOk result (λ r. outcome r ≡ halves_of (half_of half) (view collection.now)) }
@@ -368,6 +373,7 @@ fn has_place(items: &[Value], place: i64) -> bool
 }
 
 /// What a walk over the collection meets: the items of a vector, the pairs of a map as vectors.
+#[inline(never)]
 #[tactic(auto, using(crate::proofs::Lists::entries_of_pairs_of))]
 pub fn items(alloc: Global, collection: Value) -> Result<Answer<Value>, OutOfMemory>
     ensures { IfOk result (λ r. outcome r ≡ walked (view collection)) }

@@ -15,6 +15,7 @@ use std::alloc::Global;
 
 /// The integers from 0 up to one bound, or from one bound up to another, which is left out. What would
 /// be too heavy is never built.
+#[inline(never)]
 pub fn range(alloc: Global, args: (Value, Option<Value>)) -> Result<Answer<Value>, OutOfMemory>
     ensures { IfOk result (λ r. outcome r ≡ judged (range_of (view args.0) (option_map view args.1))) }
 {

@@ -25,6 +25,7 @@ pub fn item_copy(alloc: Global, items: &[Value], place: i64) -> Result<Option<Va
 }
 
 /// The vector with more items at its end, in its own memory where it is no one else's.
+#[inline(never)]
 pub fn conj(alloc: Global, args: (Value, Items)) -> Result<Answer<Value>, OutOfMemory>
     ensures { IfOk result (λ r. outcome r ≡ appended (view args.0) (views (list args.1))) }
 {
@@ -57,6 +58,7 @@ pub fn conj_one(
 
 /// The item of a collection at an index, with a default. Outside a vector it is the default; of nil the
 /// default or nil.
+#[inline(never)]
 pub fn nth(alloc: Global, args: (Value, Value, Option<Value>)) -> Result<Answer<Value>, OutOfMemory>
     ensures { IfOk result (λ r. outcome r ≡ nth_of (view args.0) (view args.1) (option_map view args.2)) }
 {
@@ -112,6 +114,7 @@ fn item_or_nil(alloc: Global, items: &[Value], place: usize) -> Result<Value, Ou
 }
 
 /// The first item, or nil.
+#[inline(never)]
 #[tactic(auto, using(crate::proofs::Lists::items_of_trees_of))]
 pub fn first(alloc: Global, collection: &Value) -> Result<Answer<Value>, OutOfMemory>
     ensures { IfOk result (λ r. outcome r ≡ first_of (view collection.now)) }
@@ -124,6 +127,7 @@ pub fn first(alloc: Global, collection: &Value) -> Result<Answer<Value>, OutOfMe
 }
 
 /// The last item, or nil.
+#[inline(never)]
 #[tactic(auto, using(crate::proofs::Lists::items_of_trees_of))]
 pub fn last(alloc: Global, collection: &Value) -> Result<Answer<Value>, OutOfMemory>
     ensures { IfOk result (λ r. outcome r ≡ last_of (view collection.now)) }
@@ -143,6 +147,7 @@ fn last_item(alloc: Global, items: &[Value]) -> Result<Value, OutOfMemory>
 }
 
 /// The vector without its last item.
+#[inline(never)]
 #[tactic(auto, using(crate::proofs::Lists::items_of_trees_of))]
 pub fn pop(alloc: Global, collection: Value) -> Result<Answer<Value>, OutOfMemory>
     ensures { IfOk result (λ r. outcome r ≡ popped (view collection)) }
@@ -165,6 +170,7 @@ fn without_last(alloc: Global, mut items: Items) -> Result<Answer<Value>, OutOfM
 }
 
 /// The item of a collection at an index, or nil.
+#[inline(never)]
 #[tactic(auto, using(crate::proofs::Lists::items_of_trees_of))]
 pub fn part(alloc: Global, collection: &Value, index: &Value) -> Result<Answer<Value>, OutOfMemory>
     ensures { IfOk result (λ r. outcome r ≡ part_of (view collection.now) (view index.now)) }
@@ -183,6 +189,7 @@ pub fn part(alloc: Global, collection: &Value, index: &Value) -> Result<Answer<V
 }
 
 /// The items from the start up to, not including, the end, which is the count where none is given.
+#[inline(never)]
 pub fn subvec(
     alloc: Global,
     args: (Value, Value, Option<Value>),
