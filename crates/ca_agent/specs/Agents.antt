@@ -1,11 +1,13 @@
 -- What an agent owes: it stands for a body, also after it went on and after it got an answer, and stays over its code.
 use Rattle.std.specs.Prelude.{◌≡◌}
 use Rattle.ca_value.specs.Tree.{Tree}
+use Rattle.ca_term.specs.declared.place.Place.{Place}
 use Rattle.ca_term.specs.Program.{ProgramView}
-use Rattle.ca_term.specs.Operation.{WantView, SeedView}
+use Rattle.ca_term.specs.Operation.{WantView, SeedView, spawning}
 use Rattle.ca_meaning.specs.Body.{At, at_op, ended, faulted}
 use Rattle.ca_meaning.specs.Task.{TaskBody, body_at, body_fill, BodyRest, new_task}
 use Rattle.ca_states.specs.Code.{CodeView}
+use Rattle.ca_agent.specs.Seeds.{HasSeed}
 use Rattle.ca_agent.specs.declared.agent.Pause.{Pause}
 use Rattle.ca_agent.specs.declared.agent.Pause.TheVariants.{AtOp, Ended, Faulted}
 
@@ -31,3 +33,7 @@ module _ {A : Type 0} (stands : ProgramView → A → TaskBody → Type 0) (plac
 -- with its answer an agent is over the code that it was over
 abbrev pub Stays : {A : Type 0} → (CodeView → A → Type 0) → (A → Tree → A → Type 0) → Type 0
 Stays {A} over gives = (code : CodeView) (a c : A) (v : Tree) → gives a v c → over code a → over code c
+
+-- an agent asks only for tasks that its code has
+abbrev pub Asked : {A : Type 0} → (CodeView → A → Type 0) → (A → At) → Type 0
+Asked {A} over place = (code : CodeView) (a : A) (seed : SeedView) (at : Place) → over code a → place a ≡ at_op (record { op = spawning seed; place = at }) → HasSeed code seed

@@ -1,3 +1,5 @@
 mod Results
+mod Tasks
+mod Seeds
 mod Halting
 pub mod Sending

@@ -1,18 +1,20 @@
 -- A machine is a lawful agent: what its runner comes to, its body comes to.
 use Rattle.std.proofs.Common.{◌≡◌, ◌≢◌, refl, sym, ◌∙◌, subst}
 use Rattle.ca_value.specs.Tree.{Tree}
-use Rattle.ca_term.specs.Operation.{WantView, SeedView, go, system}
+use Rattle.ca_term.specs.declared.place.Place.{Place}
+use Rattle.ca_term.specs.Operation.{WantView, SeedView, go, system, spawning}
 use Rattle.ca_term.specs.Program.{ProgramView}
 use Rattle.ca_meaning.specs.Body.{BodyView, At, local, at_op, ended, faulted, nowhere, at, fill}
 use Rattle.ca_meaning.specs.Rest.{Rest, LocalSteps}
 use Rattle.ca_meaning.specs.Task.{TaskBody, script, system_task, body_at, body_fill, BodyRest, new_task}
-use Rattle.ca_agent.specs.Seeds.{go_body}
+use Rattle.ca_agent.specs.Seeds.{HasSeed, go_body}
 use Rattle.ca_meaning.proofs.Rests.{one_rest, rests}
 use Rattle.ca_states.specs.Code.{CodeView}
 use Rattle.ca_states.specs.Machine.{Move, resumed}
 use Rattle.ca_lower.specs.Lowered.{After, StandsFor}
 use Rattle.ca_lower.proofs.Lowers.{comes}
 use Rattle.ca_machine.specs.Machines.{MachineView, GoesAs, StandsAs, HaltsIn, Runs, AdvancesFrom, Advances, Gives, Begins, Starts, IsOver}
+use Rattle.ca_machine.specs.Tasks.{HasTaskAt}
 
 -- anywhere but at a local step
 abbrev IsOff : At → Type 0
@@ -96,4 +98,8 @@ IsSomewhere nowhere = ⊥
 
 -- one that got its answer is over the same code, and goes on
 pub stays_over : (C : CodeView) (m n : MachineView) (v : Tree) → Gives m v n → IsOver C m → IsOver C n
-stays_over C m n v (same, goes, new) (is, some) = (same ∙ is, λ e. subst IsSomewhere (sym new ∙ e) tt)
+stays_over C m n v (same, goes, new) (is, some, has) = (same ∙ is, λ e. subst IsSomewhere (sym new ∙ e) tt, subst (HasTaskAt C) (sym new) tt)
+
+-- it asks for no task but its code's
+pub asked : (C : CodeView) (m : MachineView) (seed : SeedView) (p : Place) → IsOver C m → m.place ≡ at_op (record { op = spawning seed; place = p }) → HasSeed C seed
+asked C m seed p (is, some, has) e = subst (HasTaskAt C) e has

@@ -12,6 +12,7 @@ use Rattle.ca_agent.specs.Seeds.{go_body}
 use Rattle.ca_states.specs.Code.{CodeView}
 use Rattle.ca_states.specs.Machine.{State, Move, ends, faults, waits, resumed, ComesTo}
 use Rattle.ca_lower.specs.Lowered.{StandsFor}
+use Rattle.ca_machine.specs.Tasks.{HasTaskAt}
 
 pub record MachineView : Type 0 where
   -- the code that it was made over
@@ -71,6 +72,6 @@ abbrev pub Starts : ProgramView → SeedView → MachineView → Type 0
 Starts P (go n values result place) m = Begins P m (go_body P n values result)
 Starts P (system kind values place) m = ⊥
 
--- made over that code, and not refused memory
+-- made over that code, not refused memory, and at no operation that starts a task which the code hasn't
 abbrev pub IsOver : CodeView → MachineView → Type 0
-IsOver C m = (m.code ≡ C) × (m.place ≢ nowhere)
+IsOver C m = (m.code ≡ C) × (m.place ≢ nowhere) × HasTaskAt C m.place

@@ -6,7 +6,8 @@ ghost use Rattle.ca_agent.specs.Agents.{PausesAt};
 ghost use Rattle.ca_machine.specs.Machines.{StandsAs, Runs, Advances, Gives, Starts, IsOver};
 ghost use Rattle.ca_machine.specs.Stages.{halted_at};
 ghost use Rattle.ca_machine.specs.View.{machine_view};
-ghost use Rattle.ca_machine.specs.MachineLaws.{advanced, answered, started, stays_over};
+ghost use Rattle.ca_machine.specs.MachineLaws.{advanced, answered, asked, started, stays_over};
+ghost use Rattle.ca_machine.specs.Tasks.{HasTaskAt};
 
 use crate::machine::Machine;
 use crate::stage::Stage;
@@ -35,6 +36,7 @@ impl Machine {
         requires going { (machine_view self.old).place ≡ local }
         ensures runs { OnOk result (Runs (machine_view self.old) (machine_view self.new)) }
         ensures pauses { IfOk result (λ p. PausesAt p (machine_view self.new).place) }
+        ensures has { OnOk result (HasTaskAt (valid_code code.now) (machine_view self.new).place) }
     {
         match self.runner.run_to(alloc, code, &mut self.halt) {
             Ok(()) => {
@@ -91,6 +93,8 @@ impl Agent for Machine {
     ghost answered = { λ program m n b w v st _. answered program (machine_view m) (machine_view n) b w v st };
 
     ghost stays = { λ code m n v. stays_over code (machine_view m) (machine_view n) v };
+
+    ghost asked = { λ code m seed at. asked code (machine_view m) seed at };
 
     ghost started = { λ program seed m. started program seed (machine_view m) };
 }

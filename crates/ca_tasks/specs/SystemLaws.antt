@@ -1,13 +1,16 @@
 -- A system task is a lawful agent: it follows its answers as its body does.
 use Rattle.std.proofs.Common.{◌≡◌, ◌≢◌, refl, sym, ap, ◌∙◌, subst}
 use Rattle.ca_value.specs.Tree.{Tree}
-use Rattle.ca_term.specs.Operation.{WantView, SeedView, go, system}
+use Rattle.ca_term.specs.declared.place.Place.{Place}
+use Rattle.ca_term.specs.Operation.{WantView, SeedView, go, system, spawning}
 use Rattle.ca_term.specs.Program.{ProgramView}
 use Rattle.ca_meaning.specs.Body.{At, local, at_op, ended, faulted, nowhere}
 use Rattle.ca_meaning.specs.System.{SystemBody, SystemRest, new_system, system_at, system_fill}
 use Rattle.ca_meaning.specs.Task.{TaskBody, script, system_task, body_at, body_fill, BodyRest, new_task}
 use Rattle.ca_meaning.proofs.Systems.{system_once, system_rested, system_rests}
 use Rattle.ca_states.specs.Code.{CodeView}
+use Rattle.ca_agent.specs.Seeds.{HasSeed}
+use Rattle.ca_machine.specs.Tasks.{HasTaskAt}
 use Rattle.ca_system.proofs.Applications.{function_filled}
 use Rattle.ca_tasks.specs.Systems.{SystemView, StandsFrom, StandsAs, AdvancesFrom, Advances, Gives, Starts, HasFunction, IsOver}
 
@@ -56,5 +59,9 @@ pub started : (P : ProgramView) (seed : SeedView) (m : SystemView) → Starts se
 started P (go n values result place) m s = absurd s
 started P (system kind values place) m s = begins P m (new_system kind values place) (new_system kind values place) refl s
 
-pub stays_over : (C : CodeView) (m n : SystemView) (v : Tree) → Gives m v n → IsOver C m.body → IsOver C n.body
-stays_over C m n v g o = subst (λ (x : SystemView). IsOver C x.body) (sym g) (subst (HasFunction C) (sym (function_filled v m.body)) o)
+pub stays_over : (C : CodeView) (m n : SystemView) (v : Tree) → Gives m v n → IsOver C m → IsOver C n
+stays_over C m n v g o = subst (λ (x : SystemView). IsOver C x) (sym g) (subst (HasFunction C) (sym (function_filled v m.body)) o.0, tt)
+
+-- it asks for no task but its code's
+pub asked : (C : CodeView) (m : SystemView) (seed : SeedView) (p : Place) → IsOver C m → m.place ≡ at_op (record { op = spawning seed; place = p }) → HasSeed C seed
+asked C m seed p o e = subst (HasTaskAt C) e o.1

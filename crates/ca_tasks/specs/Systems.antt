@@ -10,6 +10,7 @@ use Rattle.ca_meaning.specs.System.{SystemBody, SystemRest, new_system, system_a
 use Rattle.ca_meaning.specs.Task.{TaskBody, script, system_task}
 use Rattle.ca_states.specs.Code.{CodeView}
 use Rattle.ca_states.specs.Valid.{is_applied}
+use Rattle.ca_machine.specs.Tasks.{HasTaskAt}
 use Rattle.ca_system.specs.Applications.{function_of}
 use Rattle.ca_system.specs.Stands.{stand_at}
 use Rattle.ca_system_tasks.specs.Tables.{table_body}
@@ -71,5 +72,9 @@ HasFunction C None = Unit {0}
 HasFunction C (Some f) = IsTrue (is_applied C f)
 
 -- the code has the function that the task applies, if it applies one
-abbrev pub IsOver : CodeView → SystemBody → Type 0
-IsOver C b = HasFunction C (function_of b)
+abbrev pub HasItsFunction : CodeView → SystemBody → Type 0
+HasItsFunction C b = HasFunction C (function_of b)
+
+-- over that code, and at no operation that starts a task which the code hasn't
+abbrev pub IsOver : CodeView → SystemView → Type 0
+IsOver C m = HasItsFunction C m.body × HasTaskAt C m.place

@@ -1,11 +1,13 @@
 -- A task of a run is a lawful agent, since its machine is, or its system task.
 use Rattle.std.proofs.Common.{◌≡◌}
 use Rattle.ca_value.specs.Tree.{Tree}
-use Rattle.ca_term.specs.Operation.{SeedView, WantView}
+use Rattle.ca_term.specs.declared.place.Place.{Place}
+use Rattle.ca_term.specs.Operation.{SeedView, WantView, spawning}
 use Rattle.ca_term.specs.Program.{ProgramView}
 use Rattle.ca_meaning.specs.Body.{at_op}
 use Rattle.ca_meaning.specs.Task.{TaskBody, BodyRest, body_at, body_fill, new_task}
 use Rattle.ca_states.specs.Code.{CodeView}
+use Rattle.ca_agent.specs.Seeds.{HasSeed}
 use Rattle.ca_machine.specs.MachineLaws as M
 use Rattle.ca_machine.specs.View.{machine_view}
 use Rattle.ca_tasks.specs.declared.task.AnyTask.{AnyTask}
@@ -31,6 +33,10 @@ stays C (Text m) (Text n) v g = M.stays_over C (machine_view m.value) (machine_v
 stays C (Text m) (System t) v g = absurd g
 stays C (System t) (Text m) v g = absurd g
 stays C (System t) (System u) v g = S.stays_over C (system_view t.value) (system_view u.value) v g
+
+pub asked : (C : CodeView) (a : AnyTask) (seed : SeedView) (p : Place) → over C a → place a ≡ at_op (record { op = spawning seed; place = p }) → HasSeed C seed
+asked C (Text m) seed p o e = M.asked C (machine_view m.value) seed p o e
+asked C (System t) seed p o e = S.asked C (system_view t.value) seed p o e
 
 pub started : (P : ProgramView) (seed : SeedView) (a : AnyTask) → starts P seed a → (b : TaskBody) × BodyRest P (new_task P seed) b × stands P a b
 started P seed (Text m) s = M.started P seed (machine_view m.value) s

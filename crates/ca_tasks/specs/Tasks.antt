@@ -14,7 +14,7 @@ use Rattle.ca_tasks.specs.Systems.{system_view}
 
 abbrev pub over : CodeView → AnyTask → Type 0
 over C (Text m) = M.IsOver C (machine_view m.value)
-over C (System t) = S.IsOver C (system_view t.value).body
+over C (System t) = S.IsOver C (system_view t.value)
 
 abbrev pub stands : ProgramView → AnyTask → TaskBody → Type 0
 stands P (Text m) b = M.StandsAs P (machine_view m.value) b

@@ -1,7 +1,7 @@
 //! A task of a run as an agent.
 ghost use Rattle.std.specs.Prelude.{◌≡◌};
 ghost use Rattle.ca_tasks.specs.Tasks.{advances, gives, over, place, stands, starts};
-ghost use Rattle.ca_tasks.specs.TaskLaws.{advanced, answered, started, stays};
+ghost use Rattle.ca_tasks.specs.TaskLaws.{advanced, answered, asked, started, stays};
 
 use crate::task::AnyTask;
 use ca_agent::agent::{Agent, Outcome, Pause};
@@ -50,6 +50,8 @@ impl Agent for AnyTask {
     ghost answered = { answered };
 
     ghost stays = { stays };
+
+    ghost asked = { asked };
 
     ghost started = { started };
 }

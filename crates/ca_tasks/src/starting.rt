@@ -1,9 +1,8 @@
 //! New tasks of the seeds that a run starts.
-ghost use Rattle.std.specs.Prelude.{◌≡◌, IfOk, IfSome, true};
+ghost use Rattle.std.specs.Prelude.{◌≡◌, IfNone, IfOk, IfSome, true};
 ghost use Rattle.ca_value.specs.Seq.{list};
-ghost use Rattle.ca_value.specs.Tree.{Trees};
 ghost use Rattle.ca_value.specs.View.{trees};
-ghost use Rattle.ca_term.specs.declared.place.Place.{Place};
+ghost use Rattle.ca_states.specs.Valid.{is_task};
 ghost use Rattle.ca_states.specs.ValidCode.{valid_code};
 ghost use Rattle.ca_meaning.specs.System.{new_system};
 ghost use Rattle.ca_tasks.specs.Systems.{IsOver, goes_on, system_view};
@@ -23,7 +22,7 @@ use std::alloc::Global;
 
 // Whether the code has the function that the task applies, if it applies one.
 fn has_function_of(code: &ValidCode, task: SystemTask) -> bool
-    ensures { result ≡ true → (values : Trees) (place : Place) → IsOver (valid_code code.now) (new_system task values place) }
+    ensures { result ≡ is_task (valid_code code.now) task }
 {
     match task {
         SystemTask::Pub(function) | SystemTask::Job(_, function) => has_function(code, function),
@@ -33,14 +32,15 @@ fn has_function_of(code: &ValidCode, task: SystemTask) -> bool
     }
 }
 
-// The system task of a seed that stays; None where the code lacks its function.
+// The system task of a seed that stays; None only where the code lacks its function.
 fn system_for(
     alloc: Global,
     code: &ValidCode,
     seed: &SystemSeed,
 ) -> Result<Option<Running>, OutOfMemory>
     ensures starts { IfOk result (λ o. IfSome o (λ t. system_view t ≡ goes_on (new_system seed.now.kind (trees (list seed.now.values)) seed.now.place))) }
-    ensures over { IfOk result (λ o. IfSome o (λ t. IsOver (valid_code code.now) (system_view t).body)) }
+    ensures over { IfOk result (λ o. IfSome o (λ t. IsOver (valid_code code.now) (system_view t))) }
+    ensures none { IfOk result (λ o. IfNone o (is_task (valid_code code.now) seed.now.kind ≡ true → ⊥)) }
 {
     if !has_function_of(code, seed.kind) {
         return Ok(None);
@@ -53,7 +53,7 @@ fn system_for(
 impl Starting for AnyTask {
     fn start(alloc: Global, code: &ValidCode, seed: &Seed) -> Result<Option<AnyTask>, OutOfMemory> {
         match seed {
-            Seed::Go(_) => match <Machine as Starting>::start(alloc, code, seed)? {
+            Seed::Go(go) => match Machine::of_seed(alloc, code, go)? {
                 Some(machine) => Ok(Some(AnyTask::Text(Box::new(alloc, machine)?))),
                 None => Ok(None),
             },

@@ -8,8 +8,8 @@ ghost use Rattle.ca_agent.specs.Agents.{PausesAt};
 ghost use Rattle.ca_system.specs.Applications.{pending};
 ghost use Rattle.ca_system.specs.Stands.{stand_at};
 ghost use Rattle.ca_system_tasks.specs.Tables.{table_body};
-ghost use Rattle.ca_tasks.specs.Systems.{StandsAs, Advances, Gives, GoesOn, IsOver, Starts, goes_on, system_view};
-ghost use Rattle.ca_tasks.specs.SystemLaws.{advanced, answered, started, stays_over};
+ghost use Rattle.ca_tasks.specs.Systems.{StandsAs, Advances, Gives, GoesOn, HasItsFunction, IsOver, Starts, goes_on, system_view};
+ghost use Rattle.ca_tasks.specs.SystemLaws.{advanced, answered, asked, started, stays_over};
 
 use ca_agent::agent::{Agent, Outcome, Pause};
 use ca_applying::apply::apply;
@@ -52,10 +52,10 @@ impl SystemTask {
     }
 
     fn go_on(&mut self, alloc: Global, code: &ValidCode) -> Result<Pause, OutOfMemory>
-        requires { IsOver (valid_code code.now) (system_view self.old).body }
+        requires { HasItsFunction (valid_code code.now) (system_view self.old).body }
         ensures goes { OnOk result ((program : ProgramView) → Lowered program (valid_code code.now) → GoesOn program (system_view self.old) (system_view self.new)) }
         ensures pauses { IfOk result (λ p. PausesAt p (system_view self.new).place) }
-        ensures over { OnOk result (IsOver (valid_code code.now) (system_view self.new).body) }
+        ensures over { OnOk result (IsOver (valid_code code.now) (system_view self.new)) }
     {
         self.follow(alloc)?;
         come_to_rest(&mut self.table, alloc, code)?;
@@ -88,10 +88,10 @@ impl SystemTask {
 
 // It applies the function that the table is about to apply, if any.
 fn come_to_rest(table: &mut SystemTable, alloc: Global, code: &ValidCode) -> Result<(), OutOfMemory>
-    requires { IsOver (valid_code code.now) (table_body table.old) }
+    requires { HasItsFunction (valid_code code.now) (table_body table.old) }
     ensures rests { OnOk result ((program : ProgramView) → Lowered program (valid_code code.now) → SystemRest program (table_body table.old) (table_body table.new)) }
     ensures applies { OnOk result (pending (table_body table.new) ≡ None) }
-    ensures over { OnOk result (IsOver (valid_code code.now) (table_body table.new)) }
+    ensures over { OnOk result (HasItsFunction (valid_code code.now) (table_body table.new)) }
 {
     let returned = match table.pending() {
         None => return Ok(()),
@@ -121,7 +121,7 @@ impl Stage {
 }
 
 impl Agent for SystemTask {
-    ghost over = { λ code a. IsOver code (system_view a).body };
+    ghost over = { λ code a. IsOver code (system_view a) };
 
     ghost stands = { λ program a b. StandsAs program (system_view a) b };
 
@@ -157,6 +157,8 @@ impl Agent for SystemTask {
     ghost answered = { λ program a c b w v st _ at g. answered program (system_view a) (system_view c) b w v st at g };
 
     ghost stays = { λ code a c v. stays_over code (system_view a) (system_view c) v };
+
+    ghost asked = { λ code a seed at. asked code (system_view a) seed at };
 
     ghost started = { λ program seed a. started program seed (system_view a) };
 }

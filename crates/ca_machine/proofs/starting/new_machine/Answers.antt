@@ -9,7 +9,6 @@ use Rattle.ca_lower.specs.Lowered.{Lowered}
 use Rattle.ca_agent.specs.Seeds.{HasGo}
 use Rattle.ca_machine.specs.Machines.{Starts}
 use Rattle.ca_machine.specs.View.{machine_view}
-use Rattle.ca_machine.specs.declared.machine.Machine.{Machine}
 use Rattle.ca_machine.proofs.Results.{if_ok}
 use Rattle.ca_machine.proofs.starting.new_machine.Goals as goal
 
