@@ -22,7 +22,8 @@ use Rattle.ca_commit.specs.Holds.{groups}
 use Rattle.ca_commit.specs.Planning.{Planned, Seen, all_asked, all_counted, asked, chosen, counted, first_from, fitting, found_of, is_alts, otherwise, planned, state_of, to_park, to_post, to_refuse, unless_refused}
 use Rattle.ca_commit.proofs.Laid.{IsPart}
 use Rattle.ca_commit.proofs.PlanTold.{none_ready_in}
-use Rattle.ca_commit.proofs.Steps.{StandsFor, unready_in}
+use Rattle.ca_commit.proofs.Shown.{shown_by, unready_in}
+use Rattle.ca_commit.proofs.Steps.{StandsFor}
 use Rattle.ca_alone.proofs.NamesHeld.{branch_held, branches_held}
 use Rattle.ca_alone.proofs.Rounds.{FirstFound, first_found}
 use Rattle.ca_alone.specs.OwnTurn.{taken}
@@ -90,7 +91,7 @@ module _ {A : Type 0} (place : A → At) (stands : ProgramView → A → Option 
       let there = branch_held h (branches_of op) j o (branches_held h op fit.0) at in
       let found = fitting_first (seen_in h) op start k plain fit.1 j o at less in
       let unready_here = none_ready_in h (o ∷ []) (there, tt) (λ i b g. subst (λ (c : BranchView). found_of (seen_in h) c ≡ unready) (only o b i g) found) in
-      unready_in place stands program n now h s o st part unready_here.0 where
+      unready_in now h s o (shown_by st) part unready_here.0 where
         only : (o b : BranchView) (i : ℕ) → slice_get (o ∷ []) i ≡ Some b → o ≡ b
         only o b zero g = let z : o ≡ b = cc in z
         only o b (suc zero) g = absurd (let z : None ≡ Some b = g in cc)

@@ -20,7 +20,8 @@ use Rattle.ca_commit.proofs.Fitting.{fits}
 use Rattle.ca_commit.proofs.Laid.{IsPart, laid, laid_parts, untouched}
 use Rattle.ca_commit.proofs.Landing.{lands, timers_as_before, unaltered}
 use Rattle.ca_commit.proofs.Numbers.{From, UsedFrom, from_there, numbered_more, same_grow, used_same}
-use Rattle.ca_commit.proofs.Steps.{WentTask, seated_on, shows}
+use Rattle.ca_commit.proofs.Shown.{shown_by, shows}
+use Rattle.ca_commit.proofs.Steps.{WentTask, seated_on}
 
 module _ {A : Type 0} (place : A → At) (stands : ProgramView → A → Option ℕ → TaskBody → Type 0) (program : ProgramView) (n : ℕ)
     (advances : ProgramView → A → A → Type 0) (goes_on_law : GoesOn stands place advances) (gives : A → Tree → A → Type 0) (answers_law : TakesAnswers stands place gives) where
@@ -57,4 +58,4 @@ module _ {A : Type 0} (place : A → At) (stands : ProgramView → A → Option 
   -- it stands at its operation in the state, and isn't refused there
   pub stands_at : (now old new : Parts A) (s : State) (w t : ℕ) (op : OpView) (v : Tree) (st : Stands place stands program n now s) (part : IsPart old now) (a : Answers place advances gives w t op v old new)
       → (g : WentTask place stands program n advances goes_on_law gives answers_law s.tasks t op a.at v a.agent2) → too_many s op ≡ None → StandsAt s t op g.0
-  stands_at now old new s w t op v st part a g few = (g.1, g.2, (a.at, g.3), fits s op (a.fit s (shows place stands program n now old s st part)) few)
+  stands_at now old new s w t op v st part a g few = (g.1, g.2, (a.at, g.3), fits s op (a.fit s (shows now old s (shown_by st) part)) few)

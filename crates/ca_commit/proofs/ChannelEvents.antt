@@ -24,7 +24,8 @@ use Rattle.ca_commit.proofs.Holding.{changed}
 use Rattle.ca_commit.proofs.Laid.{IsPart, laid_parts, seen}
 use Rattle.ca_commit.proofs.Landing.{altered, unaltered}
 use Rattle.ca_commit.proofs.Numbers.{From, from_same, from_there}
-use Rattle.ca_commit.proofs.Steps.{none_ready, picks_in, replied, row_seen, went}
+use Rattle.ca_commit.proofs.Shown.{none_ready, picks_in, row_seen, shown_by}
+use Rattle.ca_commit.proofs.Steps.{replied, went}
 use Rattle.ca_commit.proofs.TaskEvents.{Leads}
 
 module _ {A : Type 0} (place : A → At) (stands : ProgramView → A → Option ℕ → TaskBody → Type 0) (program : ProgramView) (n : ℕ)
@@ -32,8 +33,8 @@ module _ {A : Type 0} (place : A → At) (stands : ProgramView → A → Option 
   pub done_steps : (now old new : Parts A) (s : State) (w t k : ℕ) (b : BranchView) (v : Tree) → Stands place stands program n now s → IsPart old now → MovesDone place advances gives w t k b v old new → Leads place stands program n (laid_parts now new) s (done t k b v)
   done_steps now old new s w t k b v st part m = let p = port_of b in let a = m.answers in let op = m.op in let g = went place stands program n advances goes_on_law gives answers_law now old new s w t op (reply_to op p v) st part a in
       let x = g.0 in let tasks = update eqb s.tasks t (Some (runs x.result g.4.0)) in let there = seen now.bank old.bank part.banks p m.kept m.there in
-      let is_row : row s b ≡ completes v m.after = row_seen place stands program n now old s b m.kept st part m.there m.asks ∙ m.by_row in
-      let picks = picks_in place stands program n now old s op k b st part m.picks in let lane2 = update eqb now.lane w (Some a.stands.lane2) in
+      let is_row : row s b ≡ completes v m.after = row_seen now old s b m.kept (shown_by st) part m.there m.asks ∙ m.by_row in
+      let picks = picks_in now old s op k b (shown_by st) part m.picks in let lane2 = update eqb now.lane w (Some a.stands.lane2) in
       let s2 : State = record s { tasks = tasks; channels = update eqb s.channels p (Some m.after) } in (
         s2,
         (
@@ -58,7 +59,7 @@ module _ {A : Type 0} (place : A → At) (stands : ProgramView → A → Option 
       let x = g.0 in let tasks = update eqb s.tasks t (Some (runs x.result g.4.0)) in let lane2 = update eqb now.lane w (Some a.stands.lane2) in
       let s2 : State = record s { tasks = tasks } in (
         s2,
-        (x, op, tasks, stands_at place stands program n advances goes_on_law gives answers_law now old new s w t op (with_default v) st part a g (default_fits s op v m.default_is), m.default_is, none_ready place stands program n now old s (branches_of op) st part m.unready, (g.4.0, g.4.1, refl), refl),
+        (x, op, tasks, stands_at place stands program n advances goes_on_law gives answers_law now old new s w t op (with_default v) st part a g (default_fits s op v m.default_is), m.default_is, none_ready now old s (branches_of op) (shown_by st) part m.unready, (g.4.0, g.4.1, refl), refl),
         goes_to place stands program n advances goes_on_law gives answers_law now old new s s2 w t op (with_default v) (whole now.bank) (whole now.registry) st part a g m.counts refl refl refl refl refl
             (unaltered now.bank old.bank new.bank part.banks m.banks) (unaltered now.registry old.registry new.registry part.registries m.registries) m.shards m.readys m.timers st.holds st.registered
             (from_same n ports_of lane2 s.channels) (from_same n ports_of lane2 s.registries),

@@ -26,7 +26,8 @@ use Rattle.ca_commit.proofs.Laid.{IsPart, laid, laid_parts, none_put, untouched}
 use Rattle.ca_commit.proofs.Landing.{Clocked, altered, lands, timers_as_before, unaltered}
 use Rattle.ca_commit.proofs.Numbers.{From, from_same, from_there, numbered_more, same_grow, used_same}
 use Rattle.ca_commit.proofs.Seats.{leaves, some_same}
-use Rattle.ca_commit.proofs.Steps.{none_ready, shows, some_crowded, stood}
+use Rattle.ca_commit.proofs.Shown.{none_ready, shown_by, shows, some_crowded}
+use Rattle.ca_commit.proofs.Steps.{stood}
 use Rattle.ca_commit.proofs.TaskEvents.{Leads}
 
 shut_there : {A : Type 0} (n : ℕ) (lane : ℕ → Option (LaneView A)) (s : State) (p : ℕ) (o : Option Channel) → s.channels p ≡ o → From n ports_of lane s.channels (shut_at p s.channels)
@@ -111,6 +112,6 @@ module _ {A : Type 0} (place : A → At) (stands : ProgramView → A → Option 
     fault_steps result tells now old new s w t f at r st part m = ⊎_elim
         (λ h. fault_with result tells now old new s w t f at r (faulted f at) st part h m.result_is m.banks refl)
         (λ h. ⊎_elim
-        (λ u. fault_with result tells now old new s w t f at r (at_op (record { op = u.0; place = at })) st part u.1 m.result_is m.banks (ap (option_map (λ z. (z, at))) (refuses s u.0 f (u.2 s (shows place stands program n now old s st part)))))
+        (λ u. fault_with result tells now old new s w t f at r (at_op (record { op = u.0; place = at })) st part u.1 m.result_is m.banks (ap (option_map (λ z. (z, at))) (refuses s u.0 f (u.2 s (shows now old s (shown_by st) part)))))
         (λ c. fault_with result tells now old new s w t f at r (at_op (record { op = c.0; place = at })) st part c.1 m.result_is m.banks (ap (option_map (λ z. (z, at)))
-        (crowd_refuses s c.0 f (c.2 s (shows place stands program n now old s st part)) (none_ready place stands program n now old s (branches_of c.0) st part c.4) c.3 (some_crowded place stands program n now old s (branches_of c.0) f st part c.5)))) h) m.halts
+        (crowd_refuses s c.0 f (c.2 s (shows now old s (shown_by st) part)) (none_ready now old s (branches_of c.0) (shown_by st) part c.4) c.3 (some_crowded now old s (branches_of c.0) f (shown_by st) part c.5)))) h) m.halts

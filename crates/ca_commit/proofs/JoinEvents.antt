@@ -25,7 +25,8 @@ use Rattle.ca_commit.proofs.Laid.{IsPart, laid, laid_parts, same_map, seen, unto
 use Rattle.ca_commit.proofs.Landing.{altered, lands, timers_as_before, unaltered}
 use Rattle.ca_commit.proofs.Numbers.{From, UsedFrom, all_grow, equal_le, from_same, from_there, given_next, not_given, numbered_more, one_more_le, used_next}
 use Rattle.ca_commit.proofs.Seats.{parks_at, posts_at}
-use Rattle.ca_commit.proofs.Steps.{none_crowded, none_ready, seated_on, shows, stood, went}
+use Rattle.ca_commit.proofs.Shown.{none_crowded, none_ready, shown_by, shows}
+use Rattle.ca_commit.proofs.Steps.{seated_on, stood, went}
 use Rattle.ca_commit.proofs.TaskEvents.{Leads}
 
 module _ {A : Type 0} (place : A → At) (stands : ProgramView → A → Option ℕ → TaskBody → Type 0) (program : ProgramView) (n : ℕ) where
@@ -74,10 +75,10 @@ module _ {A : Type 0} (place : A → At) (stands : ProgramView → A → Option 
         let at_lane = part.lanes w a.lane a.lanes.was in let fresh = is_fresh now s w wait a.lane st at_lane m.joins.next in
         let y : Task = record x { mode = waiting wait } in let wt : Wait = record { number = wait; owner = Some t; branches = bs } in
         let h = joined_holds now old new s w bs (owner t m.agent2) wt a.lane a.lane2 st part fresh refl m.joins in
-        let crowd : crowded s (branches_of m.op) ≡ None = ap (crowded s) m.branches_are ∙ none_crowded place stands program n now old s bs st part m.joins.few in
+        let crowd : crowded s (branches_of m.op) ≡ None = ap (crowded s) m.branches_are ∙ none_crowded now old s bs (shown_by st) part m.joins.few in
         let s2 : State = record s { tasks = update eqb s.tasks t (Some y); waits = s.waits ++ wt ∷ []; used = wait ∷ s.used } in (
           s2,
-          (x, m.op, (z.1, z.2, (m.at, z.5), fits s m.op (m.fit s (shows place stands program n now old s st part)) (few_fits s m.op crowd)), m.parks_there, m.branches_are, m.no_default, none_ready place stands program n now old s bs st part m.joins.unready, fresh, refl),
+          (x, m.op, (z.1, z.2, (m.at, z.5), fits s m.op (m.fit s (shows now old s (shown_by st) part)) (few_fits s m.op crowd)), m.parks_there, m.branches_are, m.no_default, none_ready now old s bs (shown_by st) part m.joins.unready, fresh, refl),
           lands place stands program n now old new s s2 w a.lane a.lane2 (join_all wait bs (whole now.bank)) (whole now.registry) (update eqb (whole now.shard) wait (Some (owner t m.agent2))) now.ready now.timers st part a.lanes a.program_stays
               h.0 (unaltered now.registry old.registry new.registry part.registries m.joins.registries) (altered now.shard old.shard new.shard wait (Some (owner t m.agent2)) part.shards m.joins.shards) (untouched now.ready old.ready new.ready part.readys m.joins.readys) (timers_as_before now old new part m.joins.timers)
               h.1 st.registered
@@ -93,7 +94,7 @@ module _ {A : Type 0} (place : A → At) (stands : ProgramView → A → Option 
         let h = joined_holds now old new s w bs nobody wt l l2 st part fresh refl m.joins in
         let s2 : State = record s { tasks = update eqb s.tasks t (Some y); waits = s.waits ++ wt ∷ []; used = wait ∷ s.used } in (
           s2,
-          (x, s2.tasks, stands_at place stands program n advances goes_on_law gives answers_law now old new s w t op (bool true) st part a g (few_fits s op (none_crowded place stands program n now old s bs st part m.joins.few)), none_ready place stands program n now old s bs st part m.joins.unready, fresh, (g.4.0, g.4.1, refl), refl),
+          (x, s2.tasks, stands_at place stands program n advances goes_on_law gives answers_law now old new s w t op (bool true) st part a g (few_fits s op (none_crowded now old s bs (shown_by st) part m.joins.few)), none_ready now old s bs (shown_by st) part m.joins.unready, fresh, (g.4.0, g.4.1, refl), refl),
           lands place stands program n now old new s s2 w l l2 (join_all wait bs (whole now.bank)) (whole now.registry) (update eqb (whole now.shard) wait (Some nobody)) now.ready now.timers st part a.stands.lanes a.stands.program_stays
               h.0 (unaltered now.registry old.registry new.registry part.registries m.joins.registries) (altered now.shard old.shard new.shard wait (Some nobody) part.shards m.joins.shards) (untouched now.ready old.ready new.ready part.readys m.joins.readys) (timers_as_before now old new part m.joins.timers)
               h.1 st.registered

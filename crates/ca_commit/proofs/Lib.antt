@@ -10,6 +10,7 @@ pub mod Ticking
 pub mod Fitting
 pub mod Numbers
 pub mod Landing
+pub mod Shown
 pub mod Steps
 pub mod Answering
 pub mod TaskEvents

@@ -39,7 +39,7 @@ module _ {A : Type 0} where
   right h op (to_refuse f) t = tt
 
   pub plan_right : (place : A → At) (h : Held A) (p q : Planned) (a : TaskAgent A) → IsPlanFor place h p a → p ≡ q → IsRight h q
-  plan_right place h p q a is e = right h is.0.op q (subst (PlanTells (parts_held h) is.0.op) (sym is.2 ∙ e) (plan_tells (parts_held h) is.0.op a.alts))
+  plan_right place h p q a is e = right h is.0.op q (subst (PlanTells (parts_held h) is.0.op) (sym is.3 ∙ e) (plan_tells (parts_held h) is.0.op is.2))
 
   pub plan_at : (place : A → At) (h : Held A) (p : Planned) (a : TaskAgent A) → IsPlanFor place h p a → is_at_op (place a.agent) ≡ true
   plan_at place h p a is = ap is_at_op is.1

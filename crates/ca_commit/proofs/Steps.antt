@@ -1,77 +1,27 @@
--- What the events of tasks have in common: how a task stands and goes on, and what held parts tell of the state.
-use Rattle.std.proofs.Common.{⊎_elim, ◌≡◌, ℕ, ◌<◌, ◌≤◌, List, [], ◌∷◌, ◌++◌, refl, sym, ap, ◌∙◌, subst, true, cond, Option, Some, None, eqb}
+-- What the events of tasks have in common: how a task stands and goes on.
+use Rattle.std.proofs.Common.{◌≡◌, ℕ, List, [], ◌∷◌, ◌++◌, refl, sym, ap, ◌∙◌, subst, Option, Some, None, eqb}
 use Rattle.std.specs.Map.{update}
 use Rattle.ca_value.specs.Tree.{Tree}
 use Rattle.ca_term.specs.declared.place.Place.{Place}
-use Rattle.ca_term.specs.declared.fault.Fault.{Fault}
 use Rattle.ca_term.specs.Program.{ProgramView}
 use Rattle.ca_term.specs.Operation.{OpView}
-use Rattle.ca_term.specs.Event.{BranchView}
 use Rattle.ca_meaning.specs.Body.{At, at_op}
-use Rattle.ca_meaning.specs.Wait.{side_of, port_of, queue, owner_of, without, pending}
-use Rattle.ca_meaning.specs.Row.{not_ready}
+use Rattle.ca_meaning.specs.Wait.{owner_of, without}
 use Rattle.ca_meaning.specs.Task.{TaskBody, body_at, body_fill, BodyRest, reply, reply_at, reply_to}
 use Rattle.ca_meaning.specs.State.{State, Task, Tasks, running, runs}
-use Rattle.ca_meaning.specs.Choice.{row, is_ready, any_ready, NoneReady, Picks}
-use Rattle.ca_meaning.specs.Refusal.{crowded}
 use Rattle.ca_meaning.specs.Going.{Wakes}
-use Rattle.ca_commit.specs.Asks.{Asks, row_raw}
-use Rattle.ca_commit.specs.Contents.{Kept, LaneView, Parked, Parts, alive_in, at_key, channel_of, home, nobody, on, owner, whole}
-use Rattle.ca_commit.specs.Holds.{groups, live_of}
-use Rattle.ca_commit.specs.Moves.{AllSeen, Answers, CrowdedIn, FewIn, FewOn, NoneReadyIn, PicksIn, Shows, Stood, Unready, WakesIn}
+use Rattle.ca_commit.specs.Contents.{LaneView, Parked, Parts, nobody, owner, whole}
+use Rattle.ca_commit.specs.Moves.{Answers, Stood, WakesIn}
 use Rattle.ca_commit.specs.Seated.{Seated}
 use Rattle.ca_commit.specs.Stands.{Stands, tasks_of}
 use Rattle.ca_commit.proofs.AgentLaws.{GoesOn, TakesAnswers}
-use Rattle.ca_commit.proofs.Counts.{groups_are, live_seen}
-use Rattle.ca_commit.proofs.Fitting.{crowded_here, crowded_later, few_at, few_more, many_at, short_queue}
-use Rattle.ca_commit.proofs.Holding.{asks_more, row_right}
-use Rattle.ca_commit.proofs.Joining.{alive_more}
-use Rattle.ca_commit.proofs.Laid.{IsPart, laid, laid_becomes, seen, untouched}
+use Rattle.ca_commit.proofs.Laid.{IsPart, laid, laid_becomes, untouched}
 use Rattle.ca_commit.proofs.Numbers.{From, from_same, from_there}
 use Rattle.ca_commit.proofs.Seats.{goes_on, unowned, woken}
 
 module _ {A : Type 0} (place : A → At) (stands : ProgramView → A → Option ℕ → TaskBody → Type 0) (program : ProgramView) (n : ℕ) where
   abbrev pub StandsFor : Parts A → State → Type 0
   StandsFor now s = Stands place stands program n now s
-
-  -- the held banks are those of the state
-  pub shows : (now old : Parts A) (s : State) → StandsFor now s → IsPart old now → Shows old s
-  shows now old s st part = record {
-    channels = λ p f e. st.holds.channels_are p ∙ ap (λ (o : Option (ℕ → Option Kept)). channel_of (at_key o p)) (part.banks (home p) f e);
-    registries = λ p f e. st.registered p ∙ ap (λ (o : Option (ℕ → Option _)). at_key o p) (part.registries (home p) f e);
-  }
-
-  pub unready_in : (now old : Parts A) (s : State) (b : BranchView) → StandsFor now s → IsPart old now → Unready old b → row s b ≡ not_ready
-  unready_in now old s b st part u = row_right (whole now.bank) (alive_in now) s b u.0 st.holds (seen now.bank old.bank part.banks (port_of b) u.0 u.1) (asks_more (alive_in old) (alive_in now) (alive_more old now part) b u.0 u.2) ∙ u.3
-
-  pub none_ready : (now old : Parts A) (s : State) (bs : List BranchView) → StandsFor now s → IsPart old now → NoneReadyIn old bs → NoneReady s bs
-  none_ready now old s [] st part a = refl
-  none_ready now old s (b ∷ bs) st part a = ap (λ r. cond (is_ready r) true (any_ready s bs)) (unready_in now old s b st part a.0) ∙ none_ready now old s bs st part a.1
-
-  live_right : (now old : Parts A) (s : State) (b : BranchView) (k : Kept) → StandsFor now s → IsPart old now → whole old.bank (port_of b) ≡ Some k → live_of (alive_in now) (on (side_of b) k) ≡ queue (side_of b) (port_of b) s.waits
-  live_right now old s b k st part there = st.holds.queues (side_of b) (port_of b) k (seen now.bank old.bank part.banks (port_of b) k there)
-
-  counted : (now old : Parts A) (s : State) (b : BranchView) (k : Kept) → StandsFor now s → IsPart old now → whole old.bank (port_of b) ≡ Some k → AllSeen old (on (side_of b) k) → groups (live_of (alive_in old) (on (side_of b) k)) ≡ pending (side_of b) (port_of b) s.waits
-  counted now old s b k st part there all = ap groups (live_seen old now (on (side_of b) k) part all ∙ live_right now old s b k st part there) ∙ groups_are (side_of b) (port_of b) s.waits st.holds.differ
-
-  few : (now old : Parts A) (s : State) (b : BranchView) (k : Kept) → StandsFor now s → IsPart old now → whole old.bank (port_of b) ≡ Some k → FewOn old (on (side_of b) k) → pending (side_of b) (port_of b) s.waits < 1024
-  few now old s b k st part there f = ⊎_elim (λ lt. short_queue (alive_in now) (side_of b) (port_of b) s.waits (on (side_of b) k) (live_right now old s b k st part there) lt) (λ c. subst (λ (m : ℕ). m < 1024) (counted now old s b k st part there c.0) c.1) f
-
-  pub none_crowded : (now old : Parts A) (s : State) (bs : List BranchView) → StandsFor now s → IsPart old now → FewIn old bs → crowded s bs ≡ None
-  none_crowded now old s [] st part a = refl
-  none_crowded now old s (b ∷ bs) st part a = few_more s b bs (few now old s b a.0.0 st part a.0.1 a.0.2) (none_crowded now old s bs st part a.1)
-
-  pub some_crowded : (now old : Parts A) (s : State) (bs : List BranchView) (f : Fault) → StandsFor now s → IsPart old now → CrowdedIn old bs f → crowded s bs ≡ Some f
-  some_crowded now old s [] f st part a = absurd a
-  some_crowded now old s (b ∷ bs) f st part a = ⊎_elim
-      (λ m. crowded_here s b bs f (many_at s b (subst (λ (k : ℕ). 1024 ≤ k) (counted now old s b a.0 st part a.1 m.0) m.1) ∙ ap Some (sym m.2)))
-      (λ m. crowded_later s b bs f (few_at s b (few now old s b a.0 st part a.1 m.0)) (some_crowded now old s bs f st part m.1)) a.2
-
-  pub row_seen : (now old : Parts A) (s : State) (b : BranchView) (k : Kept) → StandsFor now s → IsPart old now → whole old.bank (port_of b) ≡ Some k → Asks (alive_in old) b k → row s b ≡ row_raw k b
-  row_seen now old s b k st part there asks = row_right (whole now.bank) (alive_in now) s b k st.holds (seen now.bank old.bank part.banks (port_of b) k there) (asks_more (alive_in old) (alive_in now) (alive_more old now part) b k asks)
-
-  pub picks_in : (now old : Parts A) (s : State) (op : OpView) (k : ℕ) (b : BranchView) → StandsFor now s → IsPart old now → PicksIn old op k b → Picks s op k b
-  picks_in now old s op k b st part p = (p.0, λ e j o lt is. unready_in now old s o st part (p.1 e j o lt is))
 
   module _ (advances : ProgramView → A → A → Type 0) (goes_on_law : GoesOn stands place advances) where
     -- the task in the lane, after one `advance`

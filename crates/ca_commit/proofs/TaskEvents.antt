@@ -22,7 +22,8 @@ use Rattle.ca_commit.proofs.Answering.{goes_to, stands_at}
 use Rattle.ca_commit.proofs.Laid.{IsPart, laid_parts}
 use Rattle.ca_commit.proofs.Landing.{altered, unaltered}
 use Rattle.ca_commit.proofs.Numbers.{From, from_same, from_there}
-use Rattle.ca_commit.proofs.Steps.{shows, went}
+use Rattle.ca_commit.proofs.Shown.{shown_by, shows}
+use Rattle.ca_commit.proofs.Steps.{went}
 
 -- an event that leads from s to a state that the parts stand for
 abbrev pub Leads : {A : Type 0} → (A → At) → (ProgramView → A → Option ℕ → TaskBody → Type 0) → ProgramView → ℕ → Parts A → State → EventView → Type 0
@@ -43,7 +44,7 @@ module _ {A : Type 0} (place : A → At) (stands : ProgramView → A → Option 
   pub register_steps : (now old new : Parts A) (s : State) (w t : ℕ) (name : RegisterName) (args : Trees) (v : Tree) → Stands place stands program n now s → IsPart old now → MovesRegister place advances gives w t name args v old new → Leads place stands program n (laid_parts now new) s (registered t name args v)
   register_steps now old new s w t name args v st part m = let op = registering name args in let p = port_number (first_of args) in let g = went place stands program n advances goes_on_law gives answers_law now old new s w t op v st part m.acts in
       let tasks = update eqb s.tasks t (Some (runs g.0.result g.4.0)) in let s2 : State = record s { tasks = tasks; registries = update eqb s.registries p (Some m.registry) } in
-      let held = shows place stands program n now old s st part in (
+      let held = shows now old s (shown_by st) part in (
         s2,
         (g.0, m.registry, tasks, stands_at place stands program n advances goes_on_law gives answers_law now old new s w t op v st part m.acts g refl, m.by_table s held, (g.4.0, g.4.1, refl), refl),
         goes_to place stands program n advances goes_on_law gives answers_law now old new s s2 w t op v (whole now.bank) (update eqb (whole now.registry) p (Some m.registry)) st part m.acts g m.counts refl refl refl refl refl

@@ -26,7 +26,8 @@ use Rattle.ca_commit.proofs.Joining.{alive_but, alive_more, is_dead, twice}
 use Rattle.ca_commit.proofs.Laid.{IsPart, laid_parts, seen}
 use Rattle.ca_commit.proofs.Landing.{altered, lands, lands_still, timers_as_before, unaltered}
 use Rattle.ca_commit.proofs.Numbers.{from_both, from_same, from_there, none_grow, numbered_more, same_grow, used_same}
-use Rattle.ca_commit.proofs.Steps.{picks_in, ready_after, ready_is, replied, row_seen, seated_on, wakes_up, went}
+use Rattle.ca_commit.proofs.Shown.{picks_in, row_seen, shown_by}
+use Rattle.ca_commit.proofs.Steps.{ready_after, ready_is, replied, seated_on, wakes_up, went}
 use Rattle.ca_commit.proofs.TaskEvents.{Leads}
 
 module _ {A : Type 0} (place : A → At) (stands : ProgramView → A → Option ℕ → TaskBody → Type 0) (program : ProgramView) (n : ℕ) where
@@ -56,8 +57,8 @@ module _ {A : Type 0} (place : A → At) (stands : ProgramView → A → Option 
       pub meet_steps : (now old new : Parts A) (s : State) (w t k : ℕ) (side : Side) (p : ℕ) (v : Tree) (wait k2 : ℕ) → Stands place stands program n now s → IsPart old now → MovesMeet place advances gives wakes w t k side p v wait k2 old new → Leads place stands program n (laid_parts now new) s (met t k side p v wait k2)
       meet_steps now old new s w t k side p v wait k2 st part m = let a = m.answers in let q = port_of m.b in let opp = other_side side in let op = m.op in
           let g = went place stands program n advances goes_on_law gives answers_law now old new s w t op (reply_to op p (told side v)) st part a in let x = g.0 in let tasks = update eqb s.tasks t (Some (runs x.result g.4.0)) in
-          let there = seen now.bank old.bank part.banks q m.kept m.there in let is_row : row s m.b ≡ meets m.h v = row_seen place stands program n now old s m.b m.kept st part m.there m.asks ∙ m.by_row in
-          let picks = picks_in place stands program n now old s op k m.b st part m.picks in let kept2 = put_on opp m.rest m.kept in let parked2 = update eqb (whole now.shard) wait None in
+          let there = seen now.bank old.bank part.banks q m.kept m.there in let is_row : row s m.b ≡ meets m.h v = row_seen now old s m.b m.kept (shown_by st) part m.there m.asks ∙ m.by_row in
+          let picks = picks_in now old s op k m.b (shown_by st) part m.picks in let kept2 = put_on opp m.rest m.kept in let parked2 = update eqb (whole now.shard) wait None in
           let l = a.stands.lane in let l2 = a.stands.lane2 in let at_lane = part.lanes w l a.stands.lanes.was in let lane2 = update eqb now.lane w (Some l2) in
           let wk = wakes_up place stands program n wakes wakes_law n lane2 now old new s w wait p (told opp v) tasks part m.parked (seen now.shard old.shard part.shards wait m.parked m.lives) m.wakes_up
           (seated_on place stands program n advances goes_on_law gives answers_law now old new s w t op (reply_to op p (told side v)) st part a g) in

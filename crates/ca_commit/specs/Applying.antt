@@ -206,9 +206,9 @@ module _ {A : Type 0} where
   IsRight h (to_register name args) = is_some (whole (registries_held h.banks) (registry_of args)) ≡ true
   IsRight h other = Unit {0}
 
-  -- it is what `plan` answers for the operation at which the task is paused, with the number of its earlier alts as start
+  -- it is what `plan` answers for the operation at which the task is paused, made from some start
   abbrev pub IsPlanFor : (A → At) → Held A → Planned → TaskAgent A → Type 0
-  IsPlanFor place h p a = (want : WantView) × (place a.agent ≡ at_op want) × (p ≡ planned (seen h.banks h.shards) want.op a.alts)
+  IsPlanFor place h p a = (want : WantView) × (place a.agent ≡ at_op want) × (start : ℕ) × (p ≡ planned (seen h.banks h.shards) want.op start)
 
   -- the ready part after it
   abbrev pub ReadyBy : (A → At) → (A → Tree → A → Type 0) → Held A → Held A → Option (Task A) → Planned → Type 0

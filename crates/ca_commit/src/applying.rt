@@ -52,9 +52,9 @@ pub fn reserve<A: Agent>(alloc: Global, held: &mut Held<A>, plan: &Plan) -> Resu
     }
 }
 
-/// The event of the plan, which is what `plan` answers for the task's operation over the parts as they are held, and for
-/// which `reserve` made what it needs. `running` is the task with its answer, None exactly where it waits. It takes no
-/// memory.
+/// The event of the plan, which is what `plan` answers from some start for the task's operation over the parts as they
+/// are held, and for which `reserve` made what it needs. `running` is the task with its answer, None exactly where it
+/// waits. It takes no memory.
 #[inline(always)]
 pub fn apply<A: Agent>(
     alloc: Global,

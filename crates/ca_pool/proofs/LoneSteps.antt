@@ -22,7 +22,7 @@ use Rattle.ca_turns.specs.Hands.{TableId}
 use Rattle.ca_turns.specs.declared.rule.Turn.{Turn}
 use Rattle.ca_turns.specs.declared.rule.View.{View}
 use Rattle.ca_commit.specs.Agents.{TaskAgent}
-use Rattle.ca_commit.specs.Applying.{Channels, IsPlanFor, Members, event_of}
+use Rattle.ca_commit.specs.Applying.{Channels, Members, event_of}
 use Rattle.ca_commit.specs.Contents.{Kept, Parts, whole}
 use Rattle.ca_commit.specs.Deciding.{seen_in}
 use Rattle.ca_commit.specs.Planning.{Planned, planned, to_close, to_default, to_do, to_look, to_make, to_meet, to_park, to_post, to_print, to_prune, to_refuse, to_register, to_spawn}
@@ -60,6 +60,7 @@ use Rattle.ca_alone.proofs.Stopping.{makes}
 use Rattle.ca_pool.specs.AtEvent.{HasTaken}
 use Rattle.ca_pool.specs.Desk.{ClockBox, taken}
 use Rattle.ca_pool.specs.Lone.{HasStepped, IsLone, MayGo, Stayed}
+use Rattle.ca_pool.specs.OwnPlans.{IsOwnPlanFor}
 use Rattle.ca_pool.specs.Prepared.{HasGone}
 use Rattle.ca_pool.specs.Stirred.{stirred_at_end, stirred_of}
 use Rattle.ca_pool.proofs.AtEvents.{same_turns}
@@ -236,7 +237,7 @@ module _ {A C : Type 0} (over : CodeView → A → Type 0) (place : A → At) (s
     lies_there = lies_part held (parts_now w.hand.view) (carried_lies over stands_as program code id w (taken shows 1 code w.number l clock held) by_one least faults readings held (by_one.one.left may.at.lone.1) refl refl)
 
     -- an event of a plan
-    pub plan_leads : (u : ℕ) (q : Planned) (e : EventView) (us : List ℕ) → IsPlanFor place held q (agent_of task) → e ≡ event_of (channels_held held.banks) (registries_held held.banks) task.number u held.new_port held.new_wait held.moment q
+    pub plan_leads : (u : ℕ) (q : Planned) (e : EventView) (us : List ℕ) → IsOwnPlanFor place held q (agent_of task) → e ≡ event_of (channels_held held.banks) (registries_held held.banks) task.number u held.new_port held.new_wait held.moment q
         → us ≡ stirred_of (whole (channels_held held.banks)) q → (what : Turned) → turn_view what ≡ said.shown e → Drew1 what w v → Steps us false most v
     plan_leads u q e us plan is stirs what shows_it drew =
         planned_steps program l lane (taken shows 1 code w.number l clock held) (away 1 code) (shown_parts held) w v task by_one refl lies_there gone may.at.lone same hand few plan.0 u held.new_port held.new_wait held.moment q e us plan.1 plan.2 is stirs

@@ -46,6 +46,7 @@ use Rattle.ca_pool.specs.Desk.{ClockBox, IsMovedWith, SameHeld, all_laid, holds_
 use Rattle.ca_pool.specs.Prepared.{HasGone, IsAsked, IsReadied, IsStarted}
 use Rattle.ca_pool.specs.Preparing.{AskedFor, ButTimers, IsAnswered, IsTimely as IsTimelyClock, clock_seen as shown_by, clock_with, in_place}
 use Rattle.ca_pool.proofs.Desk.{all_brings, all_turned, clock_seen}
+use Rattle.ca_pool.proofs.PlansReadied.{from_its_start}
 
 some_same : {X : Type 0} (x y : X) → Some x ≡ Some y → x ≡ y
 some_same x y e = cc
@@ -252,7 +253,7 @@ module _ {A C : Type 0} (over : CodeView → A → Type 0) (stands_as : ProgramV
     agent = gone.left.agent;
     has_task = gone.left.was;
     advanced = subst (λ P. advances_of adv P gone.left.agent (agent_of task)) (sym gone.program_is) gone.left.advanced;
-    plan_for = ready.plan_for;
+    plan_for = from_its_start place held q (agent_of task) ready.plan_for;
     is_event = ready.is_event;
     placed = ready.placed;
     has_parts = ready.has_parts;

@@ -32,12 +32,17 @@ use Rattle.ca_table.proofs.Staying.{shows_there}
 use Rattle.ca_pool.specs.AtEvent.{HasNumbers}
 use Rattle.ca_pool.specs.Desk.{ButReady, holds_shards}
 use Rattle.ca_pool.specs.Named.{ports_to_hold}
+use Rattle.ca_pool.specs.OwnPlans.{IsOwnPlanFor}
 use Rattle.ca_pool.specs.Preparing.{HasRest}
 use Rattle.ca_pool.specs.Resolving.{BringsApart, IsResolved, IsSeen}
 
 pub if_some : {X : Type 0} (P : X → Type 0) (o : Option X) (x : X) → IfSome o P → o ≡ Some x → P x
 if_some P None x p e = absurd (let k : None ≡ Some x = e in cc)
 if_some P (Some y) x p e = subst P (let k : y ≡ x = cc in k) p
+
+-- it is a plan from some start
+pub from_its_start : {A : Type 0} (place : A → At) (h : Held A) (q : Planned) (a : TaskAgent A) → IsOwnPlanFor place h q a → IsPlanFor place h q a
+from_its_start place h q a own = (own.0, own.1, a.alts, own.2)
 
 module _ {A : Type 0} (place : A → At) (old new : Held A) (channels : (i : ℕ) → channels_held new.banks i ≡ channels_held old.banks i) (registries : (i : ℕ) → registries_held new.banks i ≡ registries_held old.banks i) (waits : (i : ℕ) → waits_held new.shards i ≡ waits_held old.shards i) where
   all_channels : channels_held new.banks ≡ channels_held old.banks
@@ -49,7 +54,7 @@ module _ {A : Type 0} (place : A → At) (old new : Held A) (channels : (i : ℕ
   all_waits : waits_held new.shards ≡ waits_held old.shards
   all_waits = λ t i. waits i t
 
-  pub plan_kept : (q : Planned) (a : TaskAgent A) → IsPlanFor place old q a → IsPlanFor place new q a
+  pub plan_kept : (q : Planned) (a : TaskAgent A) → IsOwnPlanFor place old q a → IsOwnPlanFor place new q a
   plan_kept q a p = (p.0, p.1, p.2 ∙ sym (λ t. planned (record { ports = whole (all_channels t); registries = whole (all_registries t); see = glance (all_waits t) }) p.0.op a.alts))
 
   pub placed_kept : Placed (channels_held old.banks) → Placed (channels_held new.banks)

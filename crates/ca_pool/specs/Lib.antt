@@ -8,6 +8,7 @@ pub mod Desk
 pub mod Endings
 pub mod Leaving
 pub mod Named
+pub mod OwnPlans
 pub mod PoolEnds
 pub mod Prepared
 pub mod Preparing

@@ -5,7 +5,7 @@ use Rattle.ca_term.specs.Program.{ProgramView, program_view}
 use Rattle.ca_meaning.specs.Body.{At}
 use Rattle.ca_states.specs.Code.{CodeView}
 use Rattle.ca_states.specs.declared.valid_code.ValidCode.{ValidCode}
-use Rattle.ca_commit.specs.Applying.{HasParts, HasSpawned, IsEvent, IsMade, IsPlanFor, KeepsApart}
+use Rattle.ca_commit.specs.Applying.{HasParts, HasSpawned, IsEvent, IsMade, KeepsApart}
 use Rattle.ca_commit.specs.Contents.{Counts, whole}
 use Rattle.ca_commit.specs.Planning.{Planned}
 use Rattle.ca_commit.specs.Plans.{HasCopies, plan_view}
@@ -19,6 +19,7 @@ use Rattle.ca_commit.specs.declared.task.Task.{Task}
 use Rattle.ca_pool.specs.AtEvent.{HasNumbers}
 use Rattle.ca_pool.specs.Desk.{ClockBox}
 use Rattle.ca_pool.specs.Leaving.{HasLeft}
+use Rattle.ca_pool.specs.OwnPlans.{IsOwnPlanFor}
 use Rattle.ca_pool.specs.Preparing.{AskedFor, IsTimely, StartsFor, clock_seen, clock_with}
 use Rattle.ca_table.specs.Needing.{needs_ready, needs_timers}
 use Rattle.ca_table.specs.declared.part.Lane.{Lane}
@@ -31,7 +32,7 @@ pub record HasGone {A : Type 0} (over : CodeView → A → Type 0) (advances : P
 -- the plan is one of an event, and all that this takes is there
 pub record IsReadied {A : Type 0} (place : A → At) (counts : Counts) (w n : ℕ) (held : Held A) (task : Task A) (p : Plan) (spawned : Option (Task A)) : Type 0 where
   pub is_event : IsEvent (plan_view p)
-  pub plan_for : IsPlanFor place held (plan_view p) (agent_of task)
+  pub plan_for : IsOwnPlanFor place held (plan_view p) (agent_of task)
   pub copies : HasCopies p
   pub apart : KeepsApart (plan_view p)
   pub placed : Placed (channels_held held.banks)

@@ -8,7 +8,6 @@ use Rattle.ca_meaning.specs.Body.{At, at_op}
 use Rattle.ca_meaning.specs.State.{State}
 use Rattle.ca_meaning.specs.Task.{TaskBody}
 use Rattle.ca_meaning.specs.Wait.{is_among}
-use Rattle.ca_commit.specs.Applying.{IsPlanFor}
 use Rattle.ca_commit.specs.Contents.{home, whole}
 use Rattle.ca_commit.specs.Planning.{Planned, to_look, to_park, to_post, to_prune, to_refuse}
 use Rattle.ca_commit.specs.Plans.{HasCopies, plan_view}
@@ -26,6 +25,7 @@ use Rattle.ca_turns.specs.Hands.{TableId}
 use Rattle.ca_pool.specs.AtEvent.{HasLane, HasTaken}
 use Rattle.ca_pool.specs.Desk.{IsBare, holds_banks, holds_shards}
 use Rattle.ca_pool.specs.Named.{ports_to_hold}
+use Rattle.ca_pool.specs.OwnPlans.{IsOwnPlanFor}
 use Rattle.ca_table.specs.DrawnEvents.{HasBanks}
 use Rattle.ca_table.specs.Homes.{has_home}
 use Rattle.ca_table.specs.Seen.{PartSeen}
@@ -87,7 +87,7 @@ IsDecided other = Unit {0}
 module _ {A : Type 0} (place : A → At) where
   -- the plan of the task's operation, with all the banks and shards that are needed for it
   pub record IsResolved (held : Held A) (task : Task A) (p : Plan) : Type 0 where
-    pub plan_for : IsPlanFor place held (plan_view p) (agent_of task)
+    pub plan_for : IsOwnPlanFor place held (plan_view p) (agent_of task)
     pub copies : HasCopies p
     pub decided : IsDecided (plan_view p)
     pub seen : IsSeen (holds_shards held) held.new_wait (plan_view p)

@@ -105,8 +105,8 @@ struct Committed<A> {
     lane: Box<Lane<A>>,
 }
 
-// The event of the plan, which is what `plan` answers for the task's operation over what is held, and for which all is
-// reserved. The lane has the task with its answer, or is empty where it waits. It takes no memory.
+// The event of the plan, which is what `plan` answers from some start for the task's operation over what is held, and for
+// which all is reserved. The lane has the task with its answer, or is empty where it waits. It takes no memory.
 fn commit_plan<A: Agent>(
     alloc: Global,
     held: &mut Held<A>,

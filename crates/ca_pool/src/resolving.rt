@@ -4,7 +4,6 @@ ghost use Rattle.std.specs.Prelude.{◌≡◌, ℕ, ◌≤◌, ◌<◌, Some, If
 ghost use Rattle.ca_term.specs.Event.{port_number};
 ghost use Rattle.ca_term.specs.Program.{ProgramView};
 ghost use Rattle.ca_meaning.specs.BodyViews.{is_at_op};
-ghost use Rattle.ca_commit.specs.Applying.{IsPlanFor};
 ghost use Rattle.ca_commit.specs.Contents.{home};
 ghost use Rattle.ca_commit.specs.Deciding.{IsStale};
 ghost use Rattle.ca_commit.specs.Planning.{to_refuse};
@@ -18,6 +17,7 @@ ghost use Rattle.ca_table.specs.Workers.{SameWorker};
 ghost use Rattle.ca_table.specs.declared.part.Lane.{Lane};
 ghost use Rattle.ca_pool.specs.AtEvent.{HasLane, HasTaken};
 ghost use Rattle.ca_pool.specs.Desk.{IsBare, SameNumbers, holds_shards};
+ghost use Rattle.ca_pool.specs.OwnPlans.{IsOwnPlanFor};
 ghost use Rattle.ca_pool.specs.Resolving.{BringsApart, HoldsThese, IsHeld, IsResolved, IsSeen, LeftOff, Took, Wants};
 ghost use Rattle.ca_pool.specs.Lone.{Stayed};
 
@@ -227,7 +227,7 @@ fn refuse_over<R: Wait, A: Agent, C: Clock + Drop>(
     requires held { IsHeld A.place held.old }
     requires these { HoldsThese wanted.old.banks wanted.old.shards held.old }
     requires wants { Wants A.place wanted.old.banks held.old.new_port task.now }
-    requires planned { IsPlanFor A.place held.old (to_refuse fault) (agent_of task.now) }
+    requires planned { IsOwnPlanFor A.place held.old (to_refuse fault) (agent_of task.now) }
     ensures drew { Drew 0 false worker.old worker.new }
     ensures numbers { SameNumbers held.old held.new }
     ensures wants { Wants A.place wanted.new.banks held.new.new_port task.now }
@@ -280,7 +280,7 @@ fn take_up<R: Wait, A: Agent, C: Clock + Drop>(
     requires held { IsHeld A.place held.old }
     requires these { HoldsThese wanted.old.banks wanted.old.shards held.old }
     requires wants { Wants A.place wanted.old.banks held.old.new_port task.now }
-    requires planned { IsPlanFor A.place held.old (plan_view plan) (agent_of task.now) }
+    requires planned { IsOwnPlanFor A.place held.old (plan_view plan) (agent_of task.now) }
     requires copies { HasCopies plan }
     requires seen { IsSeen (has_home wanted.old.shards) held.old.new_wait (plan_view plan) }
     ensures drew { Drew 0 false worker.old worker.new }
@@ -316,7 +316,7 @@ fn follow<R: Wait, A: Agent, C: Clock + Drop>(
     requires held { IsHeld A.place held.old }
     requires these { HoldsThese wanted.old.banks wanted.old.shards held.old }
     requires wants { Wants A.place wanted.old.banks held.old.new_port task.now }
-    requires planned { IsPlanFor A.place held.old (plan_view plan) (agent_of task.now) }
+    requires planned { IsOwnPlanFor A.place held.old (plan_view plan) (agent_of task.now) }
     requires copies { HasCopies plan }
     ensures drew { Drew 0 false worker.old worker.new }
     ensures numbers { SameNumbers held.old held.new }

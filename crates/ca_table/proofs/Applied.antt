@@ -166,8 +166,8 @@ module _ {A : Type 0} (place : A → At) (advances : ProgramView → A → A →
   applied due did times = record {
     op = due.plan_for.0.op;
     at = due.plan_for.0.place;
-    start = (agent_of task).alts;
-    is_plan = sym due.plan_for.2;
+    start = due.plan_for.2;
+    is_plan = sym due.plan_for.3;
     is_event = due.is_event;
     placed = due.placed;
     stands = record { lane = lane; lane2 = lane2; agent = due.agent; agent1 = agent_of task; lanes = lane_goes w lane lane2; task = due.has_task; advanced = due.advanced; stood = due.plan_for.1; program_stays = did.program; since = did.since };

@@ -90,7 +90,7 @@ module _ {A : Type 0} (place : A → At) (advances : ProgramView → A → A →
       (a.0, b.0, a.1, b.1)
 
   pub refused_turns : (f : Fault) (plan : IsPlanFor place held (to_refuse f) (agent_of task)) → HasNamed plan.0.op → LeavesLane place advances (at_op plan.0) lane lane2 task → HasResult → Closes → Turns (over task.number (Faulted f plan.0.place task.result))
-  refused_turns f plan named l has closed = refused_moves place advances gives starts before after w n task.number (agent_of task).alts plan.0.op f plan.0.place task.result (sym plan.2) (names_held plan.0.op named) (halts (at_op plan.0) l) (closes has closed)
+  refused_turns f plan named l has closed = refused_moves place advances gives starts before after w n task.number plan.2 plan.0.op f plan.0.place task.result (sym plan.3) (names_held plan.0.op named) (halts (at_op plan.0) l) (closes has closed)
 
 module _ {A X : Type 0} (f : X → Content (TaskAgent A)) (w n : ℕ) (h : Carries X) (lane : LaneView (TaskAgent A)) (timers : Option TimersPart) (held : Held A) (b : Bears f w h (Some lane) timers held) where
   result_held : (r : Option PortId) → ((p : ℕ) → option_map port_number r ≡ Some p → is_some (channels_held held.banks (home p)) ≡ true) → BanksOf h (result_ports r)

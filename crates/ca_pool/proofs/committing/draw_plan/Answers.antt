@@ -3,18 +3,23 @@ use Rattle.ca_term.specs.Event.{event_view}
 use Rattle.ca_term.specs.Program.{program_view}
 use Rattle.ca_states.specs.ValidCode.{valid_code}
 use Rattle.ca_commit.specs.Plans.{plan_view}
+use Rattle.ca_commit.specs.Tasks.{agent_of}
 use Rattle.ca_table.specs.Carriers.{IsCarrying, LaneBox, just_lane}
 use Rattle.ca_table.proofs.Carriers.{carries_seated}
 use Rattle.ca_table.proofs.Drawing.{drew_as, drew_weaker}
 use Rattle.ca_pool.specs.Leaving.{TaskOver}
 use Rattle.ca_pool.proofs.EndsMoved.{cost_one}
 use Rattle.ca_pool.proofs.PlansDrawn.{is_timely, plan_moved, plan_same, runs_within}
+use Rattle.ca_pool.proofs.PlansReadied.{from_its_start}
 use Rattle.ca_pool.proofs.LoneSteps.{plan_leads}
 use Rattle.ca_commit.specs.Applying.{number_of}
 use Rattle.ca_pool.proofs.committing.draw_plan.Goals as goal
 
 pub commit_plan-event-requires-clause-timely : goal.commit_plan-event-requires-clause-timely
 commit_plan-event-requires-clause-timely g c = let K = g.C.Clock in let r = c.requires.carries in is_timely {A = g.row.A.Denot} K.least K.faults K.readings (plan_view c.args.plan) r.3 c.args.clock c.args.held.now r.6
+
+pub commit_plan-event-requires-clause-planned : goal.commit_plan-event-requires-clause-planned
+commit_plan-event-requires-clause-planned g c = from_its_start g.A.Agent.place c.args.held.now (plan_view c.args.plan) (agent_of c.args.task) c.requires.ready.plan_for
 
 pub draw_turn-lane-requires-clause-moved : goal.draw_turn-lane-requires-clause-moved
 draw_turn-lane-requires-clause-moved g c = let a = g.A.Agent in let K = g.C.Clock in let m = g.met.A.Agent in let r = c.requires.carries in let p = c.commit_plan-event in let q = p.ensures in let t = c.put_times-clock in

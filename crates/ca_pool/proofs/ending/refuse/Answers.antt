@@ -2,6 +2,8 @@ use Rattle.std.proofs.Common.{◌≡◌, ◌∙◌, None, refl, sym, ap, subst, 
 use Rattle.ca_term.specs.declared.place.Place.{Place}
 use Rattle.ca_term.specs.Operation.{WantView}
 use Rattle.ca_meaning.specs.Body.{at_op}
+use Rattle.ca_commit.specs.Planning.{to_refuse}
+use Rattle.ca_commit.specs.Tasks.{agent_of}
 use Rattle.ca_table.specs.Parts.{part_seen}
 use Rattle.ca_table.proofs.Drawing.{drew_later, drew_none}
 use Rattle.ca_table.proofs.HaltMoved.{refusals_draw}
@@ -9,6 +11,7 @@ use Rattle.ca_pool.specs.Desk.{taken}
 use Rattle.ca_pool.specs.Endings.{MayFault}
 use Rattle.ca_pool.proofs.AtEvents.{kept_carrying, own_number, same_turns}
 use Rattle.ca_pool.proofs.BanksHeld.{named_needed}
+use Rattle.ca_pool.proofs.PlansReadied.{from_its_start}
 use Rattle.ca_alone.specs.Schedule.{MaySettle, to_turn}
 use Rattle.ca_pool.proofs.Lone.{same_may}
 use Rattle.ca_pool.proofs.ending.refuse.Goals as goal
@@ -25,7 +28,7 @@ finish_by_fault-requires-clause-carries g c = let a = g.A.Agent in let K = g.C.C
     (r.0, r.1, r.2, own_number a.over a.stands code id r.0 r.1 r.2 K.least K.faults K.readings w v None c.args.held.now q.same.number (kept_carrying a.over a.stands code id r.0 r.1 w v (taken (part_seen K.least K.faults K.readings) r.1 code w.number r.2 None c.args.held.now) q.same q.hand q.entries r.3), r.4)
 
 pub finish_by_fault-requires-clause-may : goal.finish_by_fault-requires-clause-may
-finish_by_fault-requires-clause-may g c = let a = g.A.Agent in let K = g.C.Clock in let f = c.args.fault in let s = c.requires.resolved in let plan = s.plan_for in let held = c.args.held.now in let task = c.args.task in let seen = part_seen K.least K.faults K.readings in let code = c.args.code.now in
+finish_by_fault-requires-clause-may g c = let a = g.A.Agent in let K = g.C.Clock in let f = c.args.fault in let s = c.requires.resolved in let held = c.args.held.now in let task = c.args.task in let plan = from_its_start a.place held (to_refuse f) (agent_of task) s.plan_for in let seen = part_seen K.least K.faults K.readings in let code = c.args.code.now in
     let place_is = ap (λ (x : WantView). x.place) (same_want plan.0 _ (sym plan.1 ∙ c.want.ensures)) in
     subst (λ (p : Place). MayFault a.over a.place a.advances a.gives a.starts seen code f p task held) place_is
     (λ held2 closes. (at_op plan.0, plan.1, λ w n h lane lane2 timers timers2 ports looked ends. refusals_draw a.over a.place a.advances a.gives a.starts seen code w n h f lane lane2 timers timers2 held held2 task ports looked plan (λ q e. s.named plan.0 plan.1 q (named_needed plan.0.op held.new_port q e)) ends closes))

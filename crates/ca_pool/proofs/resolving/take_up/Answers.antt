@@ -1,5 +1,4 @@
 use Rattle.std.proofs.Common.{◌∙◌, None, sym, ap, subst}
-use Rattle.ca_commit.specs.Applying.{IsPlanFor}
 use Rattle.ca_commit.specs.Deciding.{PlanTells}
 use Rattle.ca_commit.specs.Planning.{Planned}
 use Rattle.ca_commit.specs.Plans.{plan_view}
@@ -7,6 +6,7 @@ use Rattle.ca_commit.specs.Tasks.{agent_of}
 use Rattle.ca_commit.proofs.PlanTold.{plan_tells}
 use Rattle.ca_table.specs.Bearing.{parts_held}
 use Rattle.ca_table.specs.Homes.{has_home}
+use Rattle.ca_pool.specs.OwnPlans.{IsOwnPlanFor}
 use Rattle.ca_pool.proofs.AtEvents.{drew_nothing}
 use Rattle.ca_pool.proofs.Resolutions.{decided_else, named_held, refused_is, seen_held}
 use Rattle.ca_pool.proofs.LoneSteps.{stayed_nothing}
@@ -17,7 +17,7 @@ prune_first-requires-clause-stale g c = let plan = c.requires.planned in let hel
     subst (λ (q : Planned). PlanTells h plan.0.op q) (sym plan.2 ∙ ap plan_view c.in-Prune.is) (plan_tells h plan.0.op c.args.task.now.alts)
 
 pub refuse_over-requires-clause-planned : goal.refuse_over-requires-clause-planned
-refuse_over-requires-clause-planned g c = subst (λ (q : Planned). IsPlanFor g.A.Agent.place c.args.held.now q (agent_of c.args.task.now)) (ap plan_view c.in-Refused.is) c.requires.planned
+refuse_over-requires-clause-planned g c = subst (λ (q : Planned). IsOwnPlanFor g.A.Agent.place c.args.held.now q (agent_of c.args.task.now)) (ap plan_view c.in-Refused.is) c.requires.planned
 
 pub returns-in_default-clause-drew : goal.returns-in_default-clause-drew
 returns-in_default-clause-drew g c = drew_nothing c.args.worker.now
