@@ -1,4 +1,5 @@
 pub mod Sames
+pub mod SameEvents
 pub mod Asked
 pub mod Complete
 pub mod Soundly

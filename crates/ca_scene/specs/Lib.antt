@@ -1,4 +1,5 @@
 pub mod Same
+pub mod SameEvent
 pub mod Admits
 pub mod Admitted
 pub mod Standing

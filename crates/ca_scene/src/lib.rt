@@ -7,6 +7,8 @@
 //! since in a state each body stands at rest, and takes no memory. It is exactly the meaning's step: what is admitted
 //! leads to a state, and what isn't leads to none (`law`).
 //!
+//! `same_event` tells whether two events are one, with all that they show.
+//!
 //! Stands on `ca_value`, `ca_term`, `ca_asking` and `ca_meaning`, on `ca_timers` and `ca_registry` for the deadlines and the
 //! registries, and on `ca_system_tasks` for the tables. Start with `specs/Admits.antt`, `scene` and `admitting`.
 #![tactic(auto)]
@@ -25,6 +27,7 @@ mod registering;
 pub mod room;
 mod row;
 mod same;
+pub mod same_event;
 pub mod scene;
 pub mod task;
 mod ticking;
