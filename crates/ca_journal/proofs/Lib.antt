@@ -19,3 +19,5 @@ pub mod Fitting
 pub mod Speaking
 pub mod OnlyList
 pub mod Lasting
+pub mod Numbering
+pub mod Lighter

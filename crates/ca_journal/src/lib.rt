@@ -12,7 +12,8 @@
 //! its budget. Texts grow geometrically.
 //!
 //! Stands on `ca_value`, `ca_term`, `ca_meaning` and `itoa`. Start with `note` and `entries`, then `merge`, `journal` and
-//! `walk`; `shown` has the event that a note stands for; `line` has the lines of the journal, one function for each kind of event.
+//! `walk`; `shown` has the event that a note stands for; `line` has the lines of the journal, one function for each kind of event;
+//! `numbered` tells that the numbers of all events lie in 64 bits.
 #![tactic(auto)]
 
 pub mod cut;
@@ -27,6 +28,7 @@ mod main_end;
 pub mod merge;
 mod name;
 pub mod note;
+pub mod numbered;
 pub mod output;
 pub mod part;
 pub mod print;
