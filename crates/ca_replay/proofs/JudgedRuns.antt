@@ -1,14 +1,11 @@
--- What a journal comes to, event by event: a legal run, or the first event that no legal run has there.
-use Rattle.std.proofs.Common.{◌≡◌, ℕ, suc, ◌+◌, ◌<◌, ◌≤◌, List, [], ◌∷◌, ◌++◌, length, take, drop, refl, sym, ap, ◌∙◌, subst, Option, Some, None, true, false, append_assoc, arith}
+-- What a journal comes to, where a world is led along it.
+use Rattle.std.proofs.Common.{◌≡◌, ℕ, List, [], ◌∷◌, ◌++◌, length, ◌∙◌, subst, Option, None, true, false}
 use Rattle.std.specs.Prelude.{is_some}
-use Rattle.std.proofs.lemmas.List.{take-append-drop, take-append-le}
 use Rattle.ca_term.specs.Event.{EventView}
 use Rattle.ca_term.specs.Program.{ProgramView}
 use Rattle.ca_meaning.specs.Ends.{IsPossible, IsStuck}
-use Rattle.ca_meaning.specs.Legal.{GoesOn, Reaches, Legal}
 use Rattle.ca_meaning.specs.State.{State, Opening}
-use Rattle.ca_meaning.specs.Steps.{Step, Steps}
-use Rattle.ca_meaning.proofs.ChannelLaws.{steps_split}
+use Rattle.ca_meaning.specs.Steps.{Step}
 use Rattle.ca_meaning.proofs.Single.{reached_once}
 use Rattle.ca_replay.specs.declared.main_end.MainEnd.{MainEnd}
 use Rattle.ca_replay.specs.declared.world.World.{World}
@@ -16,107 +13,33 @@ use Rattle.ca_replay.specs.Judged.{IsRun, IsRefused}
 use Rattle.ca_replay.specs.MainEnd.{main_end}
 use Rattle.ca_replay.specs.Verdict.{IsFirstIllegal}
 use Rattle.ca_replay.specs.World.{IsWorld, world_program, world_state}
-use Rattle.ca_replay.proofs.LastEnds.{last_is, goes_more, over_stops, goes_first}
+use Rattle.ca_replay.proofs.RunsTo.{illegal_over as over_to, illegal_next as next_to, run_more as more_to, run_first as first_to, still_open as open_to}
 
-steps_more : (program : ProgramView) (es : List EventView) (e : EventView) (s m f : State) → Steps program s es m → Step program m e f → Steps program s (es ++ e ∷ []) f
-steps_more program [] e s m f x y = (f, subst (λ z. Step program z e f) x y, refl)
-steps_more program (a ∷ es) e s m f (n, x, y) z = (n, x, steps_more program es e n m f y z)
-
-reaches_more : (program : ProgramView) (es : List EventView) (e : EventView) (m f : State) → Reaches program es m → Step program m e f → Reaches program (es ++ e ∷ []) f
-reaches_more program es e m f r x = record { opening = r.opening; opens = r.opens; steps = steps_more program es e r.opening m f r.steps x }
-
-legal_first : (program : ProgramView) (xs ys : List EventView) (s : State) → Reaches program (xs ++ ys) s → GoesOn (xs ++ ys) → Legal program xs
-legal_first program xs ys s r g =
-    let m = steps_split program xs ys r.opening s r.steps in
-    record { state = m.0; reaches = record { opening = r.opening; opens = r.opens; steps = m.1 }; goes_on = goes_first xs ys g }
-
--- an event that the state doesn't have makes the journal illegal
-stops_here : (program : ProgramView) (es : List EventView) (e : EventView) (m : State) → Reaches program es m → ((f : State) → Step program m e f → ⊥) → Legal program (es ++ e ∷ []) → ⊥
-stops_here program es e m r none legal =
-    let l = steps_split program es (e ∷ []) legal.reaches.opening legal.state legal.reaches.steps in
-    let here : Reaches program es l.0 = record { opening = legal.reaches.opening; opens = legal.reaches.opens; steps = l.1 } in
-    none l.2.0 (subst (λ z. Step program z e l.2.0) (reached_once program es l.0 m here r) l.2.1)
-
--- the events before and the next one are the journal's first ones
-first_more : (before : List EventView) (e : EventView) (rest : List EventView) → take (suc (length before)) (before ++ e ∷ rest) ≡ before ++ e ∷ []
-first_more [] e rest = refl
-first_more (a ∷ es) e rest = ap (λ (l : List EventView). a ∷ l) (first_more es e rest)
-
-more_than : (before : List EventView) (e : EventView) (rest : List EventView) → length before < length (before ++ e ∷ rest)
-more_than [] e rest = omega arith
-more_than (a ∷ es) e rest = let k = more_than es e rest in omega (arith, k)
-
-first_at : (program : ProgramView) (journal before : List EventView) (e : EventView) (rest : List EventView) (number : ℕ) → before ++ e ∷ rest ≡ journal → number ≡ length before → IsFirstIllegal program (before ++ e ∷ rest) (length before) → IsFirstIllegal program journal number
-first_at program journal before e rest number whole is x = subst (IsFirstIllegal program journal) (sym is) (subst (λ l. IsFirstIllegal program l (length before)) whole x)
-
-module _ (program : ProgramView) (before : List EventView) (w : World) where
-  each_legal : (end : Option MainEnd) → IsRun program before w end → (rest : List EventView) (i : ℕ) → i ≤ length before → Legal program (take i (before ++ rest))
-  each_legal end run rest i le =
-      let whole : take i before ++ drop i before ≡ before = take-append-drop i before in
-      let short : Legal program (take i before) =
-      legal_first program (take i before) (drop i before) (world_state w) (subst (λ es. Reaches program es (world_state w)) (sym whole) run.reaches) (subst GoesOn (sym whole) run.goes_on) in
-      subst (Legal program) (sym (take-append-le i before rest le)) short
-
-  module _ (e : EventView) (rest : List EventView) where
-    first_illegal : (end : Option MainEnd) → IsRun program before w end → (Legal program (before ++ e ∷ []) → ⊥) → IsFirstIllegal program (before ++ e ∷ rest) (length before)
-    first_illegal end run stops = record {
-      within = more_than before e rest;
-      illegal = λ l. stops (subst (Legal program) (first_more before e rest) l);
-      least = each_legal end run (e ∷ rest);
-    }
-
-    pub illegal_behind : (m : MainEnd) → IsRun program before w (Some m) → IsFirstIllegal program (before ++ e ∷ rest) (length before)
-    illegal_behind m run = first_illegal (Some m) run (λ l. over_stops before e m (sym run.ends) l.goes_on)
-
-    pub illegal_here : IsRun program before w None → ((f : State) → Step (world_program w) (world_state w) e f → ⊥) → IsFirstIllegal program (before ++ e ∷ rest) (length before)
-    illegal_here run none = first_illegal None run (stops_here program before e (world_state w) run.reaches (subst (λ p. (f : State) → Step p (world_state w) e f → ⊥) run.of_program none))
-
-  -- the world behind the next event
-  pub run_more : (e : EventView) (v : World) → IsRun program before w None → IsWorld v → world_program v ≡ world_program w → Step (world_program w) (world_state w) e (world_state v) → IsRun program (before ++ e ∷ []) v (main_end e)
-  run_more e v run world same step = record {
-    world = world;
-    of_program = same ∙ run.of_program;
-    reaches = reaches_more program before e (world_state w) (world_state v) run.reaches (subst (λ p. Step p (world_state w) e (world_state v)) run.of_program step);
-    goes_on = goes_more before e (sym run.ends) run.goes_on;
-    ends = sym (last_is before e);
-  }
+-- the world behind the next event
+pub run_more : (program : ProgramView) (before : List EventView) (w : World) (e : EventView) (v : World) → IsRun program before w None → IsWorld v → world_program v ≡ world_program w → Step (world_program w) (world_state w) e (world_state v) → IsRun program (before ++ e ∷ []) v (main_end e)
+run_more program before w e v run world same step = record {
+  world = world;
+  of_program = same ∙ run.of_program;
+  run = more_to program before (world_state w) e (world_state v) run.run (subst (λ p. Step p (world_state w) e (world_state v)) run.of_program step);
+}
 
 -- the next event of the journal is illegal where the main text is over
 pub illegal_over : (program : ProgramView) (journal before : List EventView) (e : EventView) (rest : List EventView) (number : ℕ) (w : World) (end : Option MainEnd) → before ++ e ∷ rest ≡ journal → number ≡ length before → is_some end ≡ true → IsRun program before w end → IsFirstIllegal program journal number
-illegal_over program journal before e rest number w None whole is some run = absurd (let k : false ≡ true = some in cc)
-illegal_over program journal before e rest number w (Some m) whole is some run = first_at program journal before e rest number whole is (illegal_behind program before w e rest m run)
+illegal_over program journal before e rest number w end whole is some run = over_to program journal before e rest number (world_state w) end whole is some run.run
 
--- and where the state doesn't have it
+-- and where the world's state doesn't have it
 pub illegal_next : (program : ProgramView) (journal before : List EventView) (e : EventView) (rest : List EventView) (number : ℕ) (w : World) → before ++ e ∷ rest ≡ journal → number ≡ length before → IsRun program before w None → IsRefused e w → IsFirstIllegal program journal number
-illegal_next program journal before e rest number w whole is run none = first_at program journal before e rest number whole is (illegal_here program before w e rest run none)
-
--- the events before the next one are fewer than all
-pub fewer : (before : List EventView) (e : EventView) (rest journal : List EventView) → before ++ e ∷ rest ≡ journal → length before < length journal
-fewer before e rest journal whole = subst (λ l. length before < length l) whole (more_than before e rest)
-
-pub moved_on : (before : List EventView) (e : EventView) (rest journal : List EventView) → before ++ e ∷ rest ≡ journal → (before ++ e ∷ []) ++ rest ≡ journal
-moved_on before e rest journal whole = append_assoc before (e ∷ []) rest ∙ whole
-
-pub one_longer : (before : List EventView) (e : EventView) → length (before ++ e ∷ []) ≡ length before + 1
-one_longer [] e = refl
-one_longer (f ∷ es) e = let k = one_longer es e in omega (arith, k)
+illegal_next program journal before e rest number w whole is run none = next_to program journal before e rest number (world_state w) whole is run.run (subst (λ p. (f : State) → Step p (world_state w) e f → ⊥) run.of_program none)
 
 pub still_open : (program : ProgramView) (before : List EventView) (w : World) (end : Option MainEnd) → is_some end ≡ false → IsRun program before w end → IsRun program before w None
-still_open program before w None none run = run
-still_open program before w (Some m) none run = absurd (let k : true ≡ false = none in cc)
+still_open program before w end none run = record { world = run.world; of_program = run.of_program; run = open_to program before (world_state w) end none run.run }
 
 pub run_first : (program : ProgramView) (w : World) → IsWorld w → world_program w ≡ program → Opening program (world_state w) → IsRun program [] w None
-run_first program w world is opens = record {
-  world = world;
-  of_program = is;
-  reaches = record { opening = world_state w; opens = opens; steps = refl };
-  goes_on = tt;
-  ends = refl;
-}
+run_first program w world is opens = record { world = world; of_program = is; run = first_to program (world_state w) opens }
 
 pub stuck_is : (program : ProgramView) (journal : List EventView) (w : World) (end : Option MainEnd) → IsRun program journal w end → (IsPossible (world_program w) (world_state w) → ⊥) → IsStuck program journal
-stuck_is program journal w end run none = (world_state w, run.reaches, subst (λ p. IsPossible p (world_state w) → ⊥) run.of_program none)
+stuck_is program journal w end run none = (world_state w, run.run.reaches, subst (λ p. IsPossible p (world_state w) → ⊥) run.of_program none)
 
 pub not_stuck : (program : ProgramView) (journal : List EventView) (w : World) (end : Option MainEnd) → IsRun program journal w end → IsPossible (world_program w) (world_state w) → IsStuck program journal → ⊥
 not_stuck program journal w end run can stuck =
-    stuck.2 (subst (IsPossible program) (reached_once program journal (world_state w) stuck.0 run.reaches stuck.1) (subst (λ p. IsPossible p (world_state w)) run.of_program can))
+    stuck.2 (subst (IsPossible program) (reached_once program journal (world_state w) stuck.0 run.run.reaches stuck.1) (subst (λ p. IsPossible p (world_state w)) run.of_program can))

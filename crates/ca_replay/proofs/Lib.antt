@@ -14,6 +14,7 @@ pub mod Made
 pub mod Moved
 pub mod Openings
 pub mod Parkings
+pub mod RunsTo
 pub mod Seeded
 pub mod Served
 pub mod Spawned

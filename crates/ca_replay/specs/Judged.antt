@@ -2,13 +2,13 @@
 use Rattle.std.specs.Prelude.{◌≡◌, ℕ, ◌<◌, List, [], ◌∷◌, ◌++◌, length, Option, None}
 use Rattle.ca_term.specs.Event.{EventView}
 use Rattle.ca_term.specs.Program.{ProgramView, IsProgram}
-use Rattle.ca_meaning.specs.Legal.{GoesOn, Reaches}
 use Rattle.ca_meaning.specs.State.{State}
 use Rattle.ca_meaning.specs.Steps.{Step}
 use Rattle.ca_replay.specs.declared.judging.Judged.{Judged}
 use Rattle.ca_replay.specs.declared.main_end.MainEnd.{MainEnd}
 use Rattle.ca_replay.specs.declared.world.World.{World}
-use Rattle.ca_replay.specs.MainEnd.{main_end, last_end}
+use Rattle.ca_replay.specs.MainEnd.{main_end}
+use Rattle.ca_replay.specs.RunTo.{IsRunTo}
 use Rattle.ca_replay.specs.Verdict.{IsFirstIllegal}
 use Rattle.ca_replay.specs.World.{IsWorld, world_program, world_state}
 
@@ -16,9 +16,7 @@ use Rattle.ca_replay.specs.World.{IsWorld, world_program, world_state}
 pub record IsRun (program : ProgramView) (journal : List EventView) (w : World) (end : Option MainEnd) : Type 0 where
   pub world : IsWorld w
   pub of_program : world_program w ≡ program
-  pub reaches : Reaches program journal (world_state w)
-  pub goes_on : GoesOn journal
-  pub ends : end ≡ last_end journal
+  pub run : IsRunTo program journal (world_state w) end
 
 -- the main text isn't over by these events, which are fewer than so many
 pub record MayGoOn (most : ℕ) (program : ProgramView) (before : List EventView) (w : World) : Type 0 where

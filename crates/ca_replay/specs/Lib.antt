@@ -6,6 +6,7 @@ pub mod Moves
 pub mod Possible
 pub mod Replies
 pub mod Rooms
+pub mod RunTo
 pub mod SceneOf
 pub mod Seeds
 pub mod Verdict

@@ -13,8 +13,8 @@ pub enum MainEnd {
     Faulted,
 }
 
-// The end of the main text, where the note's event is that.
-pub(crate) fn main_end(note: &Note) -> Option<MainEnd>
+/// The end of the main text, where the note's event is that.
+pub fn main_end(note: &Note) -> Option<MainEnd>
     ensures { result ≡ main_end (note_view note.now) }
 {
     let Note::Rare(event) = note else {

@@ -90,4 +90,4 @@ tallied t u program before e saw checked legal events costs rows_are = record {
 
 -- what is told of a legal run
 pub legal_told : (most : ℕ) (program : ProgramView) (before : List EventView) (e : EventView) (w : World) → IsTold most program before e w → Legal program (before ++ e ∷ [])
-legal_told most program before e w told = record { state = world_state w; reaches = told.run.reaches; goes_on = told.run.goes_on }
+legal_told most program before e w told = record { state = world_state w; reaches = told.run.run.reaches; goes_on = told.run.run.goes_on }

@@ -7,7 +7,8 @@ use Rattle.ca_journal.specs.Events.{events}
 use Rattle.ca_journal.specs.Note.{note_view}
 use Rattle.ca_replay.specs.Judged.{IsRefused, IsRun, LeadsOn, MayGoOn, SeesOn}
 use Rattle.ca_replay.specs.MainEnd.{main_end}
-use Rattle.ca_replay.proofs.JudgedRuns.{illegal_over, illegal_next, fewer, moved_on, one_longer, still_open}
+use Rattle.ca_replay.proofs.JudgedRuns.{illegal_over, illegal_next, still_open}
+use Rattle.ca_replay.proofs.RunsTo.{fewer, moved_on, one_longer}
 use Rattle.ca_replay.proofs.judging.judge.Goals as goal
 
 pub returns-then-is_some-clause-judged : goal.returns-then-is_some-clause-judged

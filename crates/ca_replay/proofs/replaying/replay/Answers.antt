@@ -9,4 +9,4 @@ pub returns-in-Legal : goal.returns-in-Legal
 returns-in-Legal c =
     let run : IsRun (program_view c.args.program.now) (events c.args.journal.now) c.in-Legal.world c.in-Legal.end =
     subst (IsJudged (program_view c.args.program.now) (events c.args.journal.now)) c.in-Legal.is c.in_ok-world.ensures.judged in
-    (record { state = world_state c.in-Legal.world; reaches = run.reaches; goes_on = run.goes_on }, c.stands_as.ensures (program_view c.args.program.now) (events c.args.journal.now) run)
+    (record { state = world_state c.in-Legal.world; reaches = run.run.reaches; goes_on = run.run.goes_on }, c.stands_as.ensures (program_view c.args.program.now) (events c.args.journal.now) run)

@@ -15,4 +15,4 @@ returns-in-Legal c =
     let run : IsRun program journal w c.in-Legal.field-1 = subst (IsJudged program journal) c.in-Legal.is c.in_ok-world.ensures.judged in
     let saw : IsTally tally journal = subst (WhereLegal (IsTally tally journal)) c.in-Legal.is c.in_ok-world.ensures.saw in
     let text : list c.in_ok-text_of-in-Legal.field-0 ≡ tally_text (world_state w) tally = c.in_ok-text_of-in-Legal.ensures in
-    (record { state = world_state w; reaches = run.reaches; goes_on = run.goes_on }, text ∙ reported program journal (world_state w) tally run.reaches saw)
+    (record { state = world_state w; reaches = run.run.reaches; goes_on = run.run.goes_on }, text ∙ reported program journal (world_state w) tally run.run.reaches saw)
