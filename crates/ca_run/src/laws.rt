@@ -3,8 +3,7 @@ ghost use Rattle.ca_term.specs.Program.{ProgramView};
 ghost use Rattle.ca_term.specs.Event.{EventView};
 ghost use Rattle.ca_meaning.specs.Journal.{journal_text};
 ghost use Rattle.ca_meaning.specs.Legal.{Legal};
-ghost use Rattle.ca_meaning.specs.Shown.{IsNumbered};
-ghost use Rattle.ca_meaning.specs.Sound.{Each};
+ghost use Rattle.ca_journal.specs.Events.{events};
 ghost use Rattle.ca_journal_reader.specs.Input.{JournalReads};
 ghost use Rattle.ca_replay.specs.Verdict.{IsFirstIllegal};
 ghost use Rattle.ca_sealed.specs.KeepsLaws.{KeepsLaws};
@@ -16,6 +15,8 @@ ghost use Rattle.ca_run.specs.Written.{IsWritten};
 
 use ca_check::laws::{programs_are_checked, programs_keep_their_scalars};
 use ca_derived::laws::expanded_forms_keep_their_scalars;
+use ca_journal::journal::Journal;
+use ca_journal::numbered::journals_are_numbered;
 use ca_journal_reader::read::one_journal;
 use ca_meaning::laws::texts::journals_are_told_apart;
 use ca_reader::read::read_forms_are_written;
@@ -31,10 +32,11 @@ pub(crate) fn journals_of_a_text_keep_the_laws()
     journals_of_scripts_keep_the_laws();
 }
 
-/// The text of a legal journal of a script's program, whose numbers lie within 64 bits, is read back as that journal.
-pub fn written_journals_are_read()
-    ensures { (script : List ℕ) (program : ProgramView) (journal : List EventView) → ProgramOf script program → Legal program journal → Each IsNumbered journal → JournalReads (journal_text journal) journal }
+/// The text of the journal of a run of a script's program is read back as that journal.
+pub fn written_journals_are_read(journal: &Journal)
+    ensures { let run = events journal.now in (script : List ℕ) (program : ProgramView) → ProgramOf script program → Legal program run → JournalReads (journal_text run) run }
 {
+    journals_are_numbered(journal);
     journals_of_a_text_keep_the_laws();
     read_forms_are_written();
     expanded_forms_keep_their_scalars();
@@ -45,12 +47,12 @@ pub fn written_journals_are_read()
 
 /// What a run writes of an accepted script is legal to `replay`: the input of the script, a marker line and the journal's text
 /// asks of this program and this journal, no event of it is illegal, and the command neither refuses the input nor rejects it.
-pub fn written_journals_are_legal()
-    ensures asked { (script : List ℕ) (program : ProgramView) (journal : List EventView) (input : List ℕ) → IsWritten script program journal input → AsksOf input program journal }
-    ensures legal { (script : List ℕ) (program : ProgramView) (journal : List EventView) (input : List ℕ) → IsWritten script program journal input → (k : ℕ) → IsFirstIllegal program journal k → ⊥ }
-    ensures accepted { (script : List ℕ) (program : ProgramView) (journal : List EventView) (input : List ℕ) → IsWritten script program journal input → HasScript Replay (Some input) }
-    ensures not_rejected { (script : List ℕ) (program : ProgramView) (journal : List EventView) (input line : List ℕ) → IsWritten script program journal input → IsRejected input line → ⊥ }
+pub fn written_journals_are_legal(journal: &Journal)
+    ensures asked { let run = events journal.now in (script : List ℕ) (program : ProgramView) (input : List ℕ) → IsWritten script program run input → AsksOf input program run }
+    ensures legal { let run = events journal.now in (script : List ℕ) (program : ProgramView) (input : List ℕ) → IsWritten script program run input → (k : ℕ) → IsFirstIllegal program run k → ⊥ }
+    ensures accepted { (script : List ℕ) (program : ProgramView) (input : List ℕ) → IsWritten script program (events journal.now) input → HasScript Replay (Some input) }
+    ensures not_rejected { (script : List ℕ) (program : ProgramView) (input line : List ℕ) → IsWritten script program (events journal.now) input → IsRejected input line → ⊥ }
 {
-    written_journals_are_read();
+    written_journals_are_read(journal);
     one_journal();
 }
