@@ -5,3 +5,5 @@ pub mod Events
 pub mod Settles
 pub mod Ending
 pub mod Pruning
+pub mod Follower
+pub mod Followed

@@ -1,11 +1,20 @@
-//! What an event does to one who holds all parts of a run, and that it is the event of its task's plan.
+//! A run along a given journal: the compiled tasks of a script make the events that the journal tells of.
 //!
-//! The one model: what a follower of a run has (`Has`) are the contents of all banks and shards, the clock, the tasks that can
-//! go on, and the numbers given so far. It follows a state where it stands for it (`Follows`). What it makes of a plan is a
-//! step, and it then follows the state to which that leads; and where the meaning allows an event, the plan, with the event's
-//! numbers, makes that very event. So a journal can be followed by compiled code, and an event that can't is illegal.
+//! The one model: a `Follower` is a run on one thread that holds all parts, with all its tasks in one table. For each event of
+//! the journal it makes its own: the task goes on to its next pause and its operation is planned over the parts, with the
+//! journal's new numbers, its branch to begin with and its moment. An event that the meaning allows is the very one that is
+//! made; so where they differ, the journal is no run.
 //!
-//! Stands on `ca_commit`. Start with `specs/Has.antt` and `specs/Follows.antt`, then `laws`.
+//! Stands on `ca_commit`, which plans and makes events, and on `ca_tasks`. Start with `specs/Follows.antt` and `laws`, then
+//! `following`, `follower`, `stepping` and `operating`.
 #![tactic(auto)]
 
+mod ending;
+mod follower;
+pub mod following;
 pub mod laws;
+mod operating;
+mod reading;
+mod settling;
+mod stepping;
+mod tasks;
