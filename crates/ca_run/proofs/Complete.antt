@@ -10,7 +10,7 @@ use Rattle.ca_derived.specs.Outcome.{made, refused}
 use Rattle.ca_forms.specs.declared.error.CheckErrorKind.{CheckErrorKind}
 use Rattle.ca_check.specs.Expansion.{expansion_of}
 use Rattle.ca_words.specs.declared.command.Command.{Command}
-use Rattle.ca_words.specs.declared.command.Command.TheVariants.{Check, Load, Run, Replay, Report}
+use Rattle.ca_words.specs.declared.command.Command.TheVariants.{Check, Follow, Load, Run, Replay, Report}
 use Rattle.ca_run.specs.declared.run.ScriptEnd.{ScriptEnd}
 use Rattle.ca_run.specs.declared.answer.Answer.{Answer}
 use Rattle.ca_run.specs.declared.answer.Answer.TheVariants.{Usage, Refused, Accepted, Ran, Found}
@@ -83,6 +83,9 @@ refused_script (Load n workers) before after line r g = not_refused r.0 line r.2
 refused_script Replay before after line (inl t) g = short_enough greatest_input before after g.0 line t g.3 g.4
 refused_script Replay before after line (inr (inl h)) g = long_part before after line h g
 refused_script Replay before after line (inr (inr r)) g = read_part before after r.0 line r.1 r.2 g
+refused_script Follow before after line (inl t) g = short_enough greatest_input before after g.0 line t g.3 g.4
+refused_script Follow before after line (inr (inl h)) g = long_part before after line h g
+refused_script Follow before after line (inr (inr r)) g = read_part before after r.0 line r.1 r.2 g
 refused_script Report before after line (inl t) g = short_enough greatest_input before after g.0 line t g.3 g.4
 refused_script Report before after line (inr (inl h)) g = long_part before after line h g
 refused_script Report before after line (inr (inr r)) g = read_part before after r.0 line r.1 r.2 g
@@ -92,6 +95,7 @@ run_done (Run workers budget journal) e r = end_of_run e
 run_done Check e r = absurd (let z : false ≡ true = r in cc)
 run_done (Load n workers) e r = end_of_run e
 run_done Replay e r = absurd (let z : false ≡ true = r in cc)
+run_done Follow e r = absurd (let z : false ≡ true = r in cc)
 run_done Report e r = absurd (let z : false ≡ true = r in cc)
 
 found_done : (c : Command) (f : Finding) → judges c ≡ true → IsDone c (finding_status f)
@@ -99,6 +103,7 @@ found_done (Run workers budget journal) f r = absurd (let z : false ≡ true = r
 found_done Check f r = absurd (let z : false ≡ true = r in cc)
 found_done (Load n workers) f r = absurd (let z : false ≡ true = r in cc)
 found_done Replay f r = finding_is f
+found_done Follow f r = finding_is f
 found_done Report f r = finding_is f
 
 complete_by : (asked : Option Command) (span : ClockSpan) (before after : Option (List ℕ)) (a : Answer) → AnswersTo asked span before after a → IsComplete asked before (status_of a)

@@ -3,7 +3,7 @@ use Rattle.std.proofs.Common.{◌≡◌, ◌≢◌, ⊎_elim, ℕ, List, codes, 
 use Rattle.std.specs.Io.KnownBytes.{Appends}
 use Rattle.ca_meaning.specs.Ends.{RunEnd, ended, faulted, limit, stuck}
 use Rattle.ca_words.specs.declared.command.Command.{Command}
-use Rattle.ca_words.specs.declared.command.Command.TheVariants.{Check, Load, Run, Replay, Report}
+use Rattle.ca_words.specs.declared.command.Command.TheVariants.{Check, Follow, Load, Run, Replay, Report}
 use Rattle.ca_run.specs.declared.run.ScriptRun.{ScriptRun}
 use Rattle.ca_run.specs.declared.run.ScriptEnd.{ScriptEnd}
 use Rattle.ca_run.specs.declared.run.ScriptEnd.TheVariants.{Ended, Faulted, Limit, Stuck}
@@ -13,8 +13,8 @@ use Rattle.ca_run.specs.declared.answer.Answer.TheVariants.{Usage, Refused, Acce
 use Rattle.ca_journal.specs.declared.journal.Journal.{Journal}
 use Rattle.ca_journal.specs.Events.{events}
 use Rattle.ca_run.specs.declared.finding.Finding.{Finding}
-use Rattle.ca_run.specs.declared.finding.Finding.TheVariants.{NoJournal, BadLine, IllegalAt, Stands, Lines}
-use Rattle.ca_run.specs.Findings.{finding_status, finding_text, Finds, IsFinding, IsRejected, IsReplayed, IsReported}
+use Rattle.ca_run.specs.declared.finding.Finding.TheVariants.{NoJournal, BadLine, IllegalAt, Stands, Written, Lines}
+use Rattle.ca_run.specs.Findings.{finding_status, finding_text, Finds, IsFinding, IsFollowed, IsRejected, IsReplayed, IsReported}
 use Rattle.ca_run.specs.Inputs.{ReadWhole, greatest_input}
 use Rattle.ca_run.specs.Top.{ClockSpan, Refused as RefusedFrom, Accepted as AcceptedFrom, Completed, CompletedFor, Partly, RunText, JudgesJournal, Writes, judges, runs, usage}
 use Rattle.ca_run.specs.Answers.{answer_text, status_of, status_of_end, journal_of, refusal_line, end_of, line_of_end, AnswersTo, RunsNothing}
@@ -47,6 +47,7 @@ finding_is NoJournal = inr refl
 finding_is (BadLine k) = inr refl
 finding_is (IllegalAt k) = inr refl
 finding_is (Stands s) = inl refl
+finding_is (Written t) = inl refl
 finding_is (Lines t) = inl refl
 
 -- a finding has no other status
@@ -160,6 +161,7 @@ not_run (Run workers budget journal) j r = absurd (let z : false ≡ true = j in
 not_run Check j r = absurd (let z : false ≡ true = j in cc)
 not_run (Load n workers) j r = absurd (let z : false ≡ true = j in cc)
 not_run Replay j r = absurd (let z : false ≡ true = r in cc)
+not_run Follow j r = absurd (let z : false ≡ true = r in cc)
 not_run Report j r = absurd (let z : false ≡ true = r in cc)
 
 never_found : {G : Type 0} (asked : Option Command) (before after : Option (List ℕ)) (f : Finding) (c : Command) → asked ≡ Some c → judges c ≡ false → FoundFor asked before after f → G
@@ -268,11 +270,19 @@ finds_of Replay input NoJournal j h = inl h
 finds_of Replay input (BadLine k) j h = inl h
 finds_of Replay input (IllegalAt k) j h = inl h
 finds_of Replay input (Stands s) j h = inr h.1
+finds_of Replay input (Written t) j h = absurd (let z : Replay ≡ Follow = h.0 in cc)
 finds_of Replay input (Lines t) j h = absurd (let z : Replay ≡ Report = h.0 in cc)
+finds_of Follow input NoJournal j h = inl h
+finds_of Follow input (BadLine k) j h = inl h
+finds_of Follow input (IllegalAt k) j h = inl h
+finds_of Follow input (Stands s) j h = absurd (let z : Follow ≡ Replay = h.0 in cc)
+finds_of Follow input (Written t) j h = inr h.1
+finds_of Follow input (Lines t) j h = absurd (let z : Follow ≡ Report = h.0 in cc)
 finds_of Report input NoJournal j h = inl h
 finds_of Report input (BadLine k) j h = inl h
 finds_of Report input (IllegalAt k) j h = inl h
 finds_of Report input (Stands s) j h = absurd (let z : Report ≡ Replay = h.0 in cc)
+finds_of Report input (Written t) j h = absurd (let z : Report ≡ Follow = h.0 in cc)
 finds_of Report input (Lines t) j h = inr h.1
 
 told_finding : (asked : Option Command) (span : ClockSpan) (before after held taken : Option (List ℕ)) (f : Finding) (n : ℕ) → AnswersTo asked span before after (Found f) → Appends held taken (take n (finding_text f)) → Partly asked before after held taken (Some span) None
@@ -354,6 +364,7 @@ rejected_by c input NoJournal s h = h
 rejected_by c input (BadLine k) s h = h
 rejected_by c input (IllegalAt k) s h = h
 rejected_by c input (Stands t) s h = absurd (omega (arith, s))
+rejected_by c input (Written t) s h = absurd (omega (arith, s))
 rejected_by c input (Lines t) s h = absurd (omega (arith, s))
 
 pub rejected_of : (asked : Option Command) (span : ClockSpan) (before after held taken : Option (List ℕ)) (a : Answer) → status_of a ≡ 10 → AnswersTo asked span before after a → Appends held taken (answer_text a) → JudgesJournal asked × Writes IsRejected before after held taken
@@ -370,6 +381,7 @@ replayed_by c input NoJournal e s h = absurd (omega (arith, s))
 replayed_by c input (BadLine k) e s h = absurd (omega (arith, s))
 replayed_by c input (IllegalAt k) e s h = absurd (omega (arith, s))
 replayed_by c input (Stands t) e s h = h.1
+replayed_by c input (Written t) e s h = absurd (let z : Follow ≡ Replay = sym h.0 ∙ e in cc)
 replayed_by c input (Lines t) e s h = absurd (let z : Report ≡ Replay = sym h.0 ∙ e in cc)
 
 pub replayed_of : (asked : Option Command) (span : ClockSpan) (before after held taken : Option (List ℕ)) (a : Answer) → asked ≡ Some Replay → status_of a ≡ 0 → AnswersTo asked span before after a → Appends held taken (answer_text a) → Writes IsReplayed before after held taken
@@ -381,11 +393,29 @@ replayed_of asked span before after held taken (Found f) q s h p =
     let found = found_for asked span before after f h in
     (found.3.0, finding_text f, found.3.1, replayed_by found.0 found.3.0 f (same_command found.0 Replay (sym found.1 ∙ q)) s found.3.2, p)
 
+followed_by : (c : Command) (input : List ℕ) (f : Finding) → c ≡ Follow → finding_status f ≡ 0 → IsFinding c input f → IsFollowed input (finding_text f)
+followed_by c input NoJournal e s h = absurd (omega (arith, s))
+followed_by c input (BadLine k) e s h = absurd (omega (arith, s))
+followed_by c input (IllegalAt k) e s h = absurd (omega (arith, s))
+followed_by c input (Stands t) e s h = absurd (let z : Replay ≡ Follow = sym h.0 ∙ e in cc)
+followed_by c input (Written t) e s h = h.1
+followed_by c input (Lines t) e s h = absurd (let z : Report ≡ Follow = sym h.0 ∙ e in cc)
+
+pub followed_of : (asked : Option Command) (span : ClockSpan) (before after held taken : Option (List ℕ)) (a : Answer) → asked ≡ Some Follow → status_of a ≡ 0 → AnswersTo asked span before after a → Appends held taken (answer_text a) → Writes IsFollowed before after held taken
+followed_of asked span before after held taken Usage q s h p = absurd (omega (arith, s))
+followed_of asked span before after held taken (Refused r) q s h p = absurd (omega (arith, s))
+followed_of asked span before after held taken Accepted q s h p = never_accepted asked span before after Follow q refl h
+followed_of asked span before after held taken (Ran m shown) q s h p = never_ran asked span before after m shown Follow q refl h
+followed_of asked span before after held taken (Found f) q s h p =
+    let found = found_for asked span before after f h in
+    (found.3.0, finding_text f, found.3.1, followed_by found.0 found.3.0 f (same_command found.0 Follow (sym found.1 ∙ q)) s found.3.2, p)
+
 reported_by : (c : Command) (input : List ℕ) (f : Finding) → c ≡ Report → finding_status f ≡ 0 → IsFinding c input f → IsReported input (finding_text f)
 reported_by c input NoJournal e s h = absurd (omega (arith, s))
 reported_by c input (BadLine k) e s h = absurd (omega (arith, s))
 reported_by c input (IllegalAt k) e s h = absurd (omega (arith, s))
 reported_by c input (Stands t) e s h = absurd (let z : Replay ≡ Report = sym h.0 ∙ e in cc)
+reported_by c input (Written t) e s h = absurd (let z : Follow ≡ Report = sym h.0 ∙ e in cc)
 reported_by c input (Lines t) e s h = h.1
 
 pub reported_of : (asked : Option Command) (span : ClockSpan) (before after held taken : Option (List ℕ)) (a : Answer) → asked ≡ Some Report → status_of a ≡ 0 → AnswersTo asked span before after a → Appends held taken (answer_text a) → Writes IsReported before after held taken

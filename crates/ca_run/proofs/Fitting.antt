@@ -7,7 +7,7 @@ use Rattle.std.specs.Str.Parse.{digits_value}
 use Rattle.std.proofs.lemmas.Bool.Decides.{nat_tests}
 use Rattle.ca_words.specs.Words.{Text, bare, between, number_of, setting, one_number, is_number, is_run_word, is_load_word, joined, workers_in, budget_in, workers_of, budget_of, journal_of, run_with, load_with, run_words, load_words, alone, command_in}
 use Rattle.ca_words.specs.declared.command.Command.{Command}
-use Rattle.ca_words.specs.declared.command.Command.TheVariants.{Check, Load, Run, Replay, Report}
+use Rattle.ca_words.specs.declared.command.Command.TheVariants.{Check, Follow, Load, Run, Replay, Report}
 use Rattle.ca_run.specs.Answers.{IsFit}
 
 same : {A : Type 0} (x y : A) → Some x ≡ Some y → x ≡ y
@@ -76,15 +76,16 @@ load_words_fit ws c e =
     (taken (list_all is_load_word ws) (load_with (one_number 1 20000 (filter_map bare ws)) (workers_of ws)) c e).1
 
 -- a choice by the command's name
-named : (r k l p q : Bool) (ws : List Text) (c : Command)
-    → (if r then run_words ws else (if k then alone Check ws else (if l then load_words ws else (if p then alone Replay ws else (if q then alone Report ws else None))))) ≡ Some c → IsFit c
-named true k l p q ws c e = run_words_fit ws c e
-named false true l p q ws c e = alone_fits Check ws c tt e
-named false false true p q ws c e = load_words_fit ws c e
-named false false false true q ws c e = alone_fits Replay ws c tt e
-named false false false false true ws c e = alone_fits Report ws c tt e
-named false false false false false ws c e = absurd (let o : None ≡ Some c = e in cc)
+named : (r k l p j q : Bool) (ws : List Text) (c : Command)
+    → (if r then run_words ws else (if k then alone Check ws else (if l then load_words ws else (if p then alone Replay ws else (if j then alone Follow ws else (if q then alone Report ws else None)))))) ≡ Some c → IsFit c
+named true k l p j q ws c e = run_words_fit ws c e
+named false true l p j q ws c e = alone_fits Check ws c tt e
+named false false true p j q ws c e = load_words_fit ws c e
+named false false false true j q ws c e = alone_fits Replay ws c tt e
+named false false false false true q ws c e = alone_fits Follow ws c tt e
+named false false false false false true ws c e = alone_fits Report ws c tt e
+named false false false false false false ws c e = absurd (let o : None ≡ Some c = e in cc)
 
 pub asked_fits : (ws : List Text) (c : Command) → command_in ws ≡ Some c → IsFit c
 asked_fits [] c e = absurd (let q : None ≡ Some c = e in cc)
-asked_fits (w ∷ ws) c e = named (bytes_eq w (codes "run")) (bytes_eq w (codes "check")) (bytes_eq w (codes "load")) (bytes_eq w (codes "replay")) (bytes_eq w (codes "report")) (joined ws) c e
+asked_fits (w ∷ ws) c e = named (bytes_eq w (codes "run")) (bytes_eq w (codes "check")) (bytes_eq w (codes "load")) (bytes_eq w (codes "replay")) (bytes_eq w (codes "follow")) (bytes_eq w (codes "report")) (joined ws) c e

@@ -3,7 +3,7 @@ use Rattle.std.proofs.Common.{◌≡◌, ℕ, suc, ◌≤◌, ◌<◌, List, len
 use Rattle.std.specs.Io.KnownBytes.{Consumes, IsAtEnd}
 use Rattle.ca_term.specs.Program.{ProgramView}
 use Rattle.ca_words.specs.declared.command.Command.{Command}
-use Rattle.ca_words.specs.declared.command.Command.TheVariants.{Check, Load, Run, Replay, Report}
+use Rattle.ca_words.specs.declared.command.Command.TheVariants.{Check, Follow, Load, Run, Replay, Report}
 use Rattle.ca_run.specs.declared.answer.Answer.{Answer}
 use Rattle.ca_run.specs.declared.answer.Answer.TheVariants.{Usage, Refused, Accepted, Ran, Found}
 use Rattle.ca_run.specs.Generator.{load_text}
@@ -25,6 +25,7 @@ refused_by (Run workers budget journal) before after line h = inr h
 refused_by Check before after line h = inr h
 refused_by (Load n workers) before after line h = h
 refused_by Replay before after line h = inr (inr h)
+refused_by Follow before after line h = inr (inr h)
 refused_by Report before after line h = inr (inr h)
 
 pub too_long : (command : Command) (before after : Option (List ℕ)) (line : List ℕ) → reads command ≡ true → judges command ≡ false → IsTooLong greatest_length before after line → RefusedFrom command before after line
@@ -32,6 +33,7 @@ too_long (Run workers budget journal) before after line r j h = inl h
 too_long Check before after line r j h = inl h
 too_long (Load n workers) before after line r j h = absurd (let z : false ≡ true = r in cc)
 too_long Replay before after line r j h = absurd (let z : true ≡ false = j in cc)
+too_long Follow before after line r j h = absurd (let z : true ≡ false = j in cc)
 too_long Report before after line r j h = absurd (let z : true ≡ false = j in cc)
 
 given_read : (command : Command) (before after : Option (List ℕ)) (input : List ℕ) → reads command ≡ true → judges command ≡ false → ReadWhole greatest_length before after input → Given command before after input
@@ -39,6 +41,7 @@ given_read (Run workers budget journal) before after input r j h = h
 given_read Check before after input r j h = h
 given_read (Load n workers) before after input r j h = absurd (let z : false ≡ true = r in cc)
 given_read Replay before after input r j h = absurd (let z : true ≡ false = j in cc)
+given_read Follow before after input r j h = absurd (let z : true ≡ false = j in cc)
 given_read Report before after input r j h = absurd (let z : true ≡ false = j in cc)
 
 -- what is accepted was read
@@ -47,6 +50,7 @@ accepted_read (Run workers budget journal) before after input e g = g
 accepted_read Check before after input e g = g
 accepted_read (Load n workers) before after input e g = absurd (let z : Load n workers ≡ Check = e in cc)
 accepted_read Replay before after input e g = absurd (let z : Replay ≡ Check = e in cc)
+accepted_read Follow before after input e g = absurd (let z : Follow ≡ Check = e in cc)
 accepted_read Report before after input e g = absurd (let z : Report ≡ Check = e in cc)
 
 pub answers_given : (command : Command) (span : ClockSpan) (before after : Option (List ℕ)) (input : List ℕ) (a : Answer) → Given command before after input → Judged command span input a → AnswersTo (Some command) span before after a
@@ -70,6 +74,7 @@ part_too_long (Run workers budget journal) before after line j h = absurd (let z
 part_too_long Check before after line j h = absurd (let z : false ≡ true = j in cc)
 part_too_long (Load n workers) before after line j h = absurd (let z : false ≡ true = j in cc)
 part_too_long Replay before after line j h = inl h
+part_too_long Follow before after line j h = inl h
 part_too_long Report before after line j h = inl h
 
 long_part : (command : Command) (before after : Option (List ℕ)) (line : List ℕ) → judges command ≡ true → IsLongPart before after line → RefusedFrom command before after line
@@ -77,6 +82,7 @@ long_part (Run workers budget journal) before after line j h = absurd (let z : f
 long_part Check before after line j h = absurd (let z : false ≡ true = j in cc)
 long_part (Load n workers) before after line j h = absurd (let z : false ≡ true = j in cc)
 long_part Replay before after line j h = inr (inl h)
+long_part Follow before after line j h = inr (inl h)
 long_part Report before after line j h = inr (inl h)
 
 given_part : (command : Command) (before after : Option (List ℕ)) (script : List ℕ) → judges command ≡ true
@@ -85,6 +91,7 @@ given_part (Run workers budget journal) before after script j h = absurd (let z 
 given_part Check before after script j h = absurd (let z : false ≡ true = j in cc)
 given_part (Load n workers) before after script j h = absurd (let z : false ≡ true = j in cc)
 given_part Replay before after script j h = h
+given_part Follow before after script j h = h
 given_part Report before after script j h = h
 
 refused_part : (command : Command) (before after : Option (List ℕ)) (input line : List ℕ) → judges command ≡ true → ReadWhole greatest_input before after input → RefusedPart input line → RefusedFrom command before after line

@@ -1,13 +1,10 @@
 -- What an input of a script and a journal comes to, by its parts.
-use Rattle.std.proofs.Common.{◌≡◌, ℕ, ◌≤◌, List, length, inl, inr, refl}
-use Rattle.ca_term.specs.Event.{EventView}
+use Rattle.std.proofs.Common.{ℕ, ◌≤◌, List, length, inl, inr, refl}
 use Rattle.ca_term.specs.Program.{ProgramView}
-use Rattle.ca_journal_reader.specs.Input.{JournalReads}
 use Rattle.ca_words.specs.declared.command.Command.{Command}
-use Rattle.ca_words.specs.declared.command.Command.TheVariants.{Replay, Report}
 use Rattle.ca_run.specs.declared.finding.Finding.{Finding}
-use Rattle.ca_run.specs.declared.finding.Finding.TheVariants.{NoJournal, BadLine, IllegalAt, Stands, Lines}
-use Rattle.ca_run.specs.Findings.{Asks, IsFinding, IsFindingOf, IsReportOf, IsVerdictOf}
+use Rattle.ca_run.specs.declared.finding.Finding.TheVariants.{NoJournal, BadLine, IllegalAt, Stands, Written, Lines}
+use Rattle.ca_run.specs.Findings.{Asks, IsFinding, IsFindingOf}
 use Rattle.ca_run.specs.Inputs.{ProgramOf, greatest_length}
 use Rattle.ca_run.specs.Marker.{IsParted}
 
@@ -16,21 +13,8 @@ finding_in c input text program NoJournal a h = absurd h
 finding_in c input text program (BadLine k) a h = inr (inl (program, text, k, a, h, refl))
 finding_in c input text program (IllegalAt k) a h = inr (inr (program, h.0, k, record { text = text; asks = a; reads = h.1 }, h.2, refl))
 finding_in c input text program (Stands s) a h = (h.0, (program, h.1.0, s, record { text = text; asks = a; reads = h.1.1 }, h.1.2, refl))
+finding_in c input text program (Written t) a h = (h.0, (program, h.1.0, record { text = text; asks = a; reads = h.1.1 }, h.1.2, h.1.3))
 finding_in c input text program (Lines t) a h = (h.0, (program, h.1.0, record { text = text; asks = a; reads = h.1.1 }, h.1.2))
 
 pub judged_by_finding : (c : Command) (input script text : List ℕ) (program : ProgramView) (f : Finding) → IsParted input script text → length script ≤ greatest_length → ProgramOf script program → IsFindingOf c program text f → IsFinding c input f
 judged_by_finding c input script text program f parted short is h = finding_in c input text program f (record { script = script; parted = parted; short = short; is_program = is }) h
-
-pub finding_by_verdict : (c : Command) (program : ProgramView) (text : List ℕ) (journal : List EventView) (f : Finding) → c ≡ Replay → JournalReads text journal → IsVerdictOf program journal f → IsFindingOf c program text f
-finding_by_verdict c program text journal NoJournal e r h = h
-finding_by_verdict c program text journal (BadLine k) e r h = absurd h
-finding_by_verdict c program text journal (IllegalAt k) e r h = (journal, r, h)
-finding_by_verdict c program text journal (Stands s) e r h = (e, (journal, r, h))
-finding_by_verdict c program text journal (Lines t) e r h = absurd h
-
-pub finding_by_report : (c : Command) (program : ProgramView) (text : List ℕ) (journal : List EventView) (f : Finding) → c ≡ Report → JournalReads text journal → IsReportOf program journal f → IsFindingOf c program text f
-finding_by_report c program text journal NoJournal e r h = h
-finding_by_report c program text journal (BadLine k) e r h = absurd h
-finding_by_report c program text journal (IllegalAt k) e r h = (journal, r, h)
-finding_by_report c program text journal (Stands s) e r h = absurd h
-finding_by_report c program text journal (Lines t) e r h = (e, (journal, r, h))

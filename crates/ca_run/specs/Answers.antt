@@ -14,7 +14,7 @@ use Rattle.ca_reader.specs.Kind.{kind_name}
 use Rattle.ca_derived.specs.Kind.{kind_name as forms_kind_name}
 use Rattle.ca_forms.specs.Kind.{kind_name as check_kind_name}
 use Rattle.ca_words.specs.declared.command.Command.{Command}
-use Rattle.ca_words.specs.declared.command.Command.TheVariants.{Check, Load, Run, Replay, Report}
+use Rattle.ca_words.specs.declared.command.Command.TheVariants.{Check, Follow, Load, Run, Replay, Report}
 use Rattle.ca_table.specs.Moments.{KeepsTime}
 use Rattle.ca_pool.specs.PoolEnds.{IsSolo}
 use Rattle.ca_run.specs.declared.run.ScriptRun.{ScriptRun}
@@ -111,6 +111,7 @@ IsFit (Run workers budget journal) = ((0 < workers) × (workers ≤ 16)) × (0 <
 IsFit Check = Unit {0}
 IsFit (Load n workers) = (0 < workers) × (workers ≤ 16)
 IsFit Replay = Unit {0}
+IsFit Follow = Unit {0}
 IsFit Report = Unit {0}
 
 -- what a program comes to under a command, with the clock in that span where it runs

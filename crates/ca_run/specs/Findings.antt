@@ -1,18 +1,19 @@
--- What replay and report find of an input, which is a script, a marker line and a journal.
+-- What replay, follow and report find of an input, which is a script, a marker line and a journal.
 use Rattle.std.specs.Prelude.{◌≡◌, ℕ, ◌≤◌, ◌⊎◌, List, [], ◌∷◌, ◌++◌, length, codes, decimal}
 use Rattle.ca_value.specs.Seq.{list}
 use Rattle.ca_term.specs.Event.{EventView}
 use Rattle.ca_term.specs.Program.{ProgramView}
 use Rattle.ca_meaning.specs.Legal.{Legal}
+use Rattle.ca_meaning.specs.Texts.{output}
 use Rattle.ca_journal_reader.specs.Input.{JournalReads, IsBadLine}
 use Rattle.ca_replay.specs.declared.replaying.Standing.{Standing}
 use Rattle.ca_replay.specs.declared.replaying.Replayed.TheVariants.{Legal as IsLegal}
 use Rattle.ca_replay.specs.Verdict.{IsFirstIllegal, IsVerdict}
 use Rattle.ca_report.specs.Report.{report_text}
 use Rattle.ca_words.specs.declared.command.Command.{Command}
-use Rattle.ca_words.specs.declared.command.Command.TheVariants.{Check, Load, Run, Replay, Report}
+use Rattle.ca_words.specs.declared.command.Command.TheVariants.{Check, Follow, Load, Run, Replay, Report}
 use Rattle.ca_run.specs.declared.finding.Finding.{Finding}
-use Rattle.ca_run.specs.declared.finding.Finding.TheVariants.{NoJournal, BadLine, IllegalAt, Stands, Lines}
+use Rattle.ca_run.specs.declared.finding.Finding.TheVariants.{NoJournal, BadLine, IllegalAt, Stands, Written, Lines}
 use Rattle.ca_run.specs.Inputs.{greatest_length, ProgramOf}
 use Rattle.ca_run.specs.Marker.{IsParted, IsUnparted}
 
@@ -64,6 +65,10 @@ standing_line Standing.StillOpen = codes "legal open\n"
 abbrev pub IsReplayed : List ℕ → List ℕ → Type 0
 IsReplayed input line = (program : ProgramView) × (journal : List EventView) × (s : Standing) × AsksOf input program journal × IsVerdict program journal (IsLegal s) × (line ≡ standing_line s)
 
+-- the journal is legal, and the text is what that run writes
+abbrev pub IsFollowed : List ℕ → List ℕ → Type 0
+IsFollowed input text = (program : ProgramView) × (journal : List EventView) × AsksOf input program journal × Legal program journal × (text ≡ output journal)
+
 -- the journal is legal, and the text is the report on it
 abbrev pub IsReported : List ℕ → List ℕ → Type 0
 IsReported input text = (program : ProgramView) × (journal : List EventView) × AsksOf input program journal × ((legal : Legal program journal) × (text ≡ report_text journal legal.state))
@@ -74,6 +79,7 @@ Finds (Run workers budget journal) input text = ⊥
 Finds Check input text = ⊥
 Finds (Load n workers) input text = ⊥
 Finds Replay input text = IsRejected input text ⊎ IsReplayed input text
+Finds Follow input text = IsRejected input text ⊎ IsFollowed input text
 Finds Report input text = IsRejected input text ⊎ IsReported input text
 
 -- ---- a finding: its text, its status, and when it is right
@@ -83,6 +89,7 @@ finding_text NoJournal = codes "no journal\n"
 finding_text (BadLine k) = numbered_line (codes "bad line ") k
 finding_text (IllegalAt k) = numbered_line (codes "illegal ") k
 finding_text (Stands s) = standing_line s
+finding_text (Written t) = list t
 finding_text (Lines t) = list t
 
 abbrev pub finding_status : Finding → ℕ
@@ -90,6 +97,7 @@ finding_status NoJournal = 10
 finding_status (BadLine k) = 10
 finding_status (IllegalAt k) = 10
 finding_status (Stands s) = 0
+finding_status (Written t) = 0
 finding_status (Lines t) = 0
 
 abbrev pub IsFinding : Command → List ℕ → Finding → Type 0
@@ -97,21 +105,32 @@ IsFinding c input NoJournal = IsRejected input (finding_text NoJournal)
 IsFinding c input (BadLine k) = IsRejected input (finding_text (BadLine k))
 IsFinding c input (IllegalAt k) = IsRejected input (finding_text (IllegalAt k))
 IsFinding c input (Stands s) = (c ≡ Replay) × IsReplayed input (finding_text (Stands s))
+IsFinding c input (Written t) = (c ≡ Follow) × IsFollowed input (finding_text (Written t))
 IsFinding c input (Lines t) = (c ≡ Report) × IsReported input (finding_text (Lines t))
 
--- what replay and report find of a program and a journal's events
+-- what replay, follow and report find of a program and a journal's events
 abbrev pub IsVerdictOf : ProgramView → List EventView → Finding → Type 0
 IsVerdictOf program journal NoJournal = ⊥
 IsVerdictOf program journal (BadLine k) = ⊥
 IsVerdictOf program journal (IllegalAt k) = IsFirstIllegal program journal k
 IsVerdictOf program journal (Stands s) = IsVerdict program journal (IsLegal s)
+IsVerdictOf program journal (Written t) = ⊥
 IsVerdictOf program journal (Lines t) = ⊥
+
+abbrev pub IsOutputOf : ProgramView → List EventView → Finding → Type 0
+IsOutputOf program journal NoJournal = ⊥
+IsOutputOf program journal (BadLine k) = ⊥
+IsOutputOf program journal (IllegalAt k) = IsFirstIllegal program journal k
+IsOutputOf program journal (Stands s) = ⊥
+IsOutputOf program journal (Written t) = Legal program journal × (list t ≡ output journal)
+IsOutputOf program journal (Lines t) = ⊥
 
 abbrev pub IsReportOf : ProgramView → List EventView → Finding → Type 0
 IsReportOf program journal NoJournal = ⊥
 IsReportOf program journal (BadLine k) = ⊥
 IsReportOf program journal (IllegalAt k) = IsFirstIllegal program journal k
 IsReportOf program journal (Stands s) = ⊥
+IsReportOf program journal (Written t) = ⊥
 IsReportOf program journal (Lines t) = (legal : Legal program journal) × (list t ≡ report_text journal legal.state)
 
 -- what a journal's text comes to, beside the program of its script
@@ -120,4 +139,5 @@ IsFindingOf c program text NoJournal = ⊥
 IsFindingOf c program text (BadLine k) = IsBadLine k text
 IsFindingOf c program text (IllegalAt k) = (journal : List EventView) × JournalReads text journal × IsFirstIllegal program journal k
 IsFindingOf c program text (Stands s) = (c ≡ Replay) × ((journal : List EventView) × JournalReads text journal × IsVerdict program journal (IsLegal s))
+IsFindingOf c program text (Written t) = (c ≡ Follow) × ((journal : List EventView) × JournalReads text journal × Legal program journal × (list t ≡ output journal))
 IsFindingOf c program text (Lines t) = (c ≡ Report) × ((journal : List EventView) × JournalReads text journal × ((legal : Legal program journal) × (list t ≡ report_text journal legal.state)))

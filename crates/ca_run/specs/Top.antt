@@ -24,7 +24,7 @@ use Rattle.ca_forms.specs.declared.error.CheckErrorKind.{CheckErrorKind}
 use Rattle.ca_forms.specs.Kind.{kind_name as check_kind_name}
 use Rattle.ca_check.specs.Expansion.{expansion_of}
 use Rattle.ca_words.specs.declared.command.Command.{Command}
-use Rattle.ca_words.specs.declared.command.Command.TheVariants.{Check, Load, Run, Replay, Report}
+use Rattle.ca_words.specs.declared.command.Command.TheVariants.{Check, Follow, Load, Run, Replay, Report}
 use Rattle.ca_journal.specs.declared.journal.Journal.{Journal}
 use Rattle.ca_journal.specs.Events.{events}
 use Rattle.ca_sealed.specs.KeepsLaws.{KeepsLaws}
@@ -41,6 +41,7 @@ budget_of (Run workers budget journal) = budget
 budget_of Check = 0
 budget_of (Load n workers) = 4_000_000
 budget_of Replay = 0
+budget_of Follow = 0
 budget_of Report = 0
 
 -- how many workers run it
@@ -49,6 +50,7 @@ workers_of (Run workers budget journal) = workers
 workers_of Check = 0
 workers_of (Load n workers) = workers
 workers_of Replay = 0
+workers_of Follow = 0
 workers_of Report = 0
 
 -- a script is run, and not only checked
@@ -57,6 +59,7 @@ runs (Run workers budget journal) = true
 runs Check = false
 runs (Load n workers) = true
 runs Replay = false
+runs Follow = false
 runs Report = false
 
 -- its script is read from the source
@@ -65,6 +68,7 @@ reads (Run workers budget journal) = true
 reads Check = true
 reads (Load n workers) = false
 reads Replay = true
+reads Follow = true
 reads Report = true
 
 -- a journal is read behind the script, to be judged
@@ -73,6 +77,7 @@ judges (Run workers budget journal) = false
 judges Check = false
 judges (Load n workers) = false
 judges Replay = true
+judges Follow = true
 judges Report = true
 
 -- the journal follows what the run prints
@@ -81,6 +86,7 @@ shows_journal (Run workers budget journal) = journal
 shows_journal Check = false
 shows_journal (Load n workers) = false
 shows_journal Replay = false
+shows_journal Follow = false
 shows_journal Report = false
 
 -- A clock that a call was given and hands back: the moment that no answer of it lies below, and what it had told of its
@@ -130,6 +136,7 @@ Given (Run workers budget journal) before after script = ReadWhole greatest_leng
 Given Check before after script = ReadWhole greatest_length before after script
 Given (Load n workers) before after script = (after ≡ before) × (script ≡ load_text n)
 Given Replay before after script = ReadPart before after script
+Given Follow before after script = ReadPart before after script
 Given Report before after script = ReadPart before after script
 
 -- the events are a run of the command's script, with the clock in that span
@@ -200,11 +207,12 @@ Refused (Run workers budget journal) before after line = IsTooLong greatest_leng
 Refused Check before after line = IsTooLong greatest_length before after line ⊎ IsRefused Check before after line
 Refused (Load n workers) before after line = IsRefused (Load n workers) before after line
 Refused Replay before after line = IsTooLong greatest_input before after line ⊎ (IsLongPart before after line ⊎ IsRefused Replay before after line)
+Refused Follow before after line = IsTooLong greatest_input before after line ⊎ (IsLongPart before after line ⊎ IsRefused Follow before after line)
 Refused Report before after line = IsTooLong greatest_input before after line ⊎ (IsLongPart before after line ⊎ IsRefused Report before after line)
 
 -- the line that says which words are admitted
 abbrev pub usage : List ℕ
-usage = codes "usage: run [--workers N] [--budget N] [--journal] / check / load N [--workers N] / replay / report\n"
+usage = codes "usage: run [--workers N] [--budget N] [--journal] / check / load N [--workers N] / replay / follow / report\n"
 
 -- What a run writes: what it prints, its journal where that is asked for, and the line of its end.
 abbrev pub RunText : Bool → List EventView → RunEnd → List ℕ → Type 0
@@ -269,6 +277,7 @@ HasScript (Run workers budget journal) left = IsScript left
 HasScript Check left = IsScript left
 HasScript (Load n workers) left = HasProgram (load_text n)
 HasScript Replay left = IsParts left
+HasScript Follow left = IsParts left
 HasScript Report left = IsParts left
 
 -- the statuses of an accepted script: those of a run's ends, that of a check, or those of what is found of a journal
@@ -277,6 +286,7 @@ IsDone (Run workers budget journal) status = (status ≡ 0) ⊎ (3 ≤ status ×
 IsDone Check status = status ≡ 0
 IsDone (Load n workers) status = (status ≡ 0) ⊎ (3 ≤ status × status ≤ 5)
 IsDone Replay status = (status ≡ 0) ⊎ (status ≡ 10)
+IsDone Follow status = (status ≡ 0) ⊎ (status ≡ 10)
 IsDone Report status = (status ≡ 0) ⊎ (status ≡ 10)
 
 -- The status where no device failed: with other words than a command's it is 1, with a command's that of an accepted

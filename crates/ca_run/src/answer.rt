@@ -154,7 +154,7 @@ fn answer_of<R: Threads + Wait + Sync, C: Clock + Drop + Send, G: Gate + Sync>(
             journal,
         } => (workers, budget, journal),
         Command::Load { workers, .. } => (workers, LOAD_BUDGET, false),
-        Command::Replay | Command::Report => unreachable!(),
+        Command::Replay | Command::Follow | Command::Report => unreachable!(),
     };
     match run_script(rt, alloc, program, workers, budget, clock, gate) {
         Ok((run, clock)) => Ok((Answer::Ran(run, shown), clock)),
@@ -170,7 +170,7 @@ pub fn text_of(alloc: Global, answer: &Answer) -> Result<Text, OutOfMemory>
     match answer {
         Answer::Usage => Text::from_bytes(
             alloc,
-            b"usage: run [--workers N] [--budget N] [--journal] / check / load N [--workers N] / replay / report\n",
+            b"usage: run [--workers N] [--budget N] [--journal] / check / load N [--workers N] / replay / follow / report\n",
         ),
         Answer::Refused(refusal) => line_of(alloc, *refusal),
         Answer::Accepted => Text::from_bytes(alloc, b"ok\n"),

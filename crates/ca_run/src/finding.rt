@@ -4,16 +4,18 @@ ghost use Rattle.ca_value.specs.Seq.{list};
 ghost use Rattle.ca_term.specs.Program.{program_view};
 ghost use Rattle.ca_journal.specs.Events.{events};
 ghost use Rattle.ca_run.specs.Answers.{JudgedInput};
-ghost use Rattle.ca_run.specs.Findings.{finding_text, numbered_line, IsFindingOf, IsReportOf, IsVerdictOf};
+ghost use Rattle.ca_run.specs.Findings.{finding_text, numbered_line, IsFindingOf, IsOutputOf, IsReportOf, IsVerdictOf};
 ghost use Rattle.ca_run.specs.Inputs.{greatest_input};
 ghost use Rattle.ca_run.specs.Top.{judges};
 
 use crate::answer::{Answer, GREATEST_LENGTH, Refusal, Scripted, program_of};
 use crate::parting::parted;
+use ca_follow::following::{Followed, follow};
 use ca_journal::journal::Journal;
 use ca_journal::print::texts_are_as_long_as_journals;
 use ca_journal_reader::error::JournalError;
 use ca_journal_reader::read::read_journal;
+use ca_moves::lower::lower_moving;
 use ca_replay::replaying::{Replayed, Standing, replay};
 use ca_report::report::{Reported, report};
 use ca_term::program::Program;
@@ -33,6 +35,8 @@ pub enum Finding {
     IllegalAt(u64),
     /// It is legal, and stands so.
     Stands(Standing),
+    /// It is legal, and this is what that run writes.
+    Written(Text),
     /// It is legal, and this is the report on it.
     Lines(Text),
 }
@@ -78,6 +82,7 @@ fn finding_of(
     };
     match command {
         Command::Replay => replayed(alloc, program, &journal),
+        Command::Follow => followed(alloc, program, &journal),
         Command::Report => reported(alloc, program, &journal),
         Command::Run { .. } | Command::Check | Command::Load { .. } => unreachable!(),
     }
@@ -91,6 +96,19 @@ fn replayed(alloc: Global, program: &Program, journal: &Journal) -> Result<Findi
     match replay(alloc, program, journal)? {
         Replayed::Legal(standing) => Ok(Finding::Stands(standing)),
         Replayed::IllegalAt(number) => Ok(Finding::IllegalAt(number)),
+    }
+}
+
+// What the compiled script writes along the journal, where it is legal.
+fn followed(alloc: Global, program: &Program, journal: &Journal) -> Result<Finding, OutOfMemory>
+    requires { length (events journal.now) < 2 ^ 32 }
+    ensures { IfOk result (IsOutputOf (program_view program.now) (events journal.now)) }
+{
+    program.checked();
+    let code = lower_moving(alloc, program)?;
+    match follow(alloc, &code, journal)? {
+        Followed::Written(text) => Ok(Finding::Written(text)),
+        Followed::IllegalAt(number) => Ok(Finding::IllegalAt(number)),
     }
 }
 
@@ -117,7 +135,7 @@ pub fn text_of_finding(alloc: Global, finding: &Finding) -> Result<Text, OutOfMe
         Finding::Stands(Standing::Faulted) => Text::from_bytes(alloc, b"legal faulted\n"),
         Finding::Stands(Standing::Stuck) => Text::from_bytes(alloc, b"legal stuck\n"),
         Finding::Stands(Standing::StillOpen) => Text::from_bytes(alloc, b"legal open\n"),
-        Finding::Lines(text) => text.copy(alloc),
+        Finding::Written(text) | Finding::Lines(text) => text.copy(alloc),
     }
 }
 

@@ -5,8 +5,8 @@
 //! writes what it prints or finds; its clauses are the headline and the cause of each status.
 //!
 //! Stands on `ca_words` for the command line, on `ca_reader` and `ca_check` for a script's program, on `ca_moves` and
-//! `ca_machine` for its compiled text, on `ca_pool` for its run, on `ca_journal_reader`, `ca_replay` and `ca_report` for what is
-//! found of a journal, on `ca_timers`, `ca_journal` and what these stand on, and on `itoa`. Start with `top` and
+//! `ca_tasks` for its compiled text, on `ca_pool` for its run, on `ca_journal_reader`, `ca_replay`, `ca_follow` and `ca_report`
+//! for what is found of a journal, on `ca_timers`, `ca_journal` and what these stand on, and on `itoa`. Start with `top` and
 //! `specs/Top.antt`, then `answer`, `run` and `finding`.
 #![tactic(auto)]
 

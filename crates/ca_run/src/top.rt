@@ -6,8 +6,8 @@ ghost use Rattle.ca_meaning.specs.Ends.{ended, faulted, limit, stuck};
 ghost use Rattle.ca_meaning.specs.Solo.{NoTimeouts};
 ghost use Rattle.ca_timers.specs.Causes.{Rose};
 ghost use Rattle.ca_words.specs.Words.{command_in};
-ghost use Rattle.ca_words.specs.declared.command.Command.TheVariants.{Check, Load, Replay, Report};
-ghost use Rattle.ca_run.specs.Findings.{finding_status, IsRejected, IsReplayed, IsReported};
+ghost use Rattle.ca_words.specs.declared.command.Command.TheVariants.{Check, Follow, Load, Replay, Report};
+ghost use Rattle.ca_run.specs.Findings.{finding_status, IsFollowed, IsRejected, IsReplayed, IsReported};
 ghost use Rattle.ca_run.specs.Top.{Accepted, ClockSpan, Completed, CompletedFor, IsComplete, IsLawful, NoneRose, ReadsScript, Refused, RunsScript, Partly, ToldNothing, JudgesJournal, Writes, judges, reads, runs, span_between, span_of, usage};
 ghost use Rattle.ca_run.specs.Answers.{status_of, journal_of, AnswersTo, IsFit, RunsNothing};
 ghost use Rattle.ca_run.specs.Stops.{clock_left};
@@ -168,7 +168,9 @@ fn judge<R: Threads + Wait + Sync, S: Source, C: Clock + Drop + Send, G: Gate + 
         Command::Run { .. } | Command::Check => {
             judge_source(rt, alloc, command, source, clock, gate)
         }
-        Command::Replay | Command::Report => judge_input(alloc, command, source, clock),
+        Command::Replay | Command::Follow | Command::Report => {
+            judge_input(alloc, command, source, clock)
+        }
     }
 }
 
@@ -213,6 +215,7 @@ pub fn main_call<
     ensures refused { result.status ≡ 2 → (command : Command) × (line : List ℕ) × (command_in (map string_bytes words.now) ≡ Some command) × Refused command (S.left source.old) (S.left source.new) line × Appends (K.held sink.old) (K.held sink.new) line }
     // What is found of a journal.
     ensures replayed { command_in (map string_bytes words.now) ≡ Some Replay → result.status ≡ 0 → Writes IsReplayed (S.left source.old) (S.left source.new) (K.held sink.old) (K.held sink.new) }
+    ensures followed { command_in (map string_bytes words.now) ≡ Some Follow → result.status ≡ 0 → Writes IsFollowed (S.left source.old) (S.left source.new) (K.held sink.old) (K.held sink.new) }
     ensures reported { command_in (map string_bytes words.now) ≡ Some Report → result.status ≡ 0 → Writes IsReported (S.left source.old) (S.left source.new) (K.held sink.old) (K.held sink.new) }
     ensures rejected { result.status ≡ 10 → JudgesJournal (command_in (map string_bytes words.now)) × Writes IsRejected (S.left source.old) (S.left source.new) (K.held sink.old) (K.held sink.new) }
     ensures read { result.status ≡ 6 → ReadsScript (command_in (map string_bytes words.now)) × Rose (S.faults source.old) (S.faults source.new) }
@@ -313,6 +316,6 @@ fn status_of_finding(finding: &Finding) -> u8
 {
     match finding {
         Finding::NoJournal | Finding::BadLine(_) | Finding::IllegalAt(_) => 10,
-        Finding::Stands(_) | Finding::Lines(_) => 0,
+        Finding::Stands(_) | Finding::Written(_) | Finding::Lines(_) => 0,
     }
 }

@@ -1,7 +1,7 @@
 -- The definition at words that are written out.
 use Rattle.std.proofs.Common.{◌≡◌, refl, true, false, [], ◌∷◌, Some, None, codes}
 use Rattle.ca_words.specs.Words.{command_in}
-use Rattle.ca_words.specs.declared.command.Command.TheVariants.{Run, Load, Replay, Report}
+use Rattle.ca_words.specs.declared.command.Command.TheVariants.{Run, Load, Replay, Follow, Report}
 
 number_last : command_in (codes "load" ∷ codes "--workers=2" ∷ codes "5" ∷ []) ≡ Some (Load 5 2)
 number_last = refl
@@ -35,6 +35,9 @@ all_three = refl
 
 replayed : command_in (codes "replay" ∷ []) ≡ Some Replay
 replayed = refl
+
+followed : command_in (codes "follow" ∷ []) ≡ Some Follow
+followed = refl
 
 reported : command_in (codes "report" ∷ []) ≡ Some Report
 reported = refl

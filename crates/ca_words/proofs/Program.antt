@@ -91,6 +91,21 @@ module _ (ws : List Text) where
   pub replay_entered : subcommand_of command_line (codes "replay" ∷ ws) ≡ Some (codes "replay", rows_after [] [] ws)
   replay_entered = ap (λ (w : Walk). entered P w.stopped) replay_walk
 
+  follow_walk : walk P.top.rules (names_of P) nothing_held (codes "follow" ∷ ws) ≡ met (codes "follow") ws
+  unfolding walked
+  follow_walk = sym (walk_stopped P.top.rules (names_of P) (walk_from nothing_held) (codes "follow") [] ws)
+
+  follow_turns : walk_fault P.top (names_of P) (walk_from nothing_held) (codes "follow" ∷ ws) ≡ []
+  unfolding walk_fault walked
+  follow_turns = no_more (codes "follow") [] ws
+
+  pub follow_fault : fault_of command_line (codes "follow" ∷ ws) ≡ below (leaf (codes "follow") []) ws
+  unfolding defaults_fault
+  follow_fault = ap₂ from_walk follow_turns follow_walk ∙ no_second (below (leaf (codes "follow") []) ws)
+
+  pub follow_entered : subcommand_of command_line (codes "follow" ∷ ws) ≡ Some (codes "follow", rows_after [] [] ws)
+  follow_entered = ap (λ (w : Walk). entered P w.stopped) follow_walk
+
   report_walk : walk P.top.rules (names_of P) nothing_held (codes "report" ∷ ws) ≡ met (codes "report") ws
   unfolding walked
   report_walk = sym (walk_stopped P.top.rules (names_of P) (walk_from nothing_held) (codes "report") [] ws)

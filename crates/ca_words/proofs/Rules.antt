@@ -29,7 +29,7 @@ run_rules = valued (codes "workers") ∷ valued (codes "budget") ∷ flag (codes
 abbrev pub load_rules : List Rule
 load_rules = place (codes "n") 1 ∷ valued (codes "workers") ∷ []
 
-pub built_subs : (built command_line).subs ≡ leaf (codes "run") run_rules ∷ leaf (codes "check") [] ∷ leaf (codes "load") load_rules ∷ leaf (codes "replay") [] ∷ leaf (codes "report") [] ∷ []
+pub built_subs : (built command_line).subs ≡ leaf (codes "run") run_rules ∷ leaf (codes "check") [] ∷ leaf (codes "load") load_rules ∷ leaf (codes "replay") [] ∷ leaf (codes "follow") [] ∷ leaf (codes "report") [] ∷ []
 built_subs = refl
 
 -- ---- where the walk stands

@@ -10,7 +10,7 @@ use Rattle.clap.specs.Simple.{subcommand_of}
 use Rattle.clap.specs.Faults.{fault_of}
 use Rattle.ca_words.specs.declared.command.Command.{Command}
 use Rattle.ca_words.specs.declared.name.Name.{Name}
-use Rattle.ca_words.specs.declared.name.Name.TheVariants.{Run, Check, Load, Replay, Report}
+use Rattle.ca_words.specs.declared.name.Name.TheVariants.{Run, Check, Load, Replay, Follow, Report}
 use Rattle.ca_words.specs.declared.command.Command.TheVariants as command
 use Rattle.ca_words.specs.Line.{command_line}
 use Rattle.ca_words.specs.Reading.{Reads, is_open, name_in, name_of}
@@ -22,7 +22,7 @@ use Rattle.ca_words.proofs.RunTheorem.{run_open, run_taken, run_takes}
 use Rattle.ca_words.proofs.LoadTheorem.{load_open, load_taken, load_takes}
 use Rattle.ca_words.proofs.AloneTheorem.{alone_open, alone_taken, alone_takes}
 use Rattle.ca_words.proofs.OpenWords.{opens}
-use Rattle.ca_words.proofs.Program.{check_entered, check_fault_is, load_entered, load_fault, replay_entered, replay_fault, report_entered, report_fault, run_entered, run_fault}
+use Rattle.ca_words.proofs.Program.{check_entered, check_fault_is, follow_entered, follow_fault, load_entered, load_fault, replay_entered, replay_fault, report_entered, report_fault, run_entered, run_fault}
 
 -- ---- by the command's name
 
@@ -31,25 +31,28 @@ asked Run ws = run_words (joined ws)
 asked Check ws = alone command.Check (joined ws)
 asked Load ws = load_words (joined ws)
 asked Replay ws = alone command.Replay (joined ws)
+asked Follow ws = alone command.Follow (joined ws)
 asked Report ws = alone command.Report (joined ws)
 
 pub words_asked : (w : Text) (ws : List Text) → command_in (w ∷ ws) ≡ option_and_then (λ n. asked n ws) (name_of w)
-words_asked w ws = go (bytes_eq w (codes "run")) (bytes_eq w (codes "check")) (bytes_eq w (codes "load")) (bytes_eq w (codes "replay")) (bytes_eq w (codes "report")) refl refl refl refl refl
+words_asked w ws = go (bytes_eq w (codes "run")) (bytes_eq w (codes "check")) (bytes_eq w (codes "load")) (bytes_eq w (codes "replay")) (bytes_eq w (codes "follow")) (bytes_eq w (codes "report")) refl refl refl refl refl refl
   where
-    go : (a b d e f : Bool) → bytes_eq w (codes "run") ≡ a → bytes_eq w (codes "check") ≡ b → bytes_eq w (codes "load") ≡ d → bytes_eq w (codes "replay") ≡ e → bytes_eq w (codes "report") ≡ f
+    go : (a b d e f g : Bool) → bytes_eq w (codes "run") ≡ a → bytes_eq w (codes "check") ≡ b → bytes_eq w (codes "load") ≡ d → bytes_eq w (codes "replay") ≡ e → bytes_eq w (codes "follow") ≡ f → bytes_eq w (codes "report") ≡ g
         → command_in (w ∷ ws) ≡ option_and_then (λ n. asked n ws) (name_of w)
-    go true b d e f h k l m n = rw h refl
-    go false true d e f h k l m n = rw (h, k) refl
-    go false false true e f h k l m n = rw (h, k, l) refl
-    go false false false true f h k l m n = rw (h, k, l, m) refl
-    go false false false false true h k l m n = rw (h, k, l, m, n) refl
-    go false false false false false h k l m n = rw (h, k, l, m, n) refl
+    go true b d e f g h k l m n o = rw h refl
+    go false true d e f g h k l m n o = rw (h, k) refl
+    go false false true e f g h k l m n o = rw (h, k, l) refl
+    go false false false true f g h k l m n o = rw (h, k, l, m) refl
+    go false false false false true g h k l m n o = rw (h, k, l, m, n) refl
+    go false false false false false true h k l m n o = rw (h, k, l, m, n, o) refl
+    go false false false false false false h k l m n o = rw (h, k, l, m, n, o) refl
 
 asked_open : (n : Name) (ws : List Text) → is_some (asked n ws) ≡ true → list_all is_open ws ≡ true
 asked_open Run ws e = run_open ws e
 asked_open Check ws e = alone_open command.Check ws e
 asked_open Load ws e = load_open ws e
 asked_open Replay ws e = alone_open command.Replay ws e
+asked_open Follow ws e = alone_open command.Follow ws e
 asked_open Report ws e = alone_open command.Report ws e
 
 abbrev word_of : Name → Text
@@ -57,21 +60,23 @@ word_of Run = codes "run"
 word_of Check = codes "check"
 word_of Load = codes "load"
 word_of Replay = codes "replay"
+word_of Follow = codes "follow"
 word_of Report = codes "report"
 
 named : (w : Text) (n : Name) → name_of w ≡ Some n → w ≡ word_of n
-named w n e = go (bytes_eq w (codes "run")) (bytes_eq w (codes "check")) (bytes_eq w (codes "load")) (bytes_eq w (codes "replay")) (bytes_eq w (codes "report")) refl refl refl refl refl
+named w n e = go (bytes_eq w (codes "run")) (bytes_eq w (codes "check")) (bytes_eq w (codes "load")) (bytes_eq w (codes "replay")) (bytes_eq w (codes "follow")) (bytes_eq w (codes "report")) refl refl refl refl refl refl
   where
     inside_name : (a b : Name) → Some a ≡ Some b → word_of a ≡ word_of b
     inside_name a b h = ap (λ o. option_map_or word_of o []) h
 
-    go : (a b d f g : Bool) → bytes_eq w (codes "run") ≡ a → bytes_eq w (codes "check") ≡ b → bytes_eq w (codes "load") ≡ d → bytes_eq w (codes "replay") ≡ f → bytes_eq w (codes "report") ≡ g → w ≡ word_of n
-    go true b d f g h k l m o = (bytes_eq-Decides w (codes "run")).0 h ∙ inside_name Run n (rw h at e)
-    go false true d f g h k l m o = (bytes_eq-Decides w (codes "check")).0 k ∙ inside_name Check n (rw (h, k) at e)
-    go false false true f g h k l m o = (bytes_eq-Decides w (codes "load")).0 l ∙ inside_name Load n (rw (h, k, l) at e)
-    go false false false true g h k l m o = (bytes_eq-Decides w (codes "replay")).0 m ∙ inside_name Replay n (rw (h, k, l, m) at e)
-    go false false false false true h k l m o = (bytes_eq-Decides w (codes "report")).0 o ∙ inside_name Report n (rw (h, k, l, m, o) at e)
-    go false false false false false h k l m o = absurd (some≢none n (rw (h, k, l, m, o) at e))
+    go : (a b d f g i : Bool) → bytes_eq w (codes "run") ≡ a → bytes_eq w (codes "check") ≡ b → bytes_eq w (codes "load") ≡ d → bytes_eq w (codes "replay") ≡ f → bytes_eq w (codes "follow") ≡ g → bytes_eq w (codes "report") ≡ i → w ≡ word_of n
+    go true b d f g i h k l m o p = (bytes_eq-Decides w (codes "run")).0 h ∙ inside_name Run n (rw h at e)
+    go false true d f g i h k l m o p = (bytes_eq-Decides w (codes "check")).0 k ∙ inside_name Check n (rw (h, k) at e)
+    go false false true f g i h k l m o p = (bytes_eq-Decides w (codes "load")).0 l ∙ inside_name Load n (rw (h, k, l) at e)
+    go false false false true g i h k l m o p = (bytes_eq-Decides w (codes "replay")).0 m ∙ inside_name Replay n (rw (h, k, l, m) at e)
+    go false false false false true i h k l m o p = (bytes_eq-Decides w (codes "follow")).0 o ∙ inside_name Follow n (rw (h, k, l, m, o) at e)
+    go false false false false false true h k l m o p = (bytes_eq-Decides w (codes "report")).0 p ∙ inside_name Report n (rw (h, k, l, m, o, p) at e)
+    go false false false false false false h k l m o p = absurd (some≢none n (rw (h, k, l, m, o, p) at e))
 
 -- ---- what clap takes, is what is asked for
 
@@ -85,6 +90,7 @@ told Run ws o e =
 told Check ws o e = (codes "check", rows_after [] [] ws, check_entered ws, λ c reads. alone_taken (codes "check") command.Check ws o (sym (check_fault_is ws) ∙ e) ∙ sym reads)
 told Load ws o e = (codes "load", rows_after load_rules [] ws, load_entered ws, λ c reads. load_taken ws o (sym (load_fault ws) ∙ e) ∙ sym reads)
 told Replay ws o e = (codes "replay", rows_after [] [] ws, replay_entered ws, λ c reads. alone_taken (codes "replay") command.Replay ws o (sym (replay_fault ws) ∙ e) ∙ sym reads)
+told Follow ws o e = (codes "follow", rows_after [] [] ws, follow_entered ws, λ c reads. alone_taken (codes "follow") command.Follow ws o (sym (follow_fault ws) ∙ e) ∙ sym reads)
 told Report ws o e = (codes "report", rows_after [] [] ws, report_entered ws, λ c reads. alone_taken (codes "report") command.Report ws o (sym (report_fault ws) ∙ e) ∙ sym reads)
 
 takes : (n : Name) (ws : List Text) → Opens ws → is_some (asked n ws) ≡ true → fault_of command_line (word_of n ∷ ws) ≡ []
@@ -92,6 +98,7 @@ takes Run ws o e = run_fault ws ∙ run_takes ws o e
 takes Check ws o e = check_fault_is ws ∙ alone_takes (codes "check") command.Check ws o e
 takes Load ws o e = load_fault ws ∙ load_takes ws o e
 takes Replay ws o e = replay_fault ws ∙ alone_takes (codes "replay") command.Replay ws o e
+takes Follow ws o e = follow_fault ws ∙ alone_takes (codes "follow") command.Follow ws o e
 takes Report ws o e = report_fault ws ∙ alone_takes (codes "report") command.Report ws o e
 
 none_if : {X : Type 0} (o : Option X) → (is_some o ≡ true → ⊥) → o ≡ None

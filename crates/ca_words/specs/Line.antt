@@ -28,5 +28,5 @@ abbrev pub with_bare : Text → App → App
 with_bare name a = with_subcommand a (new_app name).top
 
 abbrev pub command_line : App
-command_line = with_bare (codes "report") (with_bare (codes "replay")
-    (with_subcommand (with_bare (codes "check") (with_subcommand (with_settings (new_app (codes "runzolev"))) run_line.top)) load_line.top))
+command_line = with_bare (codes "report") (with_bare (codes "follow") (with_bare (codes "replay")
+    (with_subcommand (with_bare (codes "check") (with_subcommand (with_settings (new_app (codes "runzolev"))) run_line.top)) load_line.top)))

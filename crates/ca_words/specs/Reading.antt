@@ -7,7 +7,7 @@ use Rattle.ca_words.specs.Words.{Text, after, bare, load_with, one_number, run_w
 use Rattle.ca_words.specs.declared.command.Command.{Command}
 use Rattle.ca_words.specs.declared.command.Command.TheVariants as command
 use Rattle.ca_words.specs.declared.name.Name.{Name}
-use Rattle.ca_words.specs.declared.name.Name.TheVariants.{Run, Check, Load, Replay, Report}
+use Rattle.ca_words.specs.declared.name.Name.TheVariants.{Run, Check, Load, Replay, Follow, Report}
 
 -- no `--`, and no word that begins with a single `-`
 abbrev pub is_open : Text → Bool
@@ -19,7 +19,8 @@ name_of w =
     else (if bytes_eq w (codes "check") then Some Check
     else (if bytes_eq w (codes "load") then Some Load
     else (if bytes_eq w (codes "replay") then Some Replay
-    else (if bytes_eq w (codes "report") then Some Report else None))))
+    else (if bytes_eq w (codes "follow") then Some Follow
+    else (if bytes_eq w (codes "report") then Some Report else None)))))
 
 -- the command that the words name, where the words after it are such as clap may read
 abbrev pub name_in : List Text → Option Name
@@ -40,4 +41,5 @@ Reads Check rows c = c ≡ Some command.Check
 Reads Load rows c = c ≡ load_with (one_number 1 20000 (option_to_list (first_of (codes "n") rows)))
     (setting 1 1 16 (option_to_list (first_of (codes "workers") rows)))
 Reads Replay rows c = c ≡ Some command.Replay
+Reads Follow rows c = c ≡ Some command.Follow
 Reads Report rows c = c ≡ Some command.Report

@@ -4,7 +4,7 @@ use Rattle.std.specs.List.{list_all}
 use Rattle.std.specs.Str.{bytes_eq}
 use Rattle.std.specs.Str.Parse.{digits_value}
 use Rattle.ca_words.specs.declared.command.Command.{Command}
-use Rattle.ca_words.specs.declared.command.Command.TheVariants.{Run, Check, Load, Replay, Report}
+use Rattle.ca_words.specs.declared.command.Command.TheVariants.{Run, Check, Load, Replay, Follow, Report}
 
 -- a word, as its bytes
 abbrev pub Text : Type 0
@@ -122,4 +122,5 @@ command_in (w ∷ ws) =
     else (if bytes_eq w (codes "check") then alone Check (joined ws)
     else (if bytes_eq w (codes "load") then load_words (joined ws)
     else (if bytes_eq w (codes "replay") then alone Replay (joined ws)
-    else (if bytes_eq w (codes "report") then alone Report (joined ws) else None))))
+    else (if bytes_eq w (codes "follow") then alone Follow (joined ws)
+    else (if bytes_eq w (codes "report") then alone Report (joined ws) else None)))))

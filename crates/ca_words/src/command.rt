@@ -1,7 +1,3 @@
-ghost use Rattle.std.specs.Prelude.{◌≡◌};
-
-use std::alloc::{AllocError, AllocFailed};
-
 /// What a command line asks for.
 #[derive(Clone, Copy, PartialEq, Eq)]
 pub enum Command {
@@ -25,6 +21,8 @@ pub enum Command {
     },
     /// To say whether a journal is a legal run of a script.
     Replay,
+    /// To run a script along a journal.
+    Follow,
     /// To say what each channel did in a journal, and who still waits.
     Report,
 }
@@ -36,24 +34,4 @@ pub enum WordsError {
     Usage,
     /// Memory ran out.
     OutOfMemory,
-}
-
-impl From<AllocError> for WordsError {
-    ghost use Rattle.ca_words.specs.declared.command.WordsError.TheVariants.{OutOfMemory};
-
-    ghost from_gives = { λ _ e. e ≡ OutOfMemory };
-
-    fn from(_: AllocError) -> WordsError {
-        WordsError::OutOfMemory
-    }
-}
-
-impl<T: Drop> From<AllocFailed<T>> for WordsError {
-    ghost use Rattle.ca_words.specs.declared.command.WordsError.TheVariants.{OutOfMemory};
-
-    ghost from_gives = { λ _ e. e ≡ OutOfMemory };
-
-    fn from(_: AllocFailed<T>) -> WordsError {
-        WordsError::OutOfMemory
-    }
 }

@@ -1,4 +1,4 @@
-//! What clap is told of the command line: one command with five subcommands.
+//! What clap is told of the command line: one command with six subcommands.
 
 ghost use Rattle.std.specs.Prelude.{◌≡◌, false, IfOk};
 ghost use Rattle.clap.specs.Words.{app_of};
@@ -44,6 +44,7 @@ pub fn command_line<'a>(alloc: Global) -> Result<clap::Command<'a>, AllocError>
     let check = clap::Command::new(alloc, "check");
     let load = load_line(alloc)?;
     let replay = clap::Command::new(alloc, "replay");
+    let follow = clap::Command::new(alloc, "follow");
     let report = clap::Command::new(alloc, "report");
     let start = clap::Command::new(alloc, "runzolev")
         .no_binary_name(true)
@@ -53,6 +54,7 @@ pub fn command_line<'a>(alloc: Global) -> Result<clap::Command<'a>, AllocError>
     let two = one.subcommand(check)?;
     let three = two.subcommand(load)?;
     let four = three.subcommand(replay)?;
-    let five = four.subcommand(report)?;
-    Ok(five)
+    let five = four.subcommand(follow)?;
+    let six = five.subcommand(report)?;
+    Ok(six)
 }

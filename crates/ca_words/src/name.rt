@@ -12,6 +12,7 @@ pub enum Name {
     Check,
     Load,
     Replay,
+    Follow,
     Report,
 }
 
@@ -37,6 +38,8 @@ fn name_of(word: &str) -> Option<Name>
         Some(Name::Load)
     } else if is_word(word, "replay") {
         Some(Name::Replay)
+    } else if is_word(word, "follow") {
+        Some(Name::Follow)
     } else if is_word(word, "report") {
         Some(Name::Report)
     } else {

@@ -32,7 +32,9 @@ fn parse<'a>(alloc: Global, words: &'a [String]) -> Result<ArgMatches<'a>, Words
         × (subcommand_rows_of m ≡ subcommand_of command_line (map string_bytes words.now))) }
     ensures usage { result ≡ Err WordsError.Usage → fault_of command_line (map string_bytes words.now) ≡ [] → ⊥ }
 {
-    let command = command_line(alloc)?;
+    let Ok(command) = command_line(alloc) else {
+        return Err(WordsError::OutOfMemory);
+    };
     match command.try_get_matches_from(words) {
         Ok(matches) => Ok(matches),
         Err(error) => Err(refusal(error.kind())),
@@ -68,6 +70,7 @@ fn read(name: Name, matches: &ArgMatches) -> Option<Command>
         Name::Check => Some(Command::Check),
         Name::Load => read_load(matches),
         Name::Replay => Some(Command::Replay),
+        Name::Follow => Some(Command::Follow),
         Name::Report => Some(Command::Report),
     }
 }

@@ -8,7 +8,7 @@ use Rattle.ca_meaning.specs.Ends.{ended, faulted, limit, stuck}
 use Rattle.ca_run.proofs.Causes.{not_eight, read_nothing, silent_of, without_run}
 use Rattle.ca_run.proofs.Complete.{close_complete, unfinished}
 use Rattle.ca_run.proofs.Lawful.{lawful_of}
-use Rattle.ca_run.proofs.Finishes.{differ, whole_text, part_text, ended_of, ends_of, accepted_of, refused_of, usage_of, partly_of, close_journal, close_asked, runs_nothing, replayed_of, reported_of, rejected_of}
+use Rattle.ca_run.proofs.Finishes.{differ, whole_text, part_text, ended_of, ends_of, accepted_of, refused_of, usage_of, partly_of, followed_of, close_journal, close_asked, runs_nothing, replayed_of, reported_of, rejected_of}
 use Rattle.ca_run.proofs.top.main_call.Goals as goal
 
 pub returns-clause-ended : goal.returns-clause-ended
@@ -232,6 +232,20 @@ returns-clause-replayed g c = λ is e.
     let words : c.as_slice.result.now ≡ answer_text a = search rules in
     let text = whole_text c.write_all.result c.is_ok-written.result c.close.result.status 0 a held (g.K.Sink.held c.reserve.new.self) taken c.as_slice.result.now c.is_ok-written.ensures.value c.close.ensures.lost c.close.ensures.done c.write_all.ensures.ok words c.reserve.ensures.held e (differ 0 7 (omega arith)) in
     replayed_of asked span left after held taken a is text.0 answers text.1
+
+pub returns-clause-followed : goal.returns-clause-followed
+returns-clause-followed g c = λ is e.
+    let a = c.in-Ok-judge.judged.0 in
+    let span = span_between g.C.Clock.least g.C.Clock.readings c.args.clock c.in-Ok-judge.judged.1 in
+    let left = g.S.Source.left c.args.source.now in
+    let after = g.S.Source.left c.judge.new.source in
+    let held = g.K.Sink.held c.args.sink.now in
+    let taken = g.K.Sink.held c.write_all.new.sink in
+    let asked = command_in (map string_bytes c.args.words.now) in
+    let answers : AnswersTo asked span left after a = subst (λ q. AnswersTo q span left after a) c.in-Ok.ensures.command (c.in-Ok-judge.ensures.answers c.in-Ok-judge.judged refl) in
+    let words : c.as_slice.result.now ≡ answer_text a = search rules in
+    let text = whole_text c.write_all.result c.is_ok-written.result c.close.result.status 0 a held (g.K.Sink.held c.reserve.new.self) taken c.as_slice.result.now c.is_ok-written.ensures.value c.close.ensures.lost c.close.ensures.done c.write_all.ensures.ok words c.reserve.ensures.held e (differ 0 7 (omega arith)) in
+    followed_of asked span left after held taken a is text.0 answers text.1
 
 pub returns-clause-reported : goal.returns-clause-reported
 returns-clause-reported g c = λ is e.

@@ -11,10 +11,12 @@ returns c =
     let check_is : shape_of c.new-check.result ≡ (new_app (codes "check")).top = ap (λ (a : App). a.top) c.new-check.ensures.app in
     let load_is : shape_of c.in_ok-load.load ≡ load_line.top = ap (λ (a : App). a.top) load.0 in
     let replay_is : shape_of c.new-replay.result ≡ (new_app (codes "replay")).top = ap (λ (a : App). a.top) c.new-replay.ensures.app in
+    let follow_is : shape_of c.new-follow.result ≡ (new_app (codes "follow")).top = ap (λ (a : App). a.top) c.new-follow.ensures.app in
     let report_is : shape_of c.new-report.result ≡ (new_app (codes "report")).top = ap (λ (a : App). a.top) c.new-report.ensures.app in
     let start_is : app_of c.disable_help_subcommand-start.result ≡ with_settings (new_app (codes "runzolev")) = search rules in
     let one_is = c.in_ok-one.ensures.shape run.1 ∙ ap₂ with_subcommand start_is run_is in
     let two_is = c.in_ok-two.ensures.shape c.new-check.ensures.local ∙ ap₂ with_subcommand one_is check_is in
     let three_is = c.in_ok-three.ensures.shape load.1 ∙ ap₂ with_subcommand two_is load_is in
     let four_is = c.in_ok-four.ensures.shape c.new-replay.ensures.local ∙ ap₂ with_subcommand three_is replay_is in
-    c.in_ok-five.ensures.shape c.new-report.ensures.local ∙ ap₂ with_subcommand four_is report_is
+    let five_is = c.in_ok-five.ensures.shape c.new-follow.ensures.local ∙ ap₂ with_subcommand four_is follow_is in
+    c.in_ok-six.ensures.shape c.new-report.ensures.local ∙ ap₂ with_subcommand five_is report_is
