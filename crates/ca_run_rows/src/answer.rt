@@ -61,7 +61,7 @@ fn answers_of_runs<R: Threads + Wait + Sync + AllocGlobal>(
 
 // The status, `+` where a journal is handed back, the text that was written, where the row asks for it how often the clock
 // was asked, where workers are held at a gate whether a wait at it was given up, and what `replay` says of the journal where
-// that isn't that it is legal and stands as the run ended.
+// that isn't that it is legal and stands as the run ended, or `follow` where that isn't the run's output.
 fn answer_of<R: Threads + Wait + Sync + AllocGlobal>(
     rt: &R,
     row: &Row,
@@ -94,8 +94,10 @@ fn answer_of<R: Threads + Wait + Sync + AllocGlobal>(
         text.push_str(" ")?;
         text.push_str(waits.told())?;
     }
-    if let Some(verdict) = other_verdict(rt, row, script, &finish)? {
-        text.push_str(" replay ")?;
+    if let Some((command, verdict)) = other_verdict(rt, row, script, &finish)? {
+        text.push_str(" ")?;
+        text.push_str(command)?;
+        text.push_str(" ")?;
         if append_readable(alloc, &mut text, &verdict).is_err() {
             return Err(AllocError);
         }

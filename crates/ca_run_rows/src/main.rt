@@ -15,9 +15,10 @@
 //! fails by. `slow` has the clock take milliseconds to tell the moment, and `runs=N` runs the script N times: the answer has
 //! each that differs from the one before it, behind its number.
 //!
-//! The journal of each run is judged by `replay` beside its script: the answer tells what that writes, behind `replay`, where it
-//! isn't that the journal is legal and stands as the run ended; `unjudged` leaves it out, where a script takes very many turns.
-//! `replay: SCRIPT|;;; journal|LINES` is a row of its own, and so is one of `report`.
+//! The journal of each run is judged by `replay` beside its script: the answer tells what that writes, behind `replay`, where
+//! it isn't that the journal is legal and stands as the run ended; and what `follow` writes, behind `follow`, where it isn't
+//! the run's output. `unjudged` leaves both out, where a script takes very many turns.
+//! `replay: SCRIPT|;;; journal|LINES` is a row of its own, and so is one of `follow` or `report`.
 //!
 //! Empty lines and comments are written as they stand, so the lines of both files go together. A row is added by writing a
 //! line into each: what the language's rules or core.async answer, never what this program did.

@@ -1,6 +1,7 @@
 use crate::clock::RowClock;
 use crate::row::Row;
 use ca_journal::journal::Journal;
+use ca_journal::output::output;
 use ca_journal::print::print;
 use ca_pool::gate::OpenGate;
 use ca_run::memory::{MemorySink, MemorySource};
@@ -14,14 +15,14 @@ use std::thread::Threads;
 /// The greatest length of a script. One as long has no room for the line feed before the marker line.
 const GREATEST_LENGTH: usize = 1_048_576;
 
-/// What `replay` writes of the run's journal beside its script, where that isn't what the run's status says; None too where
-/// no script was run.
+/// What `replay` writes of the run's journal beside its script, where that isn't what the run's status says, or `follow`,
+/// where that isn't the run's output, behind the command; None too where no script was run.
 pub fn other_verdict<R: Threads + Wait + Sync + AllocGlobal, C>(
     rt: &R,
     row: &Row,
     script: &[u8],
     finish: &Finish<C>,
-) -> Result<Option<Text>, AllocError> {
+) -> Result<Option<(&'static str, Text)>, AllocError> {
     let Some(journal) = &finish.journal else {
         return Ok(None);
     };
@@ -31,11 +32,18 @@ pub fn other_verdict<R: Threads + Wait + Sync + AllocGlobal, C>(
     let Ok(input) = input_of(rt.alloc(), script, journal) else {
         return Err(AllocError);
     };
-    let verdict = replay(rt, input.as_slice())?;
-    if agrees(finish.status, verdict.as_slice()) {
-        return Ok(None);
+    let replayed = judged(rt, "replay", input.as_slice())?;
+    if !agrees(finish.status, replayed.as_slice()) {
+        return Ok(Some(("replay", replayed)));
     }
-    Ok(Some(verdict))
+    let Ok(expected) = output(rt.alloc(), journal) else {
+        return Err(AllocError);
+    };
+    let followed = judged(rt, "follow", input.as_slice())?;
+    if followed.as_slice() != expected.as_slice() {
+        return Ok(Some(("follow", followed)));
+    }
+    Ok(None)
 }
 
 fn runs(row: &Row) -> bool {
@@ -54,13 +62,14 @@ fn input_of(alloc: Global, script: &[u8], journal: &Journal) -> Result<Text, Out
 }
 
 // What the command writes.
-fn replay<R: Threads + Wait + Sync + AllocGlobal>(
+fn judged<R: Threads + Wait + Sync + AllocGlobal>(
     rt: &R,
+    command: &str,
     input: &[u8],
 ) -> Result<Text, AllocError> {
     let alloc = rt.alloc();
     let mut words = Vec::new(alloc);
-    words.push(String::from_str(alloc, "replay")?)?;
+    words.push(String::from_str(alloc, command)?)?;
     let mut source = MemorySource::new(input, 4096);
     let mut sink = MemorySink::new(alloc, 4096);
     main_call(
