@@ -1,8 +1,8 @@
 #!/usr/bin/env bash
 # Runs each script of this folder and of examples/ with a program and says where it differs from what is stored beside it:
-# the output with one worker and with four (of the examples with sixteen too), and with one worker the journal. The journals of
-# its runs with 1, 4 and 16 workers are given back to `replay`, which must find them legal and standing as the run ended. The
-# inputs of journals/ are judged by `replay` and `report`.
+# the output with 1, 4 and 16 workers, and with one worker the journal. The journals of its runs with 1, 4 and 16 workers, and
+# of the scripts of journals/, are given back to `replay`, which must find them legal and standing as the run ended, and to
+# `follow`, which must write what the run wrote. The inputs of journals/ are judged by `replay`, `follow` and `report`.
 #
 #   conformance/compare.sh [--output] [PROGRAM]     the program is ../runzolev if none is named
 #
@@ -22,6 +22,16 @@ passed=0
 failed=0
 room=$(mktemp -d)
 trap 'rm -rf "$room"' EXIT
+
+# Counts what passed, by a status, and says what failed.
+count() {
+    if [ "$1" -eq 0 ]; then
+        passed=$((passed + 1))
+    else
+        failed=$((failed + 1))
+        echo "$2"
+    fi
+}
 
 # What a script writes, without the line of its end; and that line, which is there where it is stuck or faults.
 split() {
@@ -49,56 +59,49 @@ writes_it() {
     return 1
 }
 
-# How a journal stands at this line of a run's end.
+# How a journal stands at this status of a run.
 standing() {
-    case $(cat "$room/end") in
-    stuck) echo "legal stuck" ;;
-    fault*) echo "legal faulted" ;;
-    *) echo "legal ended" ;;
+    case $1 in
+    0) echo "legal ended" ;;
+    3) echo "legal faulted" ;;
+    4) echo "legal stuck" ;;
+    *) echo "no end that is compared" ;;
     esac
 }
 
-# Whether the journal of a run of the script is legal and stands as the run ended. In what the run writes the journal stands
-# between the output and the line of the end.
-replays_it() {
-    local tries=1 output end
-    output=$(wc -c <"$room/output")
-    end=$(wc -c <"$room/end")
-    if grep -q '(timeout ' "$name.clj"; then tries=3; fi
-    while [ "$((tries--))" -gt 0 ]; do
-        "$program" run --journal "$@" <"$name.clj" >"$room/written" 2>/dev/null
-        { cat "$name.clj"; echo; echo ';;; journal'; tail -c +"$((output + 1))" "$room/written" | head -c -"$end"; } >"$room/journal"
-        if [ "$("$program" replay <"$room/journal" 2>/dev/null)" = "$(standing)" ]; then return; fi
-    done
-    return 1
+# Whether the journal of a run of the script is legal and stands as the run ended, and `follow` writes along it what the run
+# wrote. The journal stands behind the output, from the last line 0 on, and before the line of the end.
+repeats_it() {
+    local status start
+    "$program" run --journal --workers "$1" <"$2" >"$room/written" 2>/dev/null
+    status=$?
+    start=$(grep -an '^0 ' "$room/written" | tail -n 1 | cut -d : -f 1)
+    head -n "$((start - 1))" "$room/written" >"$room/own"
+    { cat "$2"; echo; echo ';;; journal'; tail -n "+$start" "$room/written" | grep -aE '^[0-9]+ '; } >"$room/journal"
+    [ "$("$program" replay <"$room/journal" 2>/dev/null)" = "$(standing "$status")" ] &&
+        "$program" follow <"$room/journal" 2>/dev/null | cmp -s - "$room/own"
 }
 
-# Replays the journals of the script's runs.
-replay() {
+# Repeats the script's runs along their journals.
+repeat() {
     local workers
-    for workers; do
-        if replays_it --workers "$workers"; then
-            passed=$((passed + 1))
-        else
-            failed=$((failed + 1))
-            echo "$name: the journal with $workers workers isn't legal, or stands otherwise"
-        fi
+    for workers in 1 4 16; do
+        repeats_it "$workers" "$1"
+        count $? "$name: the journal with $workers workers isn't legal, stands otherwise or leads to another output"
     done
 }
 
-# What is found of each input of a script and a journal.
+# What is found of each input of a script and a journal. Its script, where it is one, is run too.
 judge() {
     local input command
     for input in "$1"/*.in; do
         name=${input%.in}
-        for command in replay report; do
+        sed '/^;;; journal$/,$d' "$input" >"$room/script"
+        if "$program" check <"$room/script" >"$room/written" 2>/dev/null; then repeat "$room/script"; fi
+        for command in replay follow report; do
             { "$program" "$command" <"$input"; echo "status $?"; } >"$room/written" 2>/dev/null
-            if cmp -s "$room/written" "$name.$command"; then
-                passed=$((passed + 1))
-            else
-                failed=$((failed + 1))
-                echo "$name differs by $command"
-            fi
+            cmp -s "$room/written" "$name.$command"
+            count $? "$name differs by $command"
         done
     done
 }
@@ -107,24 +110,19 @@ judge() {
 expect() {
     local what=$1
     shift
-    if writes_it "$@"; then
-        passed=$((passed + 1))
-    else
-        failed=$((failed + 1))
-        echo "$name differs $what"
-    fi
+    writes_it "$@"
+    count $? "$name differs $what"
 }
 
-# The scripts of a folder, with one worker and with each of these numbers of workers.
+# The scripts of a folder.
 compare() {
-    local folder=$1 workers
-    shift
-    for script in "$folder"/*.out; do
+    local workers
+    for script in "$1"/*.out; do
         name=${script%.out}
         split "$name"
         cat "$room/output" "$room/end" >"$room/expected"
-        for workers; do expect "with $workers workers" --workers "$workers"; done
-        if $full; then replay 1 4 16; fi
+        for workers in 4 16; do expect "with $workers workers" --workers "$workers"; done
+        if $full; then repeat "$name.clj"; fi
         if $full && [ -f "$name.journal" ]; then
             cat "$room/output" "$name.journal" "$room/end" >"$room/expected"
             expect "with one worker, the journal among it" --journal
@@ -134,8 +132,8 @@ compare() {
     done
 }
 
-compare conformance 4
-compare examples 4 16
+compare conformance
+compare examples
 if $full; then judge conformance/journals; fi
 echo "$passed passed, $failed failed"
 [ "$failed" -eq 0 ]
