@@ -1,5 +1,6 @@
 -- Which kinds of turns stand in lists of turns, and among those of several workers.
 use Rattle.std.proofs.Common.{◌≡◌, ◌∙◌, ◌⊎◌, inl, inr, ⊎_elim, List, [], ◌∷◌, ◌++◌, length, refl, sym, ap, subst, arith, Bool, true, false}
+use mathlib.Core.List.{append_assoc, append-nil}
 use Rattle.std.specs.Prelude.{◌||◌}
 use Rattle.ca_turns.specs.declared.rule.Turn.{Turn}
 use Rattle.ca_commit.specs.Moving.{visible}
@@ -8,10 +9,11 @@ use Rattle.ca_table.specs.Draws.{turn_view}
 use Rattle.ca_table.specs.Members.{In}
 use Rattle.ca_table.specs.Running.{shown_by}
 use Rattle.ca_table.specs.Seen.{PartSeen}
-use Rattle.ca_table.specs.Worked.{HasMainEnd, any_drew, ends_main, has, has_drawn, obeys_mark, stays_stuck}
+use Rattle.ca_table.specs.Worked.{AnyDrew, HasMainEnd, any_drew, ends_main, has, has_drawn, obeys_mark, stays_stuck}
+use Rattle.ca_table.specs.Workers.{turns_of}
 use Rattle.ca_table.specs.declared.drawn.Drawn.{Drawn}
 use Rattle.ca_table.specs.declared.worker.Worker.{Worker}
-use Rattle.ca_table.proofs.Members.{in_first, in_second}
+use Rattle.ca_table.proofs.Members.{in_either, in_first, in_second}
 
 pub either_true : (a b : Bool) → (a || b) ≡ true → (a ≡ true) ⊎ (b ≡ true)
 either_true true b e = inl refl
@@ -65,31 +67,40 @@ module _ {C : Type 0} (such : said.Turn → Bool) where
   pub none_within : (ts us : List (Turn C Drawn)) → ((t : Turn C Drawn) → In t ts → In t us) → has such us ≡ false → has such ts ≡ false
   none_within ts us all e = false_unless (has such ts) (λ h. not_false (has such us) e (has_within ts us all h))
 
-module _ {A C : Type 0} (such : said.Turn → Bool) where
-  pub any_more : (ws : List (Worker A C)) (w : Worker A C) → any_drew such (ws ++ w ∷ []) ≡ (has_drawn such w || any_drew such ws)
-  any_more [] w = refl
-  any_more (x ∷ ws) w = ap (λ b. has_drawn such x || b) (any_more ws w)
-      ∙ sym (or_grouped (has_drawn such x) (has_drawn such w) (any_drew such ws))
-      ∙ ap (λ b. b || any_drew such ws) (or_turned (has_drawn such x) (has_drawn such w))
-      ∙ or_grouped (has_drawn such w) (has_drawn such x) (any_drew such ws)
-
-module _ {A C : Type 0} (such : said.Turn → Bool) where
-  -- the turns of one worker join those of others
-  pub turns_join : {new : List (Turn (PartSeen A) Drawn)} (mine : List (Turn (PartSeen A) Drawn)) (w : Worker A C) (xs ys : List (Worker A C)) (b : Bool) → new ≡ mine ++ w.hand.view.turns → xs ≡ ys ++ w ∷ [] → (has such mine || any_drew such xs) ≡ b → (has such new || any_drew such ys) ≡ b
-  turns_join {new} mine w xs ys b turns popped all = ap (λ c. c || any_drew such ys) (ap (has such) turns ∙ has_append such mine w.hand.view.turns)
-      ∙ or_grouped (has such mine) (has_drawn such w) (any_drew such ys)
-      ∙ ap (λ c. has such mine || c) (sym (any_more such ys w) ∙ ap (any_drew such) (sym popped)) ∙ all
-
-  none_left : (xs : List (Worker A C)) → length xs ≡ 0 → any_drew such xs ≡ false
-  none_left [] e = refl
-  none_left (x ∷ xs) e = absurd (omega (arith, e))
-
-  pub turns_joined : (mine : List (Turn (PartSeen A) Drawn)) (xs : List (Worker A C)) (b : Bool) → length xs ≡ 0 → (has such mine || any_drew such xs) ≡ b → has such mine ≡ b
-  turns_joined mine xs b none all = or_turned false (has such mine) ∙ ap (λ c. has such mine || c) (sym (none_left xs none)) ∙ all
+module _ {A C : Type 0} where
+  -- one worker more
+  turns_more : (ws : List (Worker A C)) (w : Worker A C) → turns_of (ws ++ w ∷ []) ≡ w.hand.view.turns ++ turns_of ws
+  turns_more [] w = sym (append-nil w.hand.view.turns)
+  turns_more (v ∷ ws) w = ap (λ ts. ts ++ v.hand.view.turns) (turns_more ws w) ∙ append_assoc w.hand.view.turns (turns_of ws) v.hand.view.turns
 
   -- all turns of the workers are those that were joined
-  pub of_all : (turns : List (Turn (PartSeen A) Drawn)) (ys : List (Worker A C)) (first : Worker A C) (xs : List (Worker A C)) → xs ≡ ys ++ first ∷ [] → has such turns ≡ (has_drawn such first || any_drew such ys) → any_drew such xs ≡ has such turns
-  of_all turns ys first xs popped all = ap (any_drew such) popped ∙ any_more such ys first ∙ sym all
+  pub all_turns : {turns : List (Turn (PartSeen A) Drawn)} (ys : List (Worker A C)) (first : Worker A C) (xs : List (Worker A C)) → xs ≡ ys ++ first ∷ [] → turns ≡ first.hand.view.turns ++ turns_of ys → turns ≡ turns_of xs
+  all_turns ys first xs popped all = all ∙ sym (ap turns_of popped ∙ turns_more ys first)
+
+  -- the turns of one worker join those of others
+  pub turns_join : {new : List (Turn (PartSeen A) Drawn)} (mine : List (Turn (PartSeen A) Drawn)) (w : Worker A C) (xs ys : List (Worker A C)) (b : List (Turn (PartSeen A) Drawn)) → new ≡ mine ++ w.hand.view.turns → xs ≡ ys ++ w ∷ [] → mine ++ turns_of xs ≡ b → new ++ turns_of ys ≡ b
+  turns_join mine w xs ys b turns popped all = ap (λ ts. ts ++ turns_of ys) turns ∙ append_assoc mine w.hand.view.turns (turns_of ys) ∙ ap (λ ts. mine ++ ts) (sym (ap turns_of popped ∙ turns_more ys w)) ∙ all
+
+  pub turns_joined : (mine : List (Turn (PartSeen A) Drawn)) (xs : List (Worker A C)) (b : List (Turn (PartSeen A) Drawn)) → length xs ≡ 0 → mine ++ turns_of xs ≡ b → mine ≡ b
+  turns_joined mine [] b none all = sym (append-nil mine) ∙ all
+  turns_joined mine (x ∷ xs) b none all = absurd (omega (arith, none))
+
+  -- a turn is among them where some worker drew it
+  pub drawn_by : (t : Turn (PartSeen A) Drawn) (ws : List (Worker A C)) → In t (turns_of ws) → AnyDrew t ws
+  drawn_by t [] i = i
+  drawn_by t (w ∷ ws) i = ⊎_elim (λ k. inr (drawn_by t ws k)) (λ k. inl k) (in_either t (turns_of ws) w.hand.view.turns i)
+
+  pub by_drawn : (t : Turn (PartSeen A) Drawn) (ws : List (Worker A C)) → AnyDrew t ws → In t (turns_of ws)
+  by_drawn t [] i = i
+  by_drawn t (w ∷ ws) i = ⊎_elim (λ k. in_second t (turns_of ws) w.hand.view.turns k) (λ k. in_first t (turns_of ws) w.hand.view.turns (by_drawn t ws k)) i
+
+module _ {A C : Type 0} (such : said.Turn → Bool) where
+  has_turns : (ws : List (Worker A C)) → has such (turns_of ws) ≡ any_drew such ws
+  has_turns [] = refl
+  has_turns (w ∷ ws) = has_append such (turns_of ws) w.hand.view.turns ∙ ap (λ b. b || has_drawn such w) (has_turns ws) ∙ or_turned (any_drew such ws) (has_drawn such w)
+
+  pub of_all : {turns : List (Turn (PartSeen A) Drawn)} (ys : List (Worker A C)) (first : Worker A C) (xs : List (Worker A C)) → xs ≡ ys ++ first ∷ [] → turns ≡ first.hand.view.turns ++ turns_of ys → any_drew such xs ≡ has such turns
+  of_all ys first xs popped all = sym (ap (has such) (all_turns ys first xs popped all) ∙ has_turns xs)
 
 pub is_stall : (what : said.Turn) → stays_stuck what ≡ true → what ≡ said.stalls
 is_stall said.stalls e = refl

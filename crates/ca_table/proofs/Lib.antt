@@ -12,6 +12,7 @@ pub mod Joining
 pub mod Enlisting
 pub mod Having
 pub mod Spending
+pub mod ShownAll
 pub mod Marks
 pub mod Endings
 pub mod Moments

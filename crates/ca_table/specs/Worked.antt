@@ -1,13 +1,13 @@
 -- What calls of `work` did to workers: which kinds of turns stand among those that were drawn, what these cost, and what
 -- a call may answer.
-use Rattle.std.specs.Prelude.{◌≡◌, ℕ, ◌<◌, ◌≤◌, List, [], ◌∷◌, ◌++◌, Bool, true, false, ◌||◌, Result, Ok, Err}
+use Rattle.std.specs.Prelude.{◌≡◌, ◌⊎◌, ◌↔◌, ℕ, ◌<◌, ◌≤◌, List, [], ◌∷◌, ◌++◌, Bool, true, false, ◌||◌, Result, Ok, Err}
 use Rattle.ca_term.specs.Event.{EventView}
 use Rattle.ca_journal.specs.Merge.{entries, events_of}
 use Rattle.ca_meaning.specs.Cost.{cost}
 use Rattle.ca_meaning.specs.Ends.{but_last}
 use Rattle.ca_meaning.specs.Legal.{is_end_of_main}
 use Rattle.ca_turns.specs.declared.rule.Turn.{Turn}
-use Rattle.ca_turns.specs.History.{Run}
+use Rattle.ca_turns.specs.History.{IsNumbered, Run}
 use Rattle.ca_turns.specs.Views.{stands}
 use Rattle.ca_commit.specs.Touched as said
 use Rattle.ca_table.specs.Draws.{drawn_touches, turn_view}
@@ -102,6 +102,19 @@ module _ {A C : Type 0} where
   abbrev pub any_drew : (said.Turn → Bool) → List (Worker A C) → Bool
   any_drew such [] = false
   any_drew such (w ∷ ws) = has_drawn such w || any_drew such ws
+
+  -- some of these workers drew the turn
+  abbrev pub AnyDrew : Turn (PartSeen A) Drawn → List (Worker A C) → Type 0
+  AnyDrew t [] = ⊥
+  AnyDrew t (w ∷ ws) = In t w.hand.view.turns ⊎ AnyDrew t ws
+
+  -- The journal shows what these workers drew: the turns of all of them, each at its number, and of each its event, if the
+  -- journal shows that.
+  pub record ShowsAll (workers : List (Worker A C)) (journal : List EventView) : Type 0 where
+    pub log : List (Turn (PartSeen A) Drawn)
+    pub numbered : IsNumbered log
+    pub drawn : (t : Turn (PartSeen A) Drawn) → In t log ↔ AnyDrew t workers
+    pub shown : journal ≡ shown_by log
 
   -- what the events that it noted cost
   abbrev pub spent : Worker A C → ℕ

@@ -106,6 +106,11 @@ IsOpenedWith cs w = w.hand.view.opening ≡ cs
 abbrev pub stands_for : {A C : Type 0} → Worker A C → ℕ
 stands_for w = stands w.hand.view
 
+-- what they drew, those of the last worker first
+abbrev pub turns_of : {A C : Type 0} → List (Worker A C) → List (Turn (PartSeen A) Drawn)
+turns_of [] = []
+turns_of (w ∷ ws) = turns_of ws ++ w.hand.view.turns
+
 -- a hand with those of the workers before joined into it, and the lists of what they noted
 pub record IsJoined {A C : Type 0} (over : CodeView → A → Type 0) (stands_as : ProgramView → A → TaskBody → Type 0) (program : ProgramView) (code : CodeView) (id : TableId) (n count : ℕ) (hand : Held (Part A C) (PartSeen A) Drawn) (lists : List Entries) : Type 0 where
   pub table : hand.table ≡ id

@@ -1,5 +1,5 @@
 // The end of a run: all hands are joined into one, and the table closes.
-ghost use Rattle.std.specs.Prelude.{◌≡◌, ℕ, ◌+◌, ◌<◌, ◌||◌, List, [], All, Bool, true, false, length, map, IfOk, Option, Some};
+ghost use Rattle.std.specs.Prelude.{◌≡◌, ℕ, ◌+◌, ◌<◌, ◌++◌, List, [], All, true, false, length, map, IfOk, Option, Some};
 ghost use Rattle.std.specs.Vec.{vec_len, vec_capacity};
 ghost use Rattle.ca_term.specs.Program.{program_view};
 ghost use Rattle.ca_meaning.specs.Cost.{cost};
@@ -14,15 +14,14 @@ ghost use Rattle.ca_turns.specs.Views.{stands};
 ghost use Rattle.ca_commit.specs.Contents.{TimersPart};
 ghost use Rattle.ca_commit.specs.Gathered.{parts_of};
 ghost use Rattle.ca_commit.specs.Opening.{unasked};
-ghost use Rattle.ca_commit.specs.Touched.{Turn};
 ghost use Rattle.ca_table.specs.Draws.{drawn_moves};
 ghost use Rattle.ca_table.specs.Moments.{ClockWent};
 ghost use Rattle.ca_table.specs.OneCode.{stands_over};
 ghost use Rattle.ca_table.specs.Opening.{opening_list};
 ghost use Rattle.ca_table.specs.Parts.{part_seen};
 ghost use Rattle.ca_table.specs.Running.{TableStands, contents_at};
-ghost use Rattle.ca_table.specs.Workers.{IsJoined, IsOpenedWith, IsReady, stands_for};
-ghost use Rattle.ca_table.specs.Worked.{HasMainEnd, RanAlone, any_drew, ends_main, fails_clock, gives_up, has, has_drawn, obeys_mark, spent, stays_stuck};
+ghost use Rattle.ca_table.specs.Workers.{IsJoined, IsOpenedWith, IsReady, stands_for, turns_of};
+ghost use Rattle.ca_table.specs.Worked.{HasMainEnd, RanAlone, ShowsAll, any_drew, ends_main, fails_clock, gives_up, obeys_mark, spent, stays_stuck};
 
 use crate::part::Part;
 use crate::pool::Pool;
@@ -60,7 +59,7 @@ fn join_all<A: Agent, C: Clock + Drop>(
     ensures joined { (n : ℕ) → IsReady A.over A.stands (program_view program.now) (valid_code code.now) table.now.id n first → All (IsReady A.over A.stands (program_view program.now) (valid_code code.now) table.now.id n) others.items → IsJoined A.over A.stands (program_view program.now) (valid_code code.now) table.now.id n (stands_for first + total stands_for others.items) result lists.new.items }
     ensures opening { result.view.opening ≡ first.hand.view.opening }
     ensures alone { others.items ≡ [] → result ≡ first.hand }
-    ensures turns { (such : Turn → Bool) → has such result.view.turns ≡ (has_drawn such first || any_drew such others.items) }
+    ensures turns { result.view.turns ≡ first.hand.view.turns ++ turns_of others.items }
     ensures spent { cost (events_of (joined (map entries lists.new.items))) ≡ spent first + total spent others.items }
 {
     let Worker {
@@ -89,8 +88,8 @@ fn join_all<A: Agent, C: Clock + Drop>(
     hand
 }
 
-/// Closes the table of these workers, who are all that it was opened with and hold nothing. The journal is what they
-/// drew, in order of number: it is a run of the program, and the parts stand for the state that it leads to,
+/// Closes the table of these workers, who are all that it was opened with and hold nothing. The journal shows just what they
+/// drew, each event once, in order of number: it is a run of the program, and the parts stand for the state that it leads to,
 /// with each agent over the code. That state is quiet where some worker found that nothing can go on. Where one obeyed
 /// a mark and none gave up, the main text has ended. Where the table was opened with one clock, the moments that the
 /// journal tells are answers that it gave since, one after another, which never fall; the parts have it as it is then,
@@ -106,6 +105,7 @@ pub fn gather<A: Agent, C: Clock + Drop>(
     requires ready { All (IsReady A.over A.stands (program_view program.now) (valid_code code.now) table.id (length workers.items)) workers.items }
     requires all { total stands_for workers.items ≡ length workers.items }
     requires some { 0 < length workers.items }
+    ensures shown { IfOk result (λ g. ShowsAll workers.items (events g.journal)) }
     ensures run { IfOk result (λ g. (s : State) × Reaches (program_view program.now) (events g.journal) s × TableStands A.place (stands_over A.over (valid_code code.now) A.stands) (program_view program.now) (length workers.items) (map (part_seen C.least C.faults C.readings) g.parts.items) s × (any_drew stays_stuck workers.items ≡ true → IsQuiet s)) }
     ensures main { IfOk result (λ g. any_drew ends_main workers.items ≡ true → HasMainEnd (events g.journal)) }
     ensures marked { IfOk result (λ g. any_drew gives_up workers.items ≡ false → any_drew obeys_mark workers.items ≡ true → HasMainEnd (events g.journal)) }

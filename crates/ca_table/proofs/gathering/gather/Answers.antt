@@ -20,8 +20,9 @@ use Rattle.ca_table.specs.Worked.{HasMainEnd, RanAlone, any_drew, ends_main, fai
 use Rattle.ca_table.proofs.ClockRuns.{clock_whole}
 use Rattle.ca_table.proofs.Gathers.{gathered}
 use Rattle.ca_table.proofs.Endings.{ends_whole, main_whole, marked_whole}
-use Rattle.ca_table.proofs.Having.{of_all}
+use Rattle.ca_table.proofs.Having.{all_turns, of_all}
 use Rattle.ca_table.proofs.LoneRun.{all_of_one, ran_alone}
+use Rattle.ca_table.proofs.ShownAll.{shows_all}
 use Rattle.ca_table.proofs.Spending.{spent_all}
 use Rattle.ca_table.proofs.gathering.gather.Goals as goal
 
@@ -55,6 +56,14 @@ close-closed-requires-clause-nothing g c = let xs = c.args.workers.items in let 
     let both = All-pop (IsReady g.A.Agent.over g.A.Agent.stands P K c.args.table.id n) xs ys (Some first) popped c.requires.ready in
     let j = c.join_all-hand.ensures.joined n both.1 both.0 in j.nothing
 
+pub returns-clause-shown : goal.returns-clause-shown
+returns-clause-shown g c = let xs = c.args.workers.items in let ys = c.pop.new.self.items in let first = c.in-Some.first in let P = program_view c.args.program.now in let K = valid_code c.args.code.now in let n = length xs in
+    let popped = c.pop.ensures.items ∙ ap (λ o. ys ++ option_to_list o) c.in-Some.is in
+    let both = All-pop (IsReady g.A.Agent.over g.A.Agent.stands P K c.args.table.id n) xs ys (Some first) popped c.requires.ready in
+    let j = c.join_all-hand.ensures.joined n both.1 both.0 in let h = c.close-closed.ensures.history in let hand = c.join_all-hand.result in
+    let same = c.in_ok-journal.ensures ∙ ap (λ es. events_of (in_order es)) j.notes ∙ gathered hand.view h.0 h.1.numbered h.2 in
+    shows_all xs hand.view h.0 h.1.numbered h.1.mine h.2 (all_turns ys first xs popped c.join_all-hand.ensures.turns) same
+
 pub returns-clause-run : goal.returns-clause-run
 returns-clause-run g c = let xs = c.args.workers.items in let ys = c.pop.new.self.items in let first = c.in-Some.first in let P = program_view c.args.program.now in let K = valid_code c.args.code.now in let n = length xs in
     let popped = c.pop.ensures.items ∙ ap (λ o. ys ++ option_to_list o) c.in-Some.is in
@@ -62,7 +71,7 @@ returns-clause-run g c = let xs = c.args.workers.items in let ys = c.pop.new.sel
     let j = c.join_all-hand.ensures.joined n both.1 both.0 in let a = g.A.Agent in let m = g.met.A.Agent in let h = c.close-closed.ensures.history in let hand = c.join_all-hand.result in
     let same = c.in_ok-journal.ensures ∙ ap (λ es. events_of (in_order es)) j.notes ∙ gathered hand.view h.0 h.1.numbered h.2 in
     let r = ends_whole a.over a.place a.stands a.advances a.gives a.starts m.advanced m.answered m.started P K n hand.view j.knows h.0 _ h.1 in
-    let drawn = of_all stays_stuck hand.view.turns ys first xs popped (c.join_all-hand.ensures.turns stays_stuck) in
+    let drawn = of_all stays_stuck ys first xs popped c.join_all-hand.ensures.turns in
     (r.0, subst (λ es. Reaches P es r.0) (sym same) r.1, r.2, λ e. r.3 (sym drawn ∙ e))
 
 pub returns-clause-main : goal.returns-clause-main
@@ -71,7 +80,7 @@ returns-clause-main g c = let xs = c.args.workers.items in let ys = c.pop.new.se
     let both = All-pop (IsReady g.A.Agent.over g.A.Agent.stands P K c.args.table.id n) xs ys (Some first) popped c.requires.ready in
     let j = c.join_all-hand.ensures.joined n both.1 both.0 in let a = g.A.Agent in let m = g.met.A.Agent in let h = c.close-closed.ensures.history in let hand = c.join_all-hand.result in
     let same = c.in_ok-journal.ensures ∙ ap (λ es. events_of (in_order es)) j.notes ∙ gathered hand.view h.0 h.1.numbered h.2 in
-    let drawn = of_all ends_main hand.view.turns ys first xs popped (c.join_all-hand.ensures.turns ends_main) in
+    let drawn = of_all ends_main ys first xs popped c.join_all-hand.ensures.turns in
     λ e. subst HasMainEnd (sym same) (main_whole a.over a.place a.stands a.advances a.gives a.starts m.advanced m.answered m.started P K n hand.view j.knows h.0 _ h.1 (sym drawn ∙ e))
 
 pub returns-clause-marked : goal.returns-clause-marked
@@ -80,8 +89,8 @@ returns-clause-marked g c = let xs = c.args.workers.items in let ys = c.pop.new.
     let both = All-pop (IsReady g.A.Agent.over g.A.Agent.stands P K c.args.table.id n) xs ys (Some first) popped c.requires.ready in
     let j = c.join_all-hand.ensures.joined n both.1 both.0 in let a = g.A.Agent in let m = g.met.A.Agent in let h = c.close-closed.ensures.history in let hand = c.join_all-hand.result in
     let same = c.in_ok-journal.ensures ∙ ap (λ es. events_of (in_order es)) j.notes ∙ gathered hand.view h.0 h.1.numbered h.2 in
-    let halted = of_all obeys_mark hand.view.turns ys first xs popped (c.join_all-hand.ensures.turns obeys_mark) in
-    let stopped = of_all gives_up hand.view.turns ys first xs popped (c.join_all-hand.ensures.turns gives_up) in
+    let halted = of_all obeys_mark ys first xs popped c.join_all-hand.ensures.turns in
+    let stopped = of_all gives_up ys first xs popped c.join_all-hand.ensures.turns in
     λ none e. subst HasMainEnd (sym same) (marked_whole a.over a.place a.stands a.advances a.gives a.starts m.advanced m.answered m.started P K n hand.view j.knows h.0 _ h.1 h.2 (sym stopped ∙ none) (sym halted ∙ e))
 
 pub returns-clause-clock : goal.returns-clause-clock
@@ -92,7 +101,7 @@ returns-clause-clock g c = λ main least faults readings opened. let xs = c.args
     let same = c.in_ok-journal.ensures ∙ ap (λ es. events_of (in_order es)) j.notes ∙ gathered hand.view h.0 h.1.numbered h.2 in
     let with_clock = All-pop (IsOpenedWith (opening_list n K c.args.program.now main (unasked least faults readings))) xs ys (Some first) popped opened in
     let r = clock_whole a.over a.place a.stands a.advances a.gives a.starts m.advanced m.answered m.started P K n hand.view j.knows h.0 _ h.1 c.args.program.now main least faults readings (c.join_all-hand.ensures.opening ∙ with_clock.1) in
-    let failed = of_all fails_clock hand.view.turns ys first xs popped (c.join_all-hand.ensures.turns fails_clock) in
+    let failed = of_all fails_clock ys first xs popped c.join_all-hand.ensures.turns in
     (r.0, r.1, subst (λ es. ClockWent least faults readings es (any_drew fails_clock xs) r.0) (sym same) (subst (λ b. ClockWent least faults readings (shown_by h.0) b r.0) (sym failed) r.2))
 
 pub returns-clause-spent : goal.returns-clause-spent
