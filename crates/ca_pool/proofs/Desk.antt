@@ -51,7 +51,7 @@ use Rattle.ca_table.proofs.HomeMembers.{members_homes}
 use Rattle.ca_table.proofs.Loaded.{bank_is, shard_is}
 use Rattle.ca_table.proofs.MadeOf.{some_same}
 use Rattle.ca_pool.specs.Desk.{AreLaid, ClockBox, IsBare, IsMovedWith, SameHeld, TellsOf, all_laid, desk, holds_banks, holds_shards, laid, laid_aside, settled_as, taken}
-use Rattle.ca_pool.specs.declared.laying.Laid.{Laid}
+use Rattle.ca_pool.specs.declared.release.Laid.{Laid}
 
 -- what is there after a map is there before it
 pub some_map : {X Y : Type 0} (f : X → Y) (o : Option X) → is_some (option_map f o) ≡ is_some o

@@ -44,8 +44,8 @@ use Rattle.ca_alone.proofs.Standings as standings
 use Rattle.ca_pool.specs.Asking.{IsAsked, IsFirst}
 use Rattle.ca_pool.specs.Desk.{ClockBox, settled_as, taken}
 use Rattle.ca_pool.specs.Lone.{HasAsked, IsLone, LoneAt, LoneStopped, MayGo, Stayed, Went}
-use Rattle.ca_pool.specs.declared.clocking.Asked.{Asked}
-use Rattle.ca_pool.specs.declared.clocking.Asked.TheVariants.{Ticked}
+use Rattle.ca_pool.specs.declared.clock.Asked.{Asked}
+use Rattle.ca_pool.specs.declared.clock.Asked.TheVariants.{Ticked}
 use Rattle.ca_pool.proofs.AllParts.{some_same}
 use Rattle.ca_pool.proofs.Lone as lone
 use Rattle.ca_pool.proofs.Ranges.{did_none}

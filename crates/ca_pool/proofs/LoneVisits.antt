@@ -40,8 +40,8 @@ use Rattle.ca_alone.proofs.Stopping as stopping
 use Rattle.ca_pool.specs.AtWork.{IsAtWork}
 use Rattle.ca_pool.specs.Costs.{cost_asked, is_marked}
 use Rattle.ca_pool.specs.Lone.{HasAsked, IsGoing, IsLone, IsRunning, LoneAt, LoneStopped}
-use Rattle.ca_pool.specs.declared.clocking.Asked.{Asked}
-use Rattle.ca_pool.specs.declared.clocking.Asked.TheVariants as Clocked
+use Rattle.ca_pool.specs.declared.clock.Asked.{Asked}
+use Rattle.ca_pool.specs.declared.clock.Asked.TheVariants as Clocked
 use Rattle.ca_pool.proofs.AtWork.{some_of, spent_first, spent_quiet}
 use Rattle.ca_pool.proofs.Lone as lone
 

@@ -1,11 +1,11 @@
 -- What the events of a call cost together.
 use Rattle.std.specs.Prelude.{ℕ, Bool, false, true}
-use Rattle.ca_pool.specs.declared.clocking.Asked.{Asked}
-use Rattle.ca_pool.specs.declared.clocking.Asked.TheVariants as A
-use Rattle.ca_pool.specs.declared.idling.Rested.{Rested}
-use Rattle.ca_pool.specs.declared.idling.Rested.TheVariants as I
-use Rattle.ca_pool.specs.declared.settling.Settling.{Settling}
-use Rattle.ca_pool.specs.declared.settling.Settling.TheVariants as S
+use Rattle.ca_pool.specs.declared.clock.Asked.{Asked}
+use Rattle.ca_pool.specs.declared.clock.Asked.TheVariants as A
+use Rattle.ca_pool.specs.declared.idle.Rested.{Rested}
+use Rattle.ca_pool.specs.declared.idle.Rested.TheVariants as I
+use Rattle.ca_pool.specs.declared.settle.Settling.{Settling}
+use Rattle.ca_pool.specs.declared.settle.Settling.TheVariants as S
 
 abbrev pub cost_settling : Settling → ℕ
 cost_settling S.Rests = 0

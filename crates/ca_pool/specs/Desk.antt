@@ -12,7 +12,7 @@ use Rattle.ca_commit.specs.Listings.{parts}
 use Rattle.ca_commit.specs.Numbers.{number_of_bank, number_of_shard}
 use Rattle.ca_commit.specs.Touched as said
 use Rattle.ca_commit.specs.declared.held.Held.{Held}
-use Rattle.ca_pool.specs.declared.laying.Laid.{Laid}
+use Rattle.ca_pool.specs.declared.release.Laid.{Laid}
 use Rattle.ca_states.specs.declared.valid_code.ValidCode.{ValidCode}
 use Rattle.ca_table.specs.Carriers.{IsMoved, LaneBox}
 use Rattle.ca_table.specs.Carrying.{Carries, lane_place, with_at}

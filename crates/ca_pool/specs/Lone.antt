@@ -22,10 +22,10 @@ use Rattle.ca_table.specs.declared.worker.Worker.{Worker}
 use Rattle.ca_solo.specs.Positions.{Position}
 use Rattle.ca_alone.specs.Schedule.{Follow, HasStopped, MaySettle, StandsAt, to_turn}
 use Rattle.ca_pool.specs.AtWork.{HasSpent}
-use Rattle.ca_pool.specs.declared.clocking.Asked.{Asked}
-use Rattle.ca_pool.specs.declared.clocking.Asked.TheVariants as Told
-use Rattle.ca_pool.specs.declared.settling.Settling.{Settling}
-use Rattle.ca_pool.specs.declared.settling.Settling.TheVariants as S
+use Rattle.ca_pool.specs.declared.clock.Asked.{Asked}
+use Rattle.ca_pool.specs.declared.clock.Asked.TheVariants as Told
+use Rattle.ca_pool.specs.declared.settle.Settling.{Settling}
+use Rattle.ca_pool.specs.declared.settle.Settling.TheVariants as S
 
 -- it is the only one of its run
 abbrev pub IsLone : {A C : Type 0} → Worker A C → Type 0

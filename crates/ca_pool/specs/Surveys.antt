@@ -16,8 +16,8 @@ use Rattle.ca_table.specs.Parts.{contents_seen}
 use Rattle.ca_table.specs.Seen.{PartSeen, held_of}
 use Rattle.ca_table.specs.declared.drawn.Drawn.{Drawn}
 use Rattle.ca_table.specs.declared.part.Part.{Part}
-use Rattle.ca_pool.specs.declared.stalling.Surveyed.{Surveyed}
-use Rattle.ca_pool.specs.declared.stalling.Surveyed.TheVariants as S
+use Rattle.ca_pool.specs.declared.stall.Surveyed.{Surveyed}
+use Rattle.ca_pool.specs.declared.stall.Surveyed.TheVariants as S
 
 -- no put may move in, and no taker be served, whichever handlers are stale
 abbrev pub rests_anyway : Option Kept → Bool

@@ -5,37 +5,37 @@
 //! the journal is a run of the script's text; here stands that they go on, and that a run ends where it has an end.
 //!
 //! Stands on `ca_table`, for the table that they share and what may be drawn on it, and on `ca_commit`, for what an
-//! operation becomes. Start with `pool_run`, a whole run; then `rounds`, all workers at once, and `working`, one of them,
-//! with `visiting` and `stepping` below it. A task's event: `operation` with `resolving` and `committing`, and `ending`. What
-//! comes by itself: `settling`, `pruning`, `clocking` with `ticking`, and `idling` where no task can run. All of them hold parts by
-//! `taking`, and let them go by `laying` and `drawing`.
+//! operation becomes. Start with `pool_run`, a whole run; then `rounds`, all workers at once, and `work`, one of them, with
+//! `visit` and `step` below it. A task's event: `operation` with `resolution` and `commit`, and `task_end`. What comes by
+//! itself: `settle`, `prune`, `clock` with `tick`, and `idle` where no task can run. All of them hold parts by `hold`, and let
+//! them go by `release` and `draw`.
 #![tactic(auto)]
 
 mod ahead;
-mod clocking;
-mod committing;
-mod drawing;
-mod ending;
-mod fitting;
+mod clock;
+mod commit;
+mod cost;
+mod draw;
 pub mod gate;
-mod going;
-mod idling;
-mod laying;
+mod hold;
+mod idle;
 mod limits;
 mod named;
 mod operation;
 pub mod pool_run;
-mod preparing;
-mod pruning;
-mod resolving;
+mod preparation;
+mod progress;
+mod prune;
+mod release;
+mod resolution;
 pub mod rounds;
 pub mod run_end;
-mod settling;
-mod stalling;
-mod stepping;
-mod stirring;
-mod surveying;
-mod taking;
-mod ticking;
-mod visiting;
-pub mod working;
+mod settle;
+mod stall;
+mod step;
+mod stir;
+mod survey;
+mod task_end;
+mod tick;
+mod visit;
+pub mod work;

@@ -17,10 +17,10 @@ ghost use Rattle.ca_pool.specs.Desk.{IsBare};
 ghost use Rattle.ca_pool.specs.Leaving.{HasLeft, TaskOver};
 ghost use Rattle.ca_pool.specs.Lone.{HasStepped, MayGo};
 
-use crate::committing::commit;
-use crate::ending::refuse;
+use crate::commit::commit;
 use crate::limits::{check_apart, set_numbers};
-use crate::resolving::resolve;
+use crate::resolution::resolve;
+use crate::task_end::refuse;
 use ca_agent::starting::Starting;
 use ca_commit::held::Held;
 use ca_commit::planned::Plan;

@@ -11,7 +11,7 @@ ghost use Rattle.ca_table.specs.declared.answer.PoolStop.TheVariants.{ClockFaile
 ghost use Rattle.ca_table.specs.declared.answer.WorkEnd.TheVariants.{Spent};
 
 use crate::gate::Gate;
-use crate::working::work;
+use crate::work::work;
 use ca_agent::agent::Agent;
 use ca_agent::starting::Starting;
 use ca_states::valid_code::ValidCode;

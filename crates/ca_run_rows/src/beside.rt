@@ -10,7 +10,7 @@ use crate::disjoint::Disjoint;
 use crate::rest::hold_rest;
 use ca_agent::agent::Agent;
 use ca_agent::starting::Starting;
-use ca_pool::working::work;
+use ca_pool::work::work;
 use ca_states::valid_code::ValidCode;
 use ca_table::answer::{PoolStop, WorkEnd};
 use ca_table::pool::Pool;

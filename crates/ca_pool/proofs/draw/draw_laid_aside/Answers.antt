@@ -1,0 +1,26 @@
+use Rattle.std.proofs.Common.{◌∙◌, sym, ap, subst}
+use Rattle.ca_states.specs.ValidCode.{valid_code}
+use Rattle.ca_turns.specs.Views.{turn}
+use Rattle.ca_commit.specs.Touched as said
+use Rattle.ca_table.specs.Beside.{beside_lane}
+use Rattle.ca_table.specs.Draws.{MayHold, drawn_view, turn_view}
+use Rattle.ca_table.specs.Parts.{part_seen}
+use Rattle.ca_pool.proofs.Desk.{moved_drawn}
+use Rattle.ca_pool.proofs.draw.draw_laid_aside.Goals as goal
+
+pub draw_beside-requires-clause-carries : goal.draw_beside-requires-clause-carries
+draw_beside-requires-clause-carries g c = let a = g.A.Agent in let K = g.C.Clock in let r = c.requires.carries in let w = c.args.worker.now in let drawn = c.drawn_by-drawn in
+    (r.0, c.args.code.now, r.1, r.2, r.3, moved_drawn a.over a.place a.advances a.gives a.starts (part_seen K.least K.faults K.readings) c.args.code.now r.1 w.number w.workers c.args.laid.now (turn_view c.args.what) (drawn_view drawn.result) (beside_lane r.2) r.3.one.of drawn.ensures.view r.4)
+
+pub draw_beside-requires-clause-code : goal.draw_beside-requires-clause-code
+draw_beside-requires-clause-code g c = ap valid_code c.drawn_by-drawn.ensures.code ∙ sym c.requires.carries.3.one.of_code
+
+pub returns-clause-drew : goal.returns-clause-drew
+returns-clause-drew g c = let d = c.draw_beside.ensures.drew in (turn d.0 c.drawn_by-drawn.result d.1 d.2, d.3, c.drawn_by-drawn.ensures.what)
+
+pub returns-clause-carries : goal.returns-clause-carries
+returns-clause-carries g c = λ P n h s m. let a = g.A.Agent in let K = g.C.Clock in let w = c.args.worker.now in let drawn = c.drawn_by-drawn in
+    c.draw_beside.ensures.carries P c.args.code.now n h s (moved_drawn a.over a.place a.advances a.gives a.starts (part_seen K.least K.faults K.readings) c.args.code.now n w.number w.workers c.args.laid.now (turn_view c.args.what) (drawn_view drawn.result) (beside_lane h) s.one.of drawn.ensures.view m)
+
+pub draw_beside-requires-clause-allows : goal.draw_beside-requires-clause-allows
+draw_beside-requires-clause-allows g c = λ i. subst (λ (d : said.Drawn). MayHold d.worker d.workers d.what i) (sym c.drawn_by-drawn.ensures.view) (c.requires.allows i)

@@ -1,5 +1,0 @@
-use Rattle.ca_pool.proofs.StillParts.{RestBefore}
-use Rattle.ca_pool.proofs.surveying.stirred.Given as goal
-
-abbrev pub invariant-loop-place : goal.invariant-loop-place
-invariant-loop-place l = RestBefore l.bank l.place
