@@ -58,6 +58,7 @@ pub mod Everywhere
 pub mod EventMoves
 pub mod Dues
 pub mod PlanMoving
+pub mod Halts
 pub mod Stales
 pub mod NamesTold
 pub mod Ends

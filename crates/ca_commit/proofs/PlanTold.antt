@@ -1,5 +1,5 @@
 -- What a plan says of the held parts from which it was made.
-use Rattle.std.proofs.Common.{◌≡◌, ◌⊎◌, inl, inr, ⊎_elim, ℕ, zero, suc, ◌+◌, ◌%◌, ◌<◌, List, [], ◌∷◌, length, map, refl, sym, ap, ◌∙◌, subst, Bool, true, false, cond, Option, Some, None, is_some, slice_get, nat_lt, ltb-true, ltb-false, ◌≤◌, arith}
+use Rattle.std.proofs.Common.{◌≡◌, ◌⊎◌, inl, inr, ⊎_elim, ℕ, zero, suc, ◌+◌, ◌%◌, ◌<◌, List, [], ◌∷◌, length, map, take, refl, sym, ap, ◌∙◌, subst, Bool, true, false, cond, Option, Some, None, is_some, slice_get, nat_lt, ltb-true, ltb-false, ◌≤◌, arith}
 use Rattle.ca_value.specs.Tree.{Tree, Trees, nil, bool, int, text, key, vector, map as a_map, port, none, item}
 use Rattle.ca_term.specs.declared.fault.Fault.{Fault}
 use Rattle.ca_term.specs.declared.fault.Fault.TheVariants.{NotAPort, TooManyPorts}
@@ -18,7 +18,7 @@ use Rattle.ca_bank.specs.Kept.{queue_at}
 use Rattle.ca_registry.specs.Registry.{comes_to}
 use Rattle.ca_commit.specs.Asks.{Asks, row_raw}
 use Rattle.ca_commit.specs.Contents.{Kept, Parked, Parts, alive_in, at_key, channel_of, home, on, whole}
-use Rattle.ca_commit.specs.Deciding.{HasPartner, IsAlone, IsAnswered, IsPost, IsStale, PlanTells, seen_in}
+use Rattle.ca_commit.specs.Deciding.{HangsOn, HangsOnStale, HangsOnUnseen, HasPartner, IsAlone, IsAnswered, IsPost, PlanTells, seen_in}
 use Rattle.ca_commit.specs.Finding.{Finding, alone, find_at, glance, glance_at, glance_in, partner, stale, unheld, unready}
 use Rattle.ca_commit.specs.Holds.{groups, live_of}
 use Rattle.ca_commit.specs.Moves.{AllSeen, CrowdedIn, FewIn, FewOn, FitIn, NoneReadyIn, PicksIn, Unready}
@@ -28,7 +28,7 @@ use Rattle.ca_commit.specs.Registering.{keys_pass}
 use Rattle.ca_commit.proofs.FitsMore.{first_none, fits_in, passes, register_more, second_none}
 use Rattle.ca_registry.proofs.KeyLaws.{refused_keys, same_table}
 use Rattle.ca_commit.proofs.Laid.{same_map}
-use Rattle.ca_commit.proofs.Stales.{found_stale}
+use Rattle.ca_commit.proofs.Stales.{found_stale, found_unseen}
 use Rattle.ca_commit.proofs.Turns.{Decides, NoneDecides, from_tells}
 
 module _ {A : Type 0} (h : Parts A) where
@@ -36,10 +36,10 @@ module _ {A : Type 0} (h : Parts A) where
   x = seen_in h
 
   -- a plan that waits for a shard, or for a stale handler to go
-  abbrev Stops : Planned → Type 0
-  Stops (to_look w) = Unit {0}
-  Stops (to_prune p side place) = IsStale h p side place
-  Stops other = ⊥
+  abbrev Stops : OpView → Planned → Type 0
+  Stops op (to_look w) = HangsOnUnseen h op w
+  Stops op (to_prune p side place) = HangsOnStale h op p side place
+  Stops op other = ⊥
 
   -- what is seen of a wait is whether it lives
   lives_is : (w : ℕ) → is_here (glance h.shard w) ≡ alive_in h w
@@ -84,13 +84,14 @@ module _ {A : Type 0} (h : Parts A) where
   in_front [] g e = absurd cc
   in_front (f ∷ q) g e = (q, ap (λ i. i ∷ q) (let s : f ≡ g = cc in s))
 
-  abbrev AllTold : List Handler → Planned → Planned → Type 0
-  AllTold q rest r = (AllSeen h q × (live_of (alive_in h) q ≡ q) × (r ≡ rest)) ⊎ Stops r
+  abbrev AllTold : OpView → List Handler → Planned → Planned → Type 0
+  AllTold op q rest r = (AllSeen h q × (live_of (alive_in h) q ≡ q) × (r ≡ rest)) ⊎ Stops op r
 
-  -- the handlers of a queue from a place on are asked, and live; or one is stale, or unseen
-  all_tell : (p : ℕ) (side : Side) (k : Kept) → whole h.bank p ≡ Some k → (q : List Handler) (place : ℕ) (rest : Planned) → ((i : ℕ) → slice_get q i ≡ slice_get (on side k) (place + i)) → AllTold q rest (all_asked x p side place q rest)
-  all_tell p side k there [] place rest at = inl (tt, refl, refl)
-  all_tell p side k there (g ∷ q) place rest at = outer (h.shard (home g.wait)) refl (all_tell p side k there q (place + 1) rest later) where
+  -- The handlers of a queue from a place on are asked, and live; or one is stale, or unseen. On each of them the plan hangs.
+  all_tell : (op : OpView) (p : ℕ) (side : Side) (k : Kept) → whole h.bank p ≡ Some k → ((place w : ℕ) → HangsOn h op p k side place w) → (q : List Handler) (place : ℕ) (rest : Planned) → ((i : ℕ) → slice_get q i ≡ slice_get (on side k) (place + i))
+      → AllTold op q rest (all_asked x p side place q rest)
+  all_tell op p side k there hangs [] place rest at = inl (tt, refl, refl)
+  all_tell op p side k there hangs (g ∷ q) place rest at = outer (h.shard (home g.wait)) refl (all_tell op p side k there hangs q (place + 1) rest later) where
     later : (i : ℕ) → slice_get q i ≡ slice_get (on side k) (place + 1 + i)
     later i = at (suc i) ∙ ap (slice_get (on side k)) (let e : place + suc i ≡ place + 1 + i = omega arith in e)
 
@@ -100,59 +101,96 @@ module _ {A : Type 0} (h : Parts A) where
     live_here : (f : ℕ → Option (Parked A)) (a : Parked A) → h.shard (home g.wait) ≡ Some f → f g.wait ≡ Some a → AllSeen h q × (live_of (alive_in h) q ≡ q) × (all_asked x p side (place + 1) q rest ≡ rest) → AllSeen h (g ∷ q) × (live_of (alive_in h) (g ∷ q) ≡ g ∷ q) × (all_asked x p side (place + 1) q rest ≡ rest)
     live_here f a e u t = (((f, e), t.0), ap (λ (b : Bool). cond b (g ∷ live_of (alive_in h) q) (live_of (alive_in h) q)) (ap (λ (o : Option (ℕ → Option (Parked A))). is_some (at_key o g.wait)) e ∙ ap is_some u) ∙ ap (λ l. g ∷ l) t.1, t.2)
 
-    gone_here : (f : ℕ → Option (Parked A)) → h.shard (home g.wait) ≡ Some f → f g.wait ≡ None → IsStale h p side place
-    gone_here f e u = record { kept = k; there = there; handler = g; at_place = here; from = f; shard = e; gone = u }
+    gone_here : (f : ℕ → Option (Parked A)) → h.shard (home g.wait) ≡ Some f → f g.wait ≡ None → HangsOnStale h op p side place
+    gone_here f e u = (record { kept = k; there = there; handler = g; at_place = here; from = f; shard = e; gone = u }, hangs place g.wait)
 
-    inner : (f : ℕ → Option (Parked A)) (o : Option (Parked A)) → h.shard (home g.wait) ≡ Some f → f g.wait ≡ o → AllTold q rest (all_asked x p side (place + 1) q rest) → AllTold (g ∷ q) rest (asked (glance_in o) p side place g.wait (all_asked x p side (place + 1) q rest))
+    unseen_here : h.shard (home g.wait) ≡ None → HangsOnUnseen h op g.wait
+    unseen_here e = (p, side, place, record { kept = k; there = there; handler = g; at_place = here; unheld = e }, refl, hangs place g.wait)
+
+    inner : (f : ℕ → Option (Parked A)) (o : Option (Parked A)) → h.shard (home g.wait) ≡ Some f → f g.wait ≡ o → AllTold op q rest (all_asked x p side (place + 1) q rest) → AllTold op (g ∷ q) rest (asked (glance_in o) p side place g.wait (all_asked x p side (place + 1) q rest))
     inner f None e u t = inr (gone_here f e u)
     inner f (Some a) e u t = ⊎_elim (λ k. inl (live_here f a e u k)) (λ k. inr k) t
 
-    outer : (o : Option (ℕ → Option (Parked A))) → h.shard (home g.wait) ≡ o → AllTold q rest (all_asked x p side (place + 1) q rest) → AllTold (g ∷ q) rest (asked (glance_at (h.shard (home g.wait)) g.wait) p side place g.wait (all_asked x p side (place + 1) q rest))
-    outer None e t = subst (λ (z : Option (ℕ → Option (Parked A))). AllTold (g ∷ q) rest (asked (glance_at z g.wait) p side place g.wait (all_asked x p side (place + 1) q rest))) (sym e) (inr tt)
-    outer (Some f) e t = subst (λ (z : Option (ℕ → Option (Parked A))). AllTold (g ∷ q) rest (asked (glance_at z g.wait) p side place g.wait (all_asked x p side (place + 1) q rest))) (sym e) (inner f (f g.wait) e refl t)
+    outer : (o : Option (ℕ → Option (Parked A))) → h.shard (home g.wait) ≡ o → AllTold op q rest (all_asked x p side (place + 1) q rest) → AllTold op (g ∷ q) rest (asked (glance_at (h.shard (home g.wait)) g.wait) p side place g.wait (all_asked x p side (place + 1) q rest))
+    outer None e t = subst (λ (z : Option (ℕ → Option (Parked A))). AllTold op (g ∷ q) rest (asked (glance_at z g.wait) p side place g.wait (all_asked x p side (place + 1) q rest))) (sym e) (inr (unseen_here e))
+    outer (Some f) e t = subst (λ (z : Option (ℕ → Option (Parked A))). AllTold op (g ∷ q) rest (asked (glance_at z g.wait) p side place g.wait (all_asked x p side (place + 1) q rest))) (sym e) (inner f (f g.wait) e refl t)
 
   abbrev IsFull : List Handler → Type 0
   IsFull q = AllSeen h q × (1024 ≤ groups (live_of (alive_in h) q))
 
   -- what counting a queue comes to
-  abbrev QueueTold : Side → List Handler → Planned → Planned → Type 0
-  QueueTold side q rest r = (FewOn h q × (r ≡ rest)) ⊎ ((IsFull q × (r ≡ to_refuse (crowd_of side))) ⊎ Stops r)
+  abbrev QueueTold : OpView → Side → List Handler → Planned → Planned → Type 0
+  QueueTold op side q rest r = (FewOn h q × (r ≡ rest)) ⊎ ((IsFull q × (r ≡ to_refuse (crowd_of side))) ⊎ Stops op r)
 
-  -- a queue has a place for one more wait, or none, or it can't be told
-  queue_tells : (side : Side) (p : ℕ) (k : Kept) (rest : Planned) → whole h.bank p ≡ Some k → QueueTold side (on side k) rest (counted x side p (on side k) rest)
-  queue_tells side p k rest there = short (nat_lt (length (on side k)) 1024) refl where
+  -- a queue has a place for one more wait, or none, or it can't be told, where the plan hangs on those of a long queue
+  queue_tells : (op : OpView) (side : Side) (p : ℕ) (k : Kept) (rest : Planned) → whole h.bank p ≡ Some k → (1024 ≤ length (on side k) → (place w : ℕ) → HangsOn h op p k side place w) → QueueTold op side (on side k) rest (counted x side p (on side k) rest)
+  queue_tells op side p k rest there hangs = short (nat_lt (length (on side k)) 1024) refl where
     after : Planned
     after = cond (nat_lt (groups (on side k)) 1024) rest (to_refuse (crowd_of side))
 
-    long : (b : Bool) → nat_lt (groups (on side k)) 1024 ≡ b → AllSeen h (on side k) × (live_of (alive_in h) (on side k) ≡ on side k) × (all_asked x p side 0 (on side k) after ≡ after) → QueueTold side (on side k) rest (all_asked x p side 0 (on side k) after)
+    long : (b : Bool) → nat_lt (groups (on side k)) 1024 ≡ b → AllSeen h (on side k) × (live_of (alive_in h) (on side k) ≡ on side k) × (all_asked x p side 0 (on side k) after ≡ after) → QueueTold op side (on side k) rest (all_asked x p side 0 (on side k) after)
     long true e t = inl (inr (t.0, subst (λ (l : List Handler). groups l < 1024) (sym t.1) (ltb-true (groups (on side k)) 1024 e)), t.2 ∙ ap (λ b. cond b rest (to_refuse (crowd_of side))) e)
     long false e t = inr (inl ((t.0, subst (λ (l : List Handler). 1024 ≤ groups l) (sym t.1) (ltb-false (groups (on side k)) 1024 e)), t.2 ∙ ap (λ b. cond b rest (to_refuse (crowd_of side))) e))
 
-    short : (b : Bool) → nat_lt (length (on side k)) 1024 ≡ b → QueueTold side (on side k) rest (cond b rest (all_asked x p side 0 (on side k) after))
+    short : (b : Bool) → nat_lt (length (on side k)) 1024 ≡ b → QueueTold op side (on side k) rest (cond b rest (all_asked x p side 0 (on side k) after))
     short true e = inl (inl (ltb-true (length (on side k)) 1024 e), refl)
-    short false e = ⊎_elim (λ t. long (nat_lt (groups (on side k)) 1024) refl t) (λ s. inr (inr s)) (all_tell p side k there (on side k) 0 after (λ i. ap (slice_get (on side k)) (let e : i ≡ 0 + i = omega arith in e)))
+    short false e = ⊎_elim (λ t. long (nat_lt (groups (on side k)) 1024) refl t) (λ s. inr (inr s))
+        (all_tell op p side k there (hangs (ltb-false (length (on side k)) 1024 e)) (on side k) 0 after (λ i. ap (slice_get (on side k)) (let e : i ≡ 0 + i = omega arith in e)))
+
+  unready_at : (bs : List BranchView) (i : ℕ) (b : BranchView) → NoneReadyIn h bs → slice_get bs i ≡ Some b → Unready h b
+  unready_at [] zero b a e = absurd cc
+  unready_at [] (suc i) b a e = absurd cc
+  unready_at (c ∷ bs) zero b a e = subst (Unready h) (let s : c ≡ b = cc in s) a.0
+  unready_at (c ∷ bs) (suc i) b a e = unready_at bs i b a.1 e
+
+  abbrev HasPlace : BranchView → Type 0
+  HasPlace b = (k : Kept) × (whole h.bank (port_of b) ≡ Some k) × FewOn h (on (side_of b) k)
+
+  few_more : (bs : List BranchView) (i : ℕ) (b : BranchView) → slice_get bs i ≡ Some b → FewIn h (take i bs) → HasPlace b → FewIn h (take (suc i) bs)
+  few_more [] zero b e few one = absurd cc
+  few_more [] (suc i) b e few one = absurd cc
+  few_more (c ∷ bs) zero b e few one = (subst HasPlace (sym (let s : c ≡ b = cc in s)) one, tt)
+  few_more (c ∷ bs) (suc i) b e few one = (few.0, few_more bs i b e few.1 one)
 
   -- what counting the queue of each branch comes to
-  abbrev QueuesTold : List BranchView → Planned → Planned → Type 0
-  QueuesTold bs rest r = (FewIn h bs × (r ≡ rest)) ⊎ (((f : Fault) × CrowdedIn h bs f × (r ≡ to_refuse f)) ⊎ Stops r)
+  abbrev QueuesTold : OpView → List BranchView → Planned → Planned → Type 0
+  QueuesTold op bs rest r = (FewIn h bs × (r ≡ rest)) ⊎ (((f : Fault) × CrowdedIn h bs f × (r ≡ to_refuse f)) ⊎ Stops op r)
 
-  -- so has each queue that a wait would join; or the first that has none decides
-  queues_tell : (bs : List BranchView) (rest : Planned) → EachHeld bs → QueuesTold bs rest (all_counted x bs rest)
-  queues_tell [] rest a = inl (tt, refl)
-  queues_tell (b ∷ bs) rest a = subst (QueuesTold (b ∷ bs) rest) (sym here) (both (queues_tell bs rest a.1) (queue_tells (side_of b) (port_of b) a.0.0 (all_counted x bs rest) a.0.1)) where
+  -- so has each queue that a wait would join, from branch number i on; or the first that has none decides
+  queues_tell : (op : OpView) → default_of op ≡ None → NoneReadyIn h (branches_of op) → (bs : List BranchView) (i : ℕ) (rest : Planned) → EachHeld bs → ((j : ℕ) → slice_get bs j ≡ slice_get (branches_of op) (i + j)) → FewIn h (take i (branches_of op))
+      → QueuesTold op bs rest (all_counted x bs rest)
+  queues_tell op waits idle [] i rest a at few = inl (tt, refl)
+  queues_tell op waits idle (b ∷ bs) i rest a at few = subst (QueuesTold op (b ∷ bs) rest) (sym here) (⊎_elim (goes_on (queues_tell op waits idle bs (suc i) rest a.1 later)) stops (queue_tells op (side_of b) (port_of b) a.0.0 (all_counted x bs rest) a.0.1 hangs)) where
     after : Planned
     after = counted x (side_of b) (port_of b) (on (side_of b) a.0.0) (all_counted x bs rest)
 
     here : all_counted x (b ∷ bs) rest ≡ after
     here = ap (λ o. counted x (side_of b) (port_of b) (queue_at (side_of b) o) (all_counted x bs rest)) a.0.1
 
+    number : slice_get (branches_of op) i ≡ Some b
+    number = ap (slice_get (branches_of op)) (let e : i ≡ i + 0 = omega arith in e) ∙ sym (at 0)
+
+    later : (j : ℕ) → slice_get bs j ≡ slice_get (branches_of op) (suc i + j)
+    later j = at (suc j) ∙ ap (slice_get (branches_of op)) (let e : i + suc j ≡ suc i + j = omega arith in e)
+
+    hangs : 1024 ≤ length (on (side_of b) a.0.0) → (place w : ℕ) → HangsOn h op (port_of b) a.0.0 (side_of b) place w
+    hangs long place w = record {
+      number = i;
+      branch = b;
+      picked = (number, λ priority j o lt e. unready_at (branches_of op) j o idle e);
+      at_port = refl;
+      why = inr (waits, idle, few, refl, long);
+    }
+
     full : IsFull (on (side_of b) a.0.0) → CrowdedIn h (b ∷ bs) (crowd_of (side_of b))
     full f = (a.0.0, a.0.1, inl (f.0, f.1, refl))
 
-    both : QueuesTold bs rest (all_counted x bs rest) → QueueTold (side_of b) (on (side_of b) a.0.0) (all_counted x bs rest) after → QueuesTold (b ∷ bs) rest after
-    both later first = ⊎_elim
-        (λ f. ⊎_elim (λ l. inl (((a.0.0, a.0.1, f.0), l.0), f.1 ∙ l.1)) (λ o. ⊎_elim (λ l. inr (inl (l.0, (a.0.0, a.0.1, inr (f.0, l.1)), f.1 ∙ l.2))) (λ s. inr (inr (subst Stops (sym f.1) s))) o) later)
-        (λ o. ⊎_elim (λ f. inr (inl (crowd_of (side_of b), full f.0, f.1))) (λ s. inr (inr s)) o) first
+    stops : (IsFull (on (side_of b) a.0.0) × (after ≡ to_refuse (crowd_of (side_of b)))) ⊎ Stops op after → QueuesTold op (b ∷ bs) rest after
+    stops o = ⊎_elim (λ f. inr (inl (crowd_of (side_of b), full f.0, f.1))) (λ s. inr (inr s)) o
+
+    goes_on : (FewIn h (take (suc i) (branches_of op)) → QueuesTold op bs rest (all_counted x bs rest)) → FewOn h (on (side_of b) a.0.0) × (after ≡ all_counted x bs rest) → QueuesTold op (b ∷ bs) rest after
+    goes_on next f = ⊎_elim (λ l. inl (((a.0.0, a.0.1, f.0), l.0), f.1 ∙ l.1)) (λ o. ⊎_elim (λ l. inr (inl (l.0, (a.0.0, a.0.1, inr (f.0, l.1)), f.1 ∙ l.2))) (λ s. inr (inr (subst (Stops op) (sym f.1) s))) o)
+        (next (few_more (branches_of op) i b number few (a.0.0, a.0.1, f.0)))
 
   abbrev held : State
   held = state_of (whole h.bank) (whole h.registry)
@@ -211,20 +249,20 @@ module _ {A : Type 0} (h : Parts A) where
     lives = s.1.6;
   }
 
-  stop_tells : (op : OpView) (p : Planned) → Stops p → PlanTells h op p
-  stop_tells op (to_look w) s = tt
-  stop_tells op (to_prune p side place) s = s
-  stop_tells op (to_refuse f) s = absurd s
-  stop_tells op (to_do k b alts) s = absurd s
-  stop_tells op (to_meet k b alts w o) s = absurd s
-  stop_tells op (to_park bs) s = absurd s
-  stop_tells op (to_post bs) s = absurd s
-  stop_tells op (to_default v) s = absurd s
-  stop_tells op (to_make what) s = absurd s
-  stop_tells op (to_spawn kind r) s = absurd s
-  stop_tells op (to_close p) s = absurd s
-  stop_tells op (to_register name args) s = absurd s
-  stop_tells op (to_print line) s = absurd s
+  stop_tells : (op : OpView) (p : Planned) → FitIn h op → Stops op p → PlanTells h op p
+  stop_tells op (to_look w) fit s = (fit, s)
+  stop_tells op (to_prune p side place) fit s = (fit, s)
+  stop_tells op (to_refuse f) fit s = absurd s
+  stop_tells op (to_do k b alts) fit s = absurd s
+  stop_tells op (to_meet k b alts w o) fit s = absurd s
+  stop_tells op (to_park bs) fit s = absurd s
+  stop_tells op (to_post bs) fit s = absurd s
+  stop_tells op (to_default v) fit s = absurd s
+  stop_tells op (to_make what) fit s = absurd s
+  stop_tells op (to_spawn kind r) fit s = absurd s
+  stop_tells op (to_close p) fit s = absurd s
+  stop_tells op (to_register name args) fit s = absurd s
+  stop_tells op (to_print line) fit s = absurd s
 
   no_default : (op : OpView) → default_of op ≡ None → has_no_default op ≡ true
   no_default (choosing ports priority None) e = refl
@@ -247,8 +285,8 @@ module _ {A : Type 0} (h : Parts A) where
     told d unready e = absurd (d.ready e)
     told d alone e = let k = one_held (branches_of op) d.place d.branch each d.is_branch in (fit, picks d, is_alone d.branch k.0 k.1 (d.is_found ∙ e), refl)
     told d (partner w o) e = let k = one_held (branches_of op) d.place d.branch each d.is_branch in (fit, picks d, partner_is d.branch k.0 w o k.1 (d.is_found ∙ e), refl)
-    told d (stale side) e = let k = one_held (branches_of op) d.place d.branch each d.is_branch in found_stale h d.branch k.0 side k.1 (d.is_found ∙ e)
-    told d (unheld w) e = tt
+    told d (stale side) e = let k = one_held (branches_of op) d.place d.branch each d.is_branch in (fit, found_stale h op d.place d.branch k.0 side (picks d) k.1 (d.is_found ∙ e))
+    told d (unheld w) e = let k = one_held (branches_of op) d.place d.branch each d.is_branch in (fit, found_unseen h op d.place d.branch k.0 w (picks d) k.1 (d.is_found ∙ e))
 
     decides : Decides x (is_alts op) (branches_of op) (λ j. j) (starting x op start ≡ 0) (chosen x op start) (otherwise x op (default_of op)) → PlanTells h op (chosen x op start)
     decides d = subst (PlanTells h op) (sym d.decides) (told d d.finding refl)
@@ -263,8 +301,8 @@ module _ {A : Type 0} (h : Parts A) where
     otherwise_tells : (n : NoneDecides x (is_alts op) (branches_of op) (chosen x op start) (otherwise x op (default_of op))) (d : Option Tree) → default_of op ≡ d → PlanTells h op (otherwise x op d)
     otherwise_tells n (Some v) e = (fit, e, none_ready_in (branches_of op) each n.0)
     otherwise_tells n None e = ⊎_elim (λ t. subst (PlanTells h op) (sym t.1) (waits n e t.0 (parks op) refl))
-        (λ o. ⊎_elim (λ t. subst (PlanTells h op) (sym t.2) (crowd_tells n e t.0 t.1)) (λ s. stop_tells op (otherwise x op None) s) o)
-        (queues_tell (branches_of op) (cond (parks op) (to_park (branches_of op)) (to_post (branches_of op))) each)
+        (λ o. ⊎_elim (λ t. subst (PlanTells h op) (sym t.2) (crowd_tells n e t.0 t.1)) (λ s. stop_tells op (otherwise x op None) fit s) o)
+        (queues_tell op e (none_ready_in (branches_of op) each n.0) (branches_of op) 0 (cond (parks op) (to_park (branches_of op)) (to_post (branches_of op))) each (λ j. ap (slice_get (branches_of op)) (let e : j ≡ 0 + j = omega arith in e)) tt)
 
     no_one : NoneDecides x (is_alts op) (branches_of op) (chosen x op start) (otherwise x op (default_of op)) → PlanTells h op (chosen x op start)
     no_one n = subst (PlanTells h op) (sym n.1) (otherwise_tells n (default_of op) refl)

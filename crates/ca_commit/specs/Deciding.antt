@@ -1,5 +1,5 @@
 -- What a plan says of the held parts from which it was made.
-use Rattle.std.specs.Prelude.{◌⊎◌, ◌≡◌, ℕ, List, [], ◌∷◌, Option, Some, None, true, slice_get}
+use Rattle.std.specs.Prelude.{◌⊎◌, ◌≡◌, ℕ, ◌≤◌, List, [], ◌∷◌, length, take, Option, Some, None, Bool, true, slice_get}
 use Rattle.ca_value.specs.Tree.{Tree, Trees, port}
 use Rattle.ca_term.specs.declared.fault.Fault.{Fault}
 use Rattle.ca_term.specs.declared.event.Side.{Side}
@@ -17,7 +17,7 @@ use Rattle.ca_meaning.specs.State.{State}
 use Rattle.ca_meaning.specs.TaskSteps.{kind_of, result_of}
 use Rattle.ca_meaning.specs.Wait.{Handler, port_of, side_of}
 use Rattle.ca_registry.specs.Registry.{comes_to}
-use Rattle.ca_commit.specs.Asks.{Asks, row_raw}
+use Rattle.ca_commit.specs.Asks.{Asks, AsksSettle, row_raw}
 use Rattle.ca_commit.specs.Contents.{Kept, Parked, Parts, alive_in, home, on, whole}
 use Rattle.ca_commit.specs.Finding.{glance}
 use Rattle.ca_commit.specs.Moves.{CrowdedIn, FewIn, FitIn, NoneReadyIn, PicksIn, Shows}
@@ -26,6 +26,10 @@ use Rattle.ca_commit.specs.Planning.{Planned, Seen, is_alts, state_of, to_close,
 -- what held parts show
 abbrev pub seen_in : {A : Type 0} → Parts A → Seen
 seen_in h = record { ports = whole h.bank; registries = whole h.registry; see = glance h.shard }
+
+-- whoever asks so asks whether wait w lives
+abbrev pub AsksFor : ℕ → ((ℕ → Bool) → Type 0) → Type 0
+AsksFor w asked = (alive : ℕ → Bool) → asked alive → alive w ≡ true
 
 module _ {A : Type 0} (h : Parts A) where
   -- the branch is done at once, by its row
@@ -75,6 +79,42 @@ module _ {A : Type 0} (h : Parts A) where
     pub shard : h.shard (home handler.wait) ≡ Some from
     pub gone : from handler.wait ≡ None
 
+  -- the same, where the shard of its wait isn't held
+  pub record IsUnseen (p : ℕ) (side : Side) (place : ℕ) : Type 0 where
+    pub kept : Kept
+    pub there : whole h.bank p ≡ Some kept
+    pub handler : Handler
+    pub at_place : slice_get (on side kept) place ≡ Some handler
+    pub unheld : h.shard (home handler.wait) ≡ None
+
+  -- No branch is ready, each queue before that of branch k has a place, and that one, which is of this side, is long, so that
+  -- its live waits are counted.
+  abbrev pub IsCounted : OpView → ℕ → BranchView → Kept → Side → Type 0
+  IsCounted op k b kept side = (default_of op ≡ None) × NoneReadyIn h (branches_of op) × FewIn h (take k (branches_of op)) × (side_of b ≡ side) × (1024 ≤ length (on side kept))
+
+  -- What becomes of the operation hangs on whether wait w lives, whose handler is at that place of a queue of channel p: in
+  -- front, where the row of a branch asks it, and with priority none before is ready; or among those that are counted.
+  pub record HangsOn (op : OpView) (p : ℕ) (kept : Kept) (side : Side) (place w : ℕ) : Type 0 where
+    pub number : ℕ
+    pub branch : BranchView
+    pub picked : PicksIn h op number branch
+    pub at_port : port_of branch ≡ p
+    pub why : ((place ≡ 0) × AsksFor w (λ alive. Asks alive branch kept)) ⊎ IsCounted op number branch kept side
+
+  abbrev pub HangsOnStale : OpView → ℕ → Side → ℕ → Type 0
+  HangsOnStale op p side place = (stale : IsStale p side place) × HangsOn op p stale.kept side place stale.handler.wait
+
+  abbrev pub HangsOnUnseen : OpView → ℕ → Type 0
+  HangsOnUnseen op w = (p : ℕ) × (side : Side) × (place : ℕ) × (unseen : IsUnseen p side place) × (unseen.handler.wait ≡ w) × HangsOn op p unseen.kept side place w
+
+  -- what channel p settles hangs on the stale handler in front of that side, since the rows of a Settle ask it
+  abbrev pub RestsOnStale : ℕ → Side → Type 0
+  RestsOnStale p side = (stale : IsStale p side 0) × AsksFor stale.handler.wait (λ alive. AsksSettle alive stale.kept)
+
+  -- or on wait w, which is in front of a side, and isn't seen
+  abbrev pub RestsOnUnseen : ℕ → ℕ → Type 0
+  RestsOnUnseen p w = (side : Side) × (unseen : IsUnseen p side 0) × (unseen.handler.wait ≡ w) × AsksFor w (λ alive. AsksSettle alive unseen.kept)
+
   -- a put without its task: its one branch
   abbrev pub IsPost : OpView → List BranchView → Type 0
   IsPost op bs = (p : ℕ) × (v : Tree) × (op ≡ posting (port p) v) × (bs ≡ put_of p v ∷ [])
@@ -99,6 +139,6 @@ module _ {A : Type 0} (h : Parts A) where
   PlanTells op (to_close p) = FitIn h op × (op ≡ closing (port p)) × ((k : Kept) × (whole h.bank p ≡ Some k))
   PlanTells op (to_register name args) = FitIn h op × (op ≡ registering name args) × IsAnswered name args
   PlanTells op (to_print line) = FitIn h op × (op ≡ printing line)
-  PlanTells op (to_prune p side place) = IsStale p side place
-  PlanTells op (to_look w) = Unit {0}
+  PlanTells op (to_prune p side place) = FitIn h op × HangsOnStale op p side place
+  PlanTells op (to_look w) = FitIn h op × HangsOnUnseen op w
   PlanTells op (to_refuse f) = IsRefused op f ⊎ IsCrowded op f

@@ -3,9 +3,9 @@ ghost use Rattle.ca_term.specs.declared.event.Side.{Side};
 ghost use Rattle.ca_term.specs.declared.fault.Fault.{Fault};
 ghost use Rattle.ca_term.specs.Operation.{OpView};
 ghost use Rattle.ca_commit.specs.Contents.{Parts, whole};
-ghost use Rattle.ca_commit.specs.Deciding.{IsRefused, IsStale, PlanTells, seen_in};
+ghost use Rattle.ca_commit.specs.Deciding.{IsRefused, PlanTells, RestsOnStale, RestsOnUnseen, seen_in};
 ghost use Rattle.ca_commit.specs.Moves.{UnfitIn};
-ghost use Rattle.ca_commit.specs.Finding.{glance, rests_on_stale, settle_at};
+ghost use Rattle.ca_commit.specs.Finding.{glance, rests_on_stale, rests_on_unheld, settle_at};
 ghost use Rattle.ca_commit.specs.Applying.{KeepsApart};
 ghost use Rattle.ca_commit.specs.Planning.{Seen, planned, state_of};
 ghost use Rattle.ca_commit.specs.Registering.{AreApart};
@@ -27,14 +27,18 @@ use ca_agent::agent::Agent;
 /// that with priority none before it is ready, and its row with all that it asks; of a wait, a posted put and a default,
 /// that no branch is ready, and of the first two that each queue has a place; of the other events, that the operation is
 /// theirs, and of a registry that its table answers. Of a refusal, that the operands aren't right, or a wait would be one
-/// too many; of a stale handler, that it stands there and its wait is gone.
+/// too many. Of a stale handler, that it stands there and its wait is gone, and of a look, that the shard of that wait isn't
+/// held; and of both that what becomes of the operation hangs on it: it stands in front of a queue, and the row of a branch
+/// asks it, or no branch is ready and it is one of a long queue whose live waits are counted.
 pub fn plans_tell<A>()
     ensures { (h : Parts A) (op : OpView) (start : ℕ) → PlanTells h op (planned (seen_in h) op start) }
 {}
 
-/// Where a stale handler stands in the way of what a channel settles, it is in front of its queue.
+/// Where a stale handler stands in the way of what a channel settles, or one whose shard isn't held, it is in front of its
+/// queue, and what the channel settles hangs on it.
 pub fn settling_tells<A>()
-    ensures { (h : Parts A) (p : ℕ) (side : Side) → settle_at (glance h.shard) (whole h.bank p) ≡ rests_on_stale side → IsStale h p side 0 }
+    ensures stale { (h : Parts A) (p : ℕ) (side : Side) → settle_at (glance h.shard) (whole h.bank p) ≡ rests_on_stale side → RestsOnStale h p side }
+    ensures unheld { (h : Parts A) (p w : ℕ) → settle_at (glance h.shard) (whole h.bank p) ≡ rests_on_unheld w → RestsOnUnseen h p w }
 {}
 
 /// Where the names that an operation brings are as `plan` wants them, those of what it becomes are as `reserve` and

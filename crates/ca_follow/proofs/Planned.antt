@@ -43,7 +43,7 @@ branches_at nowhere = []
 module _ (h : Has AnyTask) (a : TaskAgent AnyTask) (start : ℕ) where
   -- a handler that is to be pruned is stale
   pub plan_stale : (q : Planned) (p place : ℕ) (side : Side) → q ≡ to_prune p side place → IsPlanOf h a start q → IsStale (parts h) p side place
-  plan_stale q p place side is plan = subst (PlanTells (parts h) plan.0) (sym plan.3 ∙ is) (plan_tells (parts h) plan.0 start)
+  plan_stale q p place side is plan = (subst (PlanTells (parts h) plan.0) (sym plan.3 ∙ is) (plan_tells (parts h) plan.0 start)).1.0
 
   -- and there are fewer handlers without it
   pub fewer_left : (q : Planned) (p i : ℕ) (side : Side) (new : Channels) → q ≡ to_prune p side i → IsPlanOf h a start q → ((n : ℕ) → new n ≡ changed_at p (option_map (pruned side i)) h.bank n)

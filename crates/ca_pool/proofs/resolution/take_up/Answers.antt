@@ -14,7 +14,7 @@ use Rattle.ca_pool.proofs.resolution.take_up.Goals as goal
 
 pub prune_first-requires-clause-stale : goal.prune_first-requires-clause-stale
 prune_first-requires-clause-stale g c = let plan = c.requires.planned in let held = c.args.held.now in let h = parts_held c.args.worker.now.number None None held in
-    subst (λ (q : Planned). PlanTells h plan.0.op q) (sym plan.2 ∙ ap plan_view c.in-Prune.is) (plan_tells h plan.0.op c.args.task.now.alts)
+    (subst (λ (q : Planned). PlanTells h plan.0.op q) (sym plan.2 ∙ ap plan_view c.in-Prune.is) (plan_tells h plan.0.op c.args.task.now.alts)).1.0
 
 pub refuse_over-requires-clause-planned : goal.refuse_over-requires-clause-planned
 refuse_over-requires-clause-planned g c = subst (λ (q : Planned). IsOwnPlanFor g.A.Agent.place c.args.held.now q (agent_of c.args.task.now)) (ap plan_view c.in-Refused.is) c.requires.planned
