@@ -5,3 +5,4 @@ pub mod TopsView
 pub mod ScriptView
 pub mod Choices
 pub mod Again
+pub mod Words

@@ -1,15 +1,5 @@
-ghost use Rattle.std.specs.Prelude.{◌≡◌, ◌≤◌, ◌<◌, ◌+◌, false, IfOk, IfErr, OnOk, [], ◌∷◌, ◌++◌, length, drop};
-ghost use Rattle.ca_value.specs.Seq.{list};
-ghost use Rattle.ca_term.specs.View.{kernel};
-ghost use Rattle.ca_reader.specs.View.{form_tree, form_trees};
-ghost use Rattle.ca_forms.specs.Outcome.{done};
-ghost use Rattle.ca_forms.specs.declared.error.CheckError.{CheckError};
-ghost use Rattle.ca_forms.specs.Judged.{let_parts, over_long, binder_names, binder_parts, bound_names, total_name, total_names, total_binder, total_bounds, part_terms};
-ghost use Rattle.ca_forms.specs.Meaning.{binds, numbered};
-ghost use Rattle.ca_forms.specs.Binders.{spread};
-ghost use Rattle.ca_forms.specs.Plain.{row_let};
-ghost use Rattle.ca_forms.specs.Walk.{within};
-ghost use Rattle.ca_forms.specs.WalkView.{gathered, env, parts_of, pairs_of, terms_of, Fails};
+ghost use Rattle.std.specs.Prelude.{◌≡◌, ◌≤◌, ◌<◌, ◌+◌, ◌∷◌, ◌++◌};
+ghost use Rattle.ca_check.specs.Words.{false, IfOk, IfErr, OnOk, [], length, drop, list, kernel, form_tree, form_trees, done, CheckError, let_parts, over_long, binder_names, binder_parts, bound_names, total_name, total_names, total_binder, total_bounds, part_terms, binds, numbered, spread, row_let, within, gathered, env, parts_of, pairs_of, terms_of, Fails};
 
 use crate::walk::Walker;
 use ca_forms::context::At;
@@ -64,8 +54,6 @@ impl Walker {
         let first = self.scope.len();
         let values = self.bound_parts(alloc, functions, at, place, &parts[1])?;
         let body = self.block(alloc, functions, at, parts, 2)?;
-        // The length of the scope bounds the numbers of its names.
-        let _most = self.scope.len();
         self.scope.leave(first);
         self.gathered.bind(alloc, first, values, body)
     }

@@ -1,15 +1,5 @@
-ghost use Rattle.std.specs.Prelude.{◌≡◌, ◌<◌, ◌+◌, ◌^◌, IfOk, IfErr, OnOk, length, drop, is_some, true};
-ghost use Rattle.ca_value.specs.Seq.{list};
-ghost use Rattle.ca_reader.specs.View.{form_tree, form_trees};
-ghost use Rattle.ca_term.specs.View.{kernel};
-ghost use Rattle.ca_forms.specs.Binders.{bindings_in};
-ghost use Rattle.ca_check.specs.Choices.{is_only, only_shape, first_in, second_means, only_means, row_bound, bound_shape, bound_body, bound_other, test_term, bound_choice};
-ghost use Rattle.ca_forms.specs.Judged.{total_name};
-ghost use Rattle.ca_forms.specs.Meaning.{local, name_as};
-ghost use Rattle.ca_forms.specs.Outcome.{done};
-ghost use Rattle.ca_forms.specs.Plain.{one_bound};
-ghost use Rattle.ca_forms.specs.WalkView.{gathered, env, part, parts_of, terms_of, Fails};
-ghost use Rattle.ca_forms.specs.declared.error.CheckError.{CheckError};
+ghost use Rattle.std.specs.Prelude.{◌≡◌, ◌<◌, ◌+◌, ◌^◌};
+ghost use Rattle.ca_check.specs.Words.{IfOk, IfErr, OnOk, length, drop, is_some, true, list, form_tree, form_trees, kernel, bindings_in, is_only, only_shape, first_in, second_means, only_means, row_bound, bound_shape, bound_body, bound_other, test_term, bound_choice, total_name, local, name_as, done, one_bound, gathered, env, part, parts_of, terms_of, Fails, CheckError};
 
 use crate::walk::Walker;
 use ca_forms::context::At;
@@ -201,8 +191,6 @@ impl Walker {
         self.scope.hide(alloc)?;
         let body = self.bound_then(alloc, functions, at, branches, first, parts, bindings)?;
         let other = self.bound_other(alloc, functions, at, branches, parts)?;
-        // The length of the scope bounds the numbers of its names.
-        let _most = self.scope.len();
         self.scope.leave(first);
         choice(
             &mut self.gathered,
@@ -279,8 +267,6 @@ impl Walker {
         let values = single(alloc, Made::local(hidden))?;
         self.bind_name(alloc, binder_in(bindings))?;
         let body = self.bound_body(alloc, functions, at, branches, parts)?;
-        // The length of the scope bounds the numbers of its names.
-        let _most = self.scope.len();
         self.scope.leave(first);
         self.gathered.bind(alloc, first, values, body)
     }

@@ -1,9 +1,5 @@
-ghost use Rattle.std.specs.Prelude.{◌≡◌, ◌<◌, IfOk, IfErr, OnOk, length, drop};
-ghost use Rattle.ca_term.specs.View.{kernel};
-ghost use Rattle.ca_forms.specs.Outcome.{done};
-ghost use Rattle.ca_forms.specs.Judged.{more_of};
-ghost use Rattle.ca_forms.specs.Plain.{meanings, row_if, row_if_not, row_when, row_when_not};
-ghost use Rattle.ca_forms.specs.WalkView.{gathered, env, parts_of, Fails};
+ghost use Rattle.std.specs.Prelude.{◌≡◌, ◌<◌};
+ghost use Rattle.ca_check.specs.Words.{IfOk, IfErr, OnOk, length, drop, kernel, done, more_of, meanings, row_if, row_if_not, row_when, row_when_not, gathered, env, parts_of, Fails};
 
 use crate::walk::Walker;
 use ca_forms::context::At;
@@ -155,8 +151,6 @@ impl Walker {
         let first = self.scope.len();
         let values = self.hidden(alloc, functions, at, parts, 1, end)?;
         let last = self.form(alloc, functions, at, tail)?;
-        // The length of the scope bounds the numbers of its names.
-        let _most = self.scope.len();
         self.scope.leave(first);
         self.gathered.chain(alloc, both, first, values, last)
     }

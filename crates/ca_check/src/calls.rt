@@ -1,11 +1,5 @@
-ghost use Rattle.std.specs.Prelude.{◌≡◌, ◌≤◌, ◌<◌, IfOk, IfErr, OnOk, length, drop};
-ghost use Rattle.ca_value.specs.Seq.{list};
-ghost use Rattle.ca_term.specs.View.{kernel};
-ghost use Rattle.ca_forms.specs.Outcome.{done};
-ghost use Rattle.ca_forms.specs.Plain.{meanings};
-ghost use Rattle.ca_forms.specs.Names.{row_symbol, row_call, row_keyword, builtin_call, function_call};
-ghost use Rattle.ca_forms.specs.FunctionsView.{named_function};
-ghost use Rattle.ca_forms.specs.WalkView.{gathered, env, parts_of, Fails};
+ghost use Rattle.std.specs.Prelude.{◌≡◌, ◌≤◌, ◌<◌};
+ghost use Rattle.ca_check.specs.Words.{IfOk, IfErr, OnOk, length, drop, list, kernel, done, meanings, row_symbol, row_call, row_keyword, builtin_call, function_call, named_function, gathered, env, parts_of, Fails};
 
 use crate::walk::Walker;
 use ca_forms::context::At;

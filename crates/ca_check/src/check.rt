@@ -1,20 +1,5 @@
-ghost use Rattle.std.specs.Prelude.{◌≡◌, ◌<◌, IsTrue, Ok, IfOk, IfErr, length, drop};
-ghost use Rattle.ca_value.specs.Seq.{list};
-ghost use Rattle.ca_value.specs.Tree.{nil};
-ghost use Rattle.ca_term.specs.declared.place.Place.{Place};
-ghost use Rattle.ca_term.specs.Kernel.{bind, const};
-ghost use Rattle.ca_term.specs.Program.{program_view};
-ghost use Rattle.ca_term.specs.View.{kernel, bindings};
-ghost use Rattle.ca_reader.specs.Form.{form, group};
-ghost use Rattle.ca_reader.specs.declared.form.Bracket.TheVariants.{Round};
-ghost use Rattle.ca_reader.specs.View.{form_tree, form_trees};
-ghost use Rattle.ca_check.specs.Expansion.{is_namespace, script, tops, expansion_of, Refuses};
-ghost use Rattle.ca_forms.specs.Outcome.{Gathered, done};
-ghost use Rattle.ca_forms.specs.Tops.{Tops};
-ghost use Rattle.ca_check.specs.TopsView.{tops_of};
-ghost use Rattle.ca_check.specs.ScriptView.{has_namespace, nothing_defined, nothing_gathered};
-ghost use Rattle.ca_forms.specs.WalkView.{gathered, Fails};
-ghost use Rattle.ca_forms.specs.declared.error.CheckError.{CheckError};
+ghost use Rattle.std.specs.Prelude.{◌≡◌, ◌<◌};
+ghost use Rattle.ca_check.specs.Words.{IsTrue, Ok, IfOk, IfErr, length, drop, list, nil, Place, bind, const, program_view, kernel, bindings, form, group, Round, form_tree, form_trees, is_namespace, script, tops, expansion_of, Refuses, Gathered, done, Tops, tops_of, has_namespace, nothing_defined, nothing_gathered, gathered, Fails, CheckError};
 
 use crate::defn::list_items;
 use crate::tops::Expansion;
@@ -22,6 +7,7 @@ use ca_forms::error::{CheckError, CheckErrorKind};
 use ca_reader::form::{Form, Forms, Shape};
 use ca_term::program::Program;
 use ca_term::term::{Binding, Term};
+use ca_value::memory::OutOfMemory;
 use ca_value::seq::Seq;
 use ca_value::value::Value;
 use std::alloc::Global;
@@ -89,9 +75,8 @@ fn expand(alloc: Global, forms: &[Form]) -> Result<Expansion, CheckError>
     Ok(expansion)
 }
 
-fn main_text(alloc: Global, rest: Seq<Binding>) -> Result<Term, CheckError>
+fn main_text(alloc: Global, rest: Seq<Binding>) -> Result<Term, OutOfMemory>
     ensures ok { IfOk result (λ t. kernel t ≡ bind (bindings (list rest)) (const nil)) }
-    ensures err { IfErr result (λ e. e ≡ CheckError.OutOfMemory) }
 {
     let body = Box::new(alloc, Term::Const(Value::Nil))?;
     Ok(Term::Let(rest, body))

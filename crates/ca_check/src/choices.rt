@@ -1,11 +1,5 @@
-ghost use Rattle.std.specs.Prelude.{◌≡◌, ◌<◌, IfOk, IfErr, OnOk, length, drop};
-ghost use Rattle.ca_value.specs.Seq.{list};
-ghost use Rattle.ca_term.specs.View.{kernel};
-ghost use Rattle.ca_forms.specs.declared.error.CheckError.{CheckError};
-ghost use Rattle.ca_check.specs.Choices.{tested, chosen, choice_terms};
-ghost use Rattle.ca_forms.specs.Outcome.{done};
-ghost use Rattle.ca_forms.specs.Plain.{meanings, row_cond};
-ghost use Rattle.ca_forms.specs.WalkView.{gathered, env, parts_of, Fails};
+ghost use Rattle.std.specs.Prelude.{◌≡◌, ◌<◌};
+ghost use Rattle.ca_check.specs.Words.{IfOk, IfErr, OnOk, length, drop, list, kernel, CheckError, tested, chosen, choice_terms, done, meanings, row_cond, gathered, env, parts_of, Fails};
 
 use crate::walk::Walker;
 use ca_forms::context::At;

@@ -1,15 +1,5 @@
-ghost use Rattle.std.specs.Prelude.{◌≡◌, ◌≤◌, ◌<◌, ◌+◌, ◌^◌, ℕ, suc, [], ◌∷◌, ◌++◌, length, ◌&&◌, false, None, IfOk, IfErr, IfSome, IfNone, OnOk};
-ghost use Rattle.ca_value.specs.Seq.{list};
-ghost use Rattle.ca_term.specs.View.{kernel};
-ghost use Rattle.ca_reader.specs.View.{form_trees};
-ghost use Rattle.ca_forms.specs.declared.error.CheckError.{CheckError};
-ghost use Rattle.ca_forms.specs.FunctionsView.{find, named_function};
-ghost use Rattle.ca_forms.specs.Names.{is_known};
-ghost use Rattle.ca_forms.specs.Outcome.{done};
-ghost use Rattle.ca_forms.specs.Tops.{names_of, numbers, straight, looped, signature, function_env, settled, add_function, with_function, is_empty, plain_with};
-ghost use Rattle.ca_forms.specs.Uses.{is_plain};
-ghost use Rattle.ca_check.specs.TopsView.{total_binders, written_as, in_function, body_in, tops_of, settled_as, settled_function, AreBelow, AreCounted, IsSafe};
-ghost use Rattle.ca_forms.specs.WalkView.{gathered, Fails};
+ghost use Rattle.std.specs.Prelude.{◌≡◌, ◌≤◌, ◌<◌, ◌+◌, ◌^◌, ◌∷◌, ◌++◌, ◌&&◌};
+ghost use Rattle.ca_check.specs.Words.{ℕ, suc, [], length, false, None, IfOk, IfErr, IfSome, IfNone, OnOk, list, kernel, form_trees, CheckError, find, named_function, is_known, done, names_of, numbers, straight, looped, signature, function_env, settled, add_function, with_function, is_empty, plain_with, is_plain, total_binders, written_as, in_function, body_in, tops_of, settled_as, settled_function, AreBelow, AreCounted, IsSafe, gathered, Fails};
 
 use crate::defn::{Defn, Pass};
 use crate::function_body::all_parameters;
@@ -21,6 +11,7 @@ use ca_forms::uses::{aims_out, is_plain, note_term};
 use ca_term::place::Place;
 use ca_term::program::Procedure;
 use ca_term::term::Term;
+use ca_value::memory::OutOfMemory;
 use ca_value::seq::Seq;
 use indexmap::IndexSet;
 use std::alloc::Global;
@@ -65,9 +56,8 @@ fn signature(
     defn: &Defn,
     hidden: &[u64],
     plain: bool,
-) -> Result<Function, CheckError>
+) -> Result<Function, OutOfMemory>
     ensures ok { IfOk result (λ f. named_function defn.now.name.now f ≡ signature (written_as defn.now) hidden.now plain) }
-    ensures err { IfErr result (λ e. e ≡ CheckError.OutOfMemory) }
 {
     let numbers = Vec::from_slice(alloc, hidden)?;
     Ok(Function {

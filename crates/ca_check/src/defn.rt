@@ -1,13 +1,5 @@
-ghost use Rattle.std.specs.Prelude.{◌≡◌, List, ◌∷◌, drop, option_map, is_some, cond, IfErr, OnOk, MatchOption};
-ghost use Rattle.ca_check.specs.declared.defn.Pass.{Pass};
-ghost use Rattle.ca_reader.specs.View.{form_tree, form_trees};
-ghost use Rattle.ca_forms.specs.Binders.{Binder};
-ghost use Rattle.ca_forms.specs.Meaning.{Meaning, Env};
-ghost use Rattle.ca_forms.specs.Outcome.{Gathered};
-ghost use Rattle.ca_forms.specs.Tops.{top_name, binders_in, parameters_in, note_in, function_of, defn_top, word_at_head, list_parts, counted_patterns, judged_body, noted_text, function, wrong};
-ghost use Rattle.ca_forms.specs.Judged.{total_binder};
-ghost use Rattle.ca_check.specs.TopsView.{total_binders, note_of, written_as, AreCounted};
-ghost use Rattle.ca_forms.specs.WalkView.{parts_of, Fails};
+ghost use Rattle.std.specs.Prelude.{◌≡◌, ◌∷◌};
+ghost use Rattle.ca_check.specs.Words.{List, drop, option_map, is_some, cond, IfErr, OnOk, MatchOption, Pass, form_tree, form_trees, Binder, Meaning, Env, Gathered, top_name, binders_in, parameters_in, note_in, function_of, defn_top, word_at_head, list_parts, counted_patterns, judged_body, noted_text, function, wrong, total_binder, total_binders, note_of, written_as, AreCounted, parts_of, Fails};
 
 use ca_forms::error::{CheckError, CheckErrorKind};
 use ca_forms::shapes::{is_binder, is_odd};

@@ -1,16 +1,5 @@
-ghost use Rattle.std.specs.Prelude.{◌≡◌, ◌≤◌, ◌<◌, ◌+◌, ◌^◌, ◌++◌, length, IfOk, IfErr, OnOk};
-ghost use Rattle.std.specs.List.{list_any};
-ghost use Rattle.ca_value.specs.Seq.{list};
-ghost use Rattle.ca_term.specs.View.{kernel};
-ghost use Rattle.ca_reader.specs.View.{form_trees};
-ghost use Rattle.ca_forms.specs.declared.error.CheckError.{CheckError};
-ghost use Rattle.ca_forms.specs.Binders.{is_pattern, unpacked};
-ghost use Rattle.ca_forms.specs.Meaning.{block};
-ghost use Rattle.ca_forms.specs.Outcome.{done};
-ghost use Rattle.ca_forms.specs.Plain.{meanings};
-ghost use Rattle.ca_forms.specs.Tops.{names_of, numbers, straight, looped};
-ghost use Rattle.ca_check.specs.TopsView.{total_binders, pattern_parts, pattern_names, written_as, in_function, body_in, AreCounted};
-ghost use Rattle.ca_forms.specs.WalkView.{gathered, env, parts_of, terms_of, Fails};
+ghost use Rattle.std.specs.Prelude.{◌≡◌, ◌≤◌, ◌<◌, ◌+◌, ◌^◌, ◌++◌};
+ghost use Rattle.ca_check.specs.Words.{length, IfOk, IfErr, OnOk, list_any, list, kernel, form_trees, CheckError, is_pattern, unpacked, block, done, meanings, names_of, numbers, straight, looped, total_binders, pattern_parts, pattern_names, written_as, in_function, body_in, AreCounted, gathered, env, parts_of, terms_of, Fails};
 
 use crate::defn::{Defn, Pass};
 use crate::walk::Walker;
@@ -22,6 +11,7 @@ use ca_forms::operands::with_names;
 use ca_forms::shapes::{is_pattern, pattern_items};
 use ca_reader::form::Form;
 use ca_term::place::Place;
+use ca_value::memory::OutOfMemory;
 use ca_value::seq::Seq;
 use std::alloc::Global;
 
@@ -30,10 +20,9 @@ pub fn parameter_numbers(
     alloc: Global,
     first: u64,
     parameters: &[Form],
-) -> Result<Seq<u64>, CheckError>
+) -> Result<Seq<u64>, OutOfMemory>
     requires { first + length parameters.now < 2 ^ 64 }
     ensures ok { IfOk result (λ s. list s ≡ numbers first (names_of (total_binders (form_trees parameters.now)))) }
-    ensures err { IfErr result (λ e. e ≡ CheckError.OutOfMemory) }
 {
     let mut numbers = Seq::new(alloc);
     numbers.reserve(parameters.len() as u64)?;
@@ -49,10 +38,9 @@ pub fn all_parameters(
     first: u64,
     parameters: &[Form],
     hidden: &[u64],
-) -> Result<Seq<u64>, CheckError>
+) -> Result<Seq<u64>, OutOfMemory>
     requires { first + length parameters.now < 2 ^ 64 }
     ensures ok { IfOk result (λ s. list s ≡ numbers first (names_of (total_binders (form_trees parameters.now))) ++ hidden.now) }
-    ensures err { IfErr result (λ e. e ≡ CheckError.OutOfMemory) }
 {
     let numbers = parameter_numbers(alloc, first, parameters)?;
     let mut all = numbers.into_vec();
@@ -121,8 +109,6 @@ impl Walker {
         let size = self.scope.len();
         let values = self.unpack_patterns(alloc, place, first, parameters)?;
         let made = self.block(alloc, functions, at, body, 0)?;
-        // The length of the scope bounds the numbers of its names.
-        let _most = self.scope.len();
         self.scope.leave(size);
         self.gathered.bind(alloc, size, values, made)
     }

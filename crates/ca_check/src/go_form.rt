@@ -1,9 +1,5 @@
-ghost use Rattle.std.specs.Prelude.{◌≡◌, ◌<◌, IfOk, IfErr, OnOk, length, drop};
-ghost use Rattle.ca_term.specs.View.{kernel};
-ghost use Rattle.ca_forms.specs.Go.{go};
-ghost use Rattle.ca_forms.specs.GoView.{go_text};
-ghost use Rattle.ca_forms.specs.Outcome.{done};
-ghost use Rattle.ca_forms.specs.WalkView.{gathered, env, parts_of, Fails};
+ghost use Rattle.std.specs.Prelude.{◌≡◌, ◌<◌};
+ghost use Rattle.ca_check.specs.Words.{IfOk, IfErr, OnOk, length, drop, kernel, go, go_text, done, gathered, env, parts_of, Fails};
 
 use crate::walk::Walker;
 use ca_forms::context::At;
@@ -38,8 +34,6 @@ impl Walker {
         let body = self.go_body(alloc, functions, at.in_task(), repeats, place, parts)?;
         // The body's value has the name behind the port.
         self.scope.hide(alloc)?;
-        // The length of the scope bounds the numbers of its names.
-        let _most = self.scope.len();
         self.scope.leave(port);
         self.gathered.finish(alloc, number, port, body, place)
     }

@@ -1,11 +1,5 @@
-ghost use Rattle.std.specs.Prelude.{◌≡◌, ◌≤◌, ◌<◌, true, IfOk, IfErr, OnOk, length, drop, take};
-ghost use Rattle.ca_term.specs.View.{kernel};
-ghost use Rattle.ca_forms.specs.Channels.{changing, row_pub, stopping};
-ghost use Rattle.ca_forms.specs.GivenView.{given_view};
-ghost use Rattle.ca_forms.specs.Outcome.{done};
-ghost use Rattle.ca_forms.specs.Plain.{meanings};
-ghost use Rattle.ca_forms.specs.Planned.{hidden_row, merge_row, pub_over, pipeline_row, pipeline_by};
-ghost use Rattle.ca_forms.specs.WalkView.{gathered, env, parts_of, Fails};
+ghost use Rattle.std.specs.Prelude.{◌≡◌, ◌≤◌, ◌<◌};
+ghost use Rattle.ca_check.specs.Words.{true, IfOk, IfErr, OnOk, length, drop, take, kernel, changing, row_pub, stopping, given_view, done, meanings, hidden_row, merge_row, pub_over, pipeline_row, pipeline_by, gathered, env, parts_of, Fails};
 
 use crate::walk::Walker;
 use ca_forms::context::At;
@@ -44,8 +38,6 @@ impl Walker {
     {
         let first = self.scope.next_number();
         let operands = self.hidden(alloc, functions, at, parts, 1, parts.len())?;
-        // The length of the scope bounds the numbers of its names.
-        let _most = self.scope.next_number();
         self.scope.leave(first);
         let operands = and_true(unwritten, operands)?;
         hiding(alloc, &mut self.gathered, form, first, operands, place)
@@ -94,8 +86,6 @@ impl Walker {
         let first = self.scope.next_number();
         let operands = self.hidden(alloc, functions, at, parts, 1, 2)?;
         let port = self.chan_form(alloc, functions, at.inner(), place, parts, 2)?;
-        // The length of the scope bounds the numbers of its names.
-        let _most = self.scope.next_number();
         self.scope.leave(first);
         let operands = with_last(operands, port)?;
         merging(alloc, &mut self.gathered, first, operands, place)
@@ -147,8 +137,6 @@ impl Walker {
     {
         let first = self.scope.next_number();
         let operands = self.hidden(alloc, functions, at, parts, 1, 2)?;
-        // The length of the scope bounds the numbers of its names.
-        let _most = self.scope.next_number();
         self.scope.leave(first);
         publishing(alloc, &mut self.gathered, first, given, operands, place)
     }
@@ -233,8 +221,6 @@ impl Walker {
         self.scope.hide(alloc)?;
         let target = self.hidden(alloc, functions, at, parts, 2, 3)?;
         let source = self.hidden(alloc, functions, at, parts, 4, parts.len())?;
-        // The length of the scope bounds the numbers of its names.
-        let _most = self.scope.next_number();
         self.scope.leave(first);
         let ports = joined_terms(target, source)?;
         let operands = joined_terms(workers, ports)?;

@@ -1,13 +1,5 @@
-ghost use Rattle.std.specs.Prelude.{◌≡◌, Ok, Err, All, Some, map};
-ghost use Rattle.ca_term.specs.Program.{ProgramView, IsProgram};
-ghost use Rattle.ca_value.specs.IsValue.{Scalars};
-ghost use Rattle.ca_term.specs.Constants.{ProgramHasScalars};
-ghost use Rattle.ca_reader.specs.Form.{FormTrees};
-ghost use Rattle.ca_reader.specs.Written.{HaveScalars};
-ghost use Rattle.ca_forms.specs.declared.error.CheckErrorKind.TheVariants.{UnknownName, Redefined, BadArity, BadForm, RecurNotTail, ParkOutsideGo, BlockOutsideMain, NotPlain, TooMany};
-ghost use Rattle.ca_check.specs.Expansion.{expansion_of};
-ghost use Rattle.ca_check.specs.Order.{block_place, script_go_blocks};
-ghost use Rattle.ca_forms.specs.Uses.{IsGoBody};
+ghost use Rattle.std.specs.Prelude.{◌≡◌};
+ghost use Rattle.ca_check.specs.Words.{Ok, Err, All, Some, map, ProgramView, IsProgram, Scalars, ProgramHasScalars, FormTrees, HaveScalars, UnknownName, Redefined, BadArity, BadForm, RecurNotTail, ParkOutsideGo, BlockOutsideMain, NotPlain, TooMany, expansion_of, block_place, script_go_blocks, IsGoBody};
 ghost use Rattle.ca_check.specs.Worked as worked;
 
 /// The program of an accepted script is a checked one: every name in it is bound, once on each path; each

@@ -1,14 +1,5 @@
-ghost use Rattle.std.specs.Prelude.{◌≡◌, ◌<◌, ◌+◌, ◌^◌, IfOk, IfErr, OnOk, [], ◌∷◌, ◌++◌, length, drop, false, true};
-ghost use Rattle.ca_reader.specs.View.{form_tree};
-ghost use Rattle.ca_term.specs.View.{kernel};
-ghost use Rattle.ca_check.specs.Choices.{bound_shape, first_in, only_shape};
-ghost use Rattle.ca_forms.specs.Judged.{total_binder};
-ghost use Rattle.ca_forms.specs.Meaning.{block};
-ghost use Rattle.ca_forms.specs.Outcome.{done};
-ghost use Rattle.ca_forms.specs.declared.error.CheckError.{CheckError};
-ghost use Rattle.ca_forms.specs.Plain.{meanings, row_loop, row_while, row_dotimes, row_doseq};
-ghost use Rattle.ca_forms.specs.Rounds.{loop_parts, loop_names, item_of};
-ghost use Rattle.ca_forms.specs.WalkView.{gathered, env, parts_of, Fails};
+ghost use Rattle.std.specs.Prelude.{◌≡◌, ◌<◌, ◌+◌, ◌^◌, ◌∷◌, ◌++◌};
+ghost use Rattle.ca_check.specs.Words.{IfOk, IfErr, OnOk, [], length, drop, false, true, form_tree, kernel, bound_shape, first_in, only_shape, total_binder, block, done, CheckError, meanings, row_loop, row_while, row_dotimes, row_doseq, loop_parts, loop_names, item_of, gathered, env, parts_of, Fails};
 
 use crate::bound::{binder_in, is_bound_shape, is_only_shape};
 use crate::walk::Walker;
@@ -92,8 +83,6 @@ impl Walker {
         let values = self.bound_parts(alloc, functions, at, place, &parts[1])?;
         let inside = at.in_loop(values.len());
         let body = self.block(alloc, functions, inside, parts, 2)?;
-        // The length of the scope bounds the numbers of its names.
-        let _most = self.scope.len();
         self.scope.leave(first);
         self.gathered.repeat(alloc, first, values, body)
     }
@@ -171,8 +160,6 @@ impl Walker {
         self.scope.hide(alloc)?;
         self.bind_name(alloc, binder_in(bindings))?;
         let terms = self.in_order(alloc, functions, at.inner(), parts, 2)?;
-        // The length of the scope bounds the numbers of its names.
-        let _most = self.scope.len();
         self.scope.leave(first);
         let counted = self.gathered.count(alloc, first + 1, first, terms, place)?;
         self.gathered.under(alloc, first, values, counted)
@@ -218,7 +205,7 @@ impl Walker {
         ensures err { IfErr result (λ e. Fails e (row_doseq place (parts_of (drop 1 parts.now)) (env self.old.scope functions.now at) (gathered self.old.gathered))) }
         ensures scope { OnOk result (self.new.scope ≡ self.old.scope) }
     {
-        let first = self.scope.len();
+        let first = self.scope.next_number();
         let bindings = &parts[1];
         let value = self.only_value(alloc, functions, at.inner(), bindings)?;
         let operands = single(alloc, value)?;
@@ -228,8 +215,6 @@ impl Walker {
         let count = over(alloc, Head::Builtin(Builtin::Count), &[first], place)?;
         let values = pair(alloc, items, count)?;
         self.hide_three(alloc)?;
-        // The length of the scope bounds the numbers of its names.
-        let _most = self.scope.len();
         let body = self.doseq_item(alloc, functions, at.inner(), place, first, parts, bindings)?;
         self.scope.leave(first);
         let terms = single(alloc, body)?;
@@ -282,8 +267,6 @@ impl Walker {
         )?;
         let values = self.bind_value(alloc, place, binder, Seq::new(alloc), term)?;
         let body = self.block(alloc, functions, at, parts, 2)?;
-        // The length of the scope bounds the numbers of its names.
-        let _most = self.scope.len();
         self.scope.leave(size);
         self.gathered.bind(alloc, size, values, body)
     }

@@ -1,15 +1,5 @@
-ghost use Rattle.std.specs.Prelude.{◌≡◌, ◌≤◌, ◌<◌, ◌+◌, true, IfOk, IfErr, OnOk, [], ◌∷◌, ◌++◌, length, drop, List};
-ghost use Rattle.ca_value.specs.Seq.{list};
-ghost use Rattle.ca_term.specs.declared.head.Head.TheVariants.{Alts};
-ghost use Rattle.ca_term.specs.View.{kernel};
-ghost use Rattle.ca_reader.specs.View.{form_tree};
-ghost use Rattle.ca_forms.specs.Channels.{operands_in, row_chan, with_buffer};
-ghost use Rattle.ca_forms.specs.Meaning.{inner, operation};
-ghost use Rattle.ca_forms.specs.Outcome.{done, after};
-ghost use Rattle.ca_forms.specs.Plain.{meanings};
-ghost use Rattle.ca_forms.specs.Planned.{is_planned, planned_row, and_yes};
-ghost use Rattle.ca_forms.specs.Walk.{walk, row, within};
-ghost use Rattle.ca_forms.specs.WalkView.{gathered, env, parts_of, pairs_of, terms_of, Fails};
+ghost use Rattle.std.specs.Prelude.{◌≡◌, ◌≤◌, ◌<◌, ◌+◌, ◌∷◌, ◌++◌};
+ghost use Rattle.ca_check.specs.Words.{true, IfOk, IfErr, OnOk, [], length, drop, List, list, Alts, kernel, form_tree, operands_in, row_chan, with_buffer, inner, operation, done, after, meanings, is_planned, planned_row, and_yes, walk, row, within, gathered, env, parts_of, pairs_of, terms_of, Fails};
 
 use crate::walk::Walker;
 use ca_forms::context::At;

@@ -1,20 +1,5 @@
-ghost use Rattle.std.specs.Prelude.{◌≡◌, ◌≤◌, ◌<◌, ◌+◌, ◌++◌, suc, IfOk, IfErr, OnOk, length, drop, get_or, true};
-ghost use Rattle.ca_reader.specs.declared.form.Form.{Form};
-ghost use Rattle.std.specs.List.{list_any};
-ghost use Rattle.ca_value.specs.Seq.{list};
-ghost use Rattle.ca_term.specs.View.{kernel};
-ghost use Rattle.ca_reader.specs.View.{form_tree, form_trees};
-ghost use Rattle.ca_forms.specs.declared.error.CheckError.{CheckError};
-ghost use Rattle.ca_check.specs.Again.{widths, again_terms, whole_names, binders_of, again_row};
-ghost use Rattle.ca_forms.specs.Binders.{is_pattern, width, patterns};
-ghost use Rattle.ca_forms.specs.Judged.{total_binder, total_bounds};
-ghost use Rattle.ca_forms.specs.Meaning.{block, lets};
-ghost use Rattle.ca_forms.specs.Outcome.{done};
-ghost use Rattle.ca_forms.specs.Plain.{meanings, binders};
-ghost use Rattle.ca_forms.specs.Rounds.{loop_parts};
-ghost use Rattle.ca_check.specs.TopsView.{pattern_names, pattern_parts, AreCounted};
-ghost use Rattle.ca_forms.specs.Walk.{within};
-ghost use Rattle.ca_forms.specs.WalkView.{gathered, env, parts_of, pairs_of, terms_of, Fails};
+ghost use Rattle.std.specs.Prelude.{◌≡◌, ◌≤◌, ◌<◌, ◌+◌, ◌++◌};
+ghost use Rattle.ca_check.specs.Words.{suc, IfOk, IfErr, OnOk, length, drop, get_or, true, Form, list_any, list, kernel, form_tree, form_trees, CheckError, widths, again_terms, whole_names, binders_of, again_row, is_pattern, width, patterns, total_binder, total_bounds, block, lets, done, meanings, binders, loop_parts, pattern_names, pattern_parts, AreCounted, within, gathered, env, parts_of, pairs_of, terms_of, Fails};
 
 use crate::walk::Walker;
 use ca_forms::context::At;
@@ -126,8 +111,6 @@ impl Walker {
         let first = self.scope.len();
         let bindings = &parts[1];
         let values = self.bound_parts(alloc, functions, at, place, bindings)?;
-        // The length of the scope bounds the numbers of its names.
-        let _most = self.scope.len();
         let items = items_in(bindings);
         let body = self.loop_again(alloc, functions, at, place, first, parts, items)?;
         self.scope.leave(first);
@@ -155,8 +138,6 @@ impl Walker {
     {
         let first = self.scope.len();
         let values = self.bind_again(alloc, bound, items)?;
-        // The length of the scope bounds the numbers of its names.
-        let _most = self.scope.len();
         let inside = at.in_loop(values.len());
         let body = self.loop_patterns(alloc, functions, inside, place, first, parts, items)?;
         self.scope.leave(first);
@@ -186,8 +167,6 @@ impl Walker {
         let size = self.scope.len();
         let values = self.unpack_bindings(alloc, place, whole, items)?;
         let body = self.block(alloc, functions, at, parts, 2)?;
-        // The length of the scope bounds the numbers of its names.
-        let _most = self.scope.len();
         self.scope.leave(size);
         self.gathered.bind(alloc, size, values, body)
     }

@@ -1,18 +1,5 @@
-ghost use Rattle.std.specs.Prelude.{◌≡◌, ◌≤◌, ◌<◌, ◌+◌, ◌||◌, ◌&&◌, nat_lt, List, [], length, drop, false, IfOk, IfErr, OnOk};
-ghost use Rattle.ca_value.specs.Seq.{list};
-ghost use Rattle.ca_value.specs.Tree.{nil};
-ghost use Rattle.ca_term.specs.Kernel.{bind, const, empty};
-ghost use Rattle.ca_term.specs.Program.{program_view};
-ghost use Rattle.ca_term.specs.View.{kernel, bindings};
-ghost use Rattle.ca_reader.specs.View.{form_tree};
-ghost use Rattle.ca_forms.specs.declared.error.CheckError.{CheckError};
-ghost use Rattle.ca_forms.specs.Meaning.{Meaning};
-ghost use Rattle.ca_forms.specs.Binders.{Part};
-ghost use Rattle.ca_forms.specs.Tops.{is_defining, is_taken, list_top, bound_top, one_top, def_top, defn_top, function};
-ghost use Rattle.ca_check.specs.TopsView.{tops_of, written_as};
-ghost use Rattle.ca_check.specs.ScriptView.{kind_top, is_defining_kind, Behind, Leads, Stops, form_top, nothing_defined, nothing_gathered};
-ghost use Rattle.ca_forms.specs.Walk.{walk};
-ghost use Rattle.ca_forms.specs.WalkView.{gathered, parts_of};
+ghost use Rattle.std.specs.Prelude.{◌≡◌, ◌≤◌, ◌<◌, ◌+◌, ◌||◌, ◌&&◌};
+ghost use Rattle.ca_check.specs.Words.{nat_lt, List, [], length, drop, false, IfOk, IfErr, OnOk, list, nil, bind, const, empty, program_view, kernel, bindings, form_tree, CheckError, Meaning, Part, is_defining, is_taken, list_top, bound_top, one_top, def_top, defn_top, function, tops_of, written_as, kind_top, is_defining_kind, Behind, Leads, Stops, form_top, nothing_defined, nothing_gathered, walk, gathered, parts_of};
 
 use crate::definitions::Definitions;
 use crate::defn::{Defn, list_items, top_name, word_at_head};

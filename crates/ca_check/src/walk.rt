@@ -1,14 +1,5 @@
-ghost use Rattle.std.specs.Prelude.{◌≡◌, ◌≤◌, ◌<◌, ◌+◌, IfOk, IfErr, OnOk, ◌++◌, length, map, drop, take, List, ℕ};
-ghost use Rattle.ca_value.specs.Seq.{list};
-ghost use Rattle.ca_term.specs.View.{kernel, kernels};
-ghost use Rattle.ca_reader.specs.View.{form_tree};
-ghost use Rattle.ca_forms.specs.Outcome.{done};
-ghost use Rattle.ca_forms.specs.Judged.{bound_names};
-ghost use Rattle.ca_forms.specs.Meaning.{Signature, binds, numbered, unnamed, before_others, in_order, operation, block};
-ghost use Rattle.ca_forms.specs.Binders.{counted};
-ghost use Rattle.ca_forms.specs.Plain.{meanings, row_recur};
-ghost use Rattle.ca_forms.specs.Walk.{walk, row, row_list, row_group};
-ghost use Rattle.ca_forms.specs.WalkView.{gathered, env, parts_of, terms_of, Fails};
+ghost use Rattle.std.specs.Prelude.{◌≡◌, ◌≤◌, ◌<◌, ◌+◌, ◌++◌};
+ghost use Rattle.ca_check.specs.Words.{IfOk, IfErr, OnOk, length, map, drop, take, List, ℕ, list, kernel, kernels, form_tree, done, bound_names, Signature, binds, numbered, unnamed, before_others, in_order, operation, block, counted, meanings, row_recur, walk, row, row_list, row_group, gathered, env, parts_of, terms_of, Fails};
 
 use ca_forms::context::At;
 use ca_forms::error::{CheckError, CheckErrorKind};

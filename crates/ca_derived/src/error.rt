@@ -3,7 +3,6 @@ ghost use Rattle.ca_derived.specs.Kind.{kind_name};
 
 use ca_term::place::Place;
 use ca_value::memory::OutOfMemory as NoMemory;
-use std::alloc::AllocFailed;
 
 /// What can be wrong with one of the six words, each at one of its forms.
 #[derive(Clone, Copy)]
@@ -39,16 +38,6 @@ impl From<NoMemory> for FormsError {
     ghost from_gives = { λ _ e. e ≡ OutOfMemory };
 
     fn from(_: NoMemory) -> FormsError {
-        FormsError::OutOfMemory
-    }
-}
-
-impl<T: Drop> From<AllocFailed<T>> for FormsError {
-    ghost use Rattle.ca_derived.specs.declared.error.FormsError.TheVariants.{OutOfMemory};
-
-    ghost from_gives = { λ _ e. e ≡ OutOfMemory };
-
-    fn from(_: AllocFailed<T>) -> FormsError {
         FormsError::OutOfMemory
     }
 }

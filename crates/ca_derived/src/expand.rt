@@ -180,6 +180,8 @@ fn expand_behind(alloc: Global, forms: &[Form]) -> Result<Forms, FormsError>
     let rest = expand_all(alloc, forms, 1)?;
     let first = copy_form(alloc, &forms[0])?;
     let mut all = rest.into_vec();
-    all.insert(0, first)?;
+    let Ok(()) = all.insert(0, first) else {
+        return Err(FormsError::OutOfMemory);
+    };
     Ok(Forms::from_vec(all))
 }

@@ -3,7 +3,6 @@ ghost use Rattle.ca_forms.specs.Kind.{kind_name};
 
 use ca_term::place::Place;
 use ca_value::memory::OutOfMemory as NoMemory;
-use std::alloc::{AllocError, AllocFailed};
 
 /// What can be wrong with a script, each at one of its forms.
 #[derive(Clone, Copy)]
@@ -60,26 +59,6 @@ impl From<NoMemory> for CheckError {
     ghost from_gives = { λ _ e. e ≡ OutOfMemory };
 
     fn from(_: NoMemory) -> CheckError {
-        CheckError::OutOfMemory
-    }
-}
-
-impl From<AllocError> for CheckError {
-    ghost use Rattle.ca_forms.specs.declared.error.CheckError.TheVariants.{OutOfMemory};
-
-    ghost from_gives = { λ _ e. e ≡ OutOfMemory };
-
-    fn from(_: AllocError) -> CheckError {
-        CheckError::OutOfMemory
-    }
-}
-
-impl<T: Drop> From<AllocFailed<T>> for CheckError {
-    ghost use Rattle.ca_forms.specs.declared.error.CheckError.TheVariants.{OutOfMemory};
-
-    ghost from_gives = { λ _ e. e ≡ OutOfMemory };
-
-    fn from(_: AllocFailed<T>) -> CheckError {
         CheckError::OutOfMemory
     }
 }

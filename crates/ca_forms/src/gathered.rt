@@ -17,6 +17,7 @@ use ca_term::place::Place;
 use ca_term::program::Procedure;
 use ca_term::term::{Binding, Term};
 use ca_value::builtin::Builtin;
+use ca_value::memory::OutOfMemory;
 use ca_value::seq::Seq;
 use ca_value::value::Value;
 use std::alloc::Global;
@@ -104,6 +105,13 @@ impl Made {
         let Made { term, depth: _ } = self;
         term
     }
+
+    // The term alone, as part of another.
+    fn into_box(self, alloc: Global) -> Result<Box<Term>, OutOfMemory>
+        ensures { IfOk result (λ t. t.value ≡ self) }
+    {
+        Ok(Box::new(alloc, self.into_term())?)
+    }
 }
 
 // The deepest of them.
@@ -119,9 +127,8 @@ fn deepest(terms: &[Made]) -> u64
 }
 
 // The terms alone.
-fn plain_terms(alloc: Global, terms: Seq<Made>) -> Result<Seq<Term>, CheckError>
-    ensures ok { IfOk result (λ s. kernels (list s) ≡ kernels (list terms)) }
-    ensures err { IfErr result (λ e. e ≡ CheckError.OutOfMemory) }
+fn plain_terms(alloc: Global, terms: Seq<Made>) -> Result<Seq<Term>, OutOfMemory>
+    ensures { IfOk result (λ s. kernels (list s) ≡ kernels (list terms)) }
 {
     let mut plain = Seq::new(alloc);
     plain.reserve(terms.len())?;
@@ -132,10 +139,9 @@ fn plain_terms(alloc: Global, terms: Seq<Made>) -> Result<Seq<Term>, CheckError>
 }
 
 // The terms bound to the numbers from `first` on.
-fn bound_terms(alloc: Global, first: u64, terms: Seq<Made>) -> Result<Seq<Binding>, CheckError>
+fn bound_terms(alloc: Global, first: u64, terms: Seq<Made>) -> Result<Seq<Binding>, OutOfMemory>
     requires { first + length (list terms) < 2 ^ 64 }
-    ensures ok { IfOk result (λ s. bindings (list s) ≡ numbered first (terms_of (list terms))) }
-    ensures err { IfErr result (λ e. e ≡ CheckError.OutOfMemory) }
+    ensures { IfOk result (λ s. bindings (list s) ≡ numbered first (terms_of (list terms))) }
 {
     let mut rest = Seq::new(alloc);
     rest.reserve(terms.len())?;
@@ -197,9 +203,9 @@ impl Bodies {
         ensures err { IfErr result (λ e. e ≡ CheckError.OutOfMemory) }
     {
         let depth = 1 + test.depth().max(then.depth().max(otherwise.depth()));
-        let test = Box::new(alloc, test.into_term())?;
-        let then = Box::new(alloc, then.into_term())?;
-        let otherwise = Box::new(alloc, otherwise.into_term())?;
+        let test = test.into_box(alloc)?;
+        let then = then.into_box(alloc)?;
+        let otherwise = otherwise.into_box(alloc)?;
         Ok(self.limit(Term::If(test, then, otherwise), depth))
     }
 
@@ -252,7 +258,7 @@ impl Bodies {
     {
         let depth = 1 + deepest(values.as_slice()).max(body.depth());
         let rest = bound_terms(alloc, first, values)?;
-        let body = Box::new(alloc, body.into_term())?;
+        let body = body.into_box(alloc)?;
         Ok(self.limit(Term::Let(rest, body), depth))
     }
 
@@ -270,7 +276,7 @@ impl Bodies {
     {
         let depth = 1 + deepest(values.as_slice()).max(body.depth());
         let rest = bound_terms(alloc, first, values)?;
-        let body = Box::new(alloc, body.into_term())?;
+        let body = body.into_box(alloc)?;
         Ok(self.limit(Term::Loop(Seq::new(alloc), rest, body), depth))
     }
 

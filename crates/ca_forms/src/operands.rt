@@ -67,7 +67,9 @@ pub fn with_second(operands: Seq<Made>, second: Made) -> Result<Seq<Made>, Check
 {
     let mut items = operands.into_vec();
     if 0 < items.len() {
-        items.insert(1, second)?;
+        let Ok(()) = items.insert(1, second) else {
+            return Err(CheckError::OutOfMemory);
+        };
     }
     Ok(Seq::from_vec(items))
 }

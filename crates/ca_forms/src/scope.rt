@@ -94,12 +94,15 @@ impl Scope {
         self.bind(alloc, b"")
     }
 
-    /// Leaves all names but the first `size`.
+    /// Leaves all names but the first `size`. A scope that fits memory has fewer than 2^63 names.
     pub fn leave(&mut self, size: u64)
-        ensures { self.new ≡ take size self.old }
+        ensures left { self.new ≡ take size self.old }
+        ensures most { length self.old < 2 ^ 63 }
     {
-        while size < self.len() {
+        let mut left = self.next_number();
+        while size < left {
             self.leave_last();
+            left -= 1;
         }
     }
 

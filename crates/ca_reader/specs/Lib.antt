@@ -11,3 +11,4 @@ pub mod Texts
 pub mod Tokens
 pub mod View
 pub mod Written
+pub mod Words

@@ -1,5 +1,5 @@
-ghost use Rattle.std.specs.Prelude.{◌≡◌, slice_index};
-ghost use Rattle.ca_reader.specs.Bytes.{is_separator, is_token_byte, is_digit};
+ghost use Rattle.std.specs.Prelude.{◌≡◌};
+ghost use Rattle.ca_reader.specs.Words.{slice_index, is_separator, is_token_byte, is_digit};
 
 /// Space, tab, line feed, carriage return or comma.
 pub fn is_separator(byte: u8) -> bool

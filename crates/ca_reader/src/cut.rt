@@ -1,8 +1,5 @@
-ghost use Rattle.std.specs.Prelude.{◌≡◌, ◌==◌, length, IfOk};
-ghost use Rattle.std.specs.List.{prefix_len, position_or_len};
-ghost use Rattle.ca_reader.specs.Bytes.{is_token_byte};
-ghost use Rattle.ca_reader.specs.Pieces.{first, bracket_first, comment_len, token};
-ghost use Rattle.ca_reader.specs.PieceView.{first_view, FirstFits};
+ghost use Rattle.std.specs.Prelude.{◌≡◌, ◌==◌};
+ghost use Rattle.ca_reader.specs.Words.{length, IfOk, prefix_len, position_or_len, is_token_byte, first, bracket_first, comment_len, token, first_view, FirstFits};
 
 use crate::bytes::{is_separator, is_token_byte};
 use crate::error::ReadErrorKind;

@@ -1,9 +1,8 @@
 ghost use Rattle.std.specs.Prelude.{◌≡◌};
-ghost use Rattle.ca_reader.specs.Kind.{kind_name};
+ghost use Rattle.ca_reader.specs.Words.{kind_name};
 
 use ca_term::place::Place;
 use ca_value::memory::OutOfMemory as NoMemory;
-use std::alloc::{AllocError, AllocFailed};
 
 /// What can be wrong with a text, each at one of its bytes.
 #[derive(Clone, Copy, Debug)]
@@ -57,26 +56,6 @@ impl From<NoMemory> for ReadError {
     ghost from_gives = { λ _ e. e ≡ OutOfMemory };
 
     fn from(_: NoMemory) -> ReadError {
-        ReadError::OutOfMemory
-    }
-}
-
-impl From<AllocError> for ReadError {
-    ghost use Rattle.ca_reader.specs.declared.error.ReadError.TheVariants.{OutOfMemory};
-
-    ghost from_gives = { λ _ e. e ≡ OutOfMemory };
-
-    fn from(_: AllocError) -> ReadError {
-        ReadError::OutOfMemory
-    }
-}
-
-impl<T: Drop> From<AllocFailed<T>> for ReadError {
-    ghost use Rattle.ca_reader.specs.declared.error.ReadError.TheVariants.{OutOfMemory};
-
-    ghost from_gives = { λ _ e. e ≡ OutOfMemory };
-
-    fn from(_: AllocFailed<T>) -> ReadError {
         ReadError::OutOfMemory
     }
 }

@@ -1,6 +1,5 @@
 ghost use Rattle.std.specs.Prelude.{◌≡◌};
-ghost use Rattle.ca_reader.specs.Form.{form};
-ghost use Rattle.ca_reader.specs.View.{form_tree, shape_tree};
+ghost use Rattle.ca_reader.specs.Words.{form, form_tree, shape_tree};
 
 use ca_term::place::Place;
 use ca_value::seq::{Seq, Text};

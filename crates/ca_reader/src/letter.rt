@@ -1,6 +1,5 @@
-ghost use Rattle.std.specs.Prelude.{◌≡◌, ℕ, List, length};
-ghost use Rattle.ca_reader.specs.Texts.{is_continuation, may_follow, char_len, letter, escape};
-ghost use Rattle.ca_reader.specs.PieceView.{letter_view, LetterFits};
+ghost use Rattle.std.specs.Prelude.{◌≡◌};
+ghost use Rattle.ca_reader.specs.Words.{ℕ, List, length, is_continuation, may_follow, char_len, letter, escape, letter_view, LetterFits};
 
 use crate::bytes::byte_at;
 use crate::error::ReadErrorKind;

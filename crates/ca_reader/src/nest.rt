@@ -1,17 +1,11 @@
-ghost use Rattle.std.specs.Prelude.{◌≡◌, ◌++◌, ◌∷◌, [], None, OnOk, IfOk, IfErr};
-ghost use Rattle.ca_value.specs.Seq.{list};
-ghost use Rattle.ca_reader.specs.Form.{FormTrees, atom, group, none};
-ghost use Rattle.ca_reader.specs.View.{form_tree, form_trees, shape_tree};
-ghost use Rattle.ca_reader.specs.PieceView.{atom_view, piece_view};
-ghost use Rattle.ca_reader.specs.Pieces.{opener};
-ghost use Rattle.ca_reader.specs.Reads.{outside, inside, piece_fault, closing_fault, end_fault, is_paired, same_bracket, count};
-ghost use Rattle.ca_reader.specs.Steps.{next, shut, with_form, innermost};
-ghost use Rattle.ca_reader.specs.NestView.{context, IsNest, Tells};
+ghost use Rattle.std.specs.Prelude.{◌≡◌, ◌++◌, ◌∷◌};
+ghost use Rattle.ca_reader.specs.Words.{[], None, OnOk, IfOk, IfErr, list, FormTrees, atom, group, none, form_tree, form_trees, shape_tree, atom_view, piece_view, opener, outside, inside, piece_fault, closing_fault, end_fault, is_paired, same_bracket, count, next, shut, with_form, innermost, context, IsNest, Tells};
 
 use crate::error::{ReadError, ReadErrorKind};
 use crate::form::{Bracket, Form, Forms, Shape};
 use crate::piece::Piece;
 use ca_term::place::Place;
+use ca_value::memory::OutOfMemory;
 use std::alloc::Global;
 
 /// How many brackets may stand open.
@@ -56,7 +50,7 @@ impl Nest {
         ensures err { IfErr result (λ e. Tells e (piece_fault (context self.old) (piece_view piece) place)) }
     {
         match piece {
-            Piece::One(atom) => self.push(Form::new(atom.shape(), place)),
+            Piece::One(atom) => Ok(self.push(Form::new(atom.shape(), place))?),
             Piece::Opener(bracket) => self.open(bracket, place),
             Piece::Closer(bracket) => self.close(bracket, place),
         }
@@ -80,11 +74,10 @@ impl Nest {
     }
 
     /// Adds a form behind the last one.
-    fn push(&mut self, form: Form) -> Result<(), ReadError>
+    fn push(&mut self, form: Form) -> Result<(), OutOfMemory>
         requires { IsNest self.old }
         ensures ok { OnOk result (context self.new ≡ with_form (context self.old) (form_tree form)) }
         ensures sound { OnOk result (IsNest self.new) }
-        ensures err { IfErr result (λ e. Tells e None) }
     {
         self.forms.push(form)?;
         Ok(())
@@ -101,11 +94,14 @@ impl Nest {
             return Err(ReadError::Fault(ReadErrorKind::TooDeep, place));
         }
         let before = self.forms.len() - self.base;
-        self.open.push(Opened {
+        let Ok(()) = self.open.push(Opened {
             before,
             bracket,
             place,
-        })?;
+        })
+        else {
+            return Err(ReadError::OutOfMemory);
+        };
         self.base = self.forms.len();
         Ok(())
     }
@@ -126,9 +122,12 @@ impl Nest {
         if !is_paired(bracket, self.forms.len() - self.base) {
             return Err(ReadError::Fault(ReadErrorKind::OddMap, opened.place));
         }
-        let inner = Forms::from_vec(self.forms.split_off(self.base)?);
+        let Ok(tail) = self.forms.split_off(self.base) else {
+            return Err(ReadError::OutOfMemory);
+        };
+        let inner = Forms::from_vec(tail);
         self.base -= opened.before;
-        self.push(Form::new(grouped(bracket, inner), opened.place))
+        Ok(self.push(Form::new(grouped(bracket, inner), opened.place))?)
     }
 }
 

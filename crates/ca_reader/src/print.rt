@@ -1,7 +1,5 @@
-ghost use Rattle.std.specs.Prelude.{◌≡◌, ◌∷◌, ◌++◌, List, ℕ, OnOk, IfOk};
-ghost use Rattle.ca_value.specs.Seq.{list};
-ghost use Rattle.ca_reader.specs.View.{form_tree, form_trees};
-ghost use Rattle.ca_reader.specs.Printed.{form_text, forms_text, opening, closing, ReadsAside};
+ghost use Rattle.std.specs.Prelude.{◌≡◌, ◌∷◌, ◌++◌};
+ghost use Rattle.ca_reader.specs.Words.{List, ℕ, OnOk, IfOk, list, form_tree, form_trees, form_text, forms_text, opening, closing, ReadsAside};
 
 use crate::form::{Bracket, Form, Forms, Shape};
 use ca_value::memory::OutOfMemory;

@@ -1,15 +1,5 @@
-ghost use Rattle.std.specs.Prelude.{◌≡◌, ◌⊎◌, ℕ, List, IfOk, IfErr};
-ghost use Rattle.ca_term.specs.declared.place.Place.{Place};
-ghost use Rattle.ca_value.specs.Seq.{list};
-ghost use Rattle.ca_reader.specs.declared.error.ReadErrorKind.{ReadErrorKind};
-ghost use Rattle.ca_reader.specs.Form.{FormTrees};
-ghost use Rattle.ca_reader.specs.View.{form_trees};
-ghost use Rattle.ca_reader.specs.Texts.{letter, text_step, text_cut};
-ghost use Rattle.ca_reader.specs.Pieces.{first, pieces_step, pieces_from};
-ghost use Rattle.ca_reader.specs.Reads.{Reads, ReadFault, IsFaultOf};
-ghost use Rattle.ca_reader.specs.Printed.{ReadsAside};
-ghost use Rattle.ca_reader.specs.Written.{AreWritten, HaveScalars};
-ghost use Rattle.ca_value.specs.IsValue.{written};
+ghost use Rattle.std.specs.Prelude.{◌≡◌, ◌⊎◌};
+ghost use Rattle.ca_reader.specs.Words.{ℕ, List, IfOk, IfErr, Place, list, ReadErrorKind, FormTrees, form_trees, letter, text_step, text_cut, first, pieces_step, pieces_from, Reads, ReadFault, IsFaultOf, ReadsAside, AreWritten, HaveScalars, written};
 
 use crate::cut::next_piece;
 use crate::error::ReadError;

@@ -1,7 +1,5 @@
-ghost use Rattle.std.specs.Prelude.{◌≡◌, ◌<◌, length, drop, IfOk};
-ghost use Rattle.ca_reader.specs.Texts.{text_cut};
-ghost use Rattle.ca_reader.specs.Pieces.{text_first};
-ghost use Rattle.ca_reader.specs.PieceView.{first_view};
+ghost use Rattle.std.specs.Prelude.{◌≡◌, ◌<◌};
+ghost use Rattle.ca_reader.specs.Words.{length, drop, IfOk, text_cut, text_first, first_view};
 
 use crate::error::ReadErrorKind;
 use crate::letter::{Letter, next_letter};

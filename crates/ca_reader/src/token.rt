@@ -1,10 +1,5 @@
-ghost use Rattle.std.specs.Prelude.{◌≡◌, ◌≤◌, ◌^◌, ◌<◌, length, None, IfSome, IfOk, true};
-ghost use Rattle.std.specs.List.{list_all};
-ghost use Rattle.std.specs.Str.Parse.{digits_value};
-ghost use Rattle.ca_reader.specs.Tokens.{with_sign, unsigned, is_numeral, is_decimal, number, keyword, word, meaning};
-ghost use Rattle.ca_reader.specs.Pieces.{token_first};
-ghost use Rattle.ca_reader.specs.PieceView.{atom_view, first_view};
-ghost use Rattle.ca_reader.specs.Bytes.{is_digit};
+ghost use Rattle.std.specs.Prelude.{◌≡◌, ◌≤◌, ◌^◌, ◌<◌};
+ghost use Rattle.ca_reader.specs.Words.{length, None, IfSome, IfOk, true, list_all, digits_value, with_sign, unsigned, is_numeral, is_decimal, number, keyword, word, meaning, token_first, atom_view, first_view, is_digit};
 
 use crate::bytes::{byte_at, is_digit};
 use crate::error::ReadErrorKind;

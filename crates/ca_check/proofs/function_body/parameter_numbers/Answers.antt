@@ -11,8 +11,10 @@ loop-i-preserved c = record {
   room = search rules;
 }
 
-pub returns-clause-ok : goal.returns-clause-ok
-returns-clause-ok c =
+pub returns : goal.returns
+returns c =
     let start : c.args.first + 0 ≡ c.args.first = omega arith in
-    sym (numbers_over (list c.loop-i.numbers) c.args.first c.args.parameters.now c.loop-i.i (omega arith)) ∙ c.loop-i.invariant.same
-    ∙ ap (λ n. numbers n (names_from c.args.parameters.now 0)) start
+    record {
+      ok = sym (numbers_over (list c.loop-i.numbers) c.args.first c.args.parameters.now c.loop-i.i (omega arith)) ∙ c.loop-i.invariant.same
+          ∙ ap (λ n. numbers n (names_from c.args.parameters.now 0)) start;
+    }

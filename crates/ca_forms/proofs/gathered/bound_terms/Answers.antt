@@ -20,8 +20,8 @@ loop-term-preserved c =
       small = omega (arith, many, c.loop-term.invariant.small);
     }
 
-pub returns-clause-ok : goal.returns-clause-ok
-returns-clause-ok c =
+pub returns : goal.returns
+returns c =
     let none : into_iter_items c.loop-term.term-iterator ≡ [] = grind (arith, common_steps) in
     let same : joined (bindings (list c.loop-term.rest)) (numbered c.loop-term.number (terms_of [])) ≡ numbered c.args.first (terms_of (list c.args.terms))
     = ap (λ (xs : List Term). joined (bindings (list c.loop-term.rest)) (numbered c.loop-term.number (terms_of xs))) (sym none) ∙ search (rules, c.loop-term.invariant.same) in

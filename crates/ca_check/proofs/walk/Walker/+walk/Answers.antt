@@ -523,7 +523,7 @@ piped-returns-clause-ok t c =
 pub piped-returns-clause-scope : goal.piped-returns-clause-scope
 piped-returns-clause-scope t c =
     let hid : c.hide.new.self ≡ c.args.self.now.scope ++ [] ∷ [] = c.in_ok-hide.ensures.ok ∙ ap (λ (z : List (List ℕ)). z ++ [] ∷ []) c.in_ok-count.ensures.scope in
-    let same : c.leave.new.self ≡ c.args.self.now.scope = c.leave.ensures ∙ ap (λ n. take n c.hidden-2.new.self.scope) c.next_number-first.ensures.is ∙ left_again c.args.self.now.scope c.hide.new.self c.hidden.new.self.scope c.hidden-2.new.self.scope ([] ∷ []) _ _ hid c.in_ok-target.ensures.names c.in_ok-source.ensures.names in
+    let same : c.leave.new.self ≡ c.args.self.now.scope = c.leave.ensures.left ∙ ap (λ n. take n c.hidden-2.new.self.scope) c.next_number-first.ensures.is ∙ left_again c.args.self.now.scope c.hide.new.self c.hidden.new.self.scope c.hidden-2.new.self.scope ([] ∷ []) _ _ hid c.in_ok-target.ensures.names c.in_ok-source.ensures.names in
     held c.pipelining.result _ same
 
 pub pipeline_form-returns-then-parts-lt5-clause-err : goal.pipeline_form-returns-then-parts-lt5-clause-err
@@ -670,7 +670,7 @@ doseq_parts-returns-in_err-body-clause-err t c =
     let e : Fails c.in_err-body.field-0.0 (row_doseq c.args.place (parts_of (drop 1 c.args.parts.now)) at (gathered c.args.self.now.gathered))
     = rw (doseq_row c.args.place c.args.parts.now c.index-parts-1.result at (gathered c.args.self.now.gathered) c.requires.more c.index-parts-1.is c.requires.shape)
     (round_fails c.args.place bd body at (gathered c.args.self.now.gathered) (kernel c.in_ok-value.value) (kernel c.in_ok-items.items) (gathered c.only_value.new.self.gathered) (gathered c.apply.new.self) value items c.in_err-body.field-0.0
-    (rw (c.len-first.ensures, c.inner-2.ensures, sc2, c.in_ok-hide_three.ensures.gathered) at c.in_err-body.ensures.err)) in
+    (rw (c.next_number-first.ensures.is, c.inner-2.ensures, sc2, c.in_ok-hide_three.ensures.gathered) at c.in_err-body.ensures.err)) in
     search rules
 
 pub doseq_parts-returns-clause-ok : goal.doseq_parts-returns-clause-ok
@@ -683,10 +683,10 @@ doseq_parts-returns-clause-ok t c =
     let value : only_means (form_tree c.index-parts-1.result) (inner at) (gathered c.args.self.now.gathered) ≡ done (kernel c.in_ok-value.value) (gathered c.only_value.new.self.gathered) = rw c.inner.ensures at c.in_ok-value.ensures.ok in
     let items : limited (items_of (kernel c.in_ok-value.value) c.args.place) (gathered c.only_value.new.self.gathered) ≡ done (kernel c.in_ok-items.items) (gathered c.apply.new.self) = rw c.in_ok-operands.ensures.ok at c.in_ok-items.ensures.ok in
     let item : item_of bd.by n (n + 2) body c.args.place (inner (named [] (record at { scope = c.args.self.now.scope ++ [] ∷ [] ∷ [] }))) (gathered c.apply.new.self) ≡ done (kernel c.in_ok-body.body) (gathered c.doseq_item.new.self.gathered)
-    = rw (c.len-first.ensures, c.inner-2.ensures, sc2, c.in_ok-hide_three.ensures.gathered) at c.in_ok-body.ensures.ok in
+    = rw (c.next_number-first.ensures.is, c.inner-2.ensures, sc2, c.in_ok-hide_three.ensures.gathered) at c.in_ok-body.ensures.ok in
     let counted : counted_rounds (n + 2) (n + 1) (term (kernel c.in_ok-body.body) no_terms) c.args.place (gathered c.doseq_item.new.self.gathered) ≡ done (kernel c.in_ok-counted.counted) (gathered c.count.new.self)
-    = rw (c.len-first.ensures, c.in_ok-terms.ensures.ok) at c.in_ok-counted.ensures.ok in
-    let made = rw (c.in_ok-values.ensures.ok, c.in_ok-count.ensures.ok, c.len-first.ensures) at c.under.ensures.ok in
+    = rw (c.next_number-first.ensures.is, c.in_ok-terms.ensures.ok) at c.in_ok-counted.ensures.ok in
+    let made = rw (c.in_ok-values.ensures.ok, c.in_ok-count.ensures.ok, c.next_number-first.ensures.is) at c.under.ensures.ok in
     rw (
       doseq_row c.args.place c.args.parts.now c.index-parts-1.result at (gathered c.args.self.now.gathered) c.requires.more c.index-parts-1.is c.requires.shape
           ∙ round_walked c.args.place bd body at (gathered c.args.self.now.gathered) (kernel c.in_ok-value.value) (kernel c.in_ok-items.items) (gathered c.only_value.new.self.gathered) (gathered c.apply.new.self) value items

@@ -8,5 +8,5 @@ use Rattle.ca_forms.proofs.gathered.Bodies.repeat.Goals as goal
 pub limit-requires : goal.limit-requires
 limit-requires c =
     let e : depth_of_bindings (bindings (list c.in_ok-rest.rest)) ≡ depth_of_items (kernels (list c.args.values))
-    = ap depth_of_bindings c.in_ok-rest.ensures.ok ∙ numbered_depth c.args.first (list c.args.values) in
+    = ap depth_of_bindings c.in_ok-rest.ensures ∙ numbered_depth c.args.first (list c.args.values) in
     rw (kernel-Loop, e) (search rules)

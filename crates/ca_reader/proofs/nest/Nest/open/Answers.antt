@@ -12,10 +12,10 @@ returns-clause-ok c = not_deep c.args.self.now.open.items c.args.self.now.forms.
 pub returns-clause-becomes : goal.returns-clause-becomes
 returns-clause-becomes c =
     let o : Opened = record { before = c.len-2.result - c.args.self.now.base; bracket = c.args.bracket; place = c.args.place } in
-    opened c.args.self.now.open.items c.push.new.self.items o c.args.self.now.forms.items c.in_ok-push.ensures.items (omega arith)
+    opened c.args.self.now.open.items c.push.new.self.items o c.args.self.now.forms.items c.in-Ok.ensures.items (omega arith)
 
 pub returns-clause-sound : goal.returns-clause-sound
 returns-clause-sound c =
     let o : Opened = record { before = c.len-2.result - c.args.self.now.base; bracket = c.args.bracket; place = c.args.place } in
-    let b = base_opened c.args.self.now.open.items c.push.new.self.items o c.in_ok-push.ensures.items in
+    let b = base_opened c.args.self.now.open.items c.push.new.self.items o c.in-Ok.ensures.items in
     (omega arith, omega arith)
