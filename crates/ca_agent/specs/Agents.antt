@@ -31,9 +31,9 @@ module _ {A : Type 0} (stands : ProgramView → A → TaskBody → Type 0) (plac
   Started starts = (program : ProgramView) (seed : SeedView) (a : A) → starts program seed a → (b : TaskBody) × BodyRest program (new_task program seed) b × stands program a b
 
 -- with its answer an agent is over the code that it was over
-abbrev pub Stays : {A : Type 0} → (CodeView → A → Type 0) → (A → Tree → A → Type 0) → Type 0
-Stays {A} over gives = (code : CodeView) (a c : A) (v : Tree) → gives a v c → over code a → over code c
+abbrev pub StaysOverCode : {A : Type 0} → (CodeView → A → Type 0) → (A → Tree → A → Type 0) → Type 0
+StaysOverCode {A} over gives = (code : CodeView) (a c : A) (v : Tree) → gives a v c → over code a → over code c
 
 -- an agent asks only for tasks that its code has
-abbrev pub Asked : {A : Type 0} → (CodeView → A → Type 0) → (A → At) → Type 0
-Asked {A} over place = (code : CodeView) (a : A) (seed : SeedView) (at : Place) → over code a → place a ≡ at_op (record { op = spawning seed; place = at }) → HasSeed code seed
+abbrev pub AsksKnownTasks : {A : Type 0} → (CodeView → A → Type 0) → (A → At) → Type 0
+AsksKnownTasks {A} over place = (code : CodeView) (a : A) (seed : SeedView) (at : Place) → over code a → place a ≡ at_op (record { op = spawning seed; place = at }) → HasSeed code seed

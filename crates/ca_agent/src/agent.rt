@@ -9,7 +9,7 @@ ghost use Rattle.ca_meaning.specs.Task.{TaskBody};
 ghost use Rattle.ca_states.specs.Code.{CodeView};
 ghost use Rattle.ca_states.specs.ValidCode.{valid_code};
 ghost use Rattle.ca_lower.specs.Lowered.{Lowered};
-ghost use Rattle.ca_agent.specs.Agents.{Advanced, Answered, Asked, PausesAt, Started, Stays};
+ghost use Rattle.ca_agent.specs.Agents.{Advanced, Answered, AsksKnownTasks, PausesAt, Started, StaysOverCode};
 
 use ca_states::valid_code::ValidCode;
 use ca_term::fault::Fault;
@@ -78,9 +78,9 @@ pub trait Agent: Drop {
 
     ghost answered: { Answered stands place gives };
 
-    ghost stays: { Stays over gives };
+    ghost stays: { StaysOverCode over gives };
 
-    ghost asked: { Asked over place };
+    ghost asked: { AsksKnownTasks over place };
 
     ghost started: { Started stands place starts };
 }

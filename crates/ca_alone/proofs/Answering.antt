@@ -8,7 +8,7 @@ use Rattle.ca_commit.specs.Agents.{TaskAgent}
 use Rattle.ca_commit.specs.Contents.{Content, Parts, TimersPart}
 use Rattle.ca_commit.specs.Gathered.{parts_of}
 use Rattle.ca_commit.specs.Moving.{Moves}
-use Rattle.ca_commit.specs.Running.{AreAt, written}
+use Rattle.ca_commit.specs.Running.{AreAt, contents_written}
 use Rattle.ca_commit.specs.Touched.{Drawn, touches}
 use Rattle.ca_table.specs.Moments.{turn_asked}
 use Rattle.ca_table.specs.Worked.{fails_clock}
@@ -22,7 +22,7 @@ gave_after first c c2 ms rs failed g w = record { rise = fall_after first.least 
 
 module _ {A : Type 0} (place : A → At) (advances : ProgramView → A → A → Type 0) (gives : A → Tree → A → Type 0) (starts : ProgramView → SeedView → A → Type 0)
     (d : Drawn) (now : ℕ → Option (Content (TaskAgent A))) (before after : List (Content (TaskAgent A))) (one : d.workers ≡ 1) (at : AreAt now (touches d) before) (m : Moves place advances gives starts d before after) where
-  pub answers_go_on : (first : TimersPart) (ms : List ℕ) → HasGiven first ms now → (least : ℕ) × HasGiven first (ms ++ turn_asked d.what least) (written now (touches d) after)
+  pub answers_go_on : (first : TimersPart) (ms : List ℕ) → HasGiven first ms now → (least : ℕ) × HasGiven first (ms ++ turn_asked d.what least) (contents_written now (touches d) after)
   answers_go_on first ms g =
       let l = laid_over place advances gives starts d now before after at m one in
       let k = turn_goes (parts_of 1 now) (held_before d before) (held_before d after) l.part g.clock g.in_timers place advances gives starts 0 1 d.what l.turn in

@@ -26,14 +26,14 @@ use Rattle.ca_table.proofs.Openings.{opens}
 use Rattle.ca_solo.specs.Alone.{Alone}
 use Rattle.ca_solo.specs.Positions.{first_position}
 use Rattle.ca_solo.proofs.Keeping.{starts_alone}
-use Rattle.ca_table.specs.LoneHands.{left_by, left_now}
+use Rattle.ca_table.specs.LoneHands.{contents_left, left_now}
 use Rattle.ca_alone.specs.Lone.{StandsAlone}
-use Rattle.ca_alone.specs.Reading.{Reads}
+use Rattle.ca_alone.specs.Reading.{DeskReads}
 use Rattle.ca_alone.specs.Standing.{IsPosition}
 
 module _ {A : Type 0} (place : A → At) (stands : ProgramView → A → TaskBody → Type 0) (program texts : ProgramView) (main : A) (b : TaskBody) (clock : TimersPart) where
   -- the schedule's desk is read off the opening parts
-  opening_reads : RunStands place stands program 1 (opening_parts 1 texts main clock) (opening_state b) → Reads (parts_of 1 (opening_parts 1 texts main clock)) (opening_desk [])
+  opening_reads : RunStands place stands program 1 (opening_parts 1 texts main clock) (opening_state b) → DeskReads (parts_of 1 (opening_parts 1 texts main clock)) (opening_desk [])
   opening_reads run = record {
     lane = record { program = texts; task = None; since = 0; counts = record { tasks = 0; ports = 0; waits = 0 } };
     in_lane = refl;
@@ -63,11 +63,11 @@ module _ {A : Type 0} (over : CodeView → A → Type 0) (place : A → At) (sta
   run = opening_is over place stands advances gives starts advance_law answer_law start_law program code 1 v k
 
   pub lone_starts : v.turns ≡ [] → StandsAlone over place stands program code v [] (first_position [] (opening_state k.body))
-  lone_starts none = let same : left_now drawn_touches v ≡ v.opening = ap (left_by drawn_touches v.opening) none in record {
+  lone_starts none = let same : left_now drawn_touches v ≡ v.opening = ap (contents_left drawn_touches v.opening) none in record {
     position = subst (λ (cs : List (PartSeen A)). IsPosition place (stands_over over code stands) program (contents_at cs) (first_position [] (opening_state k.body))) (sym same) (record {
       run = run;
       sound = opening_sound program (opening_state k.body) (k.body, k.opens, refl);
-      reads = subst (λ (f : ℕ → Option (Content (TaskAgent A))). Reads (parts_of 1 f) (opening_desk [])) (sym here)
+      reads = subst (λ (f : ℕ → Option (Content (TaskAgent A))). DeskReads (parts_of 1 f) (opening_desk [])) (sym here)
           (opening_reads place (stands_over over code stands) program (program_view k.texts) k.main k.body clock (subst (λ (f : ℕ → Option (Content (TaskAgent A))). RunStands place (stands_over over code stands) program 1 f (opening_state k.body)) here run));
       uncounted = λ u n. refl;
       used = refl;

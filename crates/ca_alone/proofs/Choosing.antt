@@ -19,52 +19,52 @@ use Rattle.ca_commit.specs.Contents.{Parts}
 use Rattle.ca_commit.specs.Deciding.{seen_in}
 use Rattle.ca_commit.specs.Finding.{Glance, gone, here, unready, unseen}
 use Rattle.ca_commit.specs.Holds.{groups}
-use Rattle.ca_commit.specs.Planning.{Planned, Seen, all_asked, all_counted, asked, chosen, counted, first_from, fitting, found_of, is_alts, otherwise, planned, state_of, to_park, to_post, to_refuse, unless_refused}
+use Rattle.ca_commit.specs.Planning.{Planned, Seen, all_asked, all_counted, handler_asked, chosen, queue_counted, first_from, fitting, found_of, is_alts, otherwise, planned, state_of, to_park, to_post, to_refuse, unless_refused}
 use Rattle.ca_commit.proofs.Laid.{IsPart}
 use Rattle.ca_commit.proofs.PlanTold.{none_ready_in}
 use Rattle.ca_commit.proofs.Shown.{shown_by, unready_in}
 use Rattle.ca_commit.proofs.Steps.{StandsFor}
 use Rattle.ca_alone.proofs.NamesHeld.{branch_held, branches_held}
 use Rattle.ca_alone.proofs.Rounds.{FirstFound, first_found}
-use Rattle.ca_alone.specs.OwnTurn.{taken}
+use Rattle.ca_alone.specs.OwnTurn.{branch_taken}
 
 module _ (x : Seen) where
-  asked_takes : (z : Glance) (p : ℕ) (side : Side) (place w : ℕ) (rest : Planned) → taken rest ≡ None → taken (asked z p side place w rest) ≡ None
+  asked_takes : (z : Glance) (p : ℕ) (side : Side) (place w : ℕ) (rest : Planned) → branch_taken rest ≡ None → branch_taken (handler_asked z p side place w rest) ≡ None
   asked_takes here p side place w rest e = e
   asked_takes gone p side place w rest e = refl
   asked_takes unseen p side place w rest e = refl
 
-  all_asked_takes : (p : ℕ) (side : Side) (place : ℕ) (q : List Handler) (rest : Planned) → taken rest ≡ None → taken (all_asked x p side place q rest) ≡ None
+  all_asked_takes : (p : ℕ) (side : Side) (place : ℕ) (q : List Handler) (rest : Planned) → branch_taken rest ≡ None → branch_taken (all_asked x p side place q rest) ≡ None
   all_asked_takes p side place [] rest e = e
   all_asked_takes p side place (h ∷ q) rest e = asked_takes (x.see h.wait) p side place h.wait (all_asked x p side (place + 1) q rest) (all_asked_takes p side (place + 1) q rest e)
 
-  counted_takes : (side : Side) (p : ℕ) (q : List Handler) (rest : Planned) → taken rest ≡ None → taken (counted x side p q rest) ≡ None
+  counted_takes : (side : Side) (p : ℕ) (q : List Handler) (rest : Planned) → branch_taken rest ≡ None → branch_taken (queue_counted x side p q rest) ≡ None
   counted_takes side p q rest e = by (nat_lt (length q) 1024) where
-    after : (b : Bool) → taken (cond b rest (to_refuse (crowd_of side))) ≡ None
+    after : (b : Bool) → branch_taken (cond b rest (to_refuse (crowd_of side))) ≡ None
     after true = e
     after false = refl
 
-    by : (b : Bool) → taken (cond b rest (all_asked x p side 0 q (cond (nat_lt (groups q) 1024) rest (to_refuse (crowd_of side))))) ≡ None
+    by : (b : Bool) → branch_taken (cond b rest (all_asked x p side 0 q (cond (nat_lt (groups q) 1024) rest (to_refuse (crowd_of side))))) ≡ None
     by true = e
     by false = all_asked_takes p side 0 q (cond (nat_lt (groups q) 1024) rest (to_refuse (crowd_of side))) (after (nat_lt (groups q) 1024))
 
-  all_counted_takes : (bs : List BranchView) (rest : Planned) → taken rest ≡ None → taken (all_counted x bs rest) ≡ None
+  all_counted_takes : (bs : List BranchView) (rest : Planned) → branch_taken rest ≡ None → branch_taken (all_counted x bs rest) ≡ None
   all_counted_takes [] rest e = e
   all_counted_takes (b ∷ bs) rest e = counted_takes (side_of b) (port_of b) (queue_at (side_of b) (x.ports (port_of b))) (all_counted x bs rest) (all_counted_takes bs rest e)
 
   -- where none is ready no branch is taken
-  otherwise_takes : (op : OpView) (o : Option Tree) → taken (otherwise x op o) ≡ None
+  otherwise_takes : (op : OpView) (o : Option Tree) → branch_taken (otherwise x op o) ≡ None
   otherwise_takes op (Some v) = refl
   otherwise_takes op None = all_counted_takes (branches_of op) (cond (parks op) (to_park (branches_of op)) (to_post (branches_of op))) (by (parks op)) where
-    by : (b : Bool) → taken (cond b (to_park (branches_of op)) (to_post (branches_of op))) ≡ None
+    by : (b : Bool) → branch_taken (cond b (to_park (branches_of op)) (to_post (branches_of op))) ≡ None
     by true = refl
     by false = refl
 
-  chosen_first : (op : OpView) (start k : ℕ) → has_priority op ≡ false → taken (chosen x op start) ≡ Some k → FirstFound x (is_alts op) (start % length (branches_of op)) (branches_of op) k
+  chosen_first : (op : OpView) (start k : ℕ) → has_priority op ≡ false → branch_taken (chosen x op start) ≡ Some k → FirstFound x (is_alts op) (start % length (branches_of op)) (branches_of op) k
   chosen_first op start k plain e = first_found x (is_alts op) (start % length (branches_of op)) (branches_of op) (otherwise x op (default_of op)) k (otherwise_takes op (default_of op))
-      (ap (λ b. taken (first_from x (is_alts op) (cond b 0 (start % length (branches_of op))) (branches_of op) (otherwise x op (default_of op)))) (sym plain) ∙ e)
+      (ap (λ b. branch_taken (first_from x (is_alts op) (cond b 0 (start % length (branches_of op))) (branches_of op) (otherwise x op (default_of op)))) (sym plain) ∙ e)
 
-  fitting_first : (op : OpView) (start k : ℕ) → has_priority op ≡ false → taken (fitting x op start) ≡ Some k → FirstFound x (is_alts op) (start % length (branches_of op)) (branches_of op) k
+  fitting_first : (op : OpView) (start k : ℕ) → has_priority op ≡ false → branch_taken (fitting x op start) ≡ Some k → FirstFound x (is_alts op) (start % length (branches_of op)) (branches_of op) k
   fitting_first (taking c) start k plain e = chosen_first (taking c) start k plain e
   fitting_first (putting c v) start k plain e = chosen_first (putting c v) start k plain e
   fitting_first (posting c v) start k plain e = chosen_first (posting c v) start k plain e
@@ -76,16 +76,16 @@ module _ (x : Seen) where
   fitting_first (printing line) start k plain e = absurd (let z : None ≡ Some k = e in cc)
 
 -- the operands are right where the plan takes a branch
-fit_where_taken : (x : Seen) (op : OpView) (start k : ℕ) → taken (planned x op start) ≡ Some k → (unfit (state_of x.ports x.registries) op ≡ None) × (taken (fitting x op start) ≡ Some k)
+fit_where_taken : (x : Seen) (op : OpView) (start k : ℕ) → branch_taken (planned x op start) ≡ Some k → (unfit (state_of x.ports x.registries) op ≡ None) × (branch_taken (fitting x op start) ≡ Some k)
 fit_where_taken x op start k e = by (unfit (state_of x.ports x.registries) op) refl e where
-  by : (o : Option Fault) → unfit (state_of x.ports x.registries) op ≡ o → taken (unless_refused x o (fitting x op start)) ≡ Some k → (unfit (state_of x.ports x.registries) op ≡ None) × (taken (fitting x op start) ≡ Some k)
+  by : (o : Option Fault) → unfit (state_of x.ports x.registries) op ≡ o → branch_taken (unless_refused x o (fitting x op start)) ≡ Some k → (unfit (state_of x.ports x.registries) op ≡ None) × (branch_taken (fitting x op start) ≡ Some k)
   by (Some f) is t = absurd (let z : None ≡ Some k = t in cc)
   by None is t = (is, t)
 
 module _ {A : Type 0} (place : A → At) (stands : ProgramView → A → Option ℕ → TaskBody → Type 0) (program : ProgramView) (n : ℕ) where
   -- Over held parts h of those that stand for the state, with the start that `plan` is given.
   pub plan_takes_first : (now h : Parts A) (s : State) (op : OpView) (start k : ℕ) → StandsFor place stands program n now s → IsPart h now
-      → taken (planned (seen_in h) op start) ≡ Some k → has_priority op ≡ false → IsFirstFrom s (branches_of op) start k
+      → branch_taken (planned (seen_in h) op start) ≡ Some k → has_priority op ≡ false → IsFirstFrom s (branches_of op) start k
   plan_takes_first now h s op start k st part e plain j o at less =
       let fit = fit_where_taken (seen_in h) op start k e in
       let there = branch_held h (branches_of op) j o (branches_held h op fit.0) at in

@@ -17,14 +17,14 @@ use Rattle.ca_commit.specs.Stands.{Stands}
 use Rattle.ca_commit.proofs.AgentLifts.{lifts_advance}
 use Rattle.ca_commit.proofs.Laid.{IsPart}
 use Rattle.ca_commit.proofs.Seats.{some_same}
-use Rattle.ca_alone.specs.OwnTurn.{taken}
-use Rattle.ca_alone.specs.Reading.{Reads}
+use Rattle.ca_alone.specs.OwnTurn.{branch_taken}
+use Rattle.ca_alone.specs.Reading.{DeskReads}
 use Rattle.ca_alone.specs.Standing.{ChoosesWell}
 use Rattle.ca_alone.proofs.Choosing.{plan_takes_first}
 use Rattle.ca_alone.proofs.Turned.{OpOf}
 
 module _ {A : Type 0} (place : A → At) (stands : ProgramView → A → TaskBody → Type 0) (advances : ProgramView → A → A → Type 0) (advance_law : Advanced stands place advances) (program : ProgramView)
-    (now : Parts (TaskAgent A)) (s : State) (st : Stands (place_of place) (stands_of stands) program 1 now s) (d : Desk) (r : Reads now d) (old : Parts (TaskAgent A)) (within : IsPart old now)
+    (now : Parts (TaskAgent A)) (s : State) (st : Stands (place_of place) (stands_of stands) program 1 now s) (d : Desk) (r : DeskReads now d) (old : Parts (TaskAgent A)) (within : IsPart old now)
     (lane : LaneView (TaskAgent A)) (there : now.lane 0 ≡ Some lane) (t : ℕ) (agent a : TaskAgent A) (task : lane.task ≡ Some (t, agent)) (advanced : advances_of advances program agent a) (want : WantView) (at : place a.agent ≡ at_op want) where
   -- the lane's task stands at the operation
   stands_at : OpOf s t want.op
@@ -37,10 +37,10 @@ module _ {A : Type 0} (place : A → At) (stands : ProgramView → A → TaskBod
   counted : a.alts ≡ d.alts t
   counted = advanced.1 ∙ r.reads.lane_counts t agent (ap (λ (z : LaneView (TaskAgent A)). z.task) (some_same r.lane lane (sym r.in_lane ∙ there)) ∙ task)
 
-  chooses : (q : Planned) (k : ℕ) → q ≡ planned (seen_in old) want.op a.alts → taken q ≡ Some k → Chooses s d t k
+  chooses : (q : Planned) (k : ℕ) → q ≡ planned (seen_in old) want.op a.alts → branch_taken q ≡ Some k → Chooses s d t k
   chooses q k is e =
       let o = stands_at in
-      (o.0, want.op, o.1, o.2, λ plain. subst (λ n. IsFirstFrom s (branches_of want.op) n k) counted (plan_takes_first (place_of place) (stands_of stands) program 1 now old s want.op a.alts k st within (ap taken (sym is) ∙ e) plain))
+      (o.0, want.op, o.1, o.2, λ plain. subst (λ n. IsFirstFrom s (branches_of want.op) n k) counted (plan_takes_first (place_of place) (stands_of stands) program 1 now old s want.op a.alts k st within (ap branch_taken (sym is) ∙ e) plain))
 
   pub planned_chooses : (u p v m : ℕ) (q : Planned) → q ≡ planned (seen_in old) want.op a.alts → ChoosesWell s d (event_of old.bank old.registry t u p v m q)
   planned_chooses u p v m (to_do k b alts) is = chooses (to_do k b alts) k is refl

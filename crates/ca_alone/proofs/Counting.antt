@@ -3,23 +3,23 @@ use Rattle.std.proofs.Common.{◌≡◌, ◌≢◌, ℕ, suc, ◌+◌, List, [],
 use Rattle.std.specs.Map.{update}
 use Rattle.ca_term.specs.Operation.{OpView}
 use Rattle.ca_meaning.specs.Sound.{Each}
-use Rattle.ca_meaning.specs.Solo.{Desk, alts_of, counted, made_one, left, joined_by}
+use Rattle.ca_meaning.specs.Solo.{Desk, alts_counted, event_counted, made_one, left, joined_by}
 use Rattle.ca_meaning.proofs.Waits.{each-append}
 use Rattle.ca_commit.specs.Agents.{TaskAgent}
 use Rattle.ca_commit.specs.Contents.{Counts, LaneView, Parked, nobody, owner}
 use Rattle.ca_commit.specs.Seated.{Apart}
 use Rattle.ca_commit.proofs.Seats.{some_same, first_same, second_same}
-use Rattle.ca_alone.specs.Reading.{ReadsOff, lane_read, number_of}
+use Rattle.ca_alone.specs.Reading.{ReadsOff, lane_read, task_number}
 
 -- the counts with one more of task t
 abbrev pub more_alts : OpView → ℕ → Desk → ℕ → ℕ
-more_alts op t d u = cond (eqb t u) (alts_of op (d.alts u)) (d.alts u)
+more_alts op t d u = cond (eqb t u) (alts_counted op (d.alts u)) (d.alts u)
 
-more_here : (op : OpView) (t : ℕ) (d : Desk) → more_alts op t d t ≡ alts_of op (d.alts t)
-more_here op t d = ap (λ b. cond b (alts_of op (d.alts t)) (d.alts t)) (eq-eqb t t refl)
+more_here : (op : OpView) (t : ℕ) (d : Desk) → more_alts op t d t ≡ alts_counted op (d.alts t)
+more_here op t d = ap (λ b. cond b (alts_counted op (d.alts t)) (d.alts t)) (eq-eqb t t refl)
 
 more_apart : (op : OpView) (t u : ℕ) (d : Desk) → t ≢ u → more_alts op t d u ≡ d.alts u
-more_apart op t u d ne = ap (λ b. cond b (alts_of op (d.alts u)) (d.alts u)) (ne_eqb t u ne)
+more_apart op t u d ne = ap (λ b. cond b (alts_counted op (d.alts u)) (d.alts u)) (ne_eqb t u ne)
 
 abbrev pub with_alts : OpView → ℕ → Desk → Desk
 with_alts op t d = record d { alts = more_alts op t d }
@@ -40,7 +40,7 @@ module _ {A : Type 0} where
   each_more op t d [] a c = tt
   each_more op t d (x ∷ q) a c = (c.0 ∙ sym (more_apart op t x.0 d a.0), each_more op t d q a.1 c.1)
 
-  pub map_snoc : (q : List (ℕ × TaskAgent A)) (x : ℕ × TaskAgent A) → map number_of (q ++ x ∷ []) ≡ map number_of q ++ x.0 ∷ []
+  pub map_snoc : (q : List (ℕ × TaskAgent A)) (x : ℕ × TaskAgent A) → map task_number (q ++ x ∷ []) ≡ map task_number q ++ x.0 ∷ []
   map_snoc [] x = refl
   map_snoc (y ∷ q) x = ap (λ l. y.0 ∷ l) (map_snoc q x)
 
@@ -53,14 +53,14 @@ module _ {A : Type 0} where
 
   -- the lane's task made an event, which was an alts or not
   pub counts_one : (l l2 : LaneView (TaskAgent A)) (q : List (ℕ × TaskAgent A)) (parked : Waiting A) (d : Desk) (op : OpView) (t : ℕ) (a a2 : TaskAgent A) → ReadsOff l q parked d → l.task ≡ Some (t, a) → Apart t q → NoOwner t parked
-      → l2.task ≡ Some (t, a2) → a2.alts ≡ alts_of op a.alts → l2.since ≡ l.since + 1 → l2.counts ≡ l.counts → ReadsOff l2 q parked (made_one (with_alts op t d))
+      → l2.task ≡ Some (t, a2) → a2.alts ≡ alts_counted op a.alts → l2.since ≡ l.since + 1 → l2.counts ≡ l.counts → ReadsOff l2 q parked (made_one (with_alts op t d))
   counts_one l l2 q parked d op t a a2 r on apart none on2 alts since counts = record {
-    lane_is = ap counted (r.lane_is ∙ ap (λ o. lane_read o l.since) on) ∙ ap (λ n. Some (record { task = t; events = n })) (let z : suc l.since ≡ l2.since = omega (arith, since) in z) ∙ sym (ap (λ o. lane_read o l2.since) on2);
+    lane_is = ap event_counted (r.lane_is ∙ ap (λ o. lane_read o l.since) on) ∙ ap (λ n. Some (record { task = t; events = n })) (let z : suc l.since ≡ l2.since = omega (arith, since) in z) ∙ sym (ap (λ o. lane_read o l2.since) on2);
     ready_is = r.ready_is;
     tasks = r.tasks ∙ sym (ap (λ (c : Counts). c.tasks) counts);
     ports = r.ports ∙ sym (ap (λ (c : Counts). c.ports) counts);
     waits = r.waits ∙ sym (ap (λ (c : Counts). c.waits) counts);
-    lane_counts = λ u c e. one_agent l2.task t u a2 c (more_alts op t d) on2 (alts ∙ ap (alts_of op) (r.lane_counts t a on) ∙ sym (more_here op t d)) e;
+    lane_counts = λ u c e. one_agent l2.task t u a2 c (more_alts op t d) on2 (alts ∙ ap (alts_counted op) (r.lane_counts t a on) ∙ sym (more_here op t d)) e;
     ready_counts = each_more op t d q apart r.ready_counts;
     parked_counts = λ w u c e. r.parked_counts w u c e ∙ sym (more_apart op t u d (none w u c e));
   }
@@ -70,7 +70,7 @@ module _ {A : Type 0} where
       → l2.task ≡ Some (t, a2) → a2.alts ≡ a.alts → l2.since ≡ l.since + 1 → tasks ≡ l2.counts.tasks → ports ≡ l2.counts.ports → waits ≡ l2.counts.waits
       → ReadsOff l2 q parked (made_one (record d { tasks = tasks; ports = ports; waits = waits; readings = readings }))
   counts_on l l2 q parked d t a a2 tasks ports waits readings r on on2 alts since ts ps ws = record {
-    lane_is = ap counted (r.lane_is ∙ ap (λ o. lane_read o l.since) on) ∙ ap (λ n. Some (record { task = t; events = n })) (let z : suc l.since ≡ l2.since = omega (arith, since) in z) ∙ sym (ap (λ o. lane_read o l2.since) on2);
+    lane_is = ap event_counted (r.lane_is ∙ ap (λ o. lane_read o l.since) on) ∙ ap (λ n. Some (record { task = t; events = n })) (let z : suc l.since ≡ l2.since = omega (arith, since) in z) ∙ sym (ap (λ o. lane_read o l2.since) on2);
     ready_is = r.ready_is;
     tasks = ts;
     ports = ps;
@@ -82,7 +82,7 @@ module _ {A : Type 0} where
 
   -- it parks, and its agent is in a shard
   pub counts_parked : (l l2 : LaneView (TaskAgent A)) (q : List (ℕ × TaskAgent A)) (parked : Waiting A) (d : Desk) (op : OpView) (t wait : ℕ) (a a2 : TaskAgent A) → ReadsOff l q parked d → l.task ≡ Some (t, a) → Apart t q → NoOwner t parked
-      → l2.task ≡ None → a2.alts ≡ alts_of op a.alts → l2.counts ≡ record { tasks = l.counts.tasks; ports = l.counts.ports; waits = l.counts.waits + 1 } → wait ≡ suc d.waits
+      → l2.task ≡ None → a2.alts ≡ alts_counted op a.alts → l2.counts ≡ record { tasks = l.counts.tasks; ports = l.counts.ports; waits = l.counts.waits + 1 } → wait ≡ suc d.waits
       → ReadsOff l2 q (update eqb parked wait (Some (owner t a2))) (left (record (with_alts op t d) { waits = wait }))
   counts_parked l l2 q parked d op t wait a a2 r on apart none off alts counts next = record {
     lane_is = sym (ap (λ o. lane_read o l2.since) off);
@@ -96,7 +96,7 @@ module _ {A : Type 0} where
   } where
     by : (w u : ℕ) (c : TaskAgent A) (b : Bool) → cond b (Some (owner t a2)) (parked w) ≡ Some (owner u c) → c.alts ≡ more_alts op t d u
     by w u c true e = (let k : owner t a2 ≡ owner u c = some_same (owner t a2) (owner u c) e in let tu : t ≡ u = cc in let ac : a2 ≡ c = cc in
-        sym (ap (λ (z : TaskAgent A). z.alts) ac) ∙ alts ∙ ap (alts_of op) (r.lane_counts t a on) ∙ sym (more_here op t d) ∙ ap (more_alts op t d) tu)
+        sym (ap (λ (z : TaskAgent A). z.alts) ac) ∙ alts ∙ ap (alts_counted op) (r.lane_counts t a on) ∙ sym (more_here op t d) ∙ ap (more_alts op t d) tu)
     by w u c false e = r.parked_counts w u c e ∙ sym (more_apart op t u d (none w u c e))
 
   -- it is over

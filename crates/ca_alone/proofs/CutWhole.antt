@@ -7,8 +7,8 @@ use Rattle.ca_term.specs.Cost.{cost_of}
 use Rattle.ca_term.specs.Event.{EventView, made, spawned, done, met, parked, posted, settled, defaulted, closed, registered, printed, ticked, over}
 use Rattle.ca_meaning.specs.Cost.{cost}
 use Rattle.ca_meaning.specs.Ends.{but_last}
-use Rattle.ca_meaning.specs.Legal.{GoesOn, is_end_of_main}
-use Rattle.ca_journal.specs.Cut.{End, end_in, first_end, kept, main_end, one_later, stops}
+use Rattle.ca_meaning.specs.Legal.{EndsLast, is_end_of_main}
+use Rattle.ca_journal.specs.Cut.{End, end_in, first_end, kept, main_end, one_later, stops_at}
 use Rattle.ca_journal.specs.declared.cut.CutAt.{CutAt}
 
 -- an end of the main text
@@ -36,19 +36,19 @@ kept_later : (e : EventView) (es : List EventView) (o : Option End) → kept o e
 kept_later e es None k = refl
 kept_later e es (Some c) k = ap (λ l. e ∷ l) k
 
-kept_whole : (left : ℕ) (es : List EventView) → cost (but_last es) < left → GoesOn es → kept (first_end left es) es ≡ es
+kept_whole : (left : ℕ) (es : List EventView) → cost (but_last es) < left → EndsLast es → kept (first_end left es) es ≡ es
 kept_whole left [] lt on = refl
 kept_whole left (e ∷ []) lt on = by (main_end e) (nat_le left (cost_of e)) where
-  by : (a : Option CutAt) (b : Bool) → kept (stops a b None) (e ∷ []) ≡ e ∷ []
+  by : (a : Option CutAt) (b : Bool) → kept (stops_at a b None) (e ∷ []) ≡ e ∷ []
   by (Some at) b = refl
   by None true = refl
   by None false = refl
 kept_whole left (e ∷ (f ∷ es)) lt on = by (main_end e) refl (nat_le left (cost_of e)) refl (kept_whole (left - cost_of e) (f ∷ es) (let less : cost_of e + cost (but_last (f ∷ es)) < left = lt in omega (arith, less)) on.1) where
-  by : (a : Option CutAt) → main_end e ≡ a → (b : Bool) → nat_le left (cost_of e) ≡ b → kept (first_end (left - cost_of e) (f ∷ es)) (f ∷ es) ≡ f ∷ es → kept (stops a b (first_end (left - cost_of e) (f ∷ es))) (e ∷ (f ∷ es)) ≡ e ∷ (f ∷ es)
+  by : (a : Option CutAt) → main_end e ≡ a → (b : Bool) → nat_le left (cost_of e) ≡ b → kept (first_end (left - cost_of e) (f ∷ es)) (f ∷ es) ≡ f ∷ es → kept (stops_at a b (first_end (left - cost_of e) (f ∷ es))) (e ∷ (f ∷ es)) ≡ e ∷ (f ∷ es)
   by (Some at) is b t k = absurd (let z : false ≡ true = sym on.0 ∙ ends_main e at is in cc)
   by None is true t k = absurd (let le = unspent left (cost_of e) t in let less : cost_of e + cost (but_last (f ∷ es)) < left = lt in omega (arith, le, less))
   by None is false t k = kept_later e (f ∷ es) (first_end (left - cost_of e) (f ∷ es)) k
 
-pub cut_whole : (budget : ℕ) (es : List EventView) → cost (but_last es) < budget → GoesOn es → kept (end_in budget es) es ≡ es
+pub cut_whole : (budget : ℕ) (es : List EventView) → cost (but_last es) < budget → EndsLast es → kept (end_in budget es) es ≡ es
 cut_whole zero es lt on = refl
 cut_whole (suc n) es lt on = kept_whole (suc n) es lt on

@@ -6,13 +6,13 @@ use lib.ListN.{get_elem?}
 use Rattle.ca_turns.specs.Hands.{Held, look}
 use Rattle.ca_turns.specs.History.{Run}
 use Rattle.ca_turns.specs.Places.{AllIn}
-use Rattle.ca_turns.specs.Views.{drawing, turn}
+use Rattle.ca_turns.specs.Views.{drawing, new_turn}
 use Rattle.ca_turns.specs.declared.rule.Turn.{Turn}
 use Rattle.ca_turns.specs.declared.rule.View.{View}
 use Rattle.ca_turns.proofs.Looks.{all_there, long_look}
 use Rattle.ca_commit.specs.Touched as said
 use Rattle.ca_table.specs.Draws.{drawn_touches, turn_view}
-use Rattle.ca_table.specs.Grips.{Fits, Grips, HasAll}
+use Rattle.ca_table.specs.Grips.{GripFits, Grips, HasAll}
 use Rattle.ca_table.specs.Seen.{PartSeen}
 use Rattle.ca_table.specs.declared.drawn.Drawn.{Drawn}
 use Rattle.ca_table.specs.LoneHands.{HoldsLeft, IsAfter, left_now}
@@ -21,7 +21,7 @@ use Rattle.ca_table.proofs.OwnTurns.{draw_goes, draw_left, last_goes, ran_before
 
 module _ {P C E : Type 0} (h : Held P C E) (g : ℕ → Option (P × C)) (grips : Grips h g) where
   fits : (i : ℕ) (x : P × C) → g i ≡ Some x → (get_elem? h.parts i ≡ some (Some x.0)) × (get_elem? h.view.held i ≡ some (Some x.1))
-  fits i x e = subst (λ o. Fits o h i) e (grips i)
+  fits i x e = subst (λ o. GripFits o h i) e (grips i)
 
   -- what it holds is there, now and as it was settled
   parts_there : (is : List ℕ) → HasAll g is → AllIn (λ i. (x : P) × (get_elem? h.parts i ≡ some (Some x))) is
@@ -40,17 +40,17 @@ module _ {P A : Type 0} (content : P → PartSeen A) (moves : Drawn → List (Pa
   after = map content (look h.parts (drawn_touches e))
 
   -- the hand after the draw has one turn more, and holds what is left then
-  pub draws_next : (g : ℕ → Option (P × PartSeen A)) → Grips h g → HasAll g (drawn_touches e) → moves e before after → HoldsLeft drawn_touches h.view → (n : ℕ) (v2 : View (PartSeen A) Drawn) → v2 ≡ drawing h.view (drawn_touches e) (turn n e before after)
+  pub draws_next : (g : ℕ → Option (P × PartSeen A)) → Grips h g → HasAll g (drawn_touches e) → moves e before after → HoldsLeft drawn_touches h.view → (n : ℕ) (v2 : View (PartSeen A) Drawn) → v2 ≡ drawing h.view (drawn_touches e) (new_turn n e before after)
       → DrewNext moves (turn_view e.what) h.view v2 × HoldsLeft drawn_touches v2
   draws_next g grips all m left n v2 is = (
     record {
-      turn = turn n e before after;
+      turn = new_turn n e before after;
       is = refl;
       goes = draw_goes drawn_touches moves h.view n e after left (all_there h.view.held (drawn_touches e) (held_in h g grips (drawn_touches e) all)) m
           (length-map (look h.parts (drawn_touches e)) content ∙ long_look h.parts (drawn_touches e) (all_there h.parts (drawn_touches e) (parts_there h g grips (drawn_touches e) all)));
       after = record { opening = ap (λ (v : View (PartSeen A) Drawn). v.opening) is; turns = ap (λ (v : View (PartSeen A) Drawn). v.turns) is };
     },
-    subst (λ (v : View (PartSeen A) Drawn). HoldsLeft drawn_touches v) (sym is) (draw_left drawn_touches h.view (turn n e before after) left),
+    subst (λ (v : View (PartSeen A) Drawn). HoldsLeft drawn_touches v) (sym is) (draw_left drawn_touches h.view (new_turn n e before after) left),
   )
 
 -- The last turn of a run moved what those before it left, and these are a run.

@@ -19,7 +19,7 @@ use Rattle.ca_table.specs.declared.drawn.Drawn.{Drawn}
 use Rattle.ca_solo.specs.Positions.{Position}
 use Rattle.ca_table.specs.LoneHands.{HoldsLeft, left_now}
 use Rattle.ca_alone.specs.Lone.{StandsAlone}
-use Rattle.ca_alone.specs.Reading.{lane_read, number_of}
+use Rattle.ca_alone.specs.Reading.{lane_read, task_number}
 
 module _ {A : Type 0} (v : View (PartSeen A) Drawn) where
   -- all parts, as its turns left them
@@ -48,14 +48,14 @@ module _ {A : Type 0} (v : View (PartSeen A) Drawn) where
 
 module _ {A : Type 0} (over : CodeView → A → Type 0) (place : A → At) (stands : ProgramView → A → TaskBody → Type 0) (program : ProgramView) (code : CodeView) (v : View (PartSeen A) Drawn) (answers : List ℕ) (w : Position) (a : StandsAlone over place stands program code v answers w) where
   -- the ready part, held or not
-  pub left_ready : (c : PartSeen A) (q : List (ℕ × TaskAgent A)) → get_elem? (left_now drawn_touches v) 34 ≡ core.some c → c.held ≡ seen_ready q → w.desk.ready ≡ map number_of q
-  left_ready c q e is = let r = a.position.reads in r.reads.ready_is ∙ ap (map number_of) (some_same r.queue q (sym r.in_ready ∙ ready_there v c q e is))
+  pub left_ready : (c : PartSeen A) (q : List (ℕ × TaskAgent A)) → get_elem? (left_now drawn_touches v) 34 ≡ core.some c → c.held ≡ seen_ready q → w.desk.ready ≡ map task_number q
+  left_ready c q e is = let r = a.position.reads in r.reads.ready_is ∙ ap (map task_number) (some_same r.queue q (sym r.in_ready ∙ ready_there v c q e is))
 
 module _ {A : Type 0} (over : CodeView → A → Type 0) (place : A → At) (stands : ProgramView → A → TaskBody → Type 0) (program : ProgramView) (code : CodeView) (v : View (PartSeen A) Drawn) (h : HoldsLeft drawn_touches v) (answers : List ℕ) (w : Position) (a : StandsAlone over place stands program code v answers w) where
   pub held_lane : (c : PartSeen A) (l : LaneSeen A) → get_elem? v.held 0 ≡ core.some (Some c) → c.held ≡ seen_lane l → w.desk.lane ≡ lane_read l.task l.since
   held_lane c l e is = let r = a.position.reads in r.reads.lane_is ∙ ap (λ (z : LaneView (TaskAgent A)). lane_read z.task z.since) (some_same r.lane (lane_of_seen l) (sym r.in_lane ∙ lane_there v h c l e is))
 
-  pub held_ready : (c : PartSeen A) (q : List (ℕ × TaskAgent A)) → get_elem? v.held 34 ≡ core.some (Some c) → c.held ≡ seen_ready q → w.desk.ready ≡ map number_of q
+  pub held_ready : (c : PartSeen A) (q : List (ℕ × TaskAgent A)) → get_elem? v.held 34 ≡ core.some (Some c) → c.held ≡ seen_ready q → w.desk.ready ≡ map task_number q
   held_ready c q e is = left_ready over place stands program code v answers w a c q (h.held 34 c e) is
 
   pub held_timers : (c : PartSeen A) (t : TimersPart) → get_elem? v.held 33 ≡ core.some (Some c) → c.held ≡ seen_timers t → (t.deadlines ≡ w.state.deadlines) × (t.now ≡ w.state.now) × (t.now ≤ t.least)

@@ -33,8 +33,8 @@ use Rattle.ca_solo.specs.Positions.{Position}
 use Rattle.ca_solo.specs.Stirs.{stirred}
 use Rattle.ca_solo.proofs.Ticking.{first_due}
 use Rattle.ca_alone.specs.OwnTurn.{IsDue}
-use Rattle.ca_alone.specs.Reading.{lane_read, number_of}
-use Rattle.ca_alone.specs.Schedule.{IsAt, IsRun, StandsAt}
+use Rattle.ca_alone.specs.Reading.{lane_read, task_number}
+use Rattle.ca_alone.specs.Schedule.{LedTo, AreTurnsRun, StandsAt}
 use Rattle.ca_alone.specs.Standing.{ChoosesWell}
 use Rattle.ca_alone.specs.Stirring.{HoldsDone, stirs_in}
 use Rattle.ca_alone.proofs.Chosen.{planned_chooses}
@@ -48,7 +48,7 @@ module _ {A : Type 0} (over : CodeView → A → Type 0) (place : A → At) (sta
   abbrev Stands : (Position → Type 0) → Type 0
   Stands Q = StandsAt over place stands advances gives starts program code Q v
 
-  stands_with : (Q : Position → Type 0) → (IsRun over place stands advances gives starts program code v → (x : IsAt over place stands advances gives starts program code P v) → Q x.at) → Stands P → Stands (λ w. P w × Q w)
+  stands_with : (Q : Position → Type 0) → (AreTurnsRun over place stands advances gives starts program code v → (x : LedTo over place stands advances gives starts program code P v) → Q x.at) → Stands P → Stands (λ w. P w × Q w)
   stands_with Q f s = record {
     stand = λ r. let x = s.stand r in record { answers = x.answers; at = x.at; alone = x.alone; answered = x.answered; kind = (x.kind, f r x) };
     going = s.going;
@@ -59,8 +59,8 @@ module _ {A : Type 0} (over : CodeView → A → Type 0) (place : A → At) (sta
   with_lane h c l e is = stands_with (λ w. w.desk.lane ≡ lane_read l.task l.since) (λ r x. held_lane over place stands program code v h x.answers x.at x.alone c l e is)
 
   -- the ready part, which is part 34, tells who is ready, held or not
-  pub with_ready : (c : PartSeen A) (q : List (ℕ × TaskAgent A)) → get_elem? (left_now drawn_touches v) 34 ≡ core.some c → c.held ≡ seen_ready q → Stands P → Stands (λ w. P w × (w.desk.ready ≡ map number_of q))
-  with_ready c q e is = stands_with (λ w. w.desk.ready ≡ map number_of q) (λ r x. left_ready over place stands program code v x.answers x.at x.alone c q e is)
+  pub with_ready : (c : PartSeen A) (q : List (ℕ × TaskAgent A)) → get_elem? (left_now drawn_touches v) 34 ≡ core.some c → c.held ≡ seen_ready q → Stands P → Stands (λ w. P w × (w.desk.ready ≡ map task_number q))
+  with_ready c q e is = stands_with (λ w. w.desk.ready ≡ map task_number q) (λ r x. left_ready over place stands program code v x.answers x.at x.alone c q e is)
 
   -- the timers tell the open deadlines
   pub with_timers : HoldsLeft drawn_touches v → (c : PartSeen A) (t : TimersPart) → get_elem? v.held 33 ≡ core.some (Some c) → c.held ≡ seen_timers t → Stands P → Stands (λ w. P w × (w.state.deadlines ≡ t.deadlines))

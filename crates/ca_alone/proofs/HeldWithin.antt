@@ -26,11 +26,11 @@ use Rattle.ca_commit.proofs.Laid.{IsPart, Within}
 use Rattle.ca_table.specs.Carriers.{IsCarrying, was}
 use Rattle.ca_table.specs.Carrying.{Carries, IsPlace, Place, bank_place, carried, lane_place, number_at, part_at, ready_place, shard_place, timers_place}
 use Rattle.ca_table.specs.Draws.{drawn_touches}
-use Rattle.ca_table.specs.Grips.{nothing as nothing_held}
+use Rattle.ca_table.specs.Grips.{no_grip as nothing_held}
 use Rattle.ca_table.specs.Lifting.{lifted}
 use Rattle.ca_table.specs.LoneHands.{HoldsLeft, left_now}
 use Rattle.ca_table.specs.Running.{contents_at}
-use Rattle.ca_table.specs.Parts.{away, bank_seen, part_of, part_seen, shard_seen}
+use Rattle.ca_table.specs.Parts.{part_away, bank_seen, part_of, part_seen, shard_seen}
 use Rattle.ca_table.specs.Seen.{HeldSeen, PartSeen, held_of, seen_bank, seen_shard}
 use Rattle.ca_table.specs.declared.drawn.Drawn.{Drawn}
 use Rattle.ca_table.specs.Workers.{IsSeated, part_of_lane}
@@ -100,13 +100,13 @@ module _ {A C : Type 0} (over : CodeView → A → Type 0) (stands_as : ProgramV
     carried_lies held left bs ss = lies_by w.hand.view left held bank_settled shard_settled where
       bank_settled : (i : ℕ) (b : HeldBank) → listed number_of_bank (parts held.banks) i ≡ Some b → (d : PartSeen A) × (get_elem? w.hand.view.held (1 + i) ≡ core.some (Some d)) × (d.held ≡ seen_bank (bank_seen b.bank.value))
       bank_settled i b e =
-          let x : Part A C × PartSeen A = (away 1 code, part_seen least faults readings (part_of 1 code (V.Bank b))) in
+          let x : Part A C × PartSeen A = (part_away 1 code, part_seen least faults readings (part_of 1 code (V.Bank b))) in
           let there : h.banks i ≡ Some x = ap (λ (f : ℕ → Option (Part A C × PartSeen A)). f i) bs ∙ ap (option_map _) e in
           (x.1, carried_settled (bank_place i) x (few h.banks i x c.sorted.few_banks there) there, refl)
 
       shard_settled : (i : ℕ) (s : HeldShard A) → listed number_of_shard (parts held.shards) i ≡ Some s → (d : PartSeen A) × (get_elem? w.hand.view.held (1 + 16 + i) ≡ core.some (Some d)) × (d.held ≡ seen_shard (shard_seen s.shard.value))
       shard_settled i s e =
-          let x : Part A C × PartSeen A = (away 1 code, part_seen least faults readings (part_of 1 code (V.Shard s))) in
+          let x : Part A C × PartSeen A = (part_away 1 code, part_seen least faults readings (part_of 1 code (V.Shard s))) in
           let there : h.shards i ≡ Some x = ap (λ (f : ℕ → Option (Part A C × PartSeen A)). f i) ss ∙ ap (option_map _) e in
           (x.1, carried_settled (shard_place i) x (few h.shards i x c.sorted.few_shards there) there, refl)
 
@@ -144,6 +144,6 @@ module _ {A C : Type 0} (over : CodeView → A → Type 0) (stands_as : ProgramV
 -- and the lane of one that has moved out no other part
 pub seated_settled : {A C : Type 0} (over : CodeView → A → Type 0) (stands_as : ProgramView → A → TaskBody → Type 0) (program : ProgramView) (code : ValidCode) (id : TableId) (w : Worker A C) (lane : Lane A) → IsSeated over stands_as program code id 1 w lane → get_elem? w.hand.view.held 0 ≡ core.some (Some (part_of_lane 1 code lane))
 seated_settled {A} {C} over stands_as program code id w lane s =
-    let x : Part A C × PartSeen A = (away 1 code, part_of_lane 1 code lane) in
+    let x : Part A C × PartSeen A = (part_away 1 code, part_of_lane 1 code lane) in
     let first : w.number ≡ 0 = omega (arith, s.one.below) in
     subst (λ (k : ℕ). get_elem? w.hand.view.held k ≡ core.some (Some (part_of_lane 1 code lane))) first (fit w.hand (update eqb nothing_held w.number (Some x)) w.number x s.grips (update_here nothing_held w.number (Some x))).1

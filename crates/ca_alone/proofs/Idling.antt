@@ -17,14 +17,14 @@ use Rattle.ca_commit.specs.Contents.{Content}
 use Rattle.ca_commit.specs.Gathered.{parts_of}
 use Rattle.ca_commit.specs.Moves.{Stays}
 use Rattle.ca_commit.specs.Moving.{Moves, MovesTurn, visible}
-use Rattle.ca_commit.specs.Running.{AreAt, RunStands, written}
+use Rattle.ca_commit.specs.Running.{AreAt, RunStands, contents_written}
 use Rattle.ca_commit.specs.Touched.{Drawn, Turn, asks_clock, halts, picks, prunes, shown, stalls, touches, yields}
 use Rattle.ca_commit.proofs.Laid.{laid_parts}
-use Rattle.ca_solo.specs.Moves.{IsInTime, IsLate, PassesOne, Picks, Rests, WaitsIdle, Yields}
+use Rattle.ca_solo.specs.Moves.{IsInTime, IsLate, PassesOne, PicksFront, Rests, WaitsIdle, Yields}
 use Rattle.ca_solo.specs.Positions.{Position, also_later, free, in_time, on_lane, picked, settling, with_readings}
 use Rattle.ca_solo.specs.Stirs.{Ordered}
 use Rattle.ca_alone.specs.OwnTurn.{IsDue, IsEarly}
-use Rattle.ca_alone.specs.Reading.{Reads, number_of}
+use Rattle.ca_alone.specs.Reading.{DeskReads, task_number}
 use Rattle.ca_alone.specs.Standing.{IsPosition}
 use Rattle.ca_alone.proofs.Laying.{held_before}
 use Rattle.ca_alone.proofs.LoneTurns.{lone_moves, lone_part, lone_reads, lone_shown, lone_silent}
@@ -58,7 +58,7 @@ module _ {A : Type 0} (place : A → At) (stands : ProgramView → A → TaskBod
   module _ (advances : ProgramView → A → A → Type 0) (gives : A → Tree → A → Type 0) (starts : ProgramView → SeedView → A → Type 0) (advance_law : Advanced stands place advances) (answer_law : Answered stands place gives) (start_law : Started stands place starts)
       (d : Drawn) (before after : List (Content (TaskAgent A))) (one : d.workers ≡ 1) (at : AreAt now (touches d) before) (m : Moves place advances gives starts d before after) where
     abbrev then : ℕ → Option (Content (TaskAgent A))
-    then = written now (touches d) after
+    then = contents_written now (touches d) after
 
     moved : (what : Turn) → d.what ≡ what → MovesTurn place advances gives starts 0 1 what (held_before d before) (held_before d after)
     moved what is = subst (λ x. MovesTurn place advances gives starts 0 1 x (held_before d before) (held_before d after)) is (lone_moves place stands advances gives starts d now before after one at m)
@@ -66,17 +66,17 @@ module _ {A : Type 0} (place : A → At) (stands : ProgramView → A → TaskBod
     hidden : (what : Turn) → d.what ≡ what → visible what ≡ [] → RunStands place stands program 1 then w.state
     hidden what is none = lone_silent place stands advances gives starts d now before after one at m advance_law answer_law start_law program w.state p.run (ap visible is ∙ none)
 
-    reads_then : (desk : Desk) → Reads (laid_parts (parts_of 1 now) (held_before d after)) desk → Reads (parts_of 1 then) desk
+    reads_then : (desk : Desk) → DeskReads (laid_parts (parts_of 1 now) (held_before d after)) desk → DeskReads (parts_of 1 then) desk
     reads_then desk r = lone_reads place stands advances gives starts d now before after one at m desk r
 
     -- Pick
-    pub pick_is_move : d.what ≡ picks 0 → w.phase ≡ free → (w2 : Position) × Picks w w2 × (w2.phase ≡ picked) × IsPosition place stands program then w2
+    pub pick_is_move : d.what ≡ picks 0 → w.phase ≡ free → (w2 : Position) × PicksFront w w2 × (w2.phase ≡ picked) × IsPosition place stands program then w2
     pick_is_move is phase =
         let x = moved (picks 0) is in
         let r = picks_reads (parts_of 1 now) (held_before d before) (held_before d after) w.desk p.reads (lone_part place stands advances gives starts d now before after one at m) x in
-        let desk = on_lane w.desk x.x.0 (map number_of x.rest) in (
+        let desk = on_lane w.desk x.x.0 (map task_number x.rest) in (
           record { state = w.state; desk = desk; phase = picked },
-          (x.x.0, map number_of x.rest, phase, r.0, refl),
+          (x.x.0, map task_number x.rest, phase, r.0, refl),
           refl,
           record { run = hidden (picks 0) is refl; sound = p.sound; reads = reads_then desk r.1; uncounted = p.uncounted; used = p.used },
         )
@@ -97,7 +97,7 @@ module _ {A : Type 0} (place : A → At) (stands : ProgramView → A → TaskBod
     abbrev Untouched : Type 0
     Untouched = Stays (held_before d before).lane (held_before d after).lane × Stays (held_before d before).ready (held_before d after).ready × Stays (held_before d before).shard (held_before d after).shard
 
-    same_then : (rs : List ℕ) → Untouched → Reads (parts_of 1 then) (with_readings rs w.desk)
+    same_then : (rs : List ℕ) → Untouched → DeskReads (parts_of 1 then) (with_readings rs w.desk)
     same_then rs u = reads_then (with_readings rs w.desk) (same_reads (parts_of 1 now) (held_before d before) (held_before d after) w.desk rs p.reads (lone_part place stands advances gives starts d now before after one at m) u.0 u.1 u.2)
 
     still : (what : Turn) → d.what ≡ what → visible what ≡ [] → Untouched → IsPosition place stands program then w

@@ -8,7 +8,7 @@ use Rattle.ca_commit.specs.Agents.{TaskAgent}
 use Rattle.ca_commit.specs.Contents.{Content, LaneView, Parts}
 use Rattle.ca_commit.specs.Gathered.{AllAlike, kind_at, kind_of_part, lane_of, parts_of, pick, sorted}
 use Rattle.ca_commit.specs.Moving.{Moves, MovesTurn}
-use Rattle.ca_commit.specs.Running.{AreAt, written}
+use Rattle.ca_commit.specs.Running.{AreAt, contents_written}
 use Rattle.ca_commit.specs.Touched.{Drawn, touches}
 use Rattle.ca_commit.proofs.Gathering.{alike_at, parts_in, parts_laid, picks_within}
 use Rattle.ca_commit.proofs.Laid.{IsPart, laid_parts}
@@ -20,7 +20,7 @@ held_before d cs = parts_of 1 (pick (touches d) cs)
 pub record IsLaid {A : Type 0} (place : A → At) (advances : ProgramView → A → A → Type 0) (gives : A → Tree → A → Type 0) (starts : ProgramView → SeedView → A → Type 0) (d : Drawn) (now : ℕ → Option (Content (TaskAgent A))) (before after : List (Content (TaskAgent A))) : Type 0 where
   pub part : IsPart (held_before d before) (parts_of 1 now)
   pub turn : MovesTurn place advances gives starts 0 1 d.what (held_before d before) (held_before d after)
-  pub over : parts_of 1 (written now (touches d) after) ≡ laid_parts (parts_of 1 now) (held_before d after)
+  pub over : parts_of 1 (contents_written now (touches d) after) ≡ laid_parts (parts_of 1 now) (held_before d after)
 
 lane_there : {A : Type 0} (o : Option (Content A)) (l : LaneView A) → sorted lane_of o ≡ Some l → (c : Content A) × (o ≡ Some c)
 lane_there {A} None l e = absurd (let k : None ≡ Some l = e in cc)

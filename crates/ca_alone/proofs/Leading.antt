@@ -27,7 +27,7 @@ use Rattle.ca_solo.specs.Stirs.{Ordered}
 use Rattle.ca_alone.specs.Answers.{HasGiven}
 use Rattle.ca_alone.specs.Lone.{DrewNext, StandsAlone}
 use Rattle.ca_alone.specs.OwnTurn.{IsDue, IsEarly}
-use Rattle.ca_alone.specs.Schedule.{AtFree, AtPicked, Follow, IsAt, IsFull, IsRun, MaySettle, MayTick, StandsAt, to_rest, to_turn}
+use Rattle.ca_alone.specs.Schedule.{AtFree, AtPicked, Follow, LedTo, IsFull, AreTurnsRun, MaySettle, MayTick, StandsAt, to_rest, to_turn}
 use Rattle.ca_alone.specs.Standing.{IsOn}
 use Rattle.ca_alone.proofs.LoneClock.{lone_reads_given}
 use Rattle.ca_alone.proofs.LoneMoves.{lone_halts, lone_is_late, lone_picks, lone_prunes, lone_reads, lone_settles, lone_stalls, lone_waits, lone_yields, none_settles}
@@ -47,10 +47,10 @@ module _ {A : Type 0} (over : CodeView → A → Type 0) (place : A → At) (sta
   Here P v = StandsAt over place stands advances gives starts program code P v
 
   abbrev pub Is : (Position → Type 0) → View (PartSeen A) Drawn → Type 0
-  Is P v = IsAt over place stands advances gives starts program code P v
+  Is P v = LedTo over place stands advances gives starts program code P v
 
   abbrev pub Ran : View (PartSeen A) Drawn → Type 0
-  Ran v = IsRun over place stands advances gives starts program code v
+  Ran v = AreTurnsRun over place stands advances gives starts program code v
 
   module _ (what : said.Turn) (v v2 : View (PartSeen A) Drawn) where
     abbrev Next : Type 0

@@ -14,7 +14,7 @@ use Rattle.ca_meaning.specs.Task.{TaskBody, reply_to}
 use Rattle.ca_meaning.specs.Wait.{owner_of, port_of, told}
 use Rattle.ca_meaning.specs.State.{State}
 use Rattle.ca_meaning.specs.EndsLaw.{is_of}
-use Rattle.ca_meaning.specs.Solo.{Desk, alts_of, ReadsMoment, joined_by, left, made_one, Leaves}
+use Rattle.ca_meaning.specs.Solo.{Desk, alts_counted, ReadsMoment, joined_by, left, made_one, Leaves}
 use Rattle.ca_agent.specs.Agents.{Advanced}
 use Rattle.ca_commit.specs.Agents.{TaskAgent, advances_of, alts_at, gives_of, place_of, stands_of, wakes_of}
 use Rattle.ca_commit.specs.Contents.{Counts, LaneView, Parked, Parts, nobody, owner, whole}
@@ -25,8 +25,8 @@ use Rattle.ca_commit.specs.Stands.{Stands}
 use Rattle.ca_commit.specs.TaskMoves.{Halts}
 use Rattle.ca_commit.proofs.Laid.{IsPart, laid_parts, seen, untouched}
 use Rattle.ca_commit.proofs.Seats.{some_same}
-use Rattle.ca_alone.specs.Reading.{Reads, ReadsOff}
-use Rattle.ca_alone.specs.Standing.{ChoosesWell, asked}
+use Rattle.ca_alone.specs.Reading.{DeskReads, ReadsOff}
+use Rattle.ca_alone.specs.Standing.{ChoosesWell, clock_answers}
 use Rattle.ca_alone.proofs.Counting.{counts_fewer, counts_joined, counts_less, counts_parked, owner_left, owner_stays, with_alts}
 use Rattle.ca_alone.proofs.Turned.{and_wait, elsewhere, lane_found, lane_left, none_counted, one_counted, only_lane, op_found, queue_left, same_alts}
 
@@ -42,41 +42,41 @@ joined_readings (Some u) d = refl
 module _ {A : Type 0} where
   -- the desk after an event
   abbrev pub Left : State → Parts (TaskAgent A) → Desk → EventView → Type 0
-  Left s h2 d e = (d2 : Desk) × Leaves s d e d2 × Reads h2 d2 × (d2.readings ≡ [])
+  Left s h2 d e = (d2 : Desk) × Leaves s d e d2 × DeskReads h2 d2 × (d2.readings ≡ [])
 
-  queue_was : (now old new : Parts (TaskAgent A)) (part : IsPart old now) (d : Desk) (r : Reads now d) (q q2 : List (ℕ × TaskAgent A)) → Becomes old.ready new.ready 0 q q2 → r.queue ≡ q
+  queue_was : (now old new : Parts (TaskAgent A)) (part : IsPart old now) (d : Desk) (r : DeskReads now d) (q q2 : List (ℕ × TaskAgent A)) → Becomes old.ready new.ready 0 q q2 → r.queue ≡ q
   queue_was now old new part d r q q2 b = some_same r.queue q (sym r.in_ready ∙ part.readys 0 q b.was)
 
 module _ {A : Type 0} (place : A → At) (stands : ProgramView → A → TaskBody → Type 0) (gives : A → Tree → A → Type 0) (program : ProgramView)
-    (now old new : Parts (TaskAgent A)) (s : State) (st : Stands (place_of place) (stands_of stands) program 1 now s) (part : IsPart old now) (d : Desk) (r : Reads now d) where
+    (now old new : Parts (TaskAgent A)) (s : State) (st : Stands (place_of place) (stands_of stands) program 1 now s) (part : IsPart old now) (d : Desk) (r : DeskReads now d) where
   -- whoever waited stands last in the ready part, and the wait is gone
   pub wakes_reads : (l2 : LaneView (TaskAgent A)) (wait p : ℕ) (v : Tree) (d1 : Desk) (x : Parked (TaskAgent A)) → or_was (new.lane 0) (now.lane 0) ≡ Some l2 → whole now.shard wait ≡ Some x → WakesIn (place_of place) (wakes_of gives) old new 0 p x v
-      → Alters old.shard new.shard wait None → ReadsOff l2 r.queue (whole now.shard) d1 → Reads (laid_parts now new) (joined_by (owner_of wait s.waits) d1)
-  wakes_reads l2 wait p v d1 nobody at is w shards k = subst (λ (o : Option ℕ). Reads (laid_parts now new) (joined_by o d1)) (sym (st.seated.nobodies wait is))
+      → Alters old.shard new.shard wait None → ReadsOff l2 r.queue (whole now.shard) d1 → DeskReads (laid_parts now new) (joined_by (owner_of wait s.waits) d1)
+  wakes_reads l2 wait p v d1 nobody at is w shards k = subst (λ (o : Option ℕ). DeskReads (laid_parts now new) (joined_by o d1)) (sym (st.seated.nobodies wait is))
       (and_wait now old new part d r l2 r.queue d1 wait None at (queue_left now old new part d r w) shards (counts_fewer l2 r.queue (whole now.shard) (update eqb (whole now.shard) wait None) d1 k (owner_left (whole now.shard) (update eqb (whole now.shard) wait None) wait (λ w. refl))))
-  wakes_reads l2 wait p v d1 (owner u a) at is w shards k = subst (λ (o : Option ℕ). Reads (laid_parts now new) (joined_by o d1)) (sym (st.seated.owners wait u a is).0)
+  wakes_reads l2 wait p v d1 (owner u a) at is w shards k = subst (λ (o : Option ℕ). DeskReads (laid_parts now new) (joined_by o d1)) (sym (st.seated.owners wait u a is).0)
       (and_wait now old new part d r l2 (w.1 ++ (u, w.0) ∷ []) (joined_by (Some u) d1) wait None at (ap (λ o. or_was o (now.ready 0)) w.3.is) shards
       (counts_fewer l2 (w.1 ++ (u, w.0) ∷ []) (whole now.shard) (update eqb (whole now.shard) wait None) (joined_by (Some u) d1)
       (counts_joined l2 w.1 (whole now.shard) d1 u w.0 (subst (λ (q : List (ℕ × TaskAgent A)). ReadsOff l2 q (whole now.shard) d1) (queue_was now old new part d r w.1 (w.1 ++ (u, w.0) ∷ []) w.3) k) (w.2.1 ∙ k.parked_counts wait u a is))
       (owner_left (whole now.shard) (update eqb (whole now.shard) wait None) wait (λ w. refl))))
 
 module _ {A : Type 0} (place : A → At) (stands : ProgramView → A → TaskBody → Type 0) (advances : ProgramView → A → A → Type 0) (gives : A → Tree → A → Type 0) (starts : ProgramView → SeedView → A → Type 0) (advance_law : Advanced stands place advances) (program : ProgramView)
-    (now old new : Parts (TaskAgent A)) (s : State) (st : Stands (place_of place) (stands_of stands) program 1 now s) (part : IsPart old now) (d : Desk) (r : Reads now d) where
+    (now old new : Parts (TaskAgent A)) (s : State) (st : Stands (place_of place) (stands_of stands) program 1 now s) (part : IsPart old now) (d : Desk) (r : DeskReads now d) where
   abbrev Moved : EventView → Type 0
   Moved e = MovesShown place advances gives starts 0 1 e old new
 
   -- it goes on from what isn't an alts, and gave no number
-  same_counts : (t : ℕ) (op : OpView) (v : Tree) (a : Answers (place_of place) (advances_of advances) (gives_of place gives) 0 t op v old new) → alts_of op a.stands.agent.alts ≡ a.stands.agent.alts → a.stands.lane2.counts ≡ a.stands.lane.counts → ReadsOff a.stands.lane2 r.queue (whole now.shard) (made_one d)
+  same_counts : (t : ℕ) (op : OpView) (v : Tree) (a : Answers (place_of place) (advances_of advances) (gives_of place gives) 0 t op v old new) → alts_counted op a.stands.agent.alts ≡ a.stands.agent.alts → a.stands.lane2.counts ≡ a.stands.lane.counts → ReadsOff a.stands.lane2 r.queue (whole now.shard) (made_one d)
   same_counts t op v a same counts = let f = lane_found now old new part d r a.stands.lane a.stands.lanes.was in
       none_counted place stands advances advance_law program now old new s st part d r t gives op v a d.tasks d.ports d.waits d.readings same (f.tasks ∙ sym (ap (λ (c : Counts). c.tasks) counts)) (f.ports ∙ sym (ap (λ (c : Counts). c.ports) counts)) (f.waits ∙ sym (ap (λ (c : Counts). c.waits) counts))
 
   -- an end leaves the lane empty
-  over_leaves : (t : ℕ) (at : At) → (h : Halts (place_of place) (advances_of advances) 0 t at old new) → Reads (laid_parts now new) (left d)
+  over_leaves : (t : ℕ) (at : At) → (h : Halts (place_of place) (advances_of advances) 0 t at old new) → DeskReads (laid_parts now new) (left d)
   over_leaves t at h = only_lane now old new part d r h.stands.lane2 (left d) h.stands.lanes.is h.readys h.shards
       (counts_less h.stands.lane h.stands.lane2 r.queue (whole now.shard) d (lane_found now old new part d r h.stands.lane h.stands.lanes.was) h.empty h.counts)
 
   -- where a new task has made no alts, and the branch is the schedule's
-  pub shown_leaves : (t : ℕ) (e : EventView) → is_of t e ≡ true → d.readings ≡ asked e → ((t u : ℕ) (kind : TaskKind) (result : Option ℕ) → e ≡ spawned t u kind result → d.alts u ≡ 0) → ChoosesWell s d e → Moved e → Left s (laid_parts now new) d e
+  pub shown_leaves : (t : ℕ) (e : EventView) → is_of t e ≡ true → d.readings ≡ clock_answers e → ((t u : ℕ) (kind : TaskKind) (result : Option ℕ) → e ≡ spawned t u kind result → d.alts u ≡ 0) → ChoosesWell s d e → Moved e → Left s (laid_parts now new) d e
   shown_leaves z (made t p what moment) is asks fresh well m =
       let y = moment_desk moment d asks in let a = m.answers in let f = lane_found now old new part d r a.stands.lane a.stands.lanes.was in
       let next : p ≡ suc d.ports = (let n = m.next in let e = f.ports in omega (arith, n, e)) in
@@ -123,7 +123,7 @@ module _ {A : Type 0} (place : A → At) (stands : ProgramView → A → TaskBod
       let o = op_found place stands advances advance_law program now old new s st part d r t m.op m.at b in let d1 = with_alts m.op t d in
       let f = lane_found now old new part d r b.lane b.lanes.was in let e = elsewhere place stands advances advance_law program now old new s st part d r t (at_op (record { op = m.op; place = m.at })) b in
       let next : wait ≡ suc d.waits = (let n = j.next in let e = f.waits in omega (arith, n, e)) in
-      let alts : m.agent2.alts ≡ alts_of m.op b.agent.alts = m.waits_as.1 ∙ ap (λ (z : At). alts_at z b.agent1.alts) b.stood ∙ same_alts m.op b.agent1.alts ∙ ap (alts_of m.op) b.advanced.1 in (
+      let alts : m.agent2.alts ≡ alts_counted m.op b.agent.alts = m.waits_as.1 ∙ ap (λ (z : At). alts_at z b.agent1.alts) b.stood ∙ same_alts m.op b.agent1.alts ∙ ap (alts_counted m.op) b.advanced.1 in (
         left (record d1 { waits = wait }),
         (d1, next, (o.0, m.op, o.1, o.2, refl), refl),
         and_wait now old new part d r b.lane2 r.queue (left (record d1 { waits = wait })) wait (Some (owner t m.agent2)) (lane_left now old new part d r b.lane2 b.lanes.is) (queue_left now old new part d r j.readys) j.shards

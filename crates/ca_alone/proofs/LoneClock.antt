@@ -10,12 +10,12 @@ use Rattle.ca_states.specs.Code.{CodeView}
 use Rattle.ca_agent.specs.Agents.{Advanced, Answered, Started}
 use Rattle.ca_turns.specs.declared.rule.Turn.{Turn}
 use Rattle.ca_turns.specs.declared.rule.View.{View}
-use Rattle.ca_turns.specs.History.{Goes}
+use Rattle.ca_turns.specs.History.{TurnGoes}
 use Rattle.ca_commit.specs.Agents.{TaskAgent}
 use Rattle.ca_commit.specs.Contents.{Content, TimersPart}
 use Rattle.ca_commit.specs.Gathered.{parts_of}
 use Rattle.ca_commit.specs.Opening.{unasked}
-use Rattle.ca_commit.specs.Running.{written}
+use Rattle.ca_commit.specs.Running.{contents_written}
 use Rattle.ca_commit.specs.Touched as said
 use Rattle.ca_table.specs.Draws.{drawn_moves, drawn_touches, drawn_view, turn_view}
 use Rattle.ca_table.specs.OneCode.{HaveCode, advances_over, gives_over, stands_over, starts_over}
@@ -26,7 +26,7 @@ use Rattle.ca_table.proofs.Openings.{opens}
 use Rattle.ca_solo.specs.Positions.{Position, in_time, picked}
 use Rattle.ca_table.specs.Moments.{NeverFall, turn_asked}
 use Rattle.ca_alone.specs.Answers.{HasGiven}
-use Rattle.ca_table.specs.LoneHands.{IsAfter, left_by, left_now}
+use Rattle.ca_table.specs.LoneHands.{IsAfter, contents_left, left_now}
 use Rattle.ca_alone.specs.Lone.{AloneAt, StandsAlone}
 use Rattle.ca_alone.specs.OwnTurn.{IsEarly}
 use Rattle.ca_alone.proofs.Answering.{answers_go_on, gave_none}
@@ -44,12 +44,12 @@ earlier (d ∷ ds) m n le e = let lt : n < d.moment = e in omega (arith, le, lt)
 -- before it drew anything the clock gave nothing
 pub begins_given : {A : Type 0} (over : CodeView → A → Type 0) (stands : ProgramView → A → TaskBody → Type 0) (program : ProgramView) (code : CodeView) (v : View (PartSeen A) Drawn) → (k : Knows over stands program code 1 v) → v.turns ≡ [] → HasGiven (unasked k.least k.faults k.readings) [] (contents_at (left_now drawn_touches v))
 begins_given {A} over stands program code v k none = subst (λ (f : ℕ → Option (Content (TaskAgent A))). HasGiven (unasked k.least k.faults k.readings) [] f)
-    (sym (ap (λ ts. contents_at (left_by drawn_touches v.opening ts)) none ∙ ap contents_at k.opening ∙ opens 1 code k.texts k.main (unasked k.least k.faults k.readings) k.some))
+    (sym (ap (λ ts. contents_at (contents_left drawn_touches v.opening ts)) none ∙ ap contents_at k.opening ∙ opens 1 code k.texts k.main (unasked k.least k.faults k.readings) k.some))
     (record { clock = unasked k.least k.faults k.readings; in_timers = refl; gave = gave_none (unasked k.least k.faults k.readings) })
 
 module _ {A : Type 0} (over : CodeView → A → Type 0) (place : A → At) (stands : ProgramView → A → TaskBody → Type 0) (advances : ProgramView → A → A → Type 0) (gives : A → Tree → A → Type 0) (starts : ProgramView → SeedView → A → Type 0)
     (advance_law : Advanced stands place advances) (answer_law : Answered stands place gives) (start_law : Started stands place starts) (program : ProgramView) (code : CodeView)
-    (v v2 : View (PartSeen A) Drawn) (t : Turn (PartSeen A) Drawn) (g : Goes drawn_touches (drawn_moves over place advances gives starts) (left_now drawn_touches v) t) (more : IsAfter v v2 t) (first : TimersPart) (answers : List ℕ) (given : HasGiven first answers (contents_at (left_now drawn_touches v))) where
+    (v v2 : View (PartSeen A) Drawn) (t : Turn (PartSeen A) Drawn) (g : TurnGoes drawn_touches (drawn_moves over place advances gives starts) (left_now drawn_touches v) t) (more : IsAfter v v2 t) (first : TimersPart) (answers : List ℕ) (given : HasGiven first answers (contents_at (left_now drawn_touches v))) where
   -- the answers that the turn took are what the clock gave more
   pub lone_given : HaveCode code (left_now drawn_touches v) → (s : State) → TableStands place (stands_over over code stands) program 1 (left_now drawn_touches v) s → (what : said.Turn) → turn_view t.event.what ≡ what → (least : ℕ) × HasGiven first (answers ++ turn_asked what least) (contents_at (left_now drawn_touches v2))
   lone_given coded s run what is =
@@ -59,7 +59,7 @@ module _ {A : Type 0} (over : CodeView → A → Type 0) (place : A → At) (sta
       first answers given in (
         k.0,
         subst (λ (f : ℕ → Option (Content (TaskAgent A))). HasGiven first (answers ++ turn_asked what k.0) f) (sym (contents_after over place stands advances gives starts program code v v2 t g more))
-            (subst (λ z. HasGiven first (answers ++ turn_asked z k.0) (written (contents_at (left_now drawn_touches v)) (drawn_touches t.event) (map content_of t.after))) is k.1),
+            (subst (λ z. HasGiven first (answers ++ turn_asked z k.0) (contents_written (contents_at (left_now drawn_touches v)) (drawn_touches t.event) (map content_of t.after))) is k.1),
       )
 
   -- at a pick the clock answers in time: with what the timers say, or less

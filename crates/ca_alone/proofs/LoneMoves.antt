@@ -15,7 +15,7 @@ use Rattle.ca_states.specs.Code.{CodeView}
 use Rattle.ca_agent.specs.Agents.{Advanced, Answered, Started}
 use Rattle.ca_turns.specs.declared.rule.Turn.{Turn}
 use Rattle.ca_turns.specs.declared.rule.View.{View}
-use Rattle.ca_turns.specs.History.{Goes}
+use Rattle.ca_turns.specs.History.{TurnGoes}
 use Rattle.ca_commit.specs.Contents.{Content}
 use Rattle.ca_commit.specs.Gathered.{AllAlike, kind_at, kind_of_part}
 use Rattle.ca_commit.specs.Moving.{Moves, visible}
@@ -27,7 +27,7 @@ use Rattle.ca_table.specs.Running.{TableStands, contents_at, shown_by}
 use Rattle.ca_table.specs.Seen.{PartSeen, content_of}
 use Rattle.ca_table.specs.declared.drawn.Drawn.{Drawn}
 use Rattle.ca_table.proofs.Codes.{advanced_over, answered_over, started_over, touches_some}
-use Rattle.ca_solo.specs.Moves.{Move, PassesOne, SettlesOne, WaitsIdle, is_in_time, is_late, passes_one, picks, rests, settles_one, waits_idle, yields}
+use Rattle.ca_solo.specs.Moves.{SoloMove, PassesOne, SettlesOne, WaitsIdle, is_in_time, is_late, passes_one, picks, rests, settles_one, waits_idle, yields}
 use Rattle.ca_solo.specs.Positions.{Phase, Position, also_later, free, in_time, picked, settling}
 use Rattle.ca_solo.specs.Stirs.{Ordered}
 use Rattle.ca_solo.proofs.Following.{follows_in}
@@ -62,7 +62,7 @@ passes_lane w w2 x = ap (λ (z : Position). z.desk.lane) x.4
 
 module _ {A : Type 0} (over : CodeView → A → Type 0) (place : A → At) (stands : ProgramView → A → TaskBody → Type 0) (advances : ProgramView → A → A → Type 0) (gives : A → Tree → A → Type 0) (starts : ProgramView → SeedView → A → Type 0)
     (advance_law : Advanced stands place advances) (answer_law : Answered stands place gives) (start_law : Started stands place starts) (program : ProgramView) (code : CodeView)
-    (v v2 : View (PartSeen A) Drawn) (t : Turn (PartSeen A) Drawn) (g : Goes drawn_touches (drawn_moves over place advances gives starts) (left_now drawn_touches v) t) (more : IsAfter v v2 t) where
+    (v v2 : View (PartSeen A) Drawn) (t : Turn (PartSeen A) Drawn) (g : TurnGoes drawn_touches (drawn_moves over place advances gives starts) (left_now drawn_touches v) t) (more : IsAfter v v2 t) where
   -- the turn is that of the only worker
   pub one_works : HaveCode code (left_now drawn_touches v) → (s : State) → TableStands place (stands_over over code stands) program 1 (left_now drawn_touches v) s → (drawn_view t.event).workers ≡ 1
   one_works coded s run =
@@ -95,11 +95,11 @@ module _ {A : Type 0} (over : CodeView → A → Type 0) (place : A → At) (sta
     -- Pick and Yield
     pub lone_picks : turn_view t.event.what ≡ said.picks 0 → w.phase ≡ free → Then answers picked
     lone_picks is phase = let k = pick_is_move place both program (contents_at (left_now drawn_touches v)) w a.position (advances_over over code advances) (gives_over over code gives) (starts_over over code starts) (advanced_over over code place stands advances advance_law) (answered_over over code place stands gives answer_law) (started_over over code place stands starts start_law) (drawn_view t.event) (map content_of t.before) (map content_of t.after) one found moved is phase in
-        (k.0, lone_shows over place stands advances gives starts program code v v2 t g more answers w a k.0 (subst (λ es. Move program w k.0 es) (sym (ap visible is)) (picks k.1 refl)) k.3, k.2)
+        (k.0, lone_shows over place stands advances gives starts program code v v2 t g more answers w a k.0 (subst (λ es. SoloMove program w k.0 es) (sym (ap visible is)) (picks k.1 refl)) k.3, k.2)
 
     pub lone_yields : turn_view t.event.what ≡ said.yields → w.phase ≡ settling [] → ((lane : Lane) → w.desk.lane ≡ Some lane → patience ≤ lane.events) → Then answers free
     lone_yields is phase enough = let k = yield_is_move place both program (contents_at (left_now drawn_touches v)) w a.position (advances_over over code advances) (gives_over over code gives) (starts_over over code starts) (advanced_over over code place stands advances advance_law) (answered_over over code place stands gives answer_law) (started_over over code place stands starts start_law) (drawn_view t.event) (map content_of t.before) (map content_of t.after) one found moved is phase enough in
-        (k.0, lone_shows over place stands advances gives starts program code v v2 t g more answers w a k.0 (subst (λ es. Move program w k.0 es) (sym (ap visible is)) (yields k.1 refl)) k.3, k.2)
+        (k.0, lone_shows over place stands advances gives starts program code v v2 t g more answers w a k.0 (subst (λ es. SoloMove program w k.0 es) (sym (ap visible is)) (yields k.1 refl)) k.3, k.2)
 
     -- what is silent, and no move
     pub lone_prunes : (side : Side) (q wait : ℕ) → turn_view t.event.what ≡ said.prunes side q wait → StandsAlone over place stands program code v2 answers w
@@ -114,22 +114,22 @@ module _ {A : Type 0} (over : CodeView → A → Type 0) (place : A → At) (sta
     -- the clock is asked at a pick, and answers in time ..
     pub lone_reads : (m : ℕ) → turn_view t.event.what ≡ said.asks_clock → w.phase ≡ picked → IsEarly w.state.deadlines m → Then (answers ++ m ∷ []) in_time
     lone_reads m is phase early = let k = read_is_move place both program (contents_at (left_now drawn_touches v)) w a.position (advances_over over code advances) (gives_over over code gives) (starts_over over code starts) (advanced_over over code place stands advances advance_law) (answered_over over code place stands gives answer_law) (started_over over code place stands starts start_law) (drawn_view t.event) (map content_of t.before) (map content_of t.after) one found moved m is phase early in
-        (k.0, lone_turn over place stands advances gives starts program code v v2 t g more answers w a (m ∷ []) k.0 (subst (λ es. Move program (also_later (m ∷ []) w) k.0 es) (sym (ap visible is)) (is_in_time k.1 refl)) k.3, k.2)
+        (k.0, lone_turn over place stands advances gives starts program code v v2 t g more answers w a (m ∷ []) k.0 (subst (λ es. SoloMove program (also_later (m ∷ []) w) k.0 es) (sym (ap visible is)) (is_in_time k.1 refl)) k.3, k.2)
 
     -- .. or late, and a Tick comes ..
     pub lone_is_late : (m : ℕ) (ports us : List ℕ) → turn_view t.event.what ≡ said.shown (ticked m ports) → w.phase ≡ picked → IsDue w.state.deadlines m → Ordered ports us → Then (answers ++ m ∷ []) (settling us)
     lone_is_late m ports us is phase due order = let k = late_is_move place both program (contents_at (left_now drawn_touches v)) w a.position (advances_over over code advances) (gives_over over code gives) (starts_over over code starts) (advanced_over over code place stands advances advance_law) (answered_over over code place stands gives answer_law) (started_over over code place stands starts start_law) (drawn_view t.event) (map content_of t.before) (map content_of t.after) one found moved m ports us is phase due order in
-        (k.0, lone_turn over place stands advances gives starts program code v v2 t g more answers w a (m ∷ []) k.0 (subst (λ es. Move program (also_later (m ∷ []) w) k.0 es) (sym (ap visible is)) (is_late m ports k.1 refl)) k.3, k.2)
+        (k.0, lone_turn over place stands advances gives starts program code v v2 t g more answers w a (m ∷ []) k.0 (subst (λ es. SoloMove program (also_later (m ∷ []) w) k.0 es) (sym (ap visible is)) (is_late m ports k.1 refl)) k.3, k.2)
 
     -- .. or nobody is ready, and it waits
     pub lone_waits : (m : ℕ) (ports us : List ℕ) → turn_view t.event.what ≡ said.shown (ticked m ports) → w.phase ≡ free → w.desk.ready ≡ [] → IsDue w.state.deadlines m → Ordered ports us → ThenSame (answers ++ m ∷ []) (settling us)
     lone_waits m ports us is phase none due order = let k = idle_is_move place both program (contents_at (left_now drawn_touches v)) w a.position (advances_over over code advances) (gives_over over code gives) (starts_over over code starts) (advanced_over over code place stands advances advance_law) (answered_over over code place stands gives answer_law) (started_over over code place stands starts start_law) (drawn_view t.event) (map content_of t.before) (map content_of t.after) one found moved m ports us is phase none due order in
-        (k.0, lone_turn over place stands advances gives starts program code v v2 t g more answers w a (m ∷ []) k.0 (subst (λ es. Move program (also_later (m ∷ []) w) k.0 es) (sym (ap visible is)) (waits_idle m ports k.1 refl)) k.3, k.2, waits_lane program (also_later (m ∷ []) w) k.0 m ports k.1)
+        (k.0, lone_turn over place stands advances gives starts program code v v2 t g more answers w a (m ∷ []) k.0 (subst (λ es. SoloMove program (also_later (m ∷ []) w) k.0 es) (sym (ap visible is)) (waits_idle m ports k.1 refl)) k.3, k.2, waits_lane program (also_later (m ∷ []) w) k.0 m ports k.1)
 
     -- the least channel that may settle does
     pub lone_settles : (wait o : ℕ) (side : Side) (q : ℕ) (x : Tree) (us : List ℕ) → turn_view t.event.what ≡ said.shown (settled wait o side q x) → w.phase ≡ settling (q ∷ us) → ThenSame answers (settling (q ∷ us))
     lone_settles wait o side q x us is phase = let k = settle_is_move place both program (contents_at (left_now drawn_touches v)) w a.position (advances_over over code advances) (gives_over over code gives) (starts_over over code starts) (advanced_over over code place stands advances advance_law) (answered_over over code place stands gives answer_law) (started_over over code place stands starts start_law) (drawn_view t.event) (map content_of t.before) (map content_of t.after) one found moved wait o side q x us is phase in
-        (k.0, lone_shows over place stands advances gives starts program code v v2 t g more answers w a k.0 (subst (λ es. Move program w k.0 es) (sym (ap visible is)) (settles_one (settled wait o side q x) k.1 refl)) k.3, k.2, settles_lane program w k.0 (settled wait o side q x) k.1)
+        (k.0, lone_shows over place stands advances gives starts program code v v2 t g more answers w a k.0 (subst (λ es. SoloMove program w k.0 es) (sym (ap visible is)) (settles_one (settled wait o side q x) k.1 refl)) k.3, k.2, settles_lane program w k.0 (settled wait o side q x) k.1)
 
     -- .. and there is one where it does
     pub none_settles : (wait o : ℕ) (side : Side) (q : ℕ) (x : Tree) → turn_view t.event.what ≡ said.shown (settled wait o side q x) → w.phase ≡ free → ⊥

@@ -14,11 +14,11 @@ use Rattle.ca_commit.specs.Agents.{TaskAgent}
 use Rattle.ca_commit.specs.Contents.{Content, Parts}
 use Rattle.ca_commit.specs.Gathered.{parts_of}
 use Rattle.ca_commit.specs.Moving.{Moves, MovesTurn, visible}
-use Rattle.ca_commit.specs.Running.{AreAt, RunStands, written}
+use Rattle.ca_commit.specs.Running.{AreAt, RunStands, contents_written}
 use Rattle.ca_commit.specs.Touched.{Drawn, touches}
 use Rattle.ca_commit.proofs.Laid.{IsPart, laid_parts}
 use Rattle.ca_commit.proofs.Locality.{locality}
-use Rattle.ca_alone.specs.Reading.{Reads}
+use Rattle.ca_alone.specs.Reading.{DeskReads}
 use Rattle.ca_alone.proofs.Laying.{held_before, laid_over}
 
 module _ {A : Type 0} (place : A → At) (stands : ProgramView → A → TaskBody → Type 0) (advances : ProgramView → A → A → Type 0) (gives : A → Tree → A → Type 0) (starts : ProgramView → SeedView → A → Type 0)
@@ -30,20 +30,20 @@ module _ {A : Type 0} (place : A → At) (stands : ProgramView → A → TaskBod
   lone_part = (laid_over place advances gives starts d now before after at m one).part
 
   -- the desk read off all parts after the event
-  pub lone_reads : (desk : Desk) → Reads (laid_parts (parts_of 1 now) (held_before d after)) desk → Reads (parts_of 1 (written now (touches d) after)) desk
-  lone_reads desk r = subst (λ (h : Parts (TaskAgent A)). Reads h desk) (sym (laid_over place advances gives starts d now before after at m one).over) r
+  pub lone_reads : (desk : Desk) → DeskReads (laid_parts (parts_of 1 now) (held_before d after)) desk → DeskReads (parts_of 1 (contents_written now (touches d) after)) desk
+  lone_reads desk r = subst (λ (h : Parts (TaskAgent A)). DeskReads h desk) (sym (laid_over place advances gives starts d now before after at m one).over) r
 
   module _ (advance_law : Advanced stands place advances) (answer_law : Answered stands place gives) (start_law : Started stands place starts) (program : ProgramView) (s : State) (run : RunStands place stands program 1 now s) where
     -- a silent event leaves the state
-    pub lone_silent : visible d.what ≡ [] → RunStands place stands program 1 (written now (touches d) after) s
+    pub lone_silent : visible d.what ≡ [] → RunStands place stands program 1 (contents_written now (touches d) after) s
     lone_silent hidden =
         let k = locality place stands advances gives starts advance_law answer_law start_law program 1 d now before after s run at m in
         let same : k.0 ≡ s = subst (λ es. Steps program s es k.0) hidden k.1 in
-        subst (λ z. RunStands place stands program 1 (written now (touches d) after) z) same k.2
+        subst (λ z. RunStands place stands program 1 (contents_written now (touches d) after) z) same k.2
 
     -- a shown one is its step
-    pub lone_shown : (e : EventView) → visible d.what ≡ e ∷ [] → (s2 : State) × Step program s e s2 × RunStands place stands program 1 (written now (touches d) after) s2
+    pub lone_shown : (e : EventView) → visible d.what ≡ e ∷ [] → (s2 : State) × Step program s e s2 × RunStands place stands program 1 (contents_written now (touches d) after) s2
     lone_shown e seen =
         let k = locality place stands advances gives starts advance_law answer_law start_law program 1 d now before after s run at m in
         let st : Steps program s (e ∷ []) k.0 = subst (λ es. Steps program s es k.0) seen k.1 in
-        (st.0, st.1, subst (λ z. RunStands place stands program 1 (written now (touches d) after) z) st.2 k.2)
+        (st.0, st.1, subst (λ z. RunStands place stands program 1 (contents_written now (touches d) after) z) st.2 k.2)

@@ -20,16 +20,16 @@ use Rattle.ca_commit.specs.Contents.{Content, Parts}
 use Rattle.ca_commit.specs.Gathered.{parts_of, pick}
 use Rattle.ca_commit.specs.Moves.{Stood}
 use Rattle.ca_commit.specs.Moving.{Moves, MovesShown, MovesTurn, visible}
-use Rattle.ca_commit.specs.Running.{AreAt, RunStands, written}
+use Rattle.ca_commit.specs.Running.{AreAt, RunStands, contents_written}
 use Rattle.ca_commit.specs.Touched.{Drawn, shown, touches}
 use Rattle.ca_commit.proofs.Laid.{laid_parts}
 use Rattle.ca_commit.proofs.Locality.{locality}
-use Rattle.ca_solo.specs.Moves.{MayMake, Move, makes_one}
+use Rattle.ca_solo.specs.Moves.{MayMake, SoloMove, makes_one}
 use Rattle.ca_solo.specs.Positions.{Position, also_later, and_later, settling}
 use Rattle.ca_solo.specs.Stirs.{stirred}
 use Rattle.ca_solo.proofs.Counts.{leaves_alts, not_before}
-use Rattle.ca_alone.specs.Reading.{Reads, lane_read}
-use Rattle.ca_alone.specs.Standing.{ChoosesWell, IsOn, IsPosition, asked}
+use Rattle.ca_alone.specs.Reading.{DeskReads, lane_read}
+use Rattle.ca_alone.specs.Standing.{ChoosesWell, IsOn, IsPosition, clock_answers}
 use Rattle.ca_alone.proofs.Laying.{IsLaid, held_before, laid_over, lone_by_lane}
 use Rattle.ca_alone.proofs.Leaving.{Left, shown_leaves}
 use Rattle.ca_alone.proofs.Turned.{lane_found}
@@ -43,7 +43,7 @@ same_task o lane t n e f = let k : record { task = t; events = n } ≡ lane = (l
 
 module _ {A : Type 0} where
   -- further answers of the clock change nothing of it
-  pub reads_later : (h : Parts (TaskAgent A)) (d : Desk) (rs : List ℕ) → Reads h d → Reads h (and_later rs d)
+  pub reads_later : (h : Parts (TaskAgent A)) (d : Desk) (rs : List ℕ) → DeskReads h d → DeskReads h (and_later rs d)
   reads_later h d rs r = let k = r.reads in record {
     lane = r.lane;
     in_lane = r.in_lane;
@@ -83,7 +83,7 @@ module _ {A : Type 0} (place : A → At) (stands : ProgramView → A → TaskBod
 
   -- the lane's task may make an event, and makes one
   abbrev pub MadeMove : Drawn → (ℕ → Option (Content (TaskAgent A))) → List (Content (TaskAgent A)) → EventView → Position → Type 0
-  MadeMove d now after e w = (w2 : Position) × Move program (also_later (asked e) w) w2 (e ∷ []) × IsPosition place stands program (written now (touches d) after) w2 × (w2.phase ≡ settling (stirred w.state e))
+  MadeMove d now after e w = (w2 : Position) × SoloMove program (also_later (clock_answers e) w) w2 (e ∷ []) × IsPosition place stands program (contents_written now (touches d) after) w2 × (w2.phase ≡ settling (stirred w.state e))
 
   pub turn_moves : (d : Drawn) (now : ℕ → Option (Content (TaskAgent A))) (before after : List (Content (TaskAgent A))) (w : Position) (t : ℕ) (e : EventView) → d.what ≡ shown e → is_of t e ≡ true → AreAt now (touches d) before → Moves place advances gives starts d before after
       → IsPosition place stands program now w → MayMake w.phase → IsOn w.desk.lane → ChoosesWell w.state w.desk e → MadeMove d now after e w
@@ -93,14 +93,14 @@ module _ {A : Type 0} (place : A → At) (stands : ProgramView → A → TaskBod
     record {
       run = after_run;
       sound = step_sound program w.state s2 e step q.sound;
-      reads = subst (λ (h : Parts (TaskAgent A)). Reads h gone.0) (sym laid.over) gone.2;
+      reads = subst (λ (h : Parts (TaskAgent A)). DeskReads h gone.0) (sym laid.over) gone.2;
       uncounted = λ u none. let k = earlier u none in leaves_alts w.state d0 e gone.0 gone.1 u k ∙ q.uncounted u k;
       used = gone.3;
     },
     refl,
   ) where
     d0 : Desk
-    d0 = and_later (asked e) w.desk
+    d0 = and_later (clock_answers e) w.desk
 
     moved : MovesShown place advances gives starts d.worker d.workers e (parts_of d.workers (pick (touches d) before)) (parts_of d.workers (pick (touches d) after))
     moved = subst (λ z. MovesTurn place advances gives starts d.worker d.workers z (parts_of d.workers (pick (touches d) before)) (parts_of d.workers (pick (touches d) after))) what m.2
@@ -115,13 +115,13 @@ module _ {A : Type 0} (place : A → At) (stands : ProgramView → A → TaskBod
     turned : MovesShown place advances gives starts 0 1 e (held_before d before) (held_before d after)
     turned = subst (λ z. MovesTurn place advances gives starts 0 1 z (held_before d before) (held_before d after)) what laid.turn
 
-    leads : (s2 : State) × Steps program w.state (visible d.what) s2 × RunStands place stands program 1 (written now (touches d) after) s2
+    leads : (s2 : State) × Steps program w.state (visible d.what) s2 × RunStands place stands program 1 (contents_written now (touches d) after) s2
     leads = locality place stands advances gives starts advance_law answer_law start_law program 1 d now before after w.state q.run at m
 
     s2 : State
     s2 = leads.0
 
-    after_run : RunStands place stands program 1 (written now (touches d) after) s2
+    after_run : RunStands place stands program 1 (contents_written now (touches d) after) s2
     after_run = leads.2
 
     step : Step program w.state e s2
@@ -130,8 +130,8 @@ module _ {A : Type 0} (place : A → At) (stands : ProgramView → A → TaskBod
     earlier : (u : ℕ) → s2.tasks u ≡ None → w.state.tasks u ≡ None
     earlier u none = not_before w.state.tasks s2.tasks (step_puts program IsRested (rested_kept program) w.state s2 e q.sound.rested step) u none
 
-    reads0 : Reads (parts_of 1 now) d0
-    reads0 = reads_later (parts_of 1 now) w.desk (asked e) q.reads
+    reads0 : DeskReads (parts_of 1 now) d0
+    reads0 = reads_later (parts_of 1 now) w.desk (clock_answers e) q.reads
 
     lane : (lane : Lane) × (w.desk.lane ≡ Some lane) × (lane.events < patience)
     lane = on_it w.desk.lane on
@@ -143,6 +143,6 @@ module _ {A : Type 0} (place : A → At) (stands : ProgramView → A → TaskBod
 
     gone : Left w.state (laid_parts (parts_of 1 now) (held_before d after)) d0 e
     gone = shown_leaves place stands advances gives starts advance_law program (parts_of 1 now) (held_before d before) (held_before d after) w.state q.run.stand laid.part d0 reads0 t e is
-        (ap (λ rs. rs ++ asked e) q.used)
+        (ap (λ rs. rs ++ clock_answers e) q.used)
         (λ t2 u kind result same. q.uncounted u (new_there w.state s2 t2 u kind result (subst (λ z. Step program w.state z s2) same step)))
         well turned

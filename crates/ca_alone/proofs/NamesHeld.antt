@@ -5,7 +5,7 @@ use Rattle.ca_term.specs.declared.fault.Fault.TheVariants.{NotAPort, TooManyPort
 use Rattle.ca_term.specs.Operation.{OpView, choosing, closing, making, posting, printing, putting, registering, spawning, taking}
 use Rattle.ca_term.specs.Event.{BranchView}
 use Rattle.ca_meaning.specs.Choice.{branch_of, branches_of}
-use Rattle.ca_meaning.specs.Operands.{count_of, first_of, is_pair, or_else, port_number, second_of, values_in}
+use Rattle.ca_meaning.specs.Operands.{count_of, first_of, is_pair, or_else, port_of_value, second_of, values_in}
 use Rattle.ca_meaning.specs.Refusal.{bad_choice, bad_port, bad_ports, is_channel, nil_put, not_a_channel, unfit}
 use Rattle.ca_meaning.specs.State.{State}
 use Rattle.ca_meaning.specs.Wait.{port_of}
@@ -18,7 +18,7 @@ module _ {A : Type 0} (h : Parts A) where
   abbrev held : State
   held = state_of (whole h.bank) (whole h.registry)
 
-  value_held : (v : Tree) → not_a_channel held v ≡ None → (k : Kept) × (whole h.bank (port_number v) ≡ Some k)
+  value_held : (v : Tree) → not_a_channel held v ≡ None → (k : Kept) × (whole h.bank (port_of_value v) ≡ Some k)
   value_held (port n) e = by (whole h.bank n) refl where
     by : (o : Option Kept) → whole h.bank n ≡ o → (k : Kept) × (whole h.bank n ≡ Some k)
     by None u = absurd (let t : false ≡ true = sym (ap (λ (o : Option Kept). is_some (channel_of o)) u) ∙ passes (is_channel held (port n)) NotAPort e in cc)
@@ -31,7 +31,7 @@ module _ {A : Type 0} (h : Parts A) where
   value_held (vector vs) e = absurd cc
   value_held (a_map ps) e = absurd cc
 
-  pair_held : (vs : Trees) (b : Bool) → cond b (or_else (not_a_channel held (first_of vs)) (nil_put (second_of vs))) (Some NotAPort) ≡ None → (k : Kept) × (whole h.bank (port_number (first_of vs)) ≡ Some k)
+  pair_held : (vs : Trees) (b : Bool) → cond b (or_else (not_a_channel held (first_of vs)) (nil_put (second_of vs))) (Some NotAPort) ≡ None → (k : Kept) × (whole h.bank (port_of_value (first_of vs)) ≡ Some k)
   pair_held vs true e = value_held (first_of vs) (first_none (not_a_channel held (first_of vs)) (nil_put (second_of vs)) e)
   pair_held vs false e = absurd cc
 

@@ -11,7 +11,7 @@ use Rattle.ca_commit.proofs.Seats.{some_same}
 use Rattle.ca_meaning.proofs.Waits.{each-append}
 use Rattle.ca_solo.specs.Positions.{on_lane, with_readings}
 use Rattle.ca_alone.proofs.Counting.{Waiting, map_snoc}
-use Rattle.ca_alone.specs.Reading.{Reads, ReadsOff, lane_read, number_of}
+use Rattle.ca_alone.specs.Reading.{DeskReads, ReadsOff, lane_read, task_number}
 
 module _ {A : Type 0} where
   same_counts : (l l2 : LaneView (TaskAgent A)) (f : Counts → ℕ) (n : ℕ) → l2.counts ≡ l.counts → n ≡ f l.counts → n ≡ f l2.counts
@@ -19,7 +19,7 @@ module _ {A : Type 0} where
 
   -- the front task comes into the lane
   pick_counts : (l l2 : LaneView (TaskAgent A)) (x : ℕ × TaskAgent A) (rest : List (ℕ × TaskAgent A)) (parked : Waiting A) (d : Desk) → ReadsOff l (x ∷ rest) parked d → l2.task ≡ Some x → l2.since ≡ 0 → l2.counts ≡ l.counts
-      → ReadsOff l2 rest parked (on_lane d x.0 (map number_of rest))
+      → ReadsOff l2 rest parked (on_lane d x.0 (map task_number rest))
   pick_counts l l2 x rest parked d r on since counts = record {
     lane_is = sym (ap (λ o. lane_read o l2.since) on ∙ ap (λ n. Some (record { task = x.0; events = n })) since);
     ready_is = refl;
@@ -46,14 +46,14 @@ module _ {A : Type 0} where
   }
 
   -- the reading is over what stands there
-  reads_at : (h : Parts (TaskAgent A)) (d : Desk) (l : LaneView (TaskAgent A)) (q : List (ℕ × TaskAgent A)) → (r : Reads h d) → h.lane 0 ≡ Some l → h.ready 0 ≡ Some q → ReadsOff l q (whole h.shard) d
+  reads_at : (h : Parts (TaskAgent A)) (d : Desk) (l : LaneView (TaskAgent A)) (q : List (ℕ × TaskAgent A)) → (r : DeskReads h d) → h.lane 0 ≡ Some l → h.ready 0 ≡ Some q → ReadsOff l q (whole h.shard) d
   reads_at h d l q r on at = subst (λ (x : LaneView (TaskAgent A)). ReadsOff x q (whole h.shard) d) (some_same r.lane l (sym r.in_lane ∙ on)) (subst (λ (x : List (ℕ × TaskAgent A)). ReadsOff r.lane x (whole h.shard) d) (some_same r.queue q (sym r.in_ready ∙ at)) r.reads)
 
   over_shards : (now old new : Parts (TaskAgent A)) (l : LaneView (TaskAgent A)) (q : List (ℕ × TaskAgent A)) (d : Desk) → IsPart old now → Stays old.shard new.shard → ReadsOff l q (whole now.shard) d → ReadsOff l q (whole (laid now.shard new.shard)) d
   over_shards now old new l q d part stays r = subst (λ (f : ℕ → Option (ℕ → Option (Parked (TaskAgent A)))). ReadsOff l q (whole f) d) (sym (untouched now.shard old.shard new.shard part.shards stays)) r
 
   -- Pick
-  pub picks_reads : (now old new : Parts (TaskAgent A)) (d : Desk) → Reads now d → IsPart old now → (m : MovesPick 0 0 old new) → (d.ready ≡ m.x.0 ∷ map number_of m.rest) × Reads (laid_parts now new) (on_lane d m.x.0 (map number_of m.rest))
+  pub picks_reads : (now old new : Parts (TaskAgent A)) (d : Desk) → DeskReads now d → IsPart old now → (m : MovesPick 0 0 old new) → (d.ready ≡ m.x.0 ∷ map task_number m.rest) × DeskReads (laid_parts now new) (on_lane d m.x.0 (map task_number m.rest))
   picks_reads now old new d r part m = let off = reads_at now d m.lane (m.x ∷ m.rest) r (part.lanes 0 m.lane m.lanes.was) (part.readys 0 (m.x ∷ m.rest) m.readys.was) in (
     off.ready_is,
     record {
@@ -61,13 +61,13 @@ module _ {A : Type 0} where
       in_lane = ap (λ o. or_was o (now.lane 0)) m.lanes.is;
       queue = m.rest;
       in_ready = ap (λ o. or_was o (now.ready 0)) m.readys.is;
-      reads = over_shards now old new m.lane2 m.rest (on_lane d m.x.0 (map number_of m.rest)) part m.others.shards (pick_counts m.lane m.lane2 m.x m.rest (whole now.shard) d off m.task m.since m.same.1);
+      reads = over_shards now old new m.lane2 m.rest (on_lane d m.x.0 (map task_number m.rest)) part m.others.shards (pick_counts m.lane m.lane2 m.x m.rest (whole now.shard) d off m.task m.since m.same.1);
     },
   )
 
   -- Yield
-  pub yields_reads : (now old new : Parts (TaskAgent A)) (d : Desk) → Reads now d → IsPart old now → (m : MovesYield 0 old new)
-      → (d.lane ≡ Some (record { task = m.t; events = m.lane.since })) × Reads (laid_parts now new) (record d { ready = d.ready ++ m.t ∷ []; lane = None })
+  pub yields_reads : (now old new : Parts (TaskAgent A)) (d : Desk) → DeskReads now d → IsPart old now → (m : MovesYield 0 old new)
+      → (d.lane ≡ Some (record { task = m.t; events = m.lane.since })) × DeskReads (laid_parts now new) (record d { ready = d.ready ++ m.t ∷ []; lane = None })
   yields_reads now old new d r part m = let off = reads_at now d m.lane m.queue r (part.lanes 0 m.lane m.lanes.was) (part.readys 0 m.queue m.readys.was) in (
     off.lane_is ∙ ap (λ o. lane_read o m.lane.since) m.task,
     record {
@@ -80,7 +80,7 @@ module _ {A : Type 0} where
   )
 
   -- lane, ready part and shards stay, and answers of the clock may come or go: so after Prune, Read, Tick, Stall
-  pub same_reads : (now old new : Parts (TaskAgent A)) (d : Desk) (rs : List ℕ) → Reads now d → IsPart old now → Stays old.lane new.lane → Stays old.ready new.ready → Stays old.shard new.shard → Reads (laid_parts now new) (with_readings rs d)
+  pub same_reads : (now old new : Parts (TaskAgent A)) (d : Desk) (rs : List ℕ) → DeskReads now d → IsPart old now → Stays old.lane new.lane → Stays old.ready new.ready → Stays old.shard new.shard → DeskReads (laid_parts now new) (with_readings rs d)
   same_reads now old new d rs r part lanes readys shards = record {
     lane = r.lane;
     in_lane = ap (λ (f : ℕ → Option (LaneView (TaskAgent A))). f 0) (untouched now.lane old.lane new.lane part.lanes lanes) ∙ r.in_lane;

@@ -3,7 +3,7 @@ use Rattle.std.proofs.Common.{◌≡◌, ◌⊎◌, inl, inr, ⊎_elim, ℕ, zer
 use Rattle.ca_term.specs.Event.{BranchView}
 use Rattle.ca_meaning.specs.Solo.{distance}
 use Rattle.ca_commit.specs.Finding.{Finding, alone, partner, stale, unheld, unready}
-use Rattle.ca_alone.specs.OwnTurn.{taken}
+use Rattle.ca_alone.specs.OwnTurn.{branch_taken}
 use Rattle.ca_commit.specs.Planning.{Planned, Seen, decided, first_from, found_of, in_turn}
 
 get_drop : {X : Type 0} (s : ℕ) (xs : List X) (j : ℕ) → slice_get (drop s xs) j ≡ slice_get xs (s + j)
@@ -34,16 +34,16 @@ module _ (x : Seen) (alts : Bool) where
   abbrev Turned : ℕ → List BranchView → ℕ → Type 0
   Turned base bs k = (j : ℕ) × (k ≡ base + j) × (j < length bs) × UnreadyTo bs j
 
-  in_turn_takes : (base : ℕ) (bs : List BranchView) (rest : Planned) (k : ℕ) → taken (in_turn x alts base bs rest) ≡ Some k → Turned base bs k ⊎ (AllUnready bs × (taken rest ≡ Some k))
+  in_turn_takes : (base : ℕ) (bs : List BranchView) (rest : Planned) (k : ℕ) → branch_taken (in_turn x alts base bs rest) ≡ Some k → Turned base bs k ⊎ (AllUnready bs × (branch_taken rest ≡ Some k))
   in_turn_takes base [] rest k e = inr ((λ i o g. no i o g), e) where
     no : (i : ℕ) (o : BranchView) → slice_get [] i ≡ Some o → found_of x o ≡ unready
     no zero o g = absurd (let z : None ≡ Some o = g in cc)
     no (suc i) o g = absurd (let z : None ≡ Some o = g in cc)
   in_turn_takes base (b ∷ bs) rest k e = by (found_of x b) refl (λ g. in_turn_takes (base + 1) bs rest k g) e where
-    here : Some base ≡ Some k → Turned base (b ∷ bs) k ⊎ (AllUnready (b ∷ bs) × (taken rest ≡ Some k))
+    here : Some base ≡ Some k → Turned base (b ∷ bs) k ⊎ (AllUnready (b ∷ bs) × (branch_taken rest ≡ Some k))
     here s = inl (0, (let z : base ≡ k = cc in omega (arith, z)), omega arith, λ i o lt g. absurd (omega (arith, lt)))
 
-    later : found_of x b ≡ unready → Turned (base + 1) bs k ⊎ (AllUnready bs × (taken rest ≡ Some k)) → Turned base (b ∷ bs) k ⊎ (AllUnready (b ∷ bs) × (taken rest ≡ Some k))
+    later : found_of x b ≡ unready → Turned (base + 1) bs k ⊎ (AllUnready bs × (branch_taken rest ≡ Some k)) → Turned base (b ∷ bs) k ⊎ (AllUnready (b ∷ bs) × (branch_taken rest ≡ Some k))
     later f t = ⊎_elim (λ d. inl (suc d.0, (let z : k ≡ base + 1 + d.0 = d.1 in omega (arith, z)), (let z : d.0 < length bs = d.2 in omega (arith, z)), to d.0 d.3)) (λ d. inr (all d.0, d.1)) t where
       to : (j : ℕ) → UnreadyTo bs j → UnreadyTo (b ∷ bs) (suc j)
       to j u zero o lt g = ap (found_of x) (let s : o ≡ b = cc in s) ∙ f
@@ -53,7 +53,7 @@ module _ (x : Seen) (alts : Bool) where
       all u zero o g = ap (found_of x) (let s : o ≡ b = cc in s) ∙ f
       all u (suc i) o g = u i o g
 
-    by : (f : Finding) → found_of x b ≡ f → (taken (in_turn x alts (base + 1) bs rest) ≡ Some k → Turned (base + 1) bs k ⊎ (AllUnready bs × (taken rest ≡ Some k))) → taken (decided f alts base b (in_turn x alts (base + 1) bs rest)) ≡ Some k → Turned base (b ∷ bs) k ⊎ (AllUnready (b ∷ bs) × (taken rest ≡ Some k))
+    by : (f : Finding) → found_of x b ≡ f → (branch_taken (in_turn x alts (base + 1) bs rest) ≡ Some k → Turned (base + 1) bs k ⊎ (AllUnready bs × (branch_taken rest ≡ Some k))) → branch_taken (decided f alts base b (in_turn x alts (base + 1) bs rest)) ≡ Some k → Turned base (b ∷ bs) k ⊎ (AllUnready (b ∷ bs) × (branch_taken rest ≡ Some k))
     by unready f next g = later f (next g)
     by alone f next g = here g
     by (partner w o) f next g = here g
@@ -88,7 +88,7 @@ module _ (x : Seen) (alts : Bool) where
   drop_length (suc s) [] m lt = absurd (let z : m < 0 = lt in omega (arith, z))
   drop_length (suc s) (y ∷ xs) m lt = let k : s + m < length xs = drop_length s xs m lt in omega (arith, k)
 
-  pub first_found : (start : ℕ) (bs : List BranchView) (rest : Planned) (k : ℕ) → taken rest ≡ None → taken (first_from x alts start bs rest) ≡ Some k → FirstFound start bs k
+  pub first_found : (start : ℕ) (bs : List BranchView) (rest : Planned) (k : ℕ) → branch_taken rest ≡ None → branch_taken (first_from x alts start bs rest) ≡ Some k → FirstFound start bs k
   first_found start bs rest k none e = ⊎_elim first (λ a. ⊎_elim (second a.0) (λ c. absurd (let z : None ≡ Some k = sym none ∙ c.1 in cc)) (in_turn_takes 0 (take start bs) rest k a.1)) (in_turn_takes start (drop start bs) (in_turn x alts 0 (take start bs) rest) k e) where
     first : Turned start (drop start bs) k → FirstFound start bs k
     first t = subst (FirstFound start bs) (sym t.1) (after_start start bs t.0 (drop_length start bs t.0 t.2) t.3)

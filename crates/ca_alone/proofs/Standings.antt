@@ -15,12 +15,12 @@ use Rattle.ca_turns.specs.declared.rule.View.{View}
 use Rattle.ca_commit.specs.Gathered.{parts_of}
 use Rattle.ca_commit.specs.Touched as said
 use Rattle.ca_table.specs.Draws.{drawn_moves, drawn_touches, turn_view}
-use Rattle.ca_table.specs.LoneHands.{DrewTurn, left_by, left_now}
+use Rattle.ca_table.specs.LoneHands.{DrewTurn, contents_left, left_now}
 use Rattle.ca_table.specs.Moments.{turn_asked}
 use Rattle.ca_table.specs.OneCode.{HaveCode, stands_over}
 use Rattle.ca_table.specs.Running.{Knows, TableStands, contents_at}
 use Rattle.ca_table.specs.Seen.{PartSeen}
-use Rattle.ca_table.specs.Worked.{ends_main, has}
+use Rattle.ca_table.specs.Worked.{ends_main, some_turn}
 use Rattle.ca_table.specs.declared.drawn.Drawn.{Drawn}
 use Rattle.ca_table.proofs.Having.{both_false, has_append}
 use Rattle.ca_solo.specs.Alone.{Alone}
@@ -28,7 +28,7 @@ use Rattle.ca_solo.specs.Positions.{Position, first_position, free, in_time, pic
 use Rattle.ca_solo.proofs.Following.{follows_in}
 use Rattle.ca_alone.specs.Answers.{HasGiven}
 use Rattle.ca_alone.specs.Lone.{DrewNext, StandsAlone}
-use Rattle.ca_alone.specs.Schedule.{AtFree, AtPicked, Follow, HasAnswered, IsAt, IsRun, MaySettle, StandsAt, to_rest, to_turn}
+use Rattle.ca_alone.specs.Schedule.{AtFree, AtPicked, Follow, HasAnswered, LedTo, AreTurnsRun, MaySettle, StandsAt, to_rest, to_turn}
 use Rattle.ca_alone.specs.Standing.{IsOn}
 use Rattle.ca_alone.proofs.Answering.{gave_none}
 use Rattle.ca_alone.proofs.Beginning.{lone_starts}
@@ -49,17 +49,17 @@ module _ (program : ProgramView) (readings : List ℕ) (journal : List EventView
 
 -- whether the main text has ended
 module _ {C : Type 0} (what : said.Turn) (v v2 : View C Drawn) (d : DrewTurn what v v2) where
-  has_more : has ends_main v2.turns ≡ (has ends_main v.turns || ends_main what)
-  has_more = ap (has ends_main) d.after.turns ∙ has_append ends_main v.turns (d.turn ∷ []) ∙ ap (λ b. has ends_main v.turns || b) (or_false (ends_main (turn_view d.turn.event.what)) ∙ ap ends_main d.is) where
+  has_more : some_turn ends_main v2.turns ≡ (some_turn ends_main v.turns || ends_main what)
+  has_more = ap (some_turn ends_main) d.after.turns ∙ has_append ends_main v.turns (d.turn ∷ []) ∙ ap (λ b. some_turn ends_main v.turns || b) (or_false (ends_main (turn_view d.turn.event.what)) ∙ ap ends_main d.is) where
     or_false : (b : Bool) → (b || false) ≡ b
     or_false true = refl
     or_false false = refl
 
-  pub open_after : has ends_main v.turns ≡ false → ends_main what ≡ false → has ends_main v2.turns ≡ false
+  pub open_after : some_turn ends_main v.turns ≡ false → ends_main what ≡ false → some_turn ends_main v2.turns ≡ false
   open_after old new = has_more ∙ ap (λ b. b || ends_main what) old ∙ new
 
-  pub open_before : has ends_main v2.turns ≡ false → has ends_main v.turns ≡ false
-  open_before new = (both_false (has ends_main v.turns) (ends_main what) (sym has_more ∙ new)).0
+  pub open_before : some_turn ends_main v2.turns ≡ false → some_turn ends_main v.turns ≡ false
+  open_before new = (both_false (some_turn ends_main v.turns) (ends_main what) (sym has_more ∙ new)).0
 
 module _ {A : Type 0} (over : CodeView → A → Type 0) (place : A → At) (stands : ProgramView → A → TaskBody → Type 0) (advances : ProgramView → A → A → Type 0) (gives : A → Tree → A → Type 0) (starts : ProgramView → SeedView → A → Type 0)
     (advance_law : Advanced stands place advances) (answer_law : Answered stands place gives) (start_law : Started stands place starts) (program : ProgramView) (code : CodeView) where
@@ -67,10 +67,10 @@ module _ {A : Type 0} (over : CodeView → A → Type 0) (place : A → At) (sta
   Here P v = StandsAt over place stands advances gives starts program code P v
 
   abbrev pub Is : (Position → Type 0) → View (PartSeen A) Drawn → Type 0
-  Is P v = IsAt over place stands advances gives starts program code P v
+  Is P v = LedTo over place stands advances gives starts program code P v
 
   abbrev pub Ran : View (PartSeen A) Drawn → Type 0
-  Ran v = IsRun over place stands advances gives starts program code v
+  Ran v = AreTurnsRun over place stands advances gives starts program code v
 
   abbrev pub Gives : View (PartSeen A) Drawn → List ℕ → Type 0
   Gives v answers = HasAnswered over place stands advances gives starts program code v answers
@@ -120,10 +120,10 @@ module _ {A : Type 0} (over : CodeView → A → Type 0) (place : A → At) (sta
           answers = [];
           at = r.0;
           alone = r.1;
-          answered = λ first e. record { clock = first; in_timers = ap (λ ts. (parts_of 1 (contents_at (left_by drawn_touches v.opening ts))).timers) none ∙ e; gave = gave_none first };
+          answered = λ first e. record { clock = first; in_timers = ap (λ ts. (parts_of 1 (contents_at (contents_left drawn_touches v.opening ts))).timers) none ∙ e; gave = gave_none first };
           kind = free_now v [] r.0 r.1 r.2;
         };
-        going = ap (has ends_main) none;
+        going = ap (some_turn ends_main) none;
       }
 
   -- no deadline is open

@@ -9,7 +9,7 @@ use Rattle.ca_meaning.specs.Body.{At}
 use Rattle.ca_meaning.specs.Cost.{cost}
 use Rattle.ca_meaning.specs.Ends.{but_last}
 use Rattle.ca_meaning.specs.EndsLaw.{is_of}
-use Rattle.ca_meaning.specs.Legal.{GoesOn, is_end_of_main}
+use Rattle.ca_meaning.specs.Legal.{EndsLast, is_end_of_main}
 use Rattle.ca_meaning.specs.Solo.{Solo}
 use Rattle.ca_meaning.specs.Sound.{Each}
 use Rattle.ca_meaning.specs.Task.{TaskBody}
@@ -25,15 +25,15 @@ use Rattle.ca_table.specs.Moments.{turn_asked}
 use Rattle.ca_table.specs.OneCode.{stands_over}
 use Rattle.ca_table.specs.Running.{TableStands, shown_by}
 use Rattle.ca_table.specs.Seen.{PartSeen}
-use Rattle.ca_table.specs.Worked.{ends_main, has}
+use Rattle.ca_table.specs.Worked.{ends_main, some_turn}
 use Rattle.ca_table.specs.declared.drawn.Drawn.{Drawn}
 use Rattle.ca_table.proofs.Having.{both_false}
 use Rattle.ca_table.proofs.Running.{turn_leads}
 use Rattle.ca_solo.specs.Moves.{MayMake}
 use Rattle.ca_solo.specs.Positions.{HasUsed, Position, settling}
 use Rattle.ca_solo.specs.Stirs.{stirred}
-use Rattle.ca_alone.specs.Schedule.{HasStopped, IsAt, IsDone, IsRun, IsSchedule, MaySettle, StandsAt, to_turn}
-use Rattle.ca_alone.specs.Standing.{ChoosesWell, IsOn, asked}
+use Rattle.ca_alone.specs.Schedule.{HasStopped, LedTo, IsScheduleDone, AreTurnsRun, IsSchedule, MaySettle, StandsAt, to_turn}
+use Rattle.ca_alone.specs.Standing.{ChoosesWell, IsOn, clock_answers}
 use Rattle.ca_alone.proofs.Lone.{coded_after, left_after, lone_makes, lone_solo, shown_more}
 use Rattle.ca_alone.proofs.Standings.{gives_more, leads, next, open_after, open_before, stands_as}
 
@@ -51,12 +51,12 @@ cost_before (f ∷ (g ∷ es)) e = ap (λ n. cost_of f + n) (cost_before (g ∷ 
 abbrev NoEnd : List EventView → Type 0
 NoEnd es = Each (λ e. is_end_of_main e ≡ false) es
 
-goes_on_then : (es : List EventView) (e : EventView) → NoEnd es → GoesOn (es ++ e ∷ [])
+goes_on_then : (es : List EventView) (e : EventView) → NoEnd es → EndsLast (es ++ e ∷ [])
 goes_on_then [] e n = tt
 goes_on_then (f ∷ []) e n = (n.0, tt)
 goes_on_then (f ∷ (g ∷ es)) e n = (n.0, goes_on_then (g ∷ es) e n.1)
 
-all_go_on : (es : List EventView) → NoEnd es → GoesOn es
+all_go_on : (es : List EventView) → NoEnd es → EndsLast es
 all_go_on [] n = tt
 all_go_on (e ∷ []) n = tt
 all_go_on (e ∷ (f ∷ es)) n = (n.0, all_go_on (f ∷ es) n.1)
@@ -72,15 +72,15 @@ shown_open said.stops es is n = n
 shown_open said.halts es is n = n
 shown_open said.stalls es is n = n
 
-no_end : {C : Type 0} (ts : List (Turn C Drawn)) → has ends_main ts ≡ false → NoEnd (shown_by ts)
+no_end : {C : Type 0} (ts : List (Turn C Drawn)) → some_turn ends_main ts ≡ false → NoEnd (shown_by ts)
 no_end [] e = tt
-no_end (t ∷ ts) e = let k = both_false (ends_main (turn_view t.event.what)) (has ends_main ts) e in shown_open (turn_view t.event.what) (shown_by ts) k.0 (no_end ts k.1)
+no_end (t ∷ ts) e = let k = both_false (ends_main (turn_view t.event.what)) (some_turn ends_main ts) e in shown_open (turn_view t.event.what) (shown_by ts) k.0 (no_end ts k.1)
 
 shown_now : {C : Type 0} (what : said.Turn) (v v2 : View C Drawn) → DrewTurn what v v2 → shown_by v2.turns ≡ shown_by v.turns ++ visible what
 shown_now what v v2 d = ap shown_by d.after.turns ∙ shown_more v.turns d.turn ∙ ap (λ z. shown_by v.turns ++ visible z) d.is
 
 -- an event of a task tells the answers that it took
-tells : (t : ℕ) (e : EventView) → is_of t e ≡ true → (least : ℕ) → turn_asked (said.shown e) least ≡ asked e
+tells : (t : ℕ) (e : EventView) → is_of t e ≡ true → (least : ℕ) → turn_asked (said.shown e) least ≡ clock_answers e
 tells t (made u p what moment) is least = refl
 tells t (spawned u w kind r) is least = refl
 tells t (done u k b x) is least = refl
@@ -101,16 +101,16 @@ module _ {A : Type 0} (over : CodeView → A → Type 0) (place : A → At) (sta
   Here P v = StandsAt over place stands advances gives starts program code P v
 
   abbrev pub Is : (Position → Type 0) → View (PartSeen A) Drawn → Type 0
-  Is P v = IsAt over place stands advances gives starts program code P v
+  Is P v = LedTo over place stands advances gives starts program code P v
 
   abbrev pub Ran : View (PartSeen A) Drawn → Type 0
-  Ran v = IsRun over place stands advances gives starts program code v
+  Ran v = AreTurnsRun over place stands advances gives starts program code v
 
   abbrev pub Stopped : ℕ → View (PartSeen A) Drawn → Type 0
   Stopped most v = HasStopped over place stands advances gives starts program code most v
 
   abbrev Done : View (PartSeen A) Drawn → Type 0
-  Done v = IsDone over place stands advances gives starts program code v
+  Done v = IsScheduleDone over place stands advances gives starts program code v
 
   done_at : {P : Position → Type 0} (v : View (PartSeen A) Drawn) → ((w : Position) → P w → HasUsed w.phase) → Is P v → Done v
   done_at v used x = record { answers = x.answers; solo = lone_solo over place stands program code v x.answers x.at x.alone (used x.at x.kind); answered = x.answered; state = x.at.state; stands_for = x.alone.position.run; coded = x.alone.coded }
@@ -133,11 +133,11 @@ module _ {A : Type 0} (over : CodeView → A → Type 0) (place : A → At) (sta
   }
 
   -- .. or some was left before the last event
-  shown_last : {P : Position → Type 0} (most : ℕ) (v v2 : View (PartSeen A) Drawn) (e : EventView) → (Ran v2 → Is P v2) → ((w : Position) → P w → HasUsed w.phase) → has ends_main v.turns ≡ false → DrewTurn (said.shown e) v v2 → cost (shown_by v.turns) < most → Stopped most v2
+  shown_last : {P : Position → Type 0} (most : ℕ) (v v2 : View (PartSeen A) Drawn) (e : EventView) → (Ran v2 → Is P v2) → ((w : Position) → P w → HasUsed w.phase) → some_turn ends_main v.turns ≡ false → DrewTurn (said.shown e) v v2 → cost (shown_by v.turns) < most → Stopped most v2
   shown_last most v v2 e stand used going d less = record {
     done = λ ran. done_at v2 used (stand ran);
     within = subst (λ n. n < most) (sym (ap (λ es. cost (but_last es)) (shown_now (said.shown e) v v2 d) ∙ cost_before (shown_by v.turns) e)) less;
-    goes_on = subst GoesOn (sym (shown_now (said.shown e) v v2 d)) (goes_on_then (shown_by v.turns) e (no_end v.turns going));
+    goes_on = subst EndsLast (sym (shown_now (said.shown e) v v2 d)) (goes_on_then (shown_by v.turns) e (no_end v.turns going));
   }
 
   pub shows_stopped : {Q : Position → Type 0} (most : ℕ) (v v2 : View (PartSeen A) Drawn) (e : EventView) → Here Q v2 → ((w : Position) → Q w → HasUsed w.phase) → DrewTurn (said.shown e) v v2 → cost (shown_by v.turns) < most → Stopped most v2
@@ -159,7 +159,7 @@ module _ {A : Type 0} (over : CodeView → A → Type 0) (place : A → At) (sta
               coded = coded_after over place stands advances gives starts program code v v2 n.0.turn n.0.goes n.0.after x.coded;
             });
         within = subst (λ es. cost (but_last es) < most) (sym same) s.within;
-        goes_on = subst GoesOn (sym same) s.goes_on;
+        goes_on = subst EndsLast (sym same) s.goes_on;
       }
 
   -- and then its turns show a run of the schedule, over what its clock answered
@@ -180,5 +180,5 @@ module _ {A : Type 0} (over : CodeView → A → Type 0) (place : A → At) (sta
     kept w k = inl k
 
     stand : Ran v2 → Is (λ w. w.phase ≡ settling us) v2
-    stand = leads over place stands advances gives starts advance_law answer_law start_law program code (said.shown e) v v2 (asked e) (tells t e is) d s.stand
+    stand = leads over place stands advances gives starts advance_law answer_law start_law program code (said.shown e) v v2 (clock_answers e) (tells t e is) d s.stand
         (λ n x. let k = lone_makes over place stands advances gives starts program code v v2 n.turn n.goes n.after x.answers x.at x.alone advance_law answer_law start_law t e n.is is (may_make x.at x.kind.0) x.kind.1 x.kind.3 in (k.0, k.1, k.2 ∙ ap settling x.kind.2))

@@ -9,7 +9,7 @@ use Rattle.ca_meaning.specs.Body.{At, at_op}
 use Rattle.ca_meaning.specs.Task.{TaskBody}
 use Rattle.ca_meaning.specs.State.{State, Task}
 use Rattle.ca_meaning.specs.Going.{IsAtOp}
-use Rattle.ca_meaning.specs.Solo.{Desk, alts_of, made_one}
+use Rattle.ca_meaning.specs.Solo.{Desk, alts_counted, made_one}
 use Rattle.ca_agent.specs.Agents.{Advanced}
 use Rattle.ca_commit.specs.Agents.{TaskAgent, advances_of, alts_at, alts_by, gives_of, place_of, stands_of}
 use Rattle.ca_commit.specs.Contents.{LaneView, Parked, Parts, whole}
@@ -21,11 +21,11 @@ use Rattle.ca_commit.proofs.AgentLifts.{lifts_advance}
 use Rattle.ca_commit.proofs.Laid.{IsPart, laid, laid_parts, laid_same, laid_whole, same_map, untouched}
 use Rattle.ca_commit.proofs.Seats.{some_same}
 use Rattle.ca_commit.proofs.Steps.{stood}
-use Rattle.ca_alone.specs.Reading.{Reads, ReadsOff}
+use Rattle.ca_alone.specs.Reading.{DeskReads, ReadsOff}
 use Rattle.ca_alone.proofs.Counting.{NoOwner, counts_on, counts_one, with_alts}
 use Rattle.ca_alone.proofs.Elsewhere.{no_owner_too, not_ready_too}
 
-pub same_alts : (op : OpView) (n : ℕ) → alts_by op n ≡ alts_of op n
+pub same_alts : (op : OpView) (n : ℕ) → alts_by op n ≡ alts_counted op n
 same_alts (choosing ports priority default) n = refl
 same_alts (taking c) n = refl
 same_alts (putting c v) n = refl
@@ -40,7 +40,7 @@ same_alts (posting c v) n = refl
 abbrev pub OpOf : State → ℕ → OpView → Type 0
 OpOf s t op = (x : Task) × (s.tasks t ≡ Some x) × IsAtOp x.body op
 
-module _ {A : Type 0} (now old new : Parts (TaskAgent A)) (part : IsPart old now) (d : Desk) (r : Reads now d) where
+module _ {A : Type 0} (now old new : Parts (TaskAgent A)) (part : IsPart old now) (d : Desk) (r : DeskReads now d) where
   -- the lane that an event found
   pub lane_found : (l : LaneView (TaskAgent A)) → old.lane 0 ≡ Some l → ReadsOff l r.queue (whole now.shard) d
   lane_found l e = subst (λ (z : LaneView (TaskAgent A)). ReadsOff z r.queue (whole now.shard) d) (some_same r.lane l (sym r.in_lane ∙ part.lanes 0 l e)) r.reads
@@ -52,7 +52,7 @@ module _ {A : Type 0} (now old new : Parts (TaskAgent A)) (part : IsPart old now
   queue_left e = laid_same (old.ready 0) (new.ready 0) (now.ready 0) (e 0) (part.readys 0) ∙ r.in_ready
 
   -- the lane alone was touched, of what is read
-  pub only_lane : (l2 : LaneView (TaskAgent A)) (d2 : Desk) → new.lane 0 ≡ Some l2 → Stays old.ready new.ready → Stays old.shard new.shard → ReadsOff l2 r.queue (whole now.shard) d2 → Reads (laid_parts now new) d2
+  pub only_lane : (l2 : LaneView (TaskAgent A)) (d2 : Desk) → new.lane 0 ≡ Some l2 → Stays old.ready new.ready → Stays old.shard new.shard → ReadsOff l2 r.queue (whole now.shard) d2 → DeskReads (laid_parts now new) d2
   only_lane l2 d2 at readys shards k = record {
     lane = l2;
     in_lane = lane_left l2 at;
@@ -63,7 +63,7 @@ module _ {A : Type 0} (now old new : Parts (TaskAgent A)) (part : IsPart old now
 
   -- .. and one wait
   pub and_wait : (l2 : LaneView (TaskAgent A)) (q : List (ℕ × TaskAgent A)) (d2 : Desk) (wait : ℕ) (x : Option (Parked (TaskAgent A))) → or_was (new.lane 0) (now.lane 0) ≡ Some l2 → or_was (new.ready 0) (now.ready 0) ≡ Some q → Alters old.shard new.shard wait x
-      → ReadsOff l2 q (update eqb (whole now.shard) wait x) d2 → Reads (laid_parts now new) d2
+      → ReadsOff l2 q (update eqb (whole now.shard) wait x) d2 → DeskReads (laid_parts now new) d2
   and_wait l2 q d2 wait x at ready shards k = record {
     lane = l2;
     in_lane = at;
@@ -73,7 +73,7 @@ module _ {A : Type 0} (now old new : Parts (TaskAgent A)) (part : IsPart old now
   }
 
 module _ {A : Type 0} (place : A → At) (stands : ProgramView → A → TaskBody → Type 0) (advances : ProgramView → A → A → Type 0) (advance_law : Advanced stands place advances) (program : ProgramView)
-    (now old new : Parts (TaskAgent A)) (s : State) (st : Stands (place_of place) (stands_of stands) program 1 now s) (part : IsPart old now) (d : Desk) (r : Reads now d) (t : ℕ) where
+    (now old new : Parts (TaskAgent A)) (s : State) (st : Stands (place_of place) (stands_of stands) program 1 now s) (part : IsPart old now) (d : Desk) (r : DeskReads now d) (t : ℕ) where
   -- the task stands there
   pub op_found : (op : OpView) (at : Place) → Stood (place_of place) (advances_of advances) 0 t (at_op (record { op = op; place = at })) old new → OpOf s t op
   op_found op at a = let k = stood (place_of place) (stands_of stands) program 1 (advances_of advances) (lifts_advance stands place advances advance_law) now old new s 0 t (at_op (record { op = op; place = at })) st part a in
@@ -84,8 +84,8 @@ module _ {A : Type 0} (place : A → At) (stands : ProgramView → A → TaskBod
       (not_ready_too (place_of place) (stands_of stands) program 1 now s st 0 a.lane t a.agent here a.task 0 r.queue r.in_ready, no_owner_too (place_of place) (stands_of stands) program 1 now s st 0 a.lane t a.agent here a.task)
 
   module _ (gives : A → Tree → A → Type 0) (op : OpView) (v : Tree) (a : Answers (place_of place) (advances_of advances) (gives_of place gives) 0 t op v old new) where
-    pub alts_left : a.agent2.alts ≡ alts_of op a.stands.agent.alts
-    alts_left = a.given.1 ∙ ap (λ (z : At). alts_at z a.stands.agent1.alts) a.stands.stood ∙ same_alts op a.stands.agent1.alts ∙ ap (alts_of op) a.stands.advanced.1
+    pub alts_left : a.agent2.alts ≡ alts_counted op a.stands.agent.alts
+    alts_left = a.given.1 ∙ ap (λ (z : At). alts_at z a.stands.agent1.alts) a.stands.stood ∙ same_alts op a.stands.agent1.alts ∙ ap (alts_counted op) a.stands.advanced.1
 
     -- it goes on, and its alts are counted
     pub one_counted : a.stands.lane2.counts ≡ a.stands.lane.counts → ReadsOff a.stands.lane2 r.queue (whole now.shard) (made_one (with_alts op t d))
@@ -93,6 +93,6 @@ module _ {A : Type 0} (place : A → At) (stands : ProgramView → A → TaskBod
         counts_one a.stands.lane a.stands.lane2 r.queue (whole now.shard) d op t a.stands.agent a.agent2 (lane_found now old new part d r a.stands.lane a.stands.lanes.was) a.stands.task e.0 e.1 a.task2 alts_left a.stands.since counts
 
     -- it goes on from what isn't an alts
-    pub none_counted : (tasks ports waits : ℕ) (readings : List ℕ) → alts_of op a.stands.agent.alts ≡ a.stands.agent.alts → tasks ≡ a.stands.lane2.counts.tasks → ports ≡ a.stands.lane2.counts.ports → waits ≡ a.stands.lane2.counts.waits
+    pub none_counted : (tasks ports waits : ℕ) (readings : List ℕ) → alts_counted op a.stands.agent.alts ≡ a.stands.agent.alts → tasks ≡ a.stands.lane2.counts.tasks → ports ≡ a.stands.lane2.counts.ports → waits ≡ a.stands.lane2.counts.waits
         → ReadsOff a.stands.lane2 r.queue (whole now.shard) (made_one (record d { tasks = tasks; ports = ports; waits = waits; readings = readings }))
     none_counted tasks ports waits readings same = counts_on a.stands.lane a.stands.lane2 r.queue (whole now.shard) d t a.stands.agent a.agent2 tasks ports waits readings (lane_found now old new part d r a.stands.lane a.stands.lanes.was) a.stands.task a.task2 (alts_left ∙ same) a.stands.since

@@ -17,13 +17,13 @@ use Rattle.ca_commit.specs.ChannelMoves.{MovesSettle}
 use Rattle.ca_commit.specs.Contents.{Content, LaneView}
 use Rattle.ca_commit.specs.Gathered.{parts_of}
 use Rattle.ca_commit.specs.Moving.{Moves, MovesTurn, visible}
-use Rattle.ca_commit.specs.Running.{AreAt, written}
+use Rattle.ca_commit.specs.Running.{AreAt, contents_written}
 use Rattle.ca_commit.specs.Touched.{Drawn, shown, touches}
 use Rattle.ca_commit.proofs.Laid.{laid_parts, seen, untouched}
 use Rattle.ca_solo.specs.Moves.{SettlesOne}
 use Rattle.ca_solo.specs.Positions.{Position, settling}
 use Rattle.ca_solo.proofs.Counts.{joined_alts, not_before}
-use Rattle.ca_alone.specs.Reading.{Reads}
+use Rattle.ca_alone.specs.Reading.{DeskReads}
 use Rattle.ca_alone.specs.Standing.{IsPosition}
 use Rattle.ca_alone.proofs.Leaving.{joined_readings, wakes_reads}
 use Rattle.ca_alone.proofs.Laying.{held_before}
@@ -33,7 +33,7 @@ module _ {A : Type 0} (place : A → At) (stands : ProgramView → A → TaskBod
     (advances : ProgramView → A → A → Type 0) (gives : A → Tree → A → Type 0) (starts : ProgramView → SeedView → A → Type 0) (advance_law : Advanced stands place advances) (answer_law : Answered stands place gives) (start_law : Started stands place starts)
     (d : Drawn) (before after : List (Content (TaskAgent A))) (one : d.workers ≡ 1) (at : AreAt now (touches d) before) (m : Moves place advances gives starts d before after) where
   -- the woken task stands last in the ready part
-  woken_then : (wait k : ℕ) (side : Side) (q : ℕ) (v : Tree) → MovesSettle (place_of place) (wakes_of gives) 0 wait k side q v (held_before d before) (held_before d after) → Reads (parts_of 1 (written now (touches d) after)) (joined_by (owner_of wait w.state.waits) w.desk)
+  woken_then : (wait k : ℕ) (side : Side) (q : ℕ) (v : Tree) → MovesSettle (place_of place) (wakes_of gives) 0 wait k side q v (held_before d before) (held_before d after) → DeskReads (parts_of 1 (contents_written now (touches d) after)) (joined_by (owner_of wait w.state.waits) w.desk)
   woken_then wait k side q v x =
       let all = parts_of 1 now in
       let old = held_before d before in
@@ -44,7 +44,7 @@ module _ {A : Type 0} (place : A → At) (stands : ProgramView → A → TaskBod
       (wakes_reads place stands gives program all old new w.state p.run.stand part w.desk p.reads p.reads.lane wait q (told side v) w.desk x.parked lane (seen all.shard old.shard part.shards wait x.parked x.lives) x.wakes_up x.shards p.reads.reads)
 
   pub settle_is_move : (wait k : ℕ) (side : Side) (q : ℕ) (v : Tree) (us : List ℕ) → d.what ≡ shown (settled wait k side q v) → w.phase ≡ settling (q ∷ us)
-      → (w2 : Position) × SettlesOne program w (settled wait k side q v) w2 × (w2.phase ≡ settling (q ∷ us)) × IsPosition place stands program (written now (touches d) after) w2
+      → (w2 : Position) × SettlesOne program w (settled wait k side q v) w2 × (w2.phase ≡ settling (q ∷ us)) × IsPosition place stands program (contents_written now (touches d) after) w2
   settle_is_move wait k side q v us is phase =
       let e = settled wait k side q v in
       let x = subst (λ t. MovesTurn place advances gives starts 0 1 t (held_before d before) (held_before d after)) is (lone_moves place stands advances gives starts d now before after one at m) in

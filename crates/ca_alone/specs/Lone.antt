@@ -6,7 +6,7 @@ use Rattle.ca_meaning.specs.Task.{TaskBody}
 use Rattle.ca_states.specs.Code.{CodeView}
 use Rattle.ca_turns.specs.declared.rule.Turn.{Turn}
 use Rattle.ca_turns.specs.declared.rule.View.{View}
-use Rattle.ca_turns.specs.History.{Goes}
+use Rattle.ca_turns.specs.History.{TurnGoes}
 use Rattle.ca_commit.specs.Touched as said
 use Rattle.ca_table.specs.Draws.{drawn_touches, turn_view}
 use Rattle.ca_table.specs.LoneHands.{IsAfter, left_now}
@@ -22,7 +22,7 @@ use Rattle.ca_alone.specs.Standing.{IsPosition}
 pub record DrewNext {A : Type 0} (moves : Drawn → List (PartSeen A) → List (PartSeen A) → Type 0) (what : said.Turn) (v v2 : View (PartSeen A) Drawn) : Type 0 where
   pub turn : Turn (PartSeen A) Drawn
   pub is : turn_view turn.event.what ≡ what
-  pub goes : Goes drawn_touches moves (left_now drawn_touches v) turn
+  pub goes : TurnGoes drawn_touches moves (left_now drawn_touches v) turn
   pub after : IsAfter v v2 turn
 
 module _ {A : Type 0} (over : CodeView → A → Type 0) (place : A → At) (stands : ProgramView → A → TaskBody → Type 0) (program : ProgramView) (code : CodeView) where

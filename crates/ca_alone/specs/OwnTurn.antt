@@ -31,17 +31,17 @@ IsDue [] m = ⊥
 IsDue (d ∷ ds) m = d.moment ≤ m
 
 -- the branch that a plan takes, if it takes one
-abbrev pub taken : Planned → Option ℕ
-taken (to_do k b alts) = Some k
-taken (to_meet k b alts w o) = Some k
-taken (to_park bs) = None
-taken (to_post bs) = None
-taken (to_default v) = None
-taken (to_make what) = None
-taken (to_spawn kind r) = None
-taken (to_close p) = None
-taken (to_register name args) = None
-taken (to_print line) = None
-taken (to_look w) = None
-taken (to_prune p side place) = None
-taken (to_refuse f) = None
+abbrev pub branch_taken : Planned → Option ℕ
+branch_taken (to_do k b alts) = Some k
+branch_taken (to_meet k b alts w o) = Some k
+branch_taken (to_park bs) = None
+branch_taken (to_post bs) = None
+branch_taken (to_default v) = None
+branch_taken (to_make what) = None
+branch_taken (to_spawn kind r) = None
+branch_taken (to_close p) = None
+branch_taken (to_register name args) = None
+branch_taken (to_print line) = None
+branch_taken (to_look w) = None
+branch_taken (to_prune p side place) = None
+branch_taken (to_refuse f) = None

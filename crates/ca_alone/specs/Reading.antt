@@ -11,14 +11,14 @@ lane_read None since = None
 lane_read (Some x) since = Some (record { task = x.0; events = since })
 
 -- a task by its number
-abbrev pub number_of : {A : Type 0} → ℕ × A → ℕ
-number_of x = x.0
+abbrev pub task_number : {A : Type 0} → ℕ × A → ℕ
+task_number x = x.0
 
 -- The lane, the ready part in its order, and the counters; and wherever a task sits, its agent tells how many alts
 -- it made.
 pub record ReadsOff {A : Type 0} (lane : LaneView (TaskAgent A)) (queue : List (ℕ × TaskAgent A)) (parked : ℕ → Option (Parked (TaskAgent A))) (d : Desk) : Type 0 where
   pub lane_is : d.lane ≡ lane_read lane.task lane.since
-  pub ready_is : d.ready ≡ map number_of queue
+  pub ready_is : d.ready ≡ map task_number queue
   pub tasks : d.tasks ≡ lane.counts.tasks
   pub ports : d.ports ≡ lane.counts.ports
   pub waits : d.waits ≡ lane.counts.waits
@@ -27,7 +27,7 @@ pub record ReadsOff {A : Type 0} (lane : LaneView (TaskAgent A)) (queue : List (
   pub parked_counts : (w u : ℕ) (a : TaskAgent A) → parked w ≡ Some (owner u a) → a.alts ≡ d.alts u
 
 -- of worker 0, who is the only one
-pub record Reads {A : Type 0} (h : Parts (TaskAgent A)) (d : Desk) : Type 0 where
+pub record DeskReads {A : Type 0} (h : Parts (TaskAgent A)) (d : Desk) : Type 0 where
   pub lane : LaneView (TaskAgent A)
   pub in_lane : h.lane 0 ≡ Some lane
   pub queue : List (ℕ × TaskAgent A)

@@ -5,7 +5,7 @@ use Rattle.ca_term.specs.Operation.{SeedView}
 use Rattle.ca_term.specs.Program.{ProgramView}
 use Rattle.ca_meaning.specs.Body.{At}
 use Rattle.ca_meaning.specs.Ends.{IsWithin}
-use Rattle.ca_meaning.specs.Legal.{GoesOn}
+use Rattle.ca_meaning.specs.Legal.{EndsLast}
 use Rattle.ca_meaning.specs.Solo.{Lane, Solo, patience}
 use Rattle.ca_meaning.specs.State.{State}
 use Rattle.ca_meaning.specs.Task.{TaskBody}
@@ -19,7 +19,7 @@ use Rattle.ca_table.specs.LoneHands.{left_now}
 use Rattle.ca_table.specs.OneCode.{HaveCode, stands_over}
 use Rattle.ca_table.specs.Running.{TableStands, contents_at, shown_by}
 use Rattle.ca_table.specs.Seen.{PartSeen}
-use Rattle.ca_table.specs.Worked.{ends_main, has}
+use Rattle.ca_table.specs.Worked.{ends_main, some_turn}
 use Rattle.ca_table.specs.declared.drawn.Drawn.{Drawn}
 use Rattle.ca_solo.specs.Positions.{Position, free, in_time, picked, settling}
 use Rattle.ca_alone.specs.Answers.{HasGiven}
@@ -60,15 +60,15 @@ IsFull (Some lane) = patience ≤ lane.events
 
 module _ {A : Type 0} (over : CodeView → A → Type 0) (place : A → At) (stands : ProgramView → A → TaskBody → Type 0) (advances : ProgramView → A → A → Type 0) (gives : A → Tree → A → Type 0) (starts : ProgramView → SeedView → A → Type 0) (program : ProgramView) (code : CodeView) where
   -- its turns are a run, as those of the only hand of a table are
-  abbrev pub IsRun : View (PartSeen A) Drawn → Type 0
-  IsRun v = Run drawn_touches (drawn_moves over place advances gives starts) v.opening v.turns (left_now drawn_touches v)
+  abbrev pub AreTurnsRun : View (PartSeen A) Drawn → Type 0
+  AreTurnsRun v = Run drawn_touches (drawn_moves over place advances gives starts) v.opening v.turns (left_now drawn_touches v)
 
   -- the clock of the opening parts gave these answers since
   abbrev pub HasAnswered : View (PartSeen A) Drawn → List ℕ → Type 0
   HasAnswered v answers = (first : TimersPart) → (parts_of 1 (contents_at v.opening)).timers ≡ Some first → HasGiven first answers (contents_at (left_now drawn_touches v))
 
   -- they led to a position of this kind
-  pub record IsAt (P : Position → Type 0) (v : View (PartSeen A) Drawn) : Type 0 where
+  pub record LedTo (P : Position → Type 0) (v : View (PartSeen A) Drawn) : Type 0 where
     pub answers : List ℕ
     pub at : Position
     pub alone : StandsAlone over place stands program code v answers at
@@ -77,12 +77,12 @@ module _ {A : Type 0} (over : CodeView → A → Type 0) (place : A → At) (sta
 
   -- .. if they are a run, and the main text has no end yet
   pub record StandsAt (P : Position → Type 0) (v : View (PartSeen A) Drawn) : Type 0 where
-    pub stand : IsRun v → IsAt P v
-    pub going : has ends_main v.turns ≡ false
+    pub stand : AreTurnsRun v → LedTo P v
+    pub going : some_turn ends_main v.turns ≡ false
 
   -- What they show is the schedule's, over the answers that the clock gave. Silent turns that are no moves may have come
   -- last, so that no position is told; but what they left stands for a state of the run.
-  pub record IsDone (v : View (PartSeen A) Drawn) : Type 0 where
+  pub record IsScheduleDone (v : View (PartSeen A) Drawn) : Type 0 where
     pub answers : List ℕ
     pub solo : Solo program answers (shown_by v.turns)
     pub answered : HasAnswered v answers
@@ -93,9 +93,9 @@ module _ {A : Type 0} (over : CodeView → A → Type 0) (place : A → At) (sta
   -- The worker may stop, and whoever it had in its lane may have stood back since. No event but the last used so much up,
   -- or ended the main text.
   pub record HasStopped (most : ℕ) (v : View (PartSeen A) Drawn) : Type 0 where
-    pub done : IsRun v → IsDone v
+    pub done : AreTurnsRun v → IsScheduleDone v
     pub within : IsWithin most (shown_by v.turns)
-    pub goes_on : GoesOn (shown_by v.turns)
+    pub goes_on : EndsLast (shown_by v.turns)
 
   -- what that says of its turns, which are a run
   pub record IsSchedule (most : ℕ) (v : View (PartSeen A) Drawn) : Type 0 where
@@ -103,4 +103,4 @@ module _ {A : Type 0} (over : CodeView → A → Type 0) (place : A → At) (sta
     pub solo : Solo program answers (shown_by v.turns)
     pub answered : HasAnswered v answers
     pub within : IsWithin most (shown_by v.turns)
-    pub goes_on : GoesOn (shown_by v.turns)
+    pub goes_on : EndsLast (shown_by v.turns)

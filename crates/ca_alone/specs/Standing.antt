@@ -13,13 +13,13 @@ use Rattle.ca_commit.specs.Gathered.{parts_of}
 use Rattle.ca_commit.specs.Running.{RunStands}
 use Rattle.ca_solo.specs.Positions.{Position}
 use Rattle.ca_solo.specs.Seats.{Uncounted}
-use Rattle.ca_alone.specs.Reading.{Reads}
+use Rattle.ca_alone.specs.Reading.{DeskReads}
 
 -- The contents stand for its state, its desk is read off them, and no answer of the clock is left.
 pub record IsPosition {A : Type 0} (place : A → At) (stands : ProgramView → A → TaskBody → Type 0) (program : ProgramView) (now : ℕ → Option (Content (TaskAgent A))) (w : Position) : Type 0 where
   pub run : RunStands place stands program 1 now w.state
   pub sound : Sound w.state
-  pub reads : Reads (parts_of 1 now) w.desk
+  pub reads : DeskReads (parts_of 1 now) w.desk
   pub uncounted : Uncounted w
   pub used : w.desk.readings ≡ []
 
@@ -29,20 +29,20 @@ IsOn None = ⊥
 IsOn (Some lane) = lane.events < patience
 
 -- the answers of the clock that an event of a task took
-abbrev pub asked : EventView → List ℕ
-asked (made t p what moment) = option_to_list moment
-asked (spawned t u kind result) = []
-asked (done t k b v) = []
-asked (met t k side p v w o) = []
-asked (parked t w bs) = []
-asked (posted t w p v) = []
-asked (settled w k side p v) = []
-asked (defaulted t v) = []
-asked (closed t p) = []
-asked (registered t name args v) = []
-asked (printed t line) = []
-asked (ticked m ports) = []
-asked (over t how) = []
+abbrev pub clock_answers : EventView → List ℕ
+clock_answers (made t p what moment) = option_to_list moment
+clock_answers (spawned t u kind result) = []
+clock_answers (done t k b v) = []
+clock_answers (met t k side p v w o) = []
+clock_answers (parked t w bs) = []
+clock_answers (posted t w p v) = []
+clock_answers (settled w k side p v) = []
+clock_answers (defaulted t v) = []
+clock_answers (closed t p) = []
+clock_answers (registered t name args v) = []
+clock_answers (printed t line) = []
+clock_answers (ticked m ports) = []
+clock_answers (over t how) = []
 
 -- without priority the branch that the event took is the first ready one, from the number of earlier alts on
 abbrev pub ChoosesWell : State → Desk → EventView → Type 0

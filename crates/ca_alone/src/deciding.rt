@@ -12,14 +12,14 @@ ghost use Rattle.ca_commit.specs.Finding.{glance, rests, settle_at};
 ghost use Rattle.ca_commit.specs.Gathered.{parts_of, pick};
 ghost use Rattle.ca_commit.specs.Planning.{planned};
 ghost use Rattle.ca_commit.specs.Running.{AreAt, RunStands};
-ghost use Rattle.ca_alone.specs.OwnTurn.{taken};
+ghost use Rattle.ca_alone.specs.OwnTurn.{branch_taken};
 
 use ca_agent::agent::Agent;
 
 /// The branch that a plan takes without priority, over parts `is` of a run that stands for the state, is the first that
 /// is ready there, going round from the start on which the branches were looked at.
 pub fn plans_take_the_first_branch<A: Agent>()
-    ensures { (program : ProgramView) (n : ℕ) (now : ℕ → Option (Content (TaskAgent A))) (s : State) (is : List ℕ) (cs : List (Content (TaskAgent A))) (op : OpView) (start k : ℕ) → RunStands A.place A.stands program n now s → AreAt now is cs → taken (planned (seen_in (parts_of n (pick is cs))) op start) ≡ Some k → has_priority op ≡ false → IsFirstFrom s (branches_of op) start k }
+    ensures { (program : ProgramView) (n : ℕ) (now : ℕ → Option (Content (TaskAgent A))) (s : State) (is : List ℕ) (cs : List (Content (TaskAgent A))) (op : OpView) (start k : ℕ) → RunStands A.place A.stands program n now s → AreAt now is cs → branch_taken (planned (seen_in (parts_of n (pick is cs))) op start) ≡ Some k → has_priority op ≡ false → IsFirstFrom s (branches_of op) start k }
 {}
 
 /// A channel that these parts show at rest can't settle in the state, if its bank is among them.

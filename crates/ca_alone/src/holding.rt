@@ -20,7 +20,7 @@ ghost use Rattle.ca_alone.specs.Answers.{HasGiven};
 ghost use Rattle.ca_table.specs.LoneHands.{HoldsLeft, left_now};
 ghost use Rattle.ca_alone.specs.Lone.{AloneAt, DrewNext, StandsAlone};
 ghost use Rattle.ca_alone.specs.OwnTurn.{IsEarly};
-ghost use Rattle.ca_alone.specs.Reading.{lane_read, number_of};
+ghost use Rattle.ca_alone.specs.Reading.{lane_read, task_number};
 
 use ca_agent::agent::Agent;
 
@@ -28,7 +28,7 @@ use ca_agent::agent::Agent;
 /// of the position while the worker holds them, as they were settled.
 pub fn held_parts_tell_the_desk<A: Agent>()
     ensures lane { (program : ProgramView) (code : CodeView) (v : View (PartSeen A) Drawn) (answers : List ℕ) (w : Position) (c : PartSeen A) (l : LaneSeen A) → HoldsLeft drawn_touches v → StandsAlone A.over A.place A.stands program code v answers w → get_elem? v.held 0 ≡ some (Some c) → c.held ≡ seen_lane l → w.desk.lane ≡ lane_read l.task l.since }
-    ensures ready { (program : ProgramView) (code : CodeView) (v : View (PartSeen A) Drawn) (answers : List ℕ) (w : Position) (c : PartSeen A) (q : List (ℕ × TaskAgent A)) → HoldsLeft drawn_touches v → StandsAlone A.over A.place A.stands program code v answers w → get_elem? v.held 34 ≡ some (Some c) → c.held ≡ seen_ready q → w.desk.ready ≡ map number_of q }
+    ensures ready { (program : ProgramView) (code : CodeView) (v : View (PartSeen A) Drawn) (answers : List ℕ) (w : Position) (c : PartSeen A) (q : List (ℕ × TaskAgent A)) → HoldsLeft drawn_touches v → StandsAlone A.over A.place A.stands program code v answers w → get_elem? v.held 34 ≡ some (Some c) → c.held ≡ seen_ready q → w.desk.ready ≡ map task_number q }
     ensures timers { (program : ProgramView) (code : CodeView) (v : View (PartSeen A) Drawn) (answers : List ℕ) (w : Position) (c : PartSeen A) (t : TimersPart) → HoldsLeft drawn_touches v → StandsAlone A.over A.place A.stands program code v answers w → get_elem? v.held 33 ≡ some (Some c) → c.held ≡ seen_timers t → (t.deadlines ≡ w.state.deadlines) × (t.now ≡ w.state.now) × (t.now ≤ t.least) }
 {}
 

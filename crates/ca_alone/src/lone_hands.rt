@@ -13,7 +13,7 @@ ghost use Rattle.ca_journal.specs.Merge.{events_of, in_order};
 ghost use Rattle.ca_turns.specs.Hands.{Held, look};
 ghost use Rattle.ca_turns.specs.History.{Run};
 ghost use Rattle.ca_turns.specs.Steps.{Sees, SeesOne};
-ghost use Rattle.ca_turns.specs.Views.{drawing, having_missed, holding, stands, turn};
+ghost use Rattle.ca_turns.specs.Views.{drawing, having_missed, holding, hands_stood_for, new_turn};
 ghost use Rattle.ca_turns.specs.declared.rule.Turn.{Turn};
 ghost use Rattle.ca_turns.specs.declared.rule.View.{View};
 ghost use Rattle.ca_commit.specs.Touched as said;
@@ -31,7 +31,7 @@ ghost use Rattle.ca_solo.specs.Stirs.{Ordered, stirred};
 ghost use Rattle.ca_table.specs.LoneHands.{HoldsLeft, IsAfter, left_now};
 ghost use Rattle.ca_alone.specs.Lone.{AloneAt, DrewNext, StandsAlone};
 ghost use Rattle.ca_alone.specs.OwnTurn.{IsDue, IsEarly};
-ghost use Rattle.ca_alone.specs.Standing.{ChoosesWell, IsOn, asked};
+ghost use Rattle.ca_alone.specs.Standing.{ChoosesWell, IsOn, clock_answers};
 
 use ca_agent::agent::Agent;
 use ca_timers::clock::Clock;
@@ -39,8 +39,8 @@ use ca_timers::clock::Clock;
 /// To the only hand of a table its own turns are the history, and what it holds is what these left. That stays so
 /// where it draws, and where it gives a part back.
 pub fn lone_hands_know_all_parts<A: Agent>()
-    ensures runs { (v : View (PartSeen A) Drawn) → SeesOne drawn_touches (drawn_moves A.over A.place A.advances A.gives A.starts) v → stands v ≡ v.hands → AllAbove 0 v.turns → Run drawn_touches (drawn_moves A.over A.place A.advances A.gives A.starts) v.opening v.turns (left_now drawn_touches v) }
-    ensures holds { (v : View (PartSeen A) Drawn) → SeesOne drawn_touches (drawn_moves A.over A.place A.advances A.gives A.starts) v → stands v ≡ v.hands → AllAbove 0 v.turns → length v.held ≡ length v.opening → HoldsLeft drawn_touches v }
+    ensures runs { (v : View (PartSeen A) Drawn) → SeesOne drawn_touches (drawn_moves A.over A.place A.advances A.gives A.starts) v → hands_stood_for v ≡ v.hands → AllAbove 0 v.turns → Run drawn_touches (drawn_moves A.over A.place A.advances A.gives A.starts) v.opening v.turns (left_now drawn_touches v) }
+    ensures holds { (v : View (PartSeen A) Drawn) → SeesOne drawn_touches (drawn_moves A.over A.place A.advances A.gives A.starts) v → hands_stood_for v ≡ v.hands → AllAbove 0 v.turns → length v.held ≡ length v.opening → HoldsLeft drawn_touches v }
     ensures draws { (v : View (PartSeen A) Drawn) (t : Turn (PartSeen A) Drawn) → HoldsLeft drawn_touches v → HoldsLeft drawn_touches (drawing v (drawn_touches t.event) t) }
     ensures given { (v : View (PartSeen A) Drawn) (i : ℕ) → HoldsLeft drawn_touches v → HoldsLeft drawn_touches (holding v i None) }
 {}
@@ -52,7 +52,7 @@ pub fn lone_workers_begin<A: Agent>()
 
 /// An event of its lane's task leads from a position to the next.
 pub fn lone_events_lead_on<A: Agent>()
-    ensures { (program : ProgramView) (code : CodeView) (v v2 : View (PartSeen A) Drawn) (answers : List ℕ) (w : Position) (t : ℕ) (e : EventView) → StandsAlone A.over A.place A.stands program code v answers w → DrewNext (drawn_moves A.over A.place A.advances A.gives A.starts) (said.shown e) v v2 → is_of t e ≡ true → MayMake w.phase → IsOn w.desk.lane → ChoosesWell w.state w.desk e → AloneAt A.over A.place A.stands program code v2 (answers ++ asked e) (settling (stirred w.state e)) }
+    ensures { (program : ProgramView) (code : CodeView) (v v2 : View (PartSeen A) Drawn) (answers : List ℕ) (w : Position) (t : ℕ) (e : EventView) → StandsAlone A.over A.place A.stands program code v answers w → DrewNext (drawn_moves A.over A.place A.advances A.gives A.starts) (said.shown e) v v2 → is_of t e ≡ true → MayMake w.phase → IsOn w.desk.lane → ChoosesWell w.state w.desk e → AloneAt A.over A.place A.stands program code v2 (answers ++ clock_answers e) (settling (stirred w.state e)) }
 {}
 
 /// So does each other turn of its, and the clock's answer is one more where it was asked.
@@ -88,8 +88,8 @@ pub fn lone_workers_show_the_schedule<A: Agent>()
 /// An event that moves what the hand holds, as a draw asks for, is its next turn, and what it holds is then what its
 /// turns left. Holding one more part keeps that too.
 pub fn lone_hands_draw_next<A: Agent, C: Clock + Drop>()
-    ensures draws { (h : Held (Part A C) (PartSeen A) Drawn) (e : Drawn) (g : ℕ → Option (Part A C × PartSeen A)) → Grips h g → HasAll g (drawn_touches e) → drawn_moves A.over A.place A.advances A.gives A.starts e (look h.view.held (drawn_touches e)) (map (part_seen C.least C.faults C.readings) (look h.parts (drawn_touches e))) → HoldsLeft drawn_touches h.view → (n : ℕ) (v2 : View (PartSeen A) Drawn) → v2 ≡ drawing h.view (drawn_touches e) (turn n e (look h.view.held (drawn_touches e)) (map (part_seen C.least C.faults C.readings) (look h.parts (drawn_touches e)))) → DrewNext (drawn_moves A.over A.place A.advances A.gives A.starts) (turn_view e.what) h.view v2 × HoldsLeft drawn_touches v2 }
-    ensures holds { (v : View (PartSeen A) Drawn) (missed : List ℕ) (i : ℕ) (c : PartSeen A) → HoldsLeft drawn_touches v → SeesOne drawn_touches (drawn_moves A.over A.place A.advances A.gives A.starts) (holding (having_missed v missed) i (Some c)) → stands v ≡ v.hands → AllAbove 0 v.turns → HoldsLeft drawn_touches (holding (having_missed v missed) i (Some c)) }
+    ensures draws { (h : Held (Part A C) (PartSeen A) Drawn) (e : Drawn) (g : ℕ → Option (Part A C × PartSeen A)) → Grips h g → HasAll g (drawn_touches e) → drawn_moves A.over A.place A.advances A.gives A.starts e (look h.view.held (drawn_touches e)) (map (part_seen C.least C.faults C.readings) (look h.parts (drawn_touches e))) → HoldsLeft drawn_touches h.view → (n : ℕ) (v2 : View (PartSeen A) Drawn) → v2 ≡ drawing h.view (drawn_touches e) (new_turn n e (look h.view.held (drawn_touches e)) (map (part_seen C.least C.faults C.readings) (look h.parts (drawn_touches e)))) → DrewNext (drawn_moves A.over A.place A.advances A.gives A.starts) (turn_view e.what) h.view v2 × HoldsLeft drawn_touches v2 }
+    ensures holds { (v : View (PartSeen A) Drawn) (missed : List ℕ) (i : ℕ) (c : PartSeen A) → HoldsLeft drawn_touches v → SeesOne drawn_touches (drawn_moves A.over A.place A.advances A.gives A.starts) (holding (having_missed v missed) i (Some c)) → hands_stood_for v ≡ v.hands → AllAbove 0 v.turns → HoldsLeft drawn_touches (holding (having_missed v missed) i (Some c)) }
 {}
 
 /// Where its turns are a run, as it knows at each hold, the last one moved what those before it left, and these are a run.
@@ -99,5 +99,5 @@ pub fn lone_turns_were_next<A: Agent>()
 
 /// What it noted, in order of number, is what its turns show.
 pub fn lone_workers_note_their_turns<A: Agent>()
-    ensures { (v : View (PartSeen A) Drawn) (log : List (Turn (PartSeen A) Drawn)) (now : List (PartSeen A)) → Sees drawn_touches (drawn_moves A.over A.place A.advances A.gives A.starts) v log now → stands v ≡ v.hands → AllAbove 0 v.turns → events_of (in_order (noted v.turns)) ≡ shown_by v.turns }
+    ensures { (v : View (PartSeen A) Drawn) (log : List (Turn (PartSeen A) Drawn)) (now : List (PartSeen A)) → Sees drawn_touches (drawn_moves A.over A.place A.advances A.gives A.starts) v log now → hands_stood_for v ≡ v.hands → AllAbove 0 v.turns → events_of (in_order (noted v.turns)) ≡ shown_by v.turns }
 {}

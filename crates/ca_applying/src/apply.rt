@@ -1,7 +1,7 @@
 //! Plain functions of any kind.
 ghost use Rattle.std.specs.Prelude.{◌≡◌, IfOk, IsTrue};
 ghost use Rattle.ca_value.specs.View.{view};
-ghost use Rattle.ca_value.specs.Builtins.{admits, builtin_result};
+ghost use Rattle.ca_value.specs.Builtins.{admits_arguments, builtin_result};
 ghost use Rattle.ca_value.specs.declared.builtin.Builtin.TheVariants.{Get};
 ghost use Rattle.ca_term.specs.Program.{ProgramView};
 ghost use Rattle.ca_meaning.specs.Applied.{of_builtin};
@@ -9,7 +9,7 @@ ghost use Rattle.ca_meaning.specs.Asks.{one_of, two_of};
 ghost use Rattle.ca_states.specs.Valid.{is_applied};
 ghost use Rattle.ca_states.specs.ValidCode.{valid_code};
 ghost use Rattle.ca_lower.specs.Lowered.{Lowered};
-ghost use Rattle.ca_system.specs.Applications.{ComesTo};
+ghost use Rattle.ca_system.specs.Applications.{ApplicationComesTo};
 ghost use Rattle.ca_system.specs.Applied.{application_view, returned_view};
 
 use crate::call::call;
@@ -28,7 +28,7 @@ use std::alloc::Global;
 
 // A builtin of the value.
 fn apply_builtin(alloc: Global, builtin: Builtin, value: &Value) -> Result<Returned, OutOfMemory>
-    requires { IsTrue (admits builtin 1) }
+    requires { IsTrue (admits_arguments builtin 1) }
     ensures { IfOk result (λ r. returned_view r ≡ of_builtin (builtin_result builtin (one_of (view value.now)))) }
 {
     match apply_one(alloc, builtin, value) {
@@ -67,7 +67,7 @@ pub fn apply(
     application: Application<'_>,
 ) -> Result<Returned, OutOfMemory>
     requires { IsTrue (is_applied (valid_code code.now) application.function) }
-    ensures { IfOk result (λ r. (program : ProgramView) → Lowered program (valid_code code.now) → ComesTo program (application_view application.entry) (returned_view r)) }
+    ensures { IfOk result (λ r. (program : ProgramView) → Lowered program (valid_code code.now) → ApplicationComesTo program (application_view application.entry) (returned_view r)) }
 {
     let Application {
         function,

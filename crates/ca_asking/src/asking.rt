@@ -3,7 +3,7 @@ ghost use Rattle.ca_value.specs.Tree.{text, trees_of};
 ghost use Rattle.ca_value.specs.View.{view, vector_trees};
 ghost use Rattle.ca_term.specs.Operation.{op_view, seed_view, putting, posting, spawning, registering, printing};
 ghost use Rattle.ca_term.specs.Operands.{first_of, second_of};
-ghost use Rattle.ca_term.specs.Asking.{asked, asked_to_make, unless_faulted, too_large, bad_alts, alts_of, made_of, ports_in, bad_operands, seed_of, bad_arguments, line_of};
+ghost use Rattle.ca_term.specs.Asking.{asked, asked_to_make, unless_faulted, too_large, bad_alts, alts_of, made_of, alts_ports, bad_operands, seed_of, bad_arguments, line_of};
 ghost use Rattle.ca_asking.specs.Asked.{asked_view, trees_by};
 
 use crate::judging::{alts_fault, default_operand, size_fault, spawn_fault};
@@ -109,7 +109,7 @@ fn choice<O: AsOperand>(
 
 // The items of a vector of ports.
 fn ports(alloc: Global, value: &Value) -> Result<Vector, OutOfMemory>
-    ensures { IfOk result (λ v. trees_of (vector_trees v) ≡ ports_in (view value.now)) }
+    ensures { IfOk result (λ v. trees_of (vector_trees v) ≡ alts_ports (view value.now)) }
 {
     match value {
         Value::Vector(items) => items.copy(),

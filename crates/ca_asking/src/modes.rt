@@ -1,6 +1,6 @@
 ghost use Rattle.std.specs.Prelude.{◌≡◌, ◌&&◌};
 ghost use Rattle.ca_value.specs.View.{view, pair_view, tree_pairs};
-ghost use Rattle.ca_term.specs.Asking.{is_named, is_solo_mode, is_mode, is_bool, are_modes, is_modes, all_modes, is_toggling, bad_arguments, unless_kind};
+ghost use Rattle.ca_term.specs.Asking.{is_key_named, is_solo_mode, is_mode, is_bool, are_modes, is_modes, all_modes, is_toggling, bad_arguments, unless_kind};
 ghost use Rattle.ca_asking.specs.Asked.{trees_by};
 
 use crate::operands::{AsOperand, operand};
@@ -93,7 +93,7 @@ fn is_solo_mode(value: &Value) -> bool
 
 // The keyword of that name.
 fn is_named(name: &[u8], value: &Value) -> bool
-    ensures { result ≡ is_named name.now (view value.now) }
+    ensures { result ≡ is_key_named name.now (view value.now) }
 {
     match value {
         Value::Key(key) => key.as_slice() == name,

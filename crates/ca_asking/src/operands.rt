@@ -4,7 +4,7 @@ ghost use Rattle.ca_value.specs.Seq.{list};
 ghost use Rattle.ca_value.specs.Tree.{Tree, nil as nil_tree};
 ghost use Rattle.ca_value.specs.View.{view, trees};
 ghost use Rattle.ca_term.specs.View.{kernel};
-ghost use Rattle.ca_term.specs.Operands.{operand_at, last_of, without_last, port_number, truth, value_of};
+ghost use Rattle.ca_term.specs.Operands.{operand_at, last_of, without_last, port_of_value, truth, value_of};
 ghost use Rattle.ca_asking.specs.Asked.{trees_by};
 
 use ca_term::term::Term;
@@ -94,7 +94,7 @@ pub(crate) fn all_but_last<O: AsOperand>(alloc: Global, values: &[O]) -> Result<
 
 // The port that the last operand is, or port 0.
 pub(crate) fn last_port<O: AsOperand>(values: &[O]) -> PortId
-    ensures { result.n ≡ port_number (last_of (trees_by O.tree values.now)) }
+    ensures { result.n ≡ port_of_value (last_of (trees_by O.tree values.now)) }
 {
     let nil = Value::Nil;
     port_of(last_operand(values, &nil))
@@ -102,7 +102,7 @@ pub(crate) fn last_port<O: AsOperand>(values: &[O]) -> PortId
 
 /// The port that the value is, or port 0.
 pub fn port_of(value: &Value) -> PortId
-    ensures { result.n ≡ port_number (view value.now) }
+    ensures { result.n ≡ port_of_value (view value.now) }
 {
     match value {
         Value::Port(port) => *port,
@@ -124,7 +124,7 @@ pub fn is_true(value: &Value) -> bool
 
 /// The port at the place of the values, from 0; port 0 where none stands there.
 pub fn port_at(values: &[Value], place: u64) -> PortId
-    ensures { result.n ≡ port_number (operand_at place (trees values.now)) }
+    ensures { result.n ≡ port_of_value (operand_at place (trees values.now)) }
 {
     let nil = Value::Nil;
     port_of(operand(values, place, &nil))

@@ -1,6 +1,6 @@
 ghost use Rattle.std.specs.Prelude.{◌≡◌, ◌+◌, ◌-◌, ◌≤◌, length, SomeIff};
 ghost use Rattle.ca_value.specs.View.{view, trees, tree_pairs, pair_view};
-ghost use Rattle.ca_value.specs.Printed.{plain_text, plain_items, printed, printed_pairs};
+ghost use Rattle.ca_value.specs.Printed.{plain_text, plain_items, printed_value, printed_pairs};
 ghost use Rattle.ca_value.specs.declared.print.Style.TheVariants.{Plain};
 ghost use Rattle.ca_asking.specs.Asked.{trees_by};
 
@@ -75,7 +75,7 @@ fn room_after_pairs(pairs: &[Pair], room: u64) -> Option<u64>
 // The key, a space and the value.
 #[cycle(room)]
 fn room_after_pair(pair: &Pair, room: u64) -> Option<u64>
-    ensures { let p = pair_view pair.now in let n = length (printed Plain p.0) + 1 + length (printed Plain p.1) in SomeIff result (n ≤ room) (room - n) }
+    ensures { let p = pair_view pair.now in let n = length (printed_value Plain p.0) + 1 + length (printed_value Plain p.1) in SomeIff result (n ≤ room) (room - n) }
 {
     let room = room_after(&pair.key, room)?.checked_sub(1)?;
     room_after(&pair.value, room)

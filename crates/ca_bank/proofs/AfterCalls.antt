@@ -14,13 +14,13 @@ use Rattle.ca_meaning.specs.Channel.{Channel, channel_made, shut, keeping, givin
 use Rattle.ca_meaning.specs.Registry.{Registry, Registered, answers, refuses}
 use Rattle.ca_meaning.specs.Registry as meaning
 use Rattle.ca_meaning.specs.Wait.{Wait, Handler, brought, handlers, without}
-use Rattle.ca_bank.specs.Kept.{Kept, at, on, enqueued, pruned, queue_at}
+use Rattle.ca_bank.specs.Kept.{Kept, entry_changed, on, enqueued, pruned, queue_at}
 use Rattle.ca_bank.specs.Room.{channel_with}
 use Rattle.ca_registry.specs.Registries.{left_by}
-use Rattle.ca_registry.specs.Registry.{comes_to, registered}
-use Rattle.ca_bank.specs.Bank.{with_made, kept_made, registry_made}
-use Rattle.ca_bank.specs.Holds.{Holds, channel_of, with_channel, join_all, and_wait, but_wait}
-use Rattle.ca_bank.specs.Standing.{together, Alone, Registries, Stands, enqueue_from, SameStands, PortMade, ChannelClosed, ValueAdded, ValueRemoved, StalePruned, WaitLeaves, WaitJoins, RegistryChanged, RegistryKept, QueuesJoined}
+use Rattle.ca_registry.specs.Registry.{comes_to, registry_after}
+use Rattle.ca_bank.specs.Bank.{with_made, kept_made, new_registry}
+use Rattle.ca_bank.specs.Holds.{KeepsChannels, channel_of, with_channel, join_all, and_wait, but_wait}
+use Rattle.ca_bank.specs.Standing.{together, ChangesEntry, Registries, BanksStand, enqueue_from, SameStands, PortMade, ChannelClosed, ValueAdded, ValueRemoved, StalePruned, WaitLeaves, WaitJoins, RegistryChanged, RegistryKept, QueuesJoined}
 use Rattle.ca_bank.specs.declared.bank.Made.{Made}
 use Rattle.ca_bank.specs.declared.bank.Made.TheVariants as M
 use Rattle.ca_bank.proofs.Holding as holding
@@ -35,19 +35,19 @@ Chans = ℕ → Option Channel
 same_map : {X Y : Type 0} (f g : X → Y) → ((x : X) → f x ≡ g x) → f ≡ g
 same_map f g e = λ i x. e x i
 
-pub one_of_many : {X : Type 0} (count n : ℕ) (x : Option X) (old new : ℕ → ℕ → Option X) → Alone count n x old new → (q : ℕ) → together count new q ≡ update eqb (together count old) n x q
+pub one_of_many : {X : Type 0} (count n : ℕ) (x : Option X) (old new : ℕ → ℕ → Option X) → ChangesEntry count n x old new → (q : ℕ) → together count new q ≡ update eqb (together count old) n x q
 one_of_many {X} count n x old new a q = dite (ℕ_discrete (q % count) (n % count))
     (λ e. ap (λ (i : ℕ). new i q) e ∙ a.here q ∙ ap (λ (i : ℕ). cond (eqb n q) x (old i q)) (sym e))
     (λ ne. a.others (q % count) ne q ∙ sym (ap (λ c. cond c x (together count old q)) (ne_eqb n q (λ e. ne (ap (λ (i : ℕ). i % count) (sym e))))))
 
 pub same_stands : SameStands
 same_stands ports ports2 members members2 live live2 channels registries waits used s p m l = record {
-  holds = subst (λ (f : Ports). Holds f live2 channels waits used) (sym (same_map ports2 ports p)) (subst (λ (f : ℕ → Bool). Holds ports f channels waits used) (sym (same_map live2 live l)) s.holds);
+  holds = subst (λ (f : Ports). KeepsChannels f live2 channels waits used) (sym (same_map ports2 ports p)) (subst (λ (f : ℕ → Bool). KeepsChannels ports f channels waits used) (sym (same_map live2 live l)) s.holds);
   registered = λ q. s.registered q ∙ sym (m q);
 }
 
 -- an entry that is there, and one that isn't
-at_some : {X : Type 0} (m : ℕ → Option X) (p : ℕ) (f : X → X) (x : X) → m p ≡ Some x → at m p f ≡ update eqb m p (Some (f x))
+at_some : {X : Type 0} (m : ℕ → Option X) (p : ℕ) (f : X → X) (x : X) → m p ≡ Some x → entry_changed m p f ≡ update eqb m p (Some (f x))
 at_some m p f x e = ap (λ o. update eqb m p (option_map f o)) e
 
 none_put : {X : Type 0} (f : ℕ → Option X) (p : ℕ) → f p ≡ None → update eqb f p None ≡ f
@@ -56,27 +56,27 @@ none_put {X} f p e = same_map (update eqb f p None) f (λ q. by (eqb p q) q refl
   by true q is = sym e ∙ ap f (eqb-true p q is)
   by false q is = refl
 
-at_none : {X : Type 0} (m : ℕ → Option X) (p : ℕ) (f : X → X) → m p ≡ None → at m p f ≡ m
+at_none : {X : Type 0} (m : ℕ → Option X) (p : ℕ) (f : X → X) → m p ≡ None → entry_changed m p f ≡ m
 at_none m p f e = ap (λ o. update eqb m p (option_map f o)) e ∙ none_put m p e
 
 -- the channel changes, if it is there
-changed : (ports : Ports) (live : ℕ → Bool) (channels : Chans) (waits : List Wait) (used : List ℕ) (p : ℕ) (g : Channel → Channel) → Holds ports live channels waits used
-    → Holds (at ports p (λ k. with_channel (g k.channel) k)) live (at channels p g) waits used
+changed : (ports : Ports) (live : ℕ → Bool) (channels : Chans) (waits : List Wait) (used : List ℕ) (p : ℕ) (g : Channel → Channel) → KeepsChannels ports live channels waits used
+    → KeepsChannels (entry_changed ports p (λ k. with_channel (g k.channel) k)) live (entry_changed channels p g) waits used
 changed ports live channels waits used p g h = by (ports p) refl where
   f : Kept → Kept
   f k = with_channel (g k.channel) k
 
-  by : (o : Option Kept) → ports p ≡ o → Holds (at ports p (λ k. with_channel (g k.channel) k)) live (at channels p g) waits used
-  by None e = subst (λ (x : Ports). Holds x live (at channels p g) waits used) (sym (at_none ports p (λ k. with_channel (g k.channel) k) e))
-      (subst (λ (x : Chans). Holds ports live x waits used) (sym (at_none channels p g (h.channels_are p ∙ ap channel_of e))) h)
-  by (Some k) e = subst (λ (x : Ports). Holds x live (at channels p g) waits used) (sym (at_some ports p (λ k. with_channel (g k.channel) k) k e))
-      (subst (λ (x : Chans). Holds (update eqb ports p (Some (with_channel (g k.channel) k))) live x waits used) (sym (at_some channels p g k.channel (h.channels_are p ∙ ap channel_of e))) (holding.changed ports live channels waits used p k (g k.channel) h e))
+  by : (o : Option Kept) → ports p ≡ o → KeepsChannels (entry_changed ports p (λ k. with_channel (g k.channel) k)) live (entry_changed channels p g) waits used
+  by None e = subst (λ (x : Ports). KeepsChannels x live (entry_changed channels p g) waits used) (sym (at_none ports p (λ k. with_channel (g k.channel) k) e))
+      (subst (λ (x : Chans). KeepsChannels ports live x waits used) (sym (at_none channels p g (h.channels_are p ∙ ap channel_of e))) h)
+  by (Some k) e = subst (λ (x : Ports). KeepsChannels x live (entry_changed channels p g) waits used) (sym (at_some ports p (λ k. with_channel (g k.channel) k) k e))
+      (subst (λ (x : Chans). KeepsChannels (update eqb ports p (Some (with_channel (g k.channel) k))) live x waits used) (sym (at_some channels p g k.channel (h.channels_are p ∙ ap channel_of e))) (holding.changed ports live channels waits used p k (g k.channel) h e))
 
 called : (ports ports2 : Ports) (members : Registries) (live : ℕ → Bool) (channels : Chans) (registries : Registries) (waits : List Wait) (used : List ℕ) (p : ℕ) (g : Channel → Channel)
-    → Stands ports members live channels registries waits used → ((q : ℕ) → ports2 q ≡ at ports p (λ k. with_channel (g k.channel) k) q)
-    → Stands ports2 members live (at channels p g) registries waits used
+    → BanksStand ports members live channels registries waits used → ((q : ℕ) → ports2 q ≡ entry_changed ports p (λ k. with_channel (g k.channel) k) q)
+    → BanksStand ports2 members live (entry_changed channels p g) registries waits used
 called ports ports2 members live channels registries waits used p g s e = record {
-  holds = subst (λ (x : Ports). Holds x live (at channels p g) waits used) (sym (same_map ports2 (at ports p (λ k. with_channel (g k.channel) k)) e)) (changed ports live channels waits used p g s.holds);
+  holds = subst (λ (x : Ports). KeepsChannels x live (entry_changed channels p g) waits used) (sym (same_map ports2 (entry_changed ports p (λ k. with_channel (g k.channel) k)) e)) (changed ports live channels waits used p g s.holds);
   registered = s.registered;
 }
 
@@ -97,17 +97,17 @@ parted (y ∷ xs) (suc i) x e = ap (λ zs. y ∷ zs) (parted xs i x e)
 
 pub stale_pruned : StalePruned
 stale_pruned ports ports2 members live channels registries waits used p side place h s is dead e = record {
-  holds = subst (λ (x : Ports). Holds x live channels waits used) (sym (same_map ports2 (at ports p (pruned side place)) e)) (by (ports p) refl is);
+  holds = subst (λ (x : Ports). KeepsChannels x live channels waits used) (sym (same_map ports2 (entry_changed ports p (pruned side place)) e)) (by (ports p) refl is);
   registered = s.registered;
 } where
-  by : (o : Option Kept) → ports p ≡ o → slice_get (queue_at side o) place ≡ Some h → Holds (at ports p (pruned side place)) live channels waits used
+  by : (o : Option Kept) → ports p ≡ o → slice_get (queue_at side o) place ≡ Some h → KeepsChannels (entry_changed ports p (pruned side place)) live channels waits used
   by None at is = absurd (let k : None ≡ Some h = is in cc)
-  by (Some k) at is = subst (λ (x : Ports). Holds x live channels waits used) (sym (at_some ports p (pruned side place) k at))
+  by (Some k) at is = subst (λ (x : Ports). KeepsChannels x live channels waits used) (sym (at_some ports p (pruned side place) k at))
       (holding.pruned_at ports live channels waits used p k side (take place (on side k)) h (drop (suc place) (on side k)) s.holds at (parted (on side k) place h is) dead)
 
 pub wait_leaves : WaitLeaves
 wait_leaves ports members live live2 channels registries waits used w s e = record {
-  holds = subst (λ (f : ℕ → Bool). Holds ports f channels (without w waits) used) (sym (same_map live2 (but_wait live w) e)) (holding.taken_out ports live channels waits used w s.holds);
+  holds = subst (λ (f : ℕ → Bool). KeepsChannels ports f channels (without w waits) used) (sym (same_map live2 (but_wait live w) e)) (holding.taken_out ports live channels waits used w s.holds);
   registered = s.registered;
 }
 
@@ -121,7 +121,7 @@ one_by_one w k [] ports q = by (ports q) where
   by None = refl
   by (Some x) = ap (λ (ts : List Handler). Some (record { channel = x.channel; takes = ts; puts = x.puts })) (sym (append-nil x.takes))
       ∙ ap (λ (ps : List Handler). Some (record { channel = x.channel; takes = x.takes ++ []; puts = ps })) (sym (append-nil x.puts))
-one_by_one w k (take_of p ∷ bs) ports q = one_by_one w (suc k) bs (at ports p (enqueued Take h)) q ∙ by (eqb p q) refl where
+one_by_one w k (take_of p ∷ bs) ports q = one_by_one w (suc k) bs (entry_changed ports p (enqueued Take h)) q ∙ by (eqb p q) refl where
   h : Handler
   h = record { wait = w; branch = k; value = brought (take_of p) }
 
@@ -135,7 +135,7 @@ one_by_one w k (take_of p ∷ bs) ports q = one_by_one w (suc k) bs (at ports p 
   by : (b : Bool) → eqb p q ≡ b → option_map (joined_from w (suc k) bs q) (cond b (option_map (enqueued Take h) (ports p)) (ports q)) ≡ option_map (joined_from w k (take_of p ∷ bs) q) (ports q)
   by true e = more (ports p) (eqb q p) (eq-eqb q p (sym (eqb-true p q e))) ∙ ap (λ (n : ℕ). option_map (joined_from w k (take_of p ∷ bs) q) (ports n)) (eqb-true p q e)
   by false e = same (ports q) (eqb q p) (ne_eqb q p (λ z. eqb-false p q e (sym z)))
-one_by_one w k (put_of p v ∷ bs) ports q = one_by_one w (suc k) bs (at ports p (enqueued Put h)) q ∙ by (eqb p q) refl where
+one_by_one w k (put_of p v ∷ bs) ports q = one_by_one w (suc k) bs (entry_changed ports p (enqueued Put h)) q ∙ by (eqb p q) refl where
   h : Handler
   h = record { wait = w; branch = k; value = brought (put_of p v) }
 
@@ -155,8 +155,8 @@ queues_joined w bs ports q = one_by_one w 0 bs ports q
 
 pub wait_joins : WaitJoins
 wait_joins ports ports2 members live live2 channels registries waits used x s fresh there p l = record {
-  holds = subst (λ (f : Ports). Holds f live2 channels (waits ++ x ∷ []) (x.number ∷ used)) (sym (same_map ports2 (join_all x.number x.branches ports) (λ q. p q ∙ queues_joined x.number x.branches ports q)))
-      (subst (λ (f : ℕ → Bool). Holds (join_all x.number x.branches ports) f channels (waits ++ x ∷ []) (x.number ∷ used)) (sym (same_map live2 (and_wait live x.number) l)) (holding.parked ports live channels waits used x s.holds fresh there));
+  holds = subst (λ (f : Ports). KeepsChannels f live2 channels (waits ++ x ∷ []) (x.number ∷ used)) (sym (same_map ports2 (join_all x.number x.branches ports) (λ q. p q ∙ queues_joined x.number x.branches ports q)))
+      (subst (λ (f : ℕ → Bool). KeepsChannels (join_all x.number x.branches ports) f channels (waits ++ x ∷ []) (x.number ∷ used)) (sym (same_map live2 (and_wait live x.number) l)) (holding.parked ports live channels waits used x s.holds fresh there));
   registered = s.registered;
 }
 
@@ -165,28 +165,28 @@ put_made : {X : Type 0} (m : ℕ → Option X) (p : ℕ) (o : Option X) → m p 
 put_made m p None e q = ap (λ f. f q) (sym (none_put m p e))
 put_made m p (Some x) e q = refl
 
-holds_made : (ports : Ports) (live : ℕ → Bool) (channels : Chans) (waits : List Wait) (used : List ℕ) (p : ℕ) (made : Made) → Holds ports live channels waits used → ports p ≡ None
-    → Holds (update eqb ports p (kept_made made)) live (update eqb channels p (channel_of (kept_made made))) waits used
+holds_made : (ports : Ports) (live : ℕ → Bool) (channels : Chans) (waits : List Wait) (used : List ℕ) (p : ℕ) (made : Made) → KeepsChannels ports live channels waits used → ports p ≡ None
+    → KeepsChannels (update eqb ports p (kept_made made)) live (update eqb channels p (channel_of (kept_made made))) waits used
 holds_made ports live channels waits used p (M.Channel buffer) h e = holding.made ports live channels waits used p (channel_with buffer false) h e
-holds_made ports live channels waits used p (M.Mult source) h e = subst (λ (x : Ports). Holds x live (update eqb channels p None) waits used) (sym (none_put ports p e)) (subst (λ (x : Chans). Holds ports live x waits used) (sym (none_put channels p (h.channels_are p ∙ ap channel_of e))) h)
-holds_made ports live channels waits used p (M.Mix out changes) h e = subst (λ (x : Ports). Holds x live (update eqb channels p None) waits used) (sym (none_put ports p e)) (subst (λ (x : Chans). Holds ports live x waits used) (sym (none_put channels p (h.channels_are p ∙ ap channel_of e))) h)
-holds_made ports live channels waits used p (M.Pub source) h e = subst (λ (x : Ports). Holds x live (update eqb channels p None) waits used) (sym (none_put ports p e)) (subst (λ (x : Chans). Holds ports live x waits used) (sym (none_put channels p (h.channels_are p ∙ ap channel_of e))) h)
+holds_made ports live channels waits used p (M.Mult source) h e = subst (λ (x : Ports). KeepsChannels x live (update eqb channels p None) waits used) (sym (none_put ports p e)) (subst (λ (x : Chans). KeepsChannels ports live x waits used) (sym (none_put channels p (h.channels_are p ∙ ap channel_of e))) h)
+holds_made ports live channels waits used p (M.Mix out changes) h e = subst (λ (x : Ports). KeepsChannels x live (update eqb channels p None) waits used) (sym (none_put ports p e)) (subst (λ (x : Chans). KeepsChannels ports live x waits used) (sym (none_put channels p (h.channels_are p ∙ ap channel_of e))) h)
+holds_made ports live channels waits used p (M.Pub source) h e = subst (λ (x : Ports). KeepsChannels x live (update eqb channels p None) waits used) (sym (none_put ports p e)) (subst (λ (x : Chans). KeepsChannels ports live x waits used) (sym (none_put channels p (h.channels_are p ∙ ap channel_of e))) h)
 
 pub port_made : PortMade
 port_made ports ports2 members members2 live channels registries waits used p what made s no_port no_registry c r pe me = record {
-  holds = subst (λ (x : Ports). Holds x live (update eqb channels p (channel_made what)) waits used) (sym (same_map ports2 (update eqb ports p (kept_made made)) (λ q. pe q ∙ put_made ports p (kept_made made) no_port q)))
-      (subst (λ (o : Option Channel). Holds (update eqb ports p (kept_made made)) live (update eqb channels p o) waits used) c (holds_made ports live channels waits used p made s.holds no_port));
-  registered = λ q. by (meaning.registry_made what) (eqb p q) q (s.registered q) ∙ sym (me q ∙ put_made members p (registry_made made) no_registry q ∙ ap (λ (o : Option Registry). cond (eqb p q) o (members q)) r);
+  holds = subst (λ (x : Ports). KeepsChannels x live (update eqb channels p (channel_made what)) waits used) (sym (same_map ports2 (update eqb ports p (kept_made made)) (λ q. pe q ∙ put_made ports p (kept_made made) no_port q)))
+      (subst (λ (o : Option Channel). KeepsChannels (update eqb ports p (kept_made made)) live (update eqb channels p o) waits used) c (holds_made ports live channels waits used p made s.holds no_port));
+  registered = λ q. by (meaning.registry_made what) (eqb p q) q (s.registered q) ∙ sym (me q ∙ put_made members p (new_registry made) no_registry q ∙ ap (λ (o : Option Registry). cond (eqb p q) o (members q)) r);
 } where
   by : (x : Option Registry) (b : Bool) (q : ℕ) → registries q ≡ members q → cond b x (registries q) ≡ cond b x (members q)
   by x true q e = refl
   by x false q e = e
 
-registered_at : (o : Option Registry) (name : RegisterName) (args : Trees) (v : Tree) (r : Registry) → comes_to o name args ≡ answers v r → option_map (registered name args) o ≡ Some r
+registered_at : (o : Option Registry) (name : RegisterName) (args : Trees) (v : Tree) (r : Registry) → comes_to o name args ≡ answers v r → option_map (registry_after name args) o ≡ Some r
 registered_at None name args v r e = absurd (let k : refuses _ ≡ answers v r = e in cc)
 registered_at (Some x) name args v r e = ap (λ (z : Registered). Some (left_by z x)) e
 
-kept_at_fault : (o : Option Registry) (name : RegisterName) (args : Trees) (f : Fault) → comes_to o name args ≡ refuses f → option_map (registered name args) o ≡ o
+kept_at_fault : (o : Option Registry) (name : RegisterName) (args : Trees) (f : Fault) → comes_to o name args ≡ refuses f → option_map (registry_after name args) o ≡ o
 kept_at_fault None name args f e = refl
 kept_at_fault (Some x) name args f e = ap (λ (z : Registered). Some (left_by z x)) e
 

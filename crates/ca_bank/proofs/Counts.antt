@@ -5,7 +5,7 @@ use Rattle.ca_term.specs.Event.{BranchView}
 use Rattle.ca_meaning.specs.Sound.{Each}
 use Rattle.ca_meaning.specs.Wait.{Wait, Handler, queue, handlers, joins, pending, is_on, brought, head, is_live}
 use Rattle.ca_meaning.proofs.Waits.{handlers_of, front_live}
-use Rattle.ca_bank.specs.Holds.{Differ, changes_at, groups}
+use Rattle.ca_bank.specs.Holds.{WaitsDiffer, changes_at, groups}
 
 abbrev pub one_if : List Handler → ℕ
 one_if [] = 0
@@ -29,7 +29,7 @@ joins_is side p w k (b ∷ bs) n = by (is_on side p b) (joins_is side p w (suc k
   by true ih = omega arith
   by false ih = ih
 
-pub groups_are : (side : Side) (p : ℕ) (ws : List Wait) → Differ ws → groups (queue side p ws) ≡ pending side p ws
+pub groups_are : (side : Side) (p : ℕ) (ws : List Wait) → WaitsDiffer ws → groups (queue side p ws) ≡ pending side p ws
 groups_are side p [] d = refl
 groups_are side p (x ∷ xs) d = one_group x.number (handlers side p x.number 0 x.branches) (queue side p xs) (handlers_of side p x.number 0 x.branches) (λ g e. other g (front_live side p xs g e))
     ∙ ap (λ n. one_if (handlers side p x.number 0 x.branches) + n) (groups_are side p xs d.1) ∙ sym (joins_is side p x.number 0 x.branches (pending side p xs)) where

@@ -15,7 +15,7 @@ use Rattle.ca_meaning.specs.State.{State}
 use Rattle.ca_meaning.specs.Choice.{row}
 use Rattle.ca_meaning.proofs.Waits.{handlers_of, queue_without, queue-append, not_live, live_else, live-append, other}
 use Rattle.ca_bank.specs.Kept.{Kept, on, put_on, unattended}
-use Rattle.ca_bank.specs.Holds.{Differ, with_channel, channel_of, row_raw, Known, AskedAfter, PutAsks, TakeAsks, Asks, TakerAsks, NextAsks, SettleAsks, AsksSettle, live_of, EachNamed, Holds, joined, join_all, and_wait, but_wait}
+use Rattle.ca_bank.specs.Holds.{WaitsDiffer, with_channel, channel_of, row_raw, IsAskedLive, AskedAfter, PutAsks, TakeAsks, Asks, TakerAsks, NextAsks, SettleAsks, AsksSettle, live_of, EachNamed, KeepsChannels, joined_queues, join_all, and_wait, but_wait}
 
 pub filter_same : {A : Type 0} (t u : A → Bool) (xs : List A) → Each (λ x. t x ≡ u x) xs → filter t xs ≡ filter u xs
 filter_same t u [] a = refl
@@ -29,7 +29,7 @@ filter-filter t u (x ∷ xs) = by (u x) (filter-filter t u xs) where
   by true e = ap (λ l. cond (t x) (x ∷ l) l) e
   by false e = e
 
-pub head_live : (alive : ℕ → Bool) (q : List Handler) → Known alive (head q) → head (live_of alive q) ≡ head q
+pub head_live : (alive : ℕ → Bool) (q : List Handler) → IsAskedLive alive (head q) → head (live_of alive q) ≡ head q
 head_live alive [] k = refl
 head_live alive (h ∷ q) k = ap (λ c. head (cond c (h ∷ live_of alive q) (live_of alive q))) k
 
@@ -55,17 +55,17 @@ pub row_live : (alive : ℕ → Bool) (k : Kept) (b : BranchView) → Asks alive
 row_live alive k (take_of p) a = asks_take alive k.channel k.channel.held k.puts a
 row_live alive k (put_of p v) a = asks_put alive k.channel k.channel.closed (is_promise k.channel.policy) k.takes k.puts v a
 
-differ_without : (w : ℕ) (ws : List Wait) → Differ ws → Differ (without w ws)
+differ_without : (w : ℕ) (ws : List Wait) → WaitsDiffer ws → WaitsDiffer (without w ws)
 differ_without w [] d = tt
 differ_without w (x ∷ xs) d = by (eqb w x.number) refl (differ_without w xs d.1) where
-  by : (b : Bool) → eqb w x.number ≡ b → Differ (without w xs) → Differ (cond (not b) (x ∷ without w xs) (without w xs))
+  by : (b : Bool) → eqb w x.number ≡ b → WaitsDiffer (without w xs) → WaitsDiffer (cond (not b) (x ∷ without w xs) (without w xs))
   by true e ih = ih
   by false e ih = (live_else x.number w xs e ∙ d.0, ih)
 
-differ_joined : (ws : List Wait) (x : Wait) → Differ ws → is_live x.number ws ≡ false → Differ (ws ++ x ∷ [])
+differ_joined : (ws : List Wait) (x : Wait) → WaitsDiffer ws → is_live x.number ws ≡ false → WaitsDiffer (ws ++ x ∷ [])
 differ_joined [] x d new = (refl, tt)
 differ_joined (y ∷ ws) x d new = by (eqb x.number y.number) refl (λ f. differ_joined ws x d.1 f) new where
-  by : (b : Bool) → eqb x.number y.number ≡ b → (is_live x.number ws ≡ false → Differ (ws ++ x ∷ [])) → cond b true (is_live x.number ws) ≡ false → Differ (y ∷ (ws ++ x ∷ []))
+  by : (b : Bool) → eqb x.number y.number ≡ b → (is_live x.number ws ≡ false → WaitsDiffer (ws ++ x ∷ [])) → cond b true (is_live x.number ws) ≡ false → WaitsDiffer (y ∷ (ws ++ x ∷ []))
   by true e ih f = absurd (let k : true ≡ false = f in cc)
   by false e ih f = (live-append y.number ws x ∙ ap (λ c. cond c true (is_live y.number ws)) (ne_eqb y.number x.number (λ z. eqb-false x.number y.number e (sym z))) ∙ d.0, ih f)
 
@@ -94,9 +94,9 @@ update_again {X} f p x e = λ i q. by (eqb p q) q refl i where
   by false q is = refl
 
 -- other handlers that are stale, another channel: the same live ones in the same order
-pub swapped : (ports : Ports) (alive : ℕ → Bool) (channels : Chans) (waits : List Wait) (used : List ℕ) (p : ℕ) (k k2 : Kept) → Holds ports alive channels waits used → ports p ≡ Some k
+pub swapped : (ports : Ports) (alive : ℕ → Bool) (channels : Chans) (waits : List Wait) (used : List ℕ) (p : ℕ) (k k2 : Kept) → KeepsChannels ports alive channels waits used → ports p ≡ Some k
     → ((side : Side) → live_of alive (on side k2) ≡ live_of alive (on side k)) → ((side : Side) → EachNamed used (on side k2))
-    → Holds (update eqb ports p (Some k2)) alive (update eqb channels p (Some k2.channel)) waits used
+    → KeepsChannels (update eqb ports p (Some k2)) alive (update eqb channels p (Some k2.channel)) waits used
 swapped ports alive channels waits used p k k2 h at same named = record {
   channels_are = λ q. by (eqb p q) (channels q) (ports q) (h.channels_are q);
   queues = λ side q j e. ⊎_elim (λ t. subst (λ (j : Kept). live_of alive (on side j) ≡ queue side q waits) t.1 (same side ∙ h.queues side p k at ∙ ap (λ n. queue side n waits) t.0)) (h.queues side q j) (at_update ports p k2 q j e);
@@ -111,8 +111,8 @@ swapped ports alive channels waits used p k k2 h at same named = record {
   by false c o e = e
 
 -- the channel alone changes
-pub changed : (ports : Ports) (alive : ℕ → Bool) (channels : Chans) (waits : List Wait) (used : List ℕ) (p : ℕ) (k : Kept) (c : Channel) → Holds ports alive channels waits used → ports p ≡ Some k
-    → Holds (update eqb ports p (Some (with_channel c k))) alive (update eqb channels p (Some c)) waits used
+pub changed : (ports : Ports) (alive : ℕ → Bool) (channels : Chans) (waits : List Wait) (used : List ℕ) (p : ℕ) (k : Kept) (c : Channel) → KeepsChannels ports alive channels waits used → ports p ≡ Some k
+    → KeepsChannels (update eqb ports p (Some (with_channel c k))) alive (update eqb channels p (Some c)) waits used
 changed ports alive channels waits used p k c h at = swapped ports alive channels waits used p k (with_channel c k) h at (λ side. by side) (λ side. by2 side (h.named side p k at)) where
   by : (side : Side) → live_of alive (on side (with_channel c k)) ≡ live_of alive (on side k)
   by Take = refl
@@ -123,10 +123,10 @@ changed ports alive channels waits used p k c h at = swapped ports alive channel
   by2 Put a = a
 
 -- a handler that stands first and is stale is taken out
-pub pruned : (ports : Ports) (alive : ℕ → Bool) (channels : Chans) (waits : List Wait) (used : List ℕ) (p : ℕ) (k : Kept) (side : Side) (g : Handler) (q : List Handler) → Holds ports alive channels waits used → ports p ≡ Some k
-    → on side k ≡ g ∷ q → alive g.wait ≡ false → Holds (update eqb ports p (Some (put_on side q k))) alive channels waits used
-pruned ports alive channels waits used p k side g q h at is dead = subst (λ (f : Chans). Holds (update eqb ports p (Some (put_on side q k))) alive f waits used) (update_again channels p k.channel (h.channels_are p ∙ ap channel_of at))
-    (subst (λ (c : Channel). Holds (update eqb ports p (Some (put_on side q k))) alive (update eqb channels p (Some c)) waits used) (same side)
+pub pruned : (ports : Ports) (alive : ℕ → Bool) (channels : Chans) (waits : List Wait) (used : List ℕ) (p : ℕ) (k : Kept) (side : Side) (g : Handler) (q : List Handler) → KeepsChannels ports alive channels waits used → ports p ≡ Some k
+    → on side k ≡ g ∷ q → alive g.wait ≡ false → KeepsChannels (update eqb ports p (Some (put_on side q k))) alive channels waits used
+pruned ports alive channels waits used p k side g q h at is dead = subst (λ (f : Chans). KeepsChannels (update eqb ports p (Some (put_on side q k))) alive f waits used) (update_again channels p k.channel (h.channels_are p ∙ ap channel_of at))
+    (subst (λ (c : Channel). KeepsChannels (update eqb ports p (Some (put_on side q k))) alive (update eqb channels p (Some c)) waits used) (same side)
     (swapped ports alive channels waits used p k (put_on side q k) h at (λ other. lives side other is) (λ other. names side other is (h.named other p k at)))) where
       same : (side : Side) → (put_on side q k).channel ≡ k.channel
       same Take = refl
@@ -153,10 +153,10 @@ named_without used [] g ys a = a.1
 named_without used (x ∷ xs) g ys a = (a.0, named_without used xs g ys a.1)
 
 -- a stale handler is taken out, wherever it stands in its queue
-pub pruned_at : (ports : Ports) (alive : ℕ → Bool) (channels : Chans) (waits : List Wait) (used : List ℕ) (p : ℕ) (k : Kept) (side : Side) (xs : List Handler) (g : Handler) (ys : List Handler) → Holds ports alive channels waits used → ports p ≡ Some k
-    → on side k ≡ xs ++ g ∷ ys → alive g.wait ≡ false → Holds (update eqb ports p (Some (put_on side (xs ++ ys) k))) alive channels waits used
-pruned_at ports alive channels waits used p k side xs g ys h at is dead = subst (λ (f : Chans). Holds (update eqb ports p (Some (put_on side q k))) alive f waits used) (update_again channels p k.channel (h.channels_are p ∙ ap channel_of at))
-    (subst (λ (c : Channel). Holds (update eqb ports p (Some (put_on side q k))) alive (update eqb channels p (Some c)) waits used) (same side)
+pub pruned_at : (ports : Ports) (alive : ℕ → Bool) (channels : Chans) (waits : List Wait) (used : List ℕ) (p : ℕ) (k : Kept) (side : Side) (xs : List Handler) (g : Handler) (ys : List Handler) → KeepsChannels ports alive channels waits used → ports p ≡ Some k
+    → on side k ≡ xs ++ g ∷ ys → alive g.wait ≡ false → KeepsChannels (update eqb ports p (Some (put_on side (xs ++ ys) k))) alive channels waits used
+pruned_at ports alive channels waits used p k side xs g ys h at is dead = subst (λ (f : Chans). KeepsChannels (update eqb ports p (Some (put_on side q k))) alive f waits used) (update_again channels p k.channel (h.channels_are p ∙ ap channel_of at))
+    (subst (λ (c : Channel). KeepsChannels (update eqb ports p (Some (put_on side q k))) alive (update eqb channels p (Some c)) waits used) (same side)
     (swapped ports alive channels waits used p k (put_on side q k) h at (λ other. lives side other is) (λ other. names side other is (h.named other p k at)))) where
       q : List Handler
       q = xs ++ ys
@@ -178,8 +178,8 @@ pruned_at ports alive channels waits used p k side xs g ys h at is dead = subst 
       names Put Put is a = named_without used xs g ys (subst (EachNamed used) is a)
 
 -- one wait is taken out of the list and its shard: every queue is right as it is
-pub taken_out : (ports : Ports) (alive : ℕ → Bool) (channels : Chans) (waits : List Wait) (used : List ℕ) (w : ℕ) → Holds ports alive channels waits used
-    → Holds ports (but_wait alive w) channels (without w waits) used
+pub taken_out : (ports : Ports) (alive : ℕ → Bool) (channels : Chans) (waits : List Wait) (used : List ℕ) (w : ℕ) → KeepsChannels ports alive channels waits used
+    → KeepsChannels ports (but_wait alive w) channels (without w waits) used
 taken_out ports alive channels waits used w h = record {
   channels_are = h.channels_are;
   queues = λ side p k e. sym (filter-filter (other w) (λ (g : Handler). alive g.wait) (on side k)) ∙ ap (filter (other w)) (h.queues side p k e) ∙ sym (queue_without side p w waits);
@@ -234,15 +234,15 @@ no_map f None e = refl
 no_map f (Some x) e = absurd (let k : Some (f x) ≡ None = e in cc)
 
 -- a new wait joins the queues of its branches
-pub parked : (ports : Ports) (alive : ℕ → Bool) (channels : Chans) (waits : List Wait) (used : List ℕ) (x : Wait) → Holds ports alive channels waits used → is_among x.number used ≡ false
+pub parked : (ports : Ports) (alive : ℕ → Bool) (channels : Chans) (waits : List Wait) (used : List ℕ) (x : Wait) → KeepsChannels ports alive channels waits used → is_among x.number used ≡ false
     → ((side : Side) (p : ℕ) → ports p ≡ None → handlers side p x.number 0 x.branches ≡ [])
-    → Holds (join_all x.number x.branches ports) (and_wait alive x.number) channels (waits ++ x ∷ []) (x.number ∷ used)
+    → KeepsChannels (join_all x.number x.branches ports) (and_wait alive x.number) channels (waits ++ x ∷ []) (x.number ∷ used)
 parked ports alive channels waits used x h fresh there = record {
   channels_are = λ p. h.channels_are p ∙ by (ports p) p;
-  queues = λ side p k e. let m = at_map (joined x.number x.branches p) (ports p) k e in
+  queues = λ side p k e. let m = at_map (joined_queues x.number x.branches p) (ports p) k e in
       subst (λ (k : Kept). live_of (and_wait alive x.number) (on side k) ≡ queue side p (waits ++ x ∷ [])) m.2 (more side p m.0 m.1);
-  nowhere = λ side p e. let n = no_map (joined x.number x.branches p) (ports p) e in queue-append side p waits (x ∷ []) ∙ ap₂ (λ (a b : List Handler). a ++ (b ++ [])) (h.nowhere side p n) (there side p n);
-  named = λ side p k e. let m = at_map (joined x.number x.branches p) (ports p) k e in
+  nowhere = λ side p e. let n = no_map (joined_queues x.number x.branches p) (ports p) e in queue-append side p waits (x ∷ []) ∙ ap₂ (λ (a b : List Handler). a ++ (b ++ [])) (h.nowhere side p n) (there side p n);
+  named = λ side p k e. let m = at_map (joined_queues x.number x.branches p) (ports p) k e in
       subst (λ (k : Kept). EachNamed (x.number ∷ used) (on side k)) m.2 (names side p m.0 (h.named side p m.0 m.1));
   living = λ v. ap (λ (c : Bool). cond (eqb v x.number) true c) (h.living v) ∙ sym (live-append v waits x);
   given = λ v e. use_it (eqb v x.number) v refl (sym (live-append v waits x) ∙ e);
@@ -252,20 +252,20 @@ parked ports alive channels waits used x h fresh there = record {
   new_one false e = e
   new_one true e = absurd (let k : true ≡ false = sym (h.given x.number e) ∙ fresh in cc)
 
-  by : (o : Option Kept) (p : ℕ) → channel_of o ≡ channel_of (option_map (joined x.number x.branches p) o)
+  by : (o : Option Kept) (p : ℕ) → channel_of o ≡ channel_of (option_map (joined_queues x.number x.branches p) o)
   by None p = refl
   by (Some k) p = refl
 
-  on_joined : (side : Side) (p : ℕ) (k : Kept) → on side (joined x.number x.branches p k) ≡ on side k ++ handlers side p x.number 0 x.branches
+  on_joined : (side : Side) (p : ℕ) (k : Kept) → on side (joined_queues x.number x.branches p k) ≡ on side k ++ handlers side p x.number 0 x.branches
   on_joined Take p k = refl
   on_joined Put p k = refl
 
-  more : (side : Side) (p : ℕ) (k : Kept) → ports p ≡ Some k → live_of (and_wait alive x.number) (on side (joined x.number x.branches p k)) ≡ queue side p (waits ++ x ∷ [])
+  more : (side : Side) (p : ℕ) (k : Kept) → ports p ≡ Some k → live_of (and_wait alive x.number) (on side (joined_queues x.number x.branches p k)) ≡ queue side p (waits ++ x ∷ [])
   more side p k e = ap (live_of (and_wait alive x.number)) (on_joined side p k) ∙ filter-append (λ (g : Handler). and_wait alive x.number g.wait) (on side k) (handlers side p x.number 0 x.branches)
       ∙ ap₂ (λ (a b : List Handler). a ++ b) (still alive used x.number (on side k) fresh (h.named side p k e) ∙ h.queues side p k e) (new_live alive x.number (handlers side p x.number 0 x.branches) (handlers_of side p x.number 0 x.branches) ∙ sym (append-nil (handlers side p x.number 0 x.branches)))
       ∙ sym (queue-append side p waits (x ∷ []))
 
-  names : (side : Side) (p : ℕ) (k : Kept) → EachNamed used (on side k) → EachNamed (x.number ∷ used) (on side (joined x.number x.branches p k))
+  names : (side : Side) (p : ℕ) (k : Kept) → EachNamed used (on side k) → EachNamed (x.number ∷ used) (on side (joined_queues x.number x.branches p k))
   names side p k a = subst (EachNamed (x.number ∷ used)) (sym (on_joined side p k)) (named_append (x.number ∷ used) (on side k) (handlers side p x.number 0 x.branches) (named_more used x.number (on side k) a) (named_new used x.number (handlers side p x.number 0 x.branches) (handlers_of side p x.number 0 x.branches)))
 
   use_it : (b : Bool) (v : ℕ) → eqb v x.number ≡ b → cond b true (is_live v waits) ≡ true → cond b true (is_among v used) ≡ true
@@ -273,8 +273,8 @@ parked ports alive channels waits used x h fresh there = record {
   use_it false v e l = h.given v l
 
 -- a new channel
-pub made : (ports : Ports) (alive : ℕ → Bool) (channels : Chans) (waits : List Wait) (used : List ℕ) (p : ℕ) (c : Channel) → Holds ports alive channels waits used → ports p ≡ None
-    → Holds (update eqb ports p (Some (unattended c))) alive (update eqb channels p (Some c)) waits used
+pub made : (ports : Ports) (alive : ℕ → Bool) (channels : Chans) (waits : List Wait) (used : List ℕ) (p : ℕ) (c : Channel) → KeepsChannels ports alive channels waits used → ports p ≡ None
+    → KeepsChannels (update eqb ports p (Some (unattended c))) alive (update eqb channels p (Some c)) waits used
 made ports alive channels waits used p c h none = record {
   channels_are = λ q. by (eqb p q) (channels q) (ports q) (h.channels_are q);
   queues = λ side q j e. ⊎_elim (λ t. subst (λ (j : Kept). live_of alive (on side j) ≡ queue side q waits) t.1 (empty side ∙ sym (ap (λ n. queue side n waits) (sym t.0) ∙ h.nowhere side p none))) (h.queues side q j) (at_update ports p (unattended c) q j e);
@@ -297,13 +297,13 @@ made ports alive channels waits used p c h none = record {
   no_names Put = tt
 
 -- the row that the parts show is that of the state
-pub row_right : (ports : Ports) (alive : ℕ → Bool) (s : State) (b : BranchView) (k : Kept) → Holds ports alive s.channels s.waits s.used → ports (port_of b) ≡ Some k → Asks alive b k → row s b ≡ row_raw k b
+pub row_right : (ports : Ports) (alive : ℕ → Bool) (s : State) (b : BranchView) (k : Kept) → KeepsChannels ports alive s.channels s.waits s.used → ports (port_of b) ≡ Some k → Asks alive b k → row s b ≡ row_raw k b
 row_right ports alive s b k h at asks = ap (λ (c : Option Channel). row_at c (front Take (port_of b) s.waits) (front Put (port_of b) s.waits) b) (h.channels_are (port_of b) ∙ ap channel_of at)
     ∙ ap₂ (λ (x y : List Handler). row_on k.channel (head x) (head y) b) (sym (h.queues Take (port_of b) k at)) (sym (h.queues Put (port_of b) k at))
     ∙ row_live alive k b asks
 
 -- more live waits are known
-pub known_more : (a b : ℕ → Bool) → ((v : ℕ) → a v ≡ true → b v ≡ true) → (h : Option Handler) → Known a h → Known b h
+pub known_more : (a b : ℕ → Bool) → ((v : ℕ) → a v ≡ true → b v ≡ true) → (h : Option Handler) → IsAskedLive a h → IsAskedLive b h
 known_more a b f None k = tt
 known_more a b f (Some h) k = f h.wait k
 
@@ -354,7 +354,7 @@ settle_more a b f false c ts ps x = taker_more a b f c.closed c.held ts x
 pub settles_more : (a b : ℕ → Bool) → ((v : ℕ) → a v ≡ true → b v ≡ true) → (k : Kept) → AsksSettle a k → AsksSettle b k
 settles_more a b f k x = settle_more a b f (is_fixed k.channel.policy && has_room k.channel) k.channel (head k.takes) (head k.puts) x
 
-pub settle_right : (ports : Ports) (alive : ℕ → Bool) (s : State) (p : ℕ) (k : Kept) → Holds ports alive s.channels s.waits s.used → ports p ≡ Some k → AsksSettle alive k
+pub settle_right : (ports : Ports) (alive : ℕ → Bool) (s : State) (p : ℕ) (k : Kept) → KeepsChannels ports alive s.channels s.waits s.used → ports p ≡ Some k → AsksSettle alive k
     → settle_row k.channel (front Take p s.waits) (front Put p s.waits) ≡ settle_row k.channel (head k.takes) (head k.puts)
 settle_right ports alive s p k h at asks = ap₂ (λ (x y : List Handler). settle_row k.channel (head x) (head y)) (sym (h.queues Take p k at)) (sym (h.queues Put p k at))
     ∙ put_live alive k.channel (is_fixed k.channel.policy && has_room k.channel) k.takes k.puts asks

@@ -3,7 +3,7 @@ use Rattle.std.proofs.Common.{◌≡◌, ◌<◌, ◌≤◌, ◌+◌, ◌++◌, 
 use Rattle.std.specs.Prelude.{nat_eq}
 use Rattle.std.specs.Map.{lookup, update}
 use Rattle.std.proofs.lemmas.Bool.Decides.{nat_tests}
-use Rattle.ca_bank.specs.NearRow.{value_at, seated}
+use Rattle.ca_bank.specs.NearRow.{near_value, seated}
 
 module _ {V : Type 0} where
   -- a place more, with nothing there
@@ -13,7 +13,7 @@ module _ {V : Type 0} where
   last_seat (p ∷ ps) zero e h = h
   last_seat (p ∷ ps) (suc i) e h = last_seat ps i e h
 
-  pub last_value : (n : ℕ) (ps : List (Option (ℕ × V))) (i : ℕ) → value_at n (slice_get (ps ++ None ∷ []) i) ≡ value_at n (slice_get ps i)
+  pub last_value : (n : ℕ) (ps : List (Option (ℕ × V))) (i : ℕ) → near_value n (slice_get (ps ++ None ∷ []) i) ≡ near_value n (slice_get ps i)
   last_value n [] zero = refl
   last_value n [] (suc i) = refl
   last_value n (p ∷ ps) zero = refl
@@ -43,7 +43,7 @@ module _ {V : Type 0} where
         let apart : nat_eq n e.0 ≡ false = other e k (s 0 e refl ∙ omega arith) (λ q. omega arith) in
         ap (λ (b : Bool). cond b (Some e.1) (lookup (nat_eq n) (seated ps))) apart ∙ in_front (k + 1) ps (λ i e h. s (suc i) e h ∙ omega arith) (omega arith)
 
-    pub seat_found : (k i : ℕ) (ps : List (Option (ℕ × V))) → Seats k ps → place n ≡ i + k → lookup (nat_eq n) (seated ps) ≡ value_at n (slice_get ps i)
+    pub seat_found : (k i : ℕ) (ps : List (Option (ℕ × V))) → Seats k ps → place n ≡ i + k → lookup (nat_eq n) (seated ps) ≡ near_value n (slice_get ps i)
     seat_found k i [] s at = refl
     seat_found k zero (None ∷ ps) s at = in_front (k + 1) ps (λ i e h. s (suc i) e h ∙ omega arith) (omega arith)
     seat_found k (suc i) (None ∷ ps) s at = seat_found (k + 1) i ps (λ i e h. s (suc i) e h ∙ omega arith) (omega arith)

@@ -5,7 +5,7 @@ use Rattle.ca_bank.specs.Kept.{Kept, Spares, unattended}
 use Rattle.ca_bank.specs.Room.{kept_view, spares_view, channel_with}
 use Rattle.ca_bank.specs.Shard.{belongs}
 use Rattle.ca_meaning.specs.Registry.{Registry as RegistryView, a_mult, a_mix, a_publication}
-use Rattle.ca_registry.specs.Kind.{kind_of}
+use Rattle.ca_registry.specs.Kind.{kind_of_registry}
 use Rattle.ca_registry.specs.Registry.{registry_view, members_spare}
 use Rattle.std.specs.Map.{update}
 use Rattle.ca_bank.specs.declared.bank.Bank.{Bank}
@@ -61,9 +61,9 @@ abbrev pub ArePlaced : Bank → Type 0
 ArePlaced b = ((p : ℕ) → is_some (kept_at b p) ≡ true → belongs (bank_number b) (bank_count b) p ≡ true) × ((p : ℕ) → is_some (registry_at b p) ≡ true → belongs (bank_number b) (bank_count b) p ≡ true)
 
 -- what a port is
-abbrev pub kind_at : Option Kept → Option RegistryView → Option PortKind
-kind_at (Some k) r = Some Channel
-kind_at None r = kind_of r
+abbrev pub kind_of_port : Option Kept → Option RegistryView → Option PortKind
+kind_of_port (Some k) r = Some Channel
+kind_of_port None r = kind_of_registry r
 
 -- the map with what is made at p, where it is of this map's kind
 abbrev pub with_made : {X : Type 0} → ℕ → Option X → (ℕ → Option X) → ℕ → Option X
@@ -78,8 +78,8 @@ kept_made (M.Mix out changes) = None
 kept_made (M.Pub source) = None
 
 -- the registry that is made, where it is one: without a member
-abbrev pub registry_made : Made → Option RegistryView
-registry_made (M.Channel buffer) = None
-registry_made (M.Mult source) = Some (a_mult source.n [])
-registry_made (M.Mix out changes) = Some (a_mix out.n changes.n false [])
-registry_made (M.Pub source) = Some (a_publication source.n [])
+abbrev pub new_registry : Made → Option RegistryView
+new_registry (M.Channel buffer) = None
+new_registry (M.Mult source) = Some (a_mult source.n [])
+new_registry (M.Mix out changes) = Some (a_mix out.n changes.n false [])
+new_registry (M.Pub source) = Some (a_publication source.n [])

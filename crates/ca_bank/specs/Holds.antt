@@ -25,23 +25,23 @@ abbrev pub row_raw : Kept → BranchView → Row
 row_raw k b = row_at (Some k.channel) (head k.takes) (head k.puts) b
 
 -- a handler that is asked is live
-abbrev pub Known : (ℕ → Bool) → Option Handler → Type 0
-Known alive None = Unit {0}
-Known alive (Some h) = alive h.wait ≡ true
+abbrev pub IsAskedLive : (ℕ → Bool) → Option Handler → Type 0
+IsAskedLive alive None = Unit {0}
+IsAskedLive alive (Some h) = alive h.wait ≡ true
 
 abbrev pub AskedAfter : (ℕ → Bool) → Option Handler → Bool → Option Handler → Type 0
 AskedAfter alive (Some h) room ps = Unit {0}
-AskedAfter alive None true ps = Known alive ps
+AskedAfter alive None true ps = IsAskedLive alive ps
 AskedAfter alive None false ps = Unit {0}
 
 abbrev pub PutAsks : (ℕ → Bool) → Channel → Bool → Bool → Option Handler → Option Handler → Type 0
 PutAsks alive c true is ts ps = Unit {0}
 PutAsks alive c false true ts ps = Unit {0}
-PutAsks alive c false false ts ps = Known alive ts × AskedAfter alive ts (has_room c) ps
+PutAsks alive c false false ts ps = IsAskedLive alive ts × AskedAfter alive ts (has_room c) ps
 
 abbrev pub TakeAsks : (ℕ → Bool) → List Tree → Option Handler → Type 0
 TakeAsks alive (v ∷ vs) ps = Unit {0}
-TakeAsks alive [] ps = Known alive ps
+TakeAsks alive [] ps = IsAskedLive alive ps
 
 -- each handler that the row of b asks is live
 abbrev pub Asks : (ℕ → Bool) → BranchView → Kept → Type 0
@@ -50,8 +50,8 @@ Asks alive (put_of p v) k = PutAsks alive k.channel k.channel.closed (is_promise
 
 -- each handler that a Settle's rows ask is live
 abbrev pub TakerAsks : (ℕ → Bool) → Bool → List Tree → Option Handler → Type 0
-TakerAsks alive closed (v ∷ vs) ts = Known alive ts
-TakerAsks alive true [] ts = Known alive ts
+TakerAsks alive closed (v ∷ vs) ts = IsAskedLive alive ts
+TakerAsks alive true [] ts = IsAskedLive alive ts
 TakerAsks alive false [] ts = Unit {0}
 
 abbrev pub NextAsks : (ℕ → Bool) → Bool → List Tree → Option Handler → Option Handler → Type 0
@@ -59,7 +59,7 @@ NextAsks alive closed vs ts (Some h) = Unit {0}
 NextAsks alive closed vs ts None = TakerAsks alive closed vs ts
 
 abbrev pub SettleAsks : (ℕ → Bool) → Bool → Channel → Option Handler → Option Handler → Type 0
-SettleAsks alive true c ts ps = Known alive ps × NextAsks alive c.closed c.held ts ps
+SettleAsks alive true c ts ps = IsAskedLive alive ps × NextAsks alive c.closed c.held ts ps
 SettleAsks alive false c ts ps = TakerAsks alive c.closed c.held ts
 
 abbrev pub AsksSettle : (ℕ → Bool) → Kept → Type 0
@@ -73,9 +73,9 @@ EachNamed used [] = Unit {0}
 EachNamed used (h ∷ hs) = (is_among h.wait used ≡ true) × EachNamed used hs
 
 -- no two waits have one number
-abbrev pub Differ : List Wait → Type 0
-Differ [] = Unit {0}
-Differ (x ∷ xs) = (is_live x.number xs ≡ false) × Differ xs
+abbrev pub WaitsDiffer : List Wait → Type 0
+WaitsDiffer [] = Unit {0}
+WaitsDiffer (x ∷ xs) = (is_live x.number xs ≡ false) × WaitsDiffer xs
 
 -- how often the wait changes along a queue
 abbrev pub changes_at : ℕ → Option Handler → ℕ
@@ -87,21 +87,21 @@ groups [] = 0
 groups (h ∷ q) = changes_at h.wait (head q) + groups q
 
 -- ports and live waits stand for the channels, waits and given numbers of a state
-pub record Holds (ports : ℕ → Option Kept) (alive : ℕ → Bool) (channels : Channels) (waits : List Wait) (used : List ℕ) : Type 0 where
+pub record KeepsChannels (ports : ℕ → Option Kept) (alive : ℕ → Bool) (channels : Channels) (waits : List Wait) (used : List ℕ) : Type 0 where
   pub channels_are : (p : ℕ) → channels p ≡ channel_of (ports p)
   pub queues : (side : Side) (p : ℕ) (k : Kept) → ports p ≡ Some k → live_of alive (on side k) ≡ queue side p waits
   pub nowhere : (side : Side) (p : ℕ) → ports p ≡ None → queue side p waits ≡ []
   pub named : (side : Side) (p : ℕ) (k : Kept) → ports p ≡ Some k → EachNamed used (on side k)
   pub living : (w : ℕ) → alive w ≡ is_live w waits
   pub given : (w : ℕ) → is_live w waits ≡ true → is_among w used ≡ true
-  pub differ : Differ waits
+  pub differ : WaitsDiffer waits
 
 -- a channel's queues once the wait w has joined with these branches
-abbrev pub joined : ℕ → List BranchView → ℕ → Kept → Kept
-joined w bs p k = record { channel = k.channel; takes = k.takes ++ handlers Take p w 0 bs; puts = k.puts ++ handlers Put p w 0 bs }
+abbrev pub joined_queues : ℕ → List BranchView → ℕ → Kept → Kept
+joined_queues w bs p k = record { channel = k.channel; takes = k.takes ++ handlers Take p w 0 bs; puts = k.puts ++ handlers Put p w 0 bs }
 
 abbrev pub join_all : ℕ → List BranchView → (ℕ → Option Kept) → ℕ → Option Kept
-join_all w bs ports p = option_map (joined w bs p) (ports p)
+join_all w bs ports p = option_map (joined_queues w bs p) (ports p)
 
 -- the live waits with one more, and without one
 abbrev pub and_wait : (ℕ → Bool) → ℕ → ℕ → Bool
@@ -114,42 +114,42 @@ but_wait alive w v = alive v && not (eqb w v)
 -- for the shorter list.
 abbrev pub WaitTakenOut : Type 0
 WaitTakenOut = (ports : ℕ → Option Kept) (live : ℕ → Bool) (channels : Channels) (waits : List Wait) (used : List ℕ) (w : ℕ)
-    → Holds ports live channels waits used → Holds ports (but_wait live w) channels (without w waits) used
+    → KeepsChannels ports live channels waits used → KeepsChannels ports (but_wait live w) channels (without w waits) used
 
 -- A new wait, whose number was never given, joins the queues of its branches: no stale handler becomes live.
 abbrev pub WaitParked : Type 0
 WaitParked = (ports : ℕ → Option Kept) (live : ℕ → Bool) (channels : Channels) (waits : List Wait) (used : List ℕ) (x : Wait)
-    → Holds ports live channels waits used → is_among x.number used ≡ false → ((side : Side) (p : ℕ) → ports p ≡ None → handlers side p x.number 0 x.branches ≡ [])
-    → Holds (join_all x.number x.branches ports) (and_wait live x.number) channels (waits ++ x ∷ []) (x.number ∷ used)
+    → KeepsChannels ports live channels waits used → is_among x.number used ≡ false → ((side : Side) (p : ℕ) → ports p ≡ None → handlers side p x.number 0 x.branches ≡ [])
+    → KeepsChannels (join_all x.number x.branches ports) (and_wait live x.number) channels (waits ++ x ∷ []) (x.number ∷ used)
 
 -- A stale handler leaves its queue.
 abbrev pub HandlerPruned : Type 0
 HandlerPruned = (ports : ℕ → Option Kept) (live : ℕ → Bool) (channels : Channels) (waits : List Wait) (used : List ℕ) (p : ℕ) (k : Kept) (side : Side) (before : List Handler) (h : Handler) (after : List Handler)
-    → Holds ports live channels waits used → ports p ≡ Some k → on side k ≡ before ++ h ∷ after → live h.wait ≡ false
-    → Holds (update eqb ports p (Some (put_on side (before ++ after) k))) live channels waits used
+    → KeepsChannels ports live channels waits used → ports p ≡ Some k → on side k ≡ before ++ h ∷ after → live h.wait ≡ false
+    → KeepsChannels (update eqb ports p (Some (put_on side (before ++ after) k))) live channels waits used
 
 -- A channel is made, where there was none of its number.
 abbrev pub ChannelMade : Type 0
 ChannelMade = (ports : ℕ → Option Kept) (live : ℕ → Bool) (channels : Channels) (waits : List Wait) (used : List ℕ) (p : ℕ) (c : Channel)
-    → Holds ports live channels waits used → ports p ≡ None → Holds (update eqb ports p (Some (unattended c))) live (update eqb channels p (Some c)) waits used
+    → KeepsChannels ports live channels waits used → ports p ≡ None → KeepsChannels (update eqb ports p (Some (unattended c))) live (update eqb channels p (Some c)) waits used
 
 -- A channel's values or its mark change, and its queues stay.
 abbrev pub ChannelChanged : Type 0
 ChannelChanged = (ports : ℕ → Option Kept) (live : ℕ → Bool) (channels : Channels) (waits : List Wait) (used : List ℕ) (p : ℕ) (k : Kept) (c : Channel)
-    → Holds ports live channels waits used → ports p ≡ Some k → Holds (update eqb ports p (Some (with_channel c k))) live (update eqb channels p (Some c)) waits used
+    → KeepsChannels ports live channels waits used → ports p ≡ Some k → KeepsChannels (update eqb ports p (Some (with_channel c k))) live (update eqb channels p (Some c)) waits used
 
 -- What becomes of a branch by the handlers that stand first is what becomes of it in the state, where those
 -- that its row asks are live.
 abbrev pub RowSeen : Type 0
 RowSeen = (ports : ℕ → Option Kept) (live : ℕ → Bool) (s : State) (b : BranchView) (k : Kept)
-    → Holds ports live s.channels s.waits s.used → ports (port_of b) ≡ Some k → Asks live b k → row s b ≡ row_raw k b
+    → KeepsChannels ports live s.channels s.waits s.used → ports (port_of b) ≡ Some k → Asks live b k → row s b ≡ row_raw k b
 
 -- The same for what a channel settles by itself.
 abbrev pub SettleSeen : Type 0
 SettleSeen = (ports : ℕ → Option Kept) (live : ℕ → Bool) (s : State) (p : ℕ) (k : Kept)
-    → Holds ports live s.channels s.waits s.used → ports p ≡ Some k → AsksSettle live k
+    → KeepsChannels ports live s.channels s.waits s.used → ports p ≡ Some k → AsksSettle live k
     → settle_row k.channel (front Take p s.waits) (front Put p s.waits) ≡ settle_row k.channel (head k.takes) (head k.puts)
 
 -- How many waits are pending on a side is how often the wait changes along its queue.
 abbrev pub PendingCounted : Type 0
-PendingCounted = (side : Side) (p : ℕ) (waits : List Wait) → Differ waits → groups (queue side p waits) ≡ pending side p waits
+PendingCounted = (side : Side) (p : ℕ) (waits : List Wait) → WaitsDiffer waits → groups (queue side p waits) ≡ pending side p waits

@@ -2,7 +2,7 @@
 use Rattle.std.specs.Prelude.{ℕ, ◌-◌, List, [], ◌++◌, ◌∷◌, Option, Some, None, option_map, Bool, false, eqb, remove}
 use Rattle.std.specs.Map.{update}
 use Rattle.ca_value.specs.Tree.{Tree}
-use Rattle.ca_value.specs.Buffer.{Policy, no_buffer, fixed_buffer, dropping_buffer, sliding_buffer, promise_buffer, dropped, given}
+use Rattle.ca_value.specs.Buffer.{Policy, no_buffer, fixed_buffer, dropping_buffer, sliding_buffer, promise_buffer, value_dropped, value_given}
 use Rattle.ca_term.specs.declared.event.Side.{Side}
 use Rattle.ca_term.specs.declared.event.Side.TheVariants.{Take, Put}
 use Rattle.ca_meaning.specs.Channel.{Channel, shut, keeping, giving, has_room}
@@ -26,8 +26,8 @@ abbrev pub unattended : Channel → Kept
 unattended c = record { channel = c; takes = []; puts = [] }
 
 -- the map with f done at p
-abbrev pub at : {X : Type 0} → (ℕ → Option X) → ℕ → (X → X) → ℕ → Option X
-at m p f q = update eqb m p (option_map f (m p)) q
+abbrev pub entry_changed : {X : Type 0} → (ℕ → Option X) → ℕ → (X → X) → ℕ → Option X
+entry_changed m p f q = update eqb m p (option_map f (m p)) q
 
 -- the handler stands last on its side
 abbrev pub enqueued : Side → Handler → Kept → Kept
@@ -37,8 +37,8 @@ enqueued side h k = put_on side (on side k ++ h ∷ []) k
 abbrev pub pruned : Side → ℕ → Kept → Kept
 pruned side place k = put_on side (remove (on side k) place) k
 
-abbrev pub closed : Kept → Kept
-closed k = record k { channel = shut k.channel }
+abbrev pub closed_channel : Kept → Kept
+closed_channel k = record k { channel = shut k.channel }
 
 -- the channel after its buffer got a value, and after it gave one
 abbrev pub added : Tree → Kept → Kept
@@ -64,12 +64,12 @@ takes_one_more (Some k) = has_room k.channel
 -- the value that is dropped where the buffer gets this one
 abbrev pub dropped_at : Option Kept → Tree → Option Tree
 dropped_at None v = None
-dropped_at (Some k) v = dropped k.channel.policy k.channel.capacity k.channel.held v
+dropped_at (Some k) v = value_dropped k.channel.policy k.channel.capacity k.channel.held v
 
 -- the value that leaves the buffer
 abbrev pub given_at : Option Kept → Option Tree
 given_at None = None
-given_at (Some k) = given k.channel.policy k.channel.held
+given_at (Some k) = value_given k.channel.policy k.channel.held
 
 -- what a buffer is: its policy, its capacity and its values
 pub record Buffered : Type 0 where

@@ -29,8 +29,8 @@ abbrev pub spare_of : Option AnyBuffer → ℕ
 spare_of None = 0
 spare_of (Some b) = any_spare b
 
-abbrev pub buffered : AnyBuffer → Buffered
-buffered b = record { policy = any_policy b; capacity = any_capacity b; held = any_held b }
+abbrev pub room_buffered : AnyBuffer → Buffered
+room_buffered b = record { policy = any_policy b; capacity = any_capacity b; held = any_held b }
 
 abbrev pub kept_view : Room → Kept
 kept_view r = record { channel = channel_with r.buffer r.closed; takes = map handler_view r.takes.items; puts = map handler_view r.puts.items }

@@ -27,9 +27,9 @@ abbrev pub SameShard : {A : Type 0} → Shard A → Shard A → Type 0
 SameShard old new = (shard_number new ≡ shard_number old) × (shard_count new ≡ shard_count old)
 
 -- each wait that is there belongs there
-abbrev pub ArePlaced : {A : Type 0} → Shard A → Type 0
-ArePlaced s = (w : ℕ) → is_some (parked_in s w) ≡ true → belongs (shard_number s) (shard_count s) w ≡ true
+abbrev pub WaitsArePlaced : {A : Type 0} → Shard A → Type 0
+WaitsArePlaced s = (w : ℕ) → is_some (parked_in s w) ≡ true → belongs (shard_number s) (shard_count s) w ≡ true
 
-abbrev pub is_live : Probe → Bool
-is_live Live = true
-is_live Stale = false
+abbrev pub probes_live : Probe → Bool
+probes_live Live = true
+probes_live Stale = false

@@ -5,8 +5,8 @@ use base.Stored.{coded_unit}
 use Rattle.indexmap.specs.IndexMap.{IndexMap}
 use Rattle.indexmap.specs.Layout.{hash_map_code}
 
-abbrev pub Waits : Type 0 → Type 0
-Waits V = IndexMap ℕ V (Unit {0})
+abbrev pub WaitMap : Type 0 → Type 0
+WaitMap V = IndexMap ℕ V (Unit {0})
 
-abbrev pub waits_code : {V : Type 0} → Coded V → Coded (Waits V)
+abbrev pub waits_code : {V : Type 0} → Coded V → Coded (WaitMap V)
 waits_code v = hash_map_code coded_ℕ v coded_unit

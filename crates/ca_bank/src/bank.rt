@@ -4,13 +4,13 @@ ghost use Rattle.indexmap.specs.IndexMap.{get};
 ghost use Rattle.ca_value.specs.Seq.{list};
 ghost use Rattle.ca_value.specs.View.{view, trees};
 ghost use Rattle.ca_term.specs.Event.{port_number};
-ghost use Rattle.ca_bank.specs.Kept.{at, unattended, enqueued, pruned, closed, added, removed, queue_at, is_closed_at, buffer_at, takes_one_more, dropped_at, given_at, queue_spare, buffer_spare, spare_put_on, one_less, spare_in_buffer};
-ghost use Rattle.ca_registry.specs.Kind.{kind_of};
+ghost use Rattle.ca_bank.specs.Kept.{entry_changed, unattended, enqueued, pruned, closed_channel, added, removed, queue_at, is_closed_at, buffer_at, takes_one_more, dropped_at, given_at, queue_spare, buffer_spare, spare_put_on, one_less, spare_in_buffer};
+ghost use Rattle.ca_registry.specs.Kind.{kind_of_registry};
 ghost use Rattle.ca_registry.specs.Registries.{answered, IsCause, members_added};
 ghost use Rattle.ca_registry.specs.Mixes.{TogglesApart};
 ghost use Rattle.ca_registry.specs.Publications.{PlacesItself};
-ghost use Rattle.ca_registry.specs.Registry.{registry_view, comes_to, registered};
-ghost use Rattle.ca_bank.specs.Room.{handler_view, kept_view, buffered};
+ghost use Rattle.ca_registry.specs.Registry.{registry_view, comes_to, registry_after};
+ghost use Rattle.ca_bank.specs.Room.{handler_view, kept_view, room_buffered};
 
 use crate::handler::Handler;
 use crate::room::Room;
@@ -57,7 +57,7 @@ pub struct Bank {
 
 impl Bank {
     ghost use Rattle.ca_bank.specs.Shard.{belongs};
-    ghost use Rattle.ca_bank.specs.Bank.{kept_at, channel_at, spares_at, registry_at, members_spare_at, bank_number, bank_count, channels_spare, registries_spare, SameBank, SameChannels, SameRegistries, ArePlaced, kind_at, with_made, kept_made, registry_made};
+    ghost use Rattle.ca_bank.specs.Bank.{kept_at, channel_at, spares_at, registry_at, members_spare_at, bank_number, bank_count, channels_spare, registries_spare, SameBank, SameChannels, SameRegistries, ArePlaced, kind_of_port, with_made, kept_made, new_registry};
 
     /// The bank of that number, of so many: it has no port, and takes no memory.
     pub fn new(alloc: Global, number: u64, count: u64) -> Bank
@@ -98,7 +98,7 @@ impl Bank {
 
     /// What the port is; None exactly where it isn't in this bank.
     pub fn kind(&self, port: PortId) -> Option<PortKind>
-        ensures { result ≡ kind_at (kept_at self.now port.n) (registry_at self.now port.n) }
+        ensures { result ≡ kind_of_port (kept_at self.now port.n) (registry_at self.now port.n) }
     {
         match self.find(port) {
             Some(_) => Some(PortKind::Channel),
@@ -119,7 +119,7 @@ impl Bank {
 
     /// What the registry is that the port names; None exactly where it names none in this bank.
     pub fn registry_kind(&self, port: PortId) -> Option<PortKind>
-        ensures { result ≡ kind_of (registry_at self.now port.n) }
+        ensures { result ≡ kind_of_registry (registry_at self.now port.n) }
     {
         match self.registries.get(&port.n) {
             Some(registry) => Some(registry.kind()),
@@ -167,7 +167,7 @@ impl Bank {
 
     /// The channel's buffer; None exactly where it has none.
     pub fn buffer(&self, port: PortId) -> Option<&AnyBuffer>
-        ensures { option_map (λ b. buffered b.now) result ≡ buffer_at (kept_at self.now port.n) }
+        ensures { option_map (λ b. room_buffered b.now) result ≡ buffer_at (kept_at self.now port.n) }
     {
         match self.find(port) {
             Some(room) => room.buffer(),
@@ -219,7 +219,7 @@ impl Bank {
         requires channels { 0 < channels_spare self.old }
         requires registries { 0 < registries_spare self.old }
         ensures kept { (p : ℕ) → kept_at self.new p ≡ with_made port.n (kept_made made) (kept_at self.old) p }
-        ensures registered { (p : ℕ) → registry_at self.new p ≡ with_made port.n (registry_made made) (registry_at self.old) p }
+        ensures registered { (p : ℕ) → registry_at self.new p ≡ with_made port.n (new_registry made) (registry_at self.old) p }
         ensures spare { channels_spare self.old ≤ channels_spare self.new + 1 }
         ensures more { registries_spare self.old ≤ registries_spare self.new + 1 }
         ensures number { bank_number self.new ≡ bank_number self.old }
@@ -269,7 +269,7 @@ impl Bank {
     pub fn reserve(&mut self, port: PortId, side: Side, n: u64) -> Result<(), OutOfMemory>
         ensures spare { OnOk result (is_some (kept_at self.old port.n) ≡ true → n ≤ queue_spare side (spares_at self.new port.n)) }
         ensures kept { (p : ℕ) → kept_at self.new p ≡ kept_at self.old p }
-        ensures spares { (p : ℕ) → spares_at self.new p ≡ at (spares_at self.old) port.n (spare_put_on side (queue_spare side (spares_at self.new port.n))) p }
+        ensures spares { (p : ℕ) → spares_at self.new p ≡ entry_changed (spares_at self.old) port.n (spare_put_on side (queue_spare side (spares_at self.new port.n))) p }
         ensures more { queue_spare side (spares_at self.old port.n) ≤ queue_spare side (spares_at self.new port.n) }
         ensures same { SameBank self.old self.new }
         ensures others { SameRegistries self.old self.new }
@@ -283,8 +283,8 @@ impl Bank {
     /// Adds the handler last on that side of the channel. It takes no memory.
     pub fn enqueue(&mut self, port: PortId, side: Side, handler: Handler)
         requires { 0 < queue_spare side (spares_at self.old port.n) }
-        ensures kept { (p : ℕ) → kept_at self.new p ≡ at (kept_at self.old) port.n (enqueued side (handler_view handler)) p }
-        ensures spares { (p : ℕ) → spares_at self.new p ≡ at (spares_at self.old) port.n (one_less side) p }
+        ensures kept { (p : ℕ) → kept_at self.new p ≡ entry_changed (kept_at self.old) port.n (enqueued side (handler_view handler)) p }
+        ensures spares { (p : ℕ) → spares_at self.new p ≡ entry_changed (spares_at self.old) port.n (one_less side) p }
         ensures same { SameBank self.old self.new }
         ensures others { SameRegistries self.old self.new }
     {
@@ -297,8 +297,8 @@ impl Bank {
     /// costs the same however many there are.
     pub fn prune(&mut self, port: PortId, side: Side, place: u64) -> Option<Handler>
         ensures handler { option_map handler_view result ≡ slice_get (queue_at side (kept_at self.old port.n)) place }
-        ensures kept { (p : ℕ) → kept_at self.new p ≡ at (kept_at self.old) port.n (pruned side place) p }
-        ensures spares { (p : ℕ) → spares_at self.new p ≡ at (spares_at self.old) port.n (spare_put_on side (queue_spare side (spares_at self.new port.n))) p }
+        ensures kept { (p : ℕ) → kept_at self.new p ≡ entry_changed (kept_at self.old) port.n (pruned side place) p }
+        ensures spares { (p : ℕ) → spares_at self.new p ≡ entry_changed (spares_at self.old) port.n (spare_put_on side (queue_spare side (spares_at self.new port.n))) p }
         ensures more { queue_spare side (spares_at self.old port.n) ≤ queue_spare side (spares_at self.new port.n) }
         ensures same { SameBank self.old self.new }
         ensures others { SameRegistries self.old self.new }
@@ -311,7 +311,7 @@ impl Bank {
 
     /// Closes the channel. What it holds and who waits stay.
     pub fn close(&mut self, port: PortId)
-        ensures kept { (p : ℕ) → kept_at self.new p ≡ at (kept_at self.old) port.n closed p }
+        ensures kept { (p : ℕ) → kept_at self.new p ≡ entry_changed (kept_at self.old) port.n closed_channel p }
         ensures spares { (p : ℕ) → spares_at self.new p ≡ spares_at self.old p }
         ensures same { SameBank self.old self.new }
         ensures others { SameRegistries self.old self.new }
@@ -325,7 +325,7 @@ impl Bank {
     pub fn reserve_buffer(&mut self, port: PortId) -> Result<(), OutOfMemory>
         ensures spare { OnOk result (is_some (buffer_at (kept_at self.old port.n)) ≡ true → 0 < buffer_spare (spares_at self.new port.n)) }
         ensures kept { (p : ℕ) → kept_at self.new p ≡ kept_at self.old p }
-        ensures spares { (p : ℕ) → spares_at self.new p ≡ at (spares_at self.old) port.n (spare_in_buffer (buffer_spare (spares_at self.new port.n))) p }
+        ensures spares { (p : ℕ) → spares_at self.new p ≡ entry_changed (spares_at self.old) port.n (spare_in_buffer (buffer_spare (spares_at self.new port.n))) p }
         ensures more { buffer_spare (spares_at self.old port.n) ≤ buffer_spare (spares_at self.new port.n) }
         ensures same { SameBank self.old self.new }
         ensures others { SameRegistries self.old self.new }
@@ -341,9 +341,9 @@ impl Bank {
     pub fn add(&mut self, port: PortId, value: Value) -> Option<Value>
         requires room { takes_one_more (kept_at self.old port.n) ≡ true }
         requires spare { 0 < buffer_spare (spares_at self.old port.n) }
-        ensures kept { (p : ℕ) → kept_at self.new p ≡ at (kept_at self.old) port.n (added (view value)) p }
+        ensures kept { (p : ℕ) → kept_at self.new p ≡ entry_changed (kept_at self.old) port.n (added (view value)) p }
         ensures dropped { option_map view result ≡ dropped_at (kept_at self.old port.n) (view value) }
-        ensures spares { (p : ℕ) → spares_at self.new p ≡ at (spares_at self.old) port.n (spare_in_buffer (buffer_spare (spares_at self.new port.n))) p }
+        ensures spares { (p : ℕ) → spares_at self.new p ≡ entry_changed (spares_at self.old) port.n (spare_in_buffer (buffer_spare (spares_at self.new port.n))) p }
         ensures less { buffer_spare (spares_at self.old port.n) ≤ buffer_spare (spares_at self.new port.n) + 1 }
         ensures same { SameBank self.old self.new }
         ensures others { SameRegistries self.old self.new }
@@ -356,9 +356,9 @@ impl Bank {
 
     /// Takes the oldest value out of the channel's buffer; None where there is none. Nothing leaves a promise.
     pub fn remove(&mut self, port: PortId) -> Option<Value>
-        ensures kept { (p : ℕ) → kept_at self.new p ≡ at (kept_at self.old) port.n removed p }
+        ensures kept { (p : ℕ) → kept_at self.new p ≡ entry_changed (kept_at self.old) port.n removed p }
         ensures given { option_map view result ≡ given_at (kept_at self.old port.n) }
-        ensures spares { (p : ℕ) → spares_at self.new p ≡ at (spares_at self.old) port.n (spare_in_buffer (buffer_spare (spares_at self.new port.n))) p }
+        ensures spares { (p : ℕ) → spares_at self.new p ≡ entry_changed (spares_at self.old) port.n (spare_in_buffer (buffer_spare (spares_at self.new port.n))) p }
         ensures more { buffer_spare (spares_at self.old port.n) ≤ buffer_spare (spares_at self.new port.n) }
         ensures same { SameBank self.old self.new }
         ensures others { SameRegistries self.old self.new }
@@ -414,7 +414,7 @@ impl Bank {
     pub fn register(&mut self, port: PortId, name: RegisterName, args: Items)
         requires room { members_added name (trees (list args)) ≤ members_spare_at self.old port.n }
         requires apart { TogglesApart name (trees (list args)) }
-        ensures registered { (p : ℕ) → registry_at self.new p ≡ at (registry_at self.old) port.n (registered name (trees (list args))) p }
+        ensures registered { (p : ℕ) → registry_at self.new p ≡ entry_changed (registry_at self.old) port.n (registry_after name (trees (list args))) p }
         ensures same { SameBank self.old self.new }
         ensures others { SameChannels self.old self.new }
     {

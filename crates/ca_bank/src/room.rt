@@ -2,8 +2,8 @@ ghost use Rattle.std.specs.Prelude.{◌≡◌, ℕ, ◌+◌, ◌-◌, ◌<◌, �
 ghost use Rattle.std.specs.VecDeque.{deque_len, deque_capacity};
 ghost use Rattle.ca_value.specs.View.{view};
 ghost use Rattle.ca_meaning.specs.Channel.{has_room};
-ghost use Rattle.ca_bank.specs.Kept.{on, unattended, enqueued, pruned, closed, added, removed, dropped_at, given_at, buffer_at, spare_on, spare_put_on, one_less, spare_in_buffer};
-ghost use Rattle.ca_bank.specs.Room.{handler_view, kept_view, spares_view, channel_with, spare_of, buffered};
+ghost use Rattle.ca_bank.specs.Kept.{on, unattended, enqueued, pruned, closed_channel, added, removed, dropped_at, given_at, buffer_at, spare_on, spare_put_on, one_less, spare_in_buffer};
+ghost use Rattle.ca_bank.specs.Room.{handler_view, kept_view, spares_view, channel_with, spare_of, room_buffered};
 
 use crate::handler::Handler;
 use ca_buffers::any::AnyBuffer;
@@ -98,7 +98,7 @@ impl Room {
     }
 
     pub(crate) fn close(&mut self)
-        ensures kept { kept_view self.new ≡ closed (kept_view self.old) }
+        ensures kept { kept_view self.new ≡ closed_channel (kept_view self.old) }
         ensures spares { spares_view self.new ≡ spares_view self.old }
     {
         self.closed = true;
@@ -113,7 +113,7 @@ impl Room {
 
     /// The channel's buffer; None exactly where it has none.
     pub fn buffer(&self) -> Option<&AnyBuffer>
-        ensures { option_map (λ b. buffered b.now) result ≡ buffer_at (Some (kept_view self.now)) }
+        ensures { option_map (λ b. room_buffered b.now) result ≡ buffer_at (Some (kept_view self.now)) }
     {
         self.buffer.as_ref()
     }

@@ -32,7 +32,7 @@ pub struct Shard<A> {
 }
 
 impl<A> Shard<A> {
-    ghost use Rattle.ca_bank.specs.Shard.{belongs, parked_in, shard_number, shard_count, shard_spare, is_live, SameShard, ArePlaced};
+    ghost use Rattle.ca_bank.specs.Shard.{belongs, parked_in, shard_number, shard_count, shard_spare, probes_live, SameShard, WaitsArePlaced};
 
     /// The shard of that number, of so many: it has no wait, and takes no memory.
     pub fn new(alloc: Global, number: u64, count: u64) -> Shard<A>
@@ -51,7 +51,7 @@ impl<A> Shard<A> {
     /// Whether the wait can stand in this shard.
     pub fn owns(&self, wait: WaitId) -> bool
         ensures owns { result ≡ belongs (shard_number self.now) (shard_count self.now) wait.n }
-        ensures placed { ArePlaced self.now }
+        ensures placed { WaitsArePlaced self.now }
     {
         wait.n % self.count == self.number
     }
@@ -68,7 +68,7 @@ impl<A> Shard<A> {
 
     /// Whether the wait is live: it is stale exactly where it isn't in its shard.
     pub fn probe(&self, wait: WaitId) -> Probe
-        ensures { is_live result ≡ is_some (parked_in self.now wait.n) }
+        ensures { probes_live result ≡ is_some (parked_in self.now wait.n) }
     {
         match self.waits.get(wait.n) {
             Some(_) => Probe::Live,

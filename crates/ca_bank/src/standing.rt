@@ -1,11 +1,11 @@
 ghost use Rattle.std.specs.Prelude.{◌≡◌, ℕ, Option, None, Some, is_some, eqb};
 ghost use Rattle.std.specs.Map.{update};
 ghost use Rattle.ca_bank.specs.Holds.{and_wait, but_wait};
-ghost use Rattle.ca_bank.specs.Standing.{together, Alone, SameStands, PortMade, ChannelClosed, ValueAdded, ValueRemoved, StalePruned, WaitLeaves, WaitJoins, RegistryChanged, RegistryKept, QueuesJoined};
+ghost use Rattle.ca_bank.specs.Standing.{together, ChangesEntry, SameStands, PortMade, ChannelClosed, ValueAdded, ValueRemoved, StalePruned, WaitLeaves, WaitJoins, RegistryChanged, RegistryKept, QueuesJoined};
 
 /// One entry changes in its bank or shard, so it is that entry alone that changes in all of them together.
 pub fn one_part_changes_alone<A>()
-    ensures { (count n : ℕ) (x : Option A) (old new : ℕ → ℕ → Option A) → Alone count n x old new → (q : ℕ) → together count new q ≡ update eqb (together count old) n x q }
+    ensures { (count n : ℕ) (x : Option A) (old new : ℕ → ℕ → Option A) → ChangesEntry count n x old new → (q : ℕ) → together count new q ≡ update eqb (together count old) n x q }
 {}
 
 /// A wait is live exactly while it stands in its shard: what `take_out` and `put_in` leave of that.

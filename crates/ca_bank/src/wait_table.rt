@@ -22,17 +22,17 @@ pub(crate) struct WaitTable<V> {
 }
 
 impl<V> Model for WaitTable<V> {
-    ghost use Rattle.ca_bank.specs.Waits.{Waits, waits_code};
+    ghost use Rattle.ca_bank.specs.Waits.{WaitMap, waits_code};
 
-    ghost Value = { Waits V };
+    ghost Value = { WaitMap V };
 
     ghost coded = { waits_code V.code };
 
-    ghost use Rattle.ca_bank.specs.WaitTable.{table_view, IsTable};
+    ghost use Rattle.ca_bank.specs.WaitTable.{table_view, IsWaitTable};
 
     ghost view = { λ t. table_view t };
 
-    ghost invariant = { λ t. IsTable t };
+    ghost invariant = { λ t. IsWaitTable t };
 }
 
 impl<V> WaitTable<V> {

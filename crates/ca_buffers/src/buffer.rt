@@ -1,7 +1,7 @@
 ghost use Rattle.std.specs.Prelude.{◌≡◌, ◌+◌, ◌<◌, ◌≤◌, ℕ, List, true, length, not, slice_get, option_map, OnOk};
 ghost use Rattle.ca_value.specs.Tree.{Tree};
 ghost use Rattle.ca_value.specs.View.{view};
-ghost use Rattle.ca_value.specs.Buffer.{Policy, is_promise, is_full, room_by, keep, dropped, give, given};
+ghost use Rattle.ca_value.specs.Buffer.{Policy, is_promise, is_full, room_by, keep, value_dropped, give_first, value_given};
 
 use ca_value::memory::OutOfMemory;
 use ca_value::value::Value;
@@ -39,15 +39,15 @@ pub trait Buffer: Drop {
         requires room { room_by (policy self.old) (is_full (capacity self.old) (held self.old)) ≡ true }
         requires spare { 0 < spare self.old }
         ensures held { held self.new ≡ keep (policy self.old) (capacity self.old) (held self.old) (view value) }
-        ensures dropped { option_map view result ≡ dropped (policy self.old) (capacity self.old) (held self.old) (view value) }
+        ensures dropped { option_map view result ≡ value_dropped (policy self.old) (capacity self.old) (held self.old) (view value) }
         ensures policy { policy self.new ≡ policy self.old }
         ensures capacity { capacity self.new ≡ capacity self.old }
         ensures spare { spare self.old ≤ spare self.new + 1 };
 
     /// Takes the oldest value out, or None where there is none. Nothing leaves a promise.
     fn remove(&mut self) -> Option<Value>
-        ensures held { held self.new ≡ give (policy self.old) (held self.old) }
-        ensures given { option_map view result ≡ given (policy self.old) (held self.old) }
+        ensures held { held self.new ≡ give_first (policy self.old) (held self.old) }
+        ensures given { option_map view result ≡ value_given (policy self.old) (held self.old) }
         ensures policy { policy self.new ≡ policy self.old }
         ensures capacity { capacity self.new ≡ capacity self.old }
         ensures spare { spare self.old ≤ spare self.new };

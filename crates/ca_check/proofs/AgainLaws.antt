@@ -13,13 +13,13 @@ use Rattle.ca_forms.specs.declared.error.CheckErrorKind.TheVariants.{TooMany}
 use Rattle.ca_check.specs.Again.{widths, again_terms, whole_names, again_row}
 use Rattle.ca_forms.specs.Binders.{Binder, Bound, one, many, width, whole_name, spread_items, spread_one, spread, patterns}
 use Rattle.ca_forms.specs.Judged.{bound_names, total_binder, total_bounds, total_name, total_names, part_terms, pattern_of}
-use Rattle.ca_forms.specs.Meaning.{Env, Meaning, Named, size, behind, binds, block, lets, loops, fail, numbered}
-use Rattle.ca_forms.specs.Outcome.{Gathered, Outcome, done, refused, after, limited}
+use Rattle.ca_forms.specs.Meaning.{Env, Meaning, Named, size, behind, binds, block, lets, loops, fail_with, numbered}
+use Rattle.ca_forms.specs.Outcome.{Gathered, WalkOutcome, done, refused, after_walk, limited}
 use Rattle.ca_forms.specs.Plain.{meanings, again, binders, loop_over_patterns}
 use Rattle.ca_forms.specs.Rounds.{loop_parts, under}
 use Rattle.ca_check.specs.TopsView.{pattern_names, pattern_parts, AreCounted}
 use Rattle.ca_forms.specs.Walk.{within}
-use Rattle.ca_forms.specs.WalkView.{parts_of, pairs_of, terms_of, Fails}
+use Rattle.ca_forms.specs.WalkView.{form_parts, form_pairs, terms_of, Fails}
 use Rattle.ca_forms.proofs.BindLaws.{at, binds_append, one_width, terms_append}
 use Rattle.ca_check.proofs.DefnLaws.{name_whole}
 use Rattle.ca_forms.proofs.LoopLaws.{binders_from, binders_step, has_pattern}
@@ -34,7 +34,7 @@ one_longer sc x = length-append sc (x ∷ []) ∙ omega arith
 pub again_bound : (e : Env) (n : ℕ) (bs : List Bound) (sc : List (List ℕ)) (s : Gathered) → binds (again n bs) (at e sc) s ≡ done (numbered (length sc) (again_terms n (binders bs))) s
 again_bound e n [] sc s = refl
 again_bound e n (b ∷ bs) sc s =
-    ap (λ (o : Outcome Bindings). after o (λ ts s. done (binding (length sc) (var n) ts) s)) (again_bound e (n + width b.by) bs (sc ++ whole_name b.by ∷ []) s)
+    ap (λ (o : WalkOutcome Bindings). after_walk o (λ ts s. done (binding (length sc) (var n) ts) s)) (again_bound e (n + width b.by) bs (sc ++ whole_name b.by ∷ []) s)
     ∙ ap (λ k. done (binding (length sc) (var n) (numbered k (again_terms (n + width b.by) (binders bs)))) s) (one_longer sc (whole_name b.by))
 
 pub again_names : (n : ℕ) (bs : List Bound) → bound_names (again n bs) ≡ whole_names (binders bs)
@@ -58,7 +58,7 @@ all_within p bs sc sc2 h =
     omega (arith, a, b, spread_widths p (length sc) bs)
 
 -- what comes to something went through its first part
-after_is_done : {A B : Type 0} (o : Outcome A) (k : A → Gathered → Outcome B) (b : B) (s2 : Gathered) → after o k ≡ done b s2 → (a : A) × (s1 : Gathered) × (o ≡ done a s1) × (k a s1 ≡ done b s2)
+after_is_done : {A B : Type 0} (o : WalkOutcome A) (k : A → Gathered → WalkOutcome B) (b : B) (s2 : Gathered) → after_walk o k ≡ done b s2 → (a : A) × (s1 : Gathered) × (o ≡ done a s1) × (k a s1 ≡ done b s2)
 after_is_done (done a s1) k b s2 h = (a, s1, refl, h)
 after_is_done (refused e p) k b s2 h = absurd (cc)
 
@@ -74,7 +74,7 @@ counted_done e p n (b ∷ bs) sc s s2 ts h =
       head : (c : Binder) (a : Bindings) (s1 : Gathered) → binds (spread_one p n c b.means) (at e sc) s ≡ done a s1 → AreCounted (binders bs) → AreCounted (c ∷ binders bs)
       head (one x) a s1 g k = k
       head (many xs q) a s1 g k = (⊎_elim (λ l. long (nat_lt 4096 (length xs)) (lt-ltb 4096 (length xs) l) g) (λ u. omega (arith, u)) (cases_lt 4096 (length xs)), k) where
-        long : (t : Bool) → t ≡ true → binds (record { name = []; means = cond t (fail TooMany q) b.means } ∷ spread_items p n xs 0) (at e sc) s ≡ done a s1 → length xs ≤ 4096
+        long : (t : Bool) → t ≡ true → binds (record { name = []; means = cond t (fail_with TooMany q) b.means } ∷ spread_items p n xs 0) (at e sc) s ≡ done a s1 → length xs ≤ 4096
         long true f g = absurd (cc)
         long false f g = absurd (cc)
 
@@ -96,7 +96,7 @@ widths_step fs i f h x = ap widths (binders_step fs i f h x)
 
 pub binders_over : (fs : List Form) (i : ℕ) → length fs ≤ 2 * i + 1 → binders_from fs i ≡ []
 binders_over fs i h = by (drop (2 * i) fs) (length-drop (2 * i) fs) where
-  by : (gs : List Form) → length gs ≡ length fs - 2 * i → binders (total_bounds (pairs_of gs)) ≡ []
+  by : (gs : List Form) → length gs ≡ length fs - 2 * i → binders (total_bounds (form_pairs gs)) ≡ []
   by [] e = refl
   by (g ∷ []) e = refl
   by (g ∷ k ∷ gs) e = absurd (omega (arith, e, h))
@@ -143,17 +143,17 @@ many_from fs i f h x = ap (λ (bs : List Binder). length bs) (binders_step fs i 
 
 -- a Let of the patterns, and a body
 module _ (e : Env) (p : Place) (n : ℕ) (bs : List Binder) (m : Meaning) (sc sc2 : List (List ℕ)) (s s1 : Gathered) (names : sc2 ≡ sc ++ pattern_names bs) (same : s1 ≡ s) where
-  lets_are : lets (patterns p n bs) m (at e sc) s ≡ after (m (at e sc2) s1) (λ u s. limited (bind (numbered (length sc) (pattern_parts p n bs)) u) s)
+  lets_are : lets (patterns p n bs) m (at e sc) s ≡ after_walk (m (at e sc2) s1) (λ u s. limited (bind (numbered (length sc) (pattern_parts p n bs)) u) s)
   lets_are =
       let here : sc ++ bound_names (patterns p n bs) ≡ sc2 = ap (λ (l : List (List ℕ)). sc ++ l) (patterns_named p n bs) ∙ sym names in
-      ap (λ (o : Outcome Bindings). after o (λ ts s. after (m (at e (sc ++ bound_names (patterns p n bs))) s) (λ u s. limited (bind ts u) s))) (patterns_bound e p n bs sc s)
-      ∙ ap (λ (z : List (List ℕ)). after (m (at e z) s) (λ u s. limited (bind (numbered (length sc) (pattern_parts p n bs)) u) s)) here
-      ∙ ap (λ z. after (m (at e sc2) z) (λ u s. limited (bind (numbered (length sc) (pattern_parts p n bs)) u) s)) (sym same)
+      ap (λ (o : WalkOutcome Bindings). after_walk o (λ ts s. after_walk (m (at e (sc ++ bound_names (patterns p n bs))) s) (λ u s. limited (bind ts u) s))) (patterns_bound e p n bs sc s)
+      ∙ ap (λ (z : List (List ℕ)). after_walk (m (at e z) s) (λ u s. limited (bind (numbered (length sc) (pattern_parts p n bs)) u) s)) here
+      ∙ ap (λ z. after_walk (m (at e sc2) z) (λ u s. limited (bind (numbered (length sc) (pattern_parts p n bs)) u) s)) (sym same)
 
   pub lets_walked : (u : Kernel) (s2 : Gathered) (ks : List Kernel) → m (at e sc2) s1 ≡ done u s2 → ks ≡ pattern_parts p n bs
       → lets (patterns p n bs) m (at e sc) s ≡ limited (bind (numbered (length sc) ks) u) s2
   lets_walked u s2 ks w k = lets_are
-      ∙ ap (λ (o : Outcome Kernel). after o (λ u s. limited (bind (numbered (length sc) (pattern_parts p n bs)) u) s)) w
+      ∙ ap (λ (o : WalkOutcome Kernel). after_walk o (λ u s. limited (bind (numbered (length sc) (pattern_parts p n bs)) u) s)) w
       ∙ ap (λ (l : List Kernel). limited (bind (numbered (length sc) l) u) s2) (sym k)
 
   pub lets_fail : (x : CheckError) → Fails x (m (at e sc2) s1) → Fails x (lets (patterns p n bs) m (at e sc) s)
@@ -169,7 +169,7 @@ module _ (e : Env) (p : Place) (n k : ℕ) (bs : List Bound) (m : Meaning) (sc2 
   body = block (lets (patterns p (size e) (binders bs)) m ∷ [])
 
   bodies : body (record (behind (again n bs) e) { target = Some (length (again n bs)) }) s
-      ≡ after (lets (patterns p (size e) (binders bs)) m (record e { scope = sc2; target = Some k }) s1) (λ t s. limited (seq (item t none)) s)
+      ≡ after_walk (lets (patterns p (size e) (binders bs)) m (record e { scope = sc2; target = Some k }) s1) (λ t s. limited (seq (item t none)) s)
   bodies = ap (λ i. body i s) inside ∙ ap (λ z. body (record e { scope = sc2; target = Some k }) z) (sym same) ∙ block_one (lets (patterns p (size e) (binders bs)) m) (record e { scope = sc2; target = Some k }) s1
 
   pub again_walked : (u v : Kernel) (s2 s3 : Gathered) (ks : List Kernel) → lets (patterns p (size e) (binders bs)) m (record e { scope = sc2; target = Some k }) s1 ≡ done u s2
@@ -177,7 +177,7 @@ module _ (e : Env) (p : Place) (n k : ℕ) (bs : List Bound) (m : Meaning) (sc2 
       → again_row n p bs m e s ≡ limited (loop [] (numbered (size e) ks) v) s3
   again_walked u v s2 s3 ks w g h =
       loops_walked (again n bs) body e (numbered (size e) (again_terms n (binders bs))) s s (done v s3) (again_bound e n bs e.scope s)
-      (bodies ∙ ap (λ (o : Outcome Kernel). after o (λ t s. limited (seq (item t none)) s)) w ∙ g)
+      (bodies ∙ ap (λ (o : WalkOutcome Kernel). after_walk o (λ t s. limited (seq (item t none)) s)) w ∙ g)
       ∙ ap (λ (l : List Kernel). limited (loop [] (numbered (size e) l) v) s3) (sym h)
 
   pub again_fails : (x : CheckError) → Fails x (lets (patterns p (size e) (binders bs)) m (record e { scope = sc2; target = Some k }) s1) → Fails x (again_row n p bs m e s)
@@ -188,32 +188,32 @@ abbrev pub bounds_in : Form → List Bound
 bounds_in b = total_bounds (within (form_tree b))
 
 abbrev pub text_in : List Form → Meaning
-text_in fs = block (meanings (parts_of (drop 2 fs)))
+text_in fs = block (meanings (form_parts (drop 2 fs)))
 
 -- the whole form
 module _ (p : Place) (fs : List Form) (b : Form) (e : Env) (s : Gathered) (h : 1 < length fs) (x : b ≡ get_or fs 1 b) (some : has_pattern b ≡ true) where
-  row_is : loop_parts p (parts_of (drop 1 fs)) e s ≡ loop_over_patterns (bounds_in b) (text_in fs) p e s
+  row_is : loop_parts p (form_parts (drop 1 fs)) e s ≡ loop_over_patterns (bounds_in b) (text_in fs) p e s
   row_is = ap (λ ps. loop_parts p ps e s) (parts_second fs b h x) ∙ ap (λ c. cond c (loop_over_patterns (bounds_in b) (text_in fs) p e) (loops (spread p (size e) (bounds_in b)) (text_in fs) e) s) some
 
   module _ (ts : Bindings) (s1 : Gathered) (sc2 : List (List ℕ)) (w : binds (spread p (size e) (bounds_in b)) e s ≡ done ts s1) (names : sc2 ≡ e.scope ++ bound_names (spread p (size e) (bounds_in b))) where
-    behind_it : loop_over_patterns (bounds_in b) (text_in fs) p e s ≡ after (again_row (size e) p (bounds_in b) (text_in fs) (record e { scope = sc2 }) s1) (λ u s. after (limited (seq (item u none)) s) (λ v s. limited (bind ts v) s))
+    behind_it : loop_over_patterns (bounds_in b) (text_in fs) p e s ≡ after_walk (again_row (size e) p (bounds_in b) (text_in fs) (record e { scope = sc2 }) s1) (λ u s. after_walk (limited (seq (item u none)) s) (λ v s. limited (bind ts v) s))
     behind_it =
-        ap (λ (o : Outcome Bindings). after o (λ ts s. after (block (again_row (size e) p (bounds_in b) (text_in fs) ∷ []) (behind (spread p (size e) (bounds_in b)) e) s) (λ u s. limited (bind ts u) s))) w
-        ∙ ap (λ (z : List (List ℕ)). after (block (again_row (size e) p (bounds_in b) (text_in fs) ∷ []) (record e { scope = z }) s1) (λ u s. limited (bind ts u) s)) (sym names)
-        ∙ ap (λ (o : Outcome Kernel). after o (λ u s. limited (bind ts u) s)) (block_one (again_row (size e) p (bounds_in b) (text_in fs)) (record e { scope = sc2 }) s1)
+        ap (λ (o : WalkOutcome Bindings). after_walk o (λ ts s. after_walk (block (again_row (size e) p (bounds_in b) (text_in fs) ∷ []) (behind (spread p (size e) (bounds_in b)) e) s) (λ u s. limited (bind ts u) s))) w
+        ∙ ap (λ (z : List (List ℕ)). after_walk (block (again_row (size e) p (bounds_in b) (text_in fs) ∷ []) (record e { scope = z }) s1) (λ u s. limited (bind ts u) s)) (sym names)
+        ∙ ap (λ (o : WalkOutcome Kernel). after_walk o (λ u s. limited (bind ts u) s)) (block_one (again_row (size e) p (bounds_in b) (text_in fs)) (record e { scope = sc2 }) s1)
         ∙ flat (again_row (size e) p (bounds_in b) (text_in fs) (record e { scope = sc2 }) s1) where
-          flat : (o : Outcome Kernel) → after (after o (λ t s. limited (seq (item t none)) s)) (λ u s. limited (bind ts u) s) ≡ after o (λ u s. after (limited (seq (item u none)) s) (λ v s. limited (bind ts v) s))
+          flat : (o : WalkOutcome Kernel) → after_walk (after_walk o (λ t s. limited (seq (item t none)) s)) (λ u s. limited (bind ts u) s) ≡ after_walk o (λ u s. after_walk (limited (seq (item u none)) s) (λ v s. limited (bind ts v) s))
           flat (done t s) = refl
           flat (refused k q) = refl
 
     pub patterns_walked : (u : Kernel) (s2 : Gathered) (vs : List Kernel) → again_row (size e) p (bounds_in b) (text_in fs) (record e { scope = sc2 }) s1 ≡ done u s2 → ts ≡ numbered (size e) vs
-        → loop_parts p (parts_of (drop 1 fs)) e s ≡ under (size e) vs u s2
+        → loop_parts p (form_parts (drop 1 fs)) e s ≡ under (size e) vs u s2
     patterns_walked u s2 vs g k = row_is ∙ behind_it
-        ∙ ap (λ (o : Outcome Kernel). after o (λ u s. after (limited (seq (item u none)) s) (λ v s. limited (bind ts v) s))) g
-        ∙ ap (λ t. after (limited (seq (item u none)) s2) (λ v s. limited (bind t v) s)) k
+        ∙ ap (λ (o : WalkOutcome Kernel). after_walk o (λ u s. after_walk (limited (seq (item u none)) s) (λ v s. limited (bind ts v) s))) g
+        ∙ ap (λ t. after_walk (limited (seq (item u none)) s2) (λ v s. limited (bind t v) s)) k
 
-    pub patterns_fail : (y : CheckError) → Fails y (again_row (size e) p (bounds_in b) (text_in fs) (record e { scope = sc2 }) s1) → Fails y (loop_parts p (parts_of (drop 1 fs)) e s)
+    pub patterns_fail : (y : CheckError) → Fails y (again_row (size e) p (bounds_in b) (text_in fs) (record e { scope = sc2 }) s1) → Fails y (loop_parts p (form_parts (drop 1 fs)) e s)
     patterns_fail y g = rw (row_is ∙ behind_it) (after_fails y _ _ g)
 
-  pub values_fail : (y : CheckError) → Fails y (binds (spread p (size e) (bounds_in b)) e s) → Fails y (loop_parts p (parts_of (drop 1 fs)) e s)
+  pub values_fail : (y : CheckError) → Fails y (binds (spread p (size e) (bounds_in b)) e s) → Fails y (loop_parts p (form_parts (drop 1 fs)) e s)
   values_fail y g = rw row_is (after_fails y (binds (spread p (size e) (bounds_in b)) e s) _ g)

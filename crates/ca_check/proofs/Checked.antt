@@ -10,15 +10,15 @@ use Rattle.ca_term.specs.Kernel.{Kernel, const, bind}
 use Rattle.ca_term.specs.Closed.{IsIn}
 use Rattle.ca_term.specs.Fits.{Known, Takes, IsPlain}
 use Rattle.ca_term.specs.Program.{ProcedureView, ProgramView, arity, known_in, IsText, IsProcedure, ArePlainFrom, IsProgram}
-use Rattle.ca_reader.specs.Form.{FormTrees, none, item, place_of}
+use Rattle.ca_reader.specs.Form.{FormTrees, none, item, form_place}
 use Rattle.ca_forms.specs.declared.error.CheckErrorKind.{CheckErrorKind}
 use Rattle.ca_forms.specs.declared.error.CheckErrorKind.TheVariants.{Redefined, TooMany}
-use Rattle.ca_forms.specs.Depth.{depth_of}
+use Rattle.ca_forms.specs.Depth.{kernel_depth}
 use Rattle.ca_forms.specs.Uses.{uses, aims_out, is_plain, IsGoBody}
-use Rattle.ca_forms.specs.Outcome.{Gathered, Outcome, done, refused, after}
+use Rattle.ca_forms.specs.Outcome.{Gathered, WalkOutcome, done, refused, after_walk}
 use Rattle.ca_forms.specs.Meaning.{Signature, Meaning}
-use Rattle.ca_forms.specs.Tops.{Tops, Written, Top, definition, function, expression, wrong, top, is_taken, main_env, numbers, names_of, judged_body, straight, signature, function_env, plain_with, is_empty, with_function, Settled, settled, add_function, shallow, Ended, bound_before, bound_top, one_top, is_past, list_parts}
-use Rattle.ca_check.specs.Expansion.{tops, is_namespace, script, program_of, expansion_of}
+use Rattle.ca_forms.specs.Tops.{Tops, Written, Top, definition, function, expression, wrong, top, is_taken, main_env, numbers, names_of, judged_body, straight, signature, function_env, plain_with, is_empty, with_function, Settled, body_settled, add_function, shallow, Ended, bound_before, bound_top, one_top, is_past, list_parts}
+use Rattle.ca_check.specs.Expansion.{tops, is_namespace, script_tops, program_of, expansion_of}
 use Rattle.ca_check.proofs.Well.{Rules, bindings_scalars, Well, WellBindings, fits, source, anew, closed, Below, uses_only, uses_below, Implies, plain_term}
 use Rattle.ca_value.specs.IsValue.{Scalars, any}
 use Rattle.ca_term.specs.Constants.{HasScalars, ProgramHasScalars}
@@ -85,7 +85,7 @@ pub record Ran (k : Rules) (t : Tops) (s : Gathered) (r : Ended) (s2 : Gathered)
   pub holds : length t.functions ≡ length t.procedures → AreSigned k (length t.scope) 0 t.functions → Final k r s2 → Held k t s r s2 procedures
 
 -- a value of the main text, then the rest
-pub bound_ran : (k : Rules) (x : List ℕ) (m : Meaning) (d : ℕ) (p : Place) (rest : Tops → Gathered → Outcome Ended) (t : Tops) (s : Gathered)
+pub bound_ran : (k : Rules) (x : List ℕ) (m : Meaning) (d : ℕ) (p : Place) (rest : Tops → Gathered → WalkOutcome Ended) (t : Tops) (s : Gathered)
     → Sound (record { rules = k; base = length t.scope }) 0 m → ((t : Tops) (s : Gathered) → IfDone (rest t s) (Ran k t s)) → IfDone (bound_top x m d p rest t s) (Ran k t s)
 bound_ran k x m d p rest t s h f = by (m (main_env t) s) (λ a. h (main_env t) s (omega arith, omega arith, a)) where
   g : Ground
@@ -98,7 +98,7 @@ bound_ran k x m d p rest t s h f = by (m (main_env t) s) (λ a. h (main_env t) s
   longer = length-append t.scope (x ∷ []) ∙ omega arith
 
   joined : (u : Kernel) (s1 : Gathered) → (AreSigned k (length t.scope) 0 t.functions → Grew k s s1 (Well k (length t.scope) None u))
-      → (o : Outcome Ended) → IfDone o (Ran k behind s1) → IfDone (bound_before (length t.scope) u o) (Ran k t s)
+      → (o : WalkOutcome Ended) → IfDone o (Ran k behind s1) → IfDone (bound_before (length t.scope) u o) (Ran k t s)
   joined u s1 w (refused e q) y = tt
   joined u s1 w (done r s2) y = record {
     procedures = y.procedures;
@@ -120,10 +120,10 @@ bound_ran k x m d p rest t s h f = by (m (main_env t) s) (λ a. h (main_env t) s
         };
   }
 
-  by : (o : Outcome Kernel) → (AreSigned k (length t.scope) 0 t.functions → Makes g (main_env t) s o)
-      → IfDone (after o (λ u s2. cond (s2.deep || nat_lt 399 (depth_of u)) (refused TooMany p) (bound_before (length t.scope) u (rest behind s2)))) (Ran k t s)
+  by : (o : WalkOutcome Kernel) → (AreSigned k (length t.scope) 0 t.functions → Makes g (main_env t) s o)
+      → IfDone (after_walk o (λ u s2. cond (s2.deep || nat_lt 399 (kernel_depth u)) (refused TooMany p) (bound_before (length t.scope) u (rest behind s2)))) (Ran k t s)
   by (refused e q) w = tt
-  by (done u s1) w = if_cond (s1.deep || nat_lt 399 (depth_of u)) (refused TooMany p) (bound_before (length t.scope) u (rest behind s1)) (Ran k t s) tt
+  by (done u s1) w = if_cond (s1.deep || nat_lt 399 (kernel_depth u)) (refused TooMany p) (bound_before (length t.scope) u (rest behind s1)) (Ran k t s) tt
       (joined u s1 w (rest behind s1) (f behind s1))
 
 -- a function, then the rest
@@ -201,43 +201,43 @@ function_ran k w t s r s1 e s2 x y = record {
       plain_term (plain_with (length t.functions) t.functions) k.known.plain (implied fin is) r.body
       (and_parts (is_empty r.hidden) (is_plain (plain_with (length t.functions) t.functions) r.body) is).1
 
-pub add_ran : (k : Rules) (w : Written) (p : Place) (rest : Tops → Gathered → Outcome Ended) (t : Tops) (s : Gathered)
+pub add_ran : (k : Rules) (w : Written) (p : Place) (rest : Tops → Gathered → WalkOutcome Ended) (t : Tops) (s : Gathered)
     → Sound (record { rules = k; base = length t.scope }) 0 w.body → ((t : Tops) (s : Gathered) → IfDone (rest t s) (Ran k t s))
-    → IfDone (after (add_function w p t s) (λ t2 s2. after (shallow p t2 s2) rest)) (Ran k t s)
+    → IfDone (after_walk (add_function w p t s) (λ t2 s2. after_walk (shallow p t2 s2) rest)) (Ran k t s)
 add_ran k w p rest t s h f = by (judged_body w (straight (Some (length w.parameters)) w p) (function_env (signature w [] false) t) s)
     (judged_places k.scalars w (straight (Some (length w.parameters)) w p) (function_env (signature w [] false) t) s) where
-      shown : (r : Settled) (s1 : Gathered) → Settles k w t s r s1 → (o : Outcome Ended) → IfDone o (Ran k (with_function w r.hidden r.body t) s1) → IfDone o (Ran k t s)
+      shown : (r : Settled) (s1 : Gathered) → Settles k w t s r s1 → (o : WalkOutcome Ended) → IfDone o (Ran k (with_function w r.hidden r.body t) s1) → IfDone o (Ran k t s)
       shown r s1 x (refused e q) y = tt
       shown r s1 x (done e s2) y = function_ran k w t s r s1 e s2 x y
 
       deep : (r : Settled) (s1 : Gathered) → Settles k w t s r s1 → (b : Bool)
-          → IfDone (after (cond b (refused TooMany p) (done (with_function w r.hidden r.body t) s1)) rest) (Ran k t s)
+          → IfDone (after_walk (cond b (refused TooMany p) (done (with_function w r.hidden r.body t) s1)) rest) (Ran k t s)
       deep r s1 x true = tt
       deep r s1 x false = shown r s1 x (rest (with_function w r.hidden r.body t) s1) (f (with_function w r.hidden r.body t) s1)
 
       low : (r : Settled) (s1 : Gathered) → Settles k w t s r s1 → (b : Bool)
-          → IfDone (after (cond b (refused TooMany p) (done (with_function w r.hidden r.body t) s1)) (λ t2 s2. after (shallow p t2 s2) rest)) (Ran k t s)
+          → IfDone (after_walk (cond b (refused TooMany p) (done (with_function w r.hidden r.body t) s1)) (λ t2 s2. after_walk (shallow p t2 s2) rest)) (Ran k t s)
       low r s1 x true = tt
       low r s1 x false = deep r s1 x s1.deep
 
-      then_added : (o : Outcome Settled) → IfDone o (Settles k w t s)
-          → IfDone (after (after o (λ r s2. cond (nat_lt 60 (depth_of r.body)) (refused TooMany p) (done (with_function w r.hidden r.body t) s2))) (λ t2 s2. after (shallow p t2 s2) rest)) (Ran k t s)
+      then_added : (o : WalkOutcome Settled) → IfDone o (Settles k w t s)
+          → IfDone (after_walk (after_walk o (λ r s2. cond (nat_lt 60 (kernel_depth r.body)) (refused TooMany p) (done (with_function w r.hidden r.body t) s2))) (λ t2 s2. after_walk (shallow p t2 s2) rest)) (Ran k t s)
       then_added (refused e q) x = tt
-      then_added (done r s1) x = low r s1 x (nat_lt 60 (depth_of r.body))
+      then_added (done r s1) x = low r s1 x (nat_lt 60 (kernel_depth r.body))
 
-      not_deep : (first : Kernel) → HavePlaces k.scalars w.parameters → (b : Bool) → IfDone (after (cond b (refused TooMany p) (after (settled 66 (aims_out first) (uses (length t.scope) first []) w p t s) (λ r s2.
-          cond (nat_lt 60 (depth_of r.body)) (refused TooMany p) (done (with_function w r.hidden r.body t) s2)))) (λ t2 s2. after (shallow p t2 s2) rest)) (Ran k t s)
+      not_deep : (first : Kernel) → HavePlaces k.scalars w.parameters → (b : Bool) → IfDone (after_walk (cond b (refused TooMany p) (after_walk (body_settled 66 (aims_out first) (uses (length t.scope) first []) w p t s) (λ r s2.
+          cond (nat_lt 60 (kernel_depth r.body)) (refused TooMany p) (done (with_function w r.hidden r.body t) s2)))) (λ t2 s2. after_walk (shallow p t2 s2) rest)) (Ran k t s)
       not_deep first places true = tt
-      not_deep first places false = then_added (settled 66 (aims_out first) (uses (length t.scope) first []) w p t s)
+      not_deep first places false = then_added (body_settled 66 (aims_out first) (uses (length t.scope) first []) w p t s)
           (settled_settles k w p t s (aims_out first) places h 66 (uses (length t.scope) first []) (uses_below (length t.scope) first [] tt))
 
-      by : (o : Outcome Kernel) → IfDone o (λ first s1. HavePlaces k.scalars w.parameters) → IfDone (after (after o (λ first s1.
-          cond s1.deep (refused TooMany p) (after (settled 66 (aims_out first) (uses (length t.scope) first []) w p t s) (λ r s2.
-          cond (nat_lt 60 (depth_of r.body)) (refused TooMany p) (done (with_function w r.hidden r.body t) s2))))) (λ t2 s2. after (shallow p t2 s2) rest)) (Ran k t s)
+      by : (o : WalkOutcome Kernel) → IfDone o (λ first s1. HavePlaces k.scalars w.parameters) → IfDone (after_walk (after_walk o (λ first s1.
+          cond s1.deep (refused TooMany p) (after_walk (body_settled 66 (aims_out first) (uses (length t.scope) first []) w p t s) (λ r s2.
+          cond (nat_lt 60 (kernel_depth r.body)) (refused TooMany p) (done (with_function w r.hidden r.body t) s2))))) (λ t2 s2. after_walk (shallow p t2 s2) rest)) (Ran k t s)
       by (refused e q) places = tt
       by (done first s1) places = not_deep first places s1.deep
 
-pub one_ran : (k : Rules) (x : Top) (p : Place) (rest : Tops → Gathered → Outcome Ended) (t : Tops) (s : Gathered) → TopSound (record { rules = k; base = length t.scope }) x
+pub one_ran : (k : Rules) (x : Top) (p : Place) (rest : Tops → Gathered → WalkOutcome Ended) (t : Tops) (s : Gathered) → TopSound (record { rules = k; base = length t.scope }) x
     → ((t : Tops) (s : Gathered) → IfDone (rest t s) (Ran k t s)) → IfDone (one_top x p rest t s) (Ran k t s)
 one_ran k wrong p rest t s h f = tt
 one_ran k (definition x m) p rest t s h f = if_cond (is_taken x t) (refused Redefined p) (bound_top x m 1 p rest t s) (Ran k t s) tt (bound_ran k x m 1 p rest t s h f)
@@ -253,13 +253,13 @@ tops_ran k none i t s y = record {
   signed = sym (append-nil t.functions);
   holds = λ pair a fin. record { bodies = []; extends = sym (append-nil s.bodies); bodies_fit = tt; functions_fit = tt; plain = tt; main = tt };
 }
-tops_ran k (item f fs) i t s y = if_cond (is_past i f t) (refused TooMany (place_of f)) _ (Ran k t s) tt
-    (one_ran k (top f) (place_of f) (λ t s. tops (suc i) fs t s) t s (sound_top (record { rules = k; base = length t.scope }) f y.0) (λ t s. tops_ran k fs (suc i) t s y.1))
+tops_ran k (item f fs) i t s y = if_cond (is_past i f t) (refused TooMany (form_place f)) _ (Ran k t s) tt
+    (one_ran k (top f) (form_place f) (λ t s. tops (suc i) fs t s) t s (sound_top (record { rules = k; base = length t.scope }) f y.0) (λ t s. tops_ran k fs (suc i) t s y.1))
 
-pub script_ran : (k : Rules) (fs : FormTrees) (t : Tops) (s : Gathered) → HaveScalars k.scalars fs → IfDone (script fs t s) (Ran k t s)
+pub script_ran : (k : Rules) (fs : FormTrees) (t : Tops) (s : Gathered) → HaveScalars k.scalars fs → IfDone (script_tops fs t s) (Ran k t s)
 script_ran k none t s y = tops_ran k none 0 t s y
 script_ran k (item f fs) t s y = if_cond (is_namespace f) _ (tops 0 (item f fs) t s) (Ran k t s)
-    (if_cond (nat_lt 4096 (length (list_parts f))) (refused TooMany (place_of f)) (tops 1 fs t s) (Ran k t s) tt (tops_ran k fs 1 t s y.1)) (tops_ran k (item f fs) 0 t s y)
+    (if_cond (nat_lt 4096 (length (list_parts f))) (refused TooMany (form_place f)) (tops 1 fs t s) (Ran k t s) tt (tops_ran k fs 1 t s y.1)) (tops_ran k (item f fs) 0 t s y)
 
 abbrev pub start : Tops
 start = record { scope = []; functions = []; procedures = []; defined = 0 }
@@ -332,12 +332,12 @@ ended scalars r s f = record {
   functions = subst (λ l. Each (IsRight k) l) (sym ran.extends) held.functions_fit
 
 accepted : (scalars : Scalars) (fs : FormTrees) (p : ProgramView) → HaveScalars scalars fs → expansion_of fs ≡ Ok p → Accepted scalars p
-accepted scalars fs p h e = by (script fs start untouched) (λ k. script_ran (record { known = k; scalars = scalars }) fs start untouched h) e where
+accepted scalars fs p h e = by (script_tops fs start untouched) (λ k. script_ran (record { known = k; scalars = scalars }) fs start untouched h) e where
   IfAccepted : Result ProgramView (CheckErrorKind × Place) → Type 0
   IfAccepted (Ok p) = Accepted scalars p
   IfAccepted (Err e) = Unit {0}
 
-  by : (o : Outcome Ended) → ((k : Known) → IfDone o (Ran (record { known = k; scalars = scalars }) start untouched)) → program_of o ≡ Ok p → Accepted scalars p
+  by : (o : WalkOutcome Ended) → ((k : Known) → IfDone o (Ran (record { known = k; scalars = scalars }) start untouched)) → program_of o ≡ Ok p → Accepted scalars p
   by (refused k q) f e = cc
   by (done r s) f e = subst (λ o. IfAccepted o) e (ended scalars r s f)
 

@@ -16,15 +16,15 @@ use Rattle.ca_forms.specs.declared.error.CheckError.{CheckError}
 use Rattle.ca_forms.specs.declared.error.CheckError.TheVariants.{Fault, OutOfMemory}
 use Rattle.ca_forms.specs.Binders.{Binder, many, binder, whole_name}
 use Rattle.ca_forms.specs.Judged.{total_name, total_names, total_binder}
-use Rattle.ca_forms.specs.Meaning.{Meaning, Env, Named, Signature, size, named, binds, behind, numbered, fail}
+use Rattle.ca_forms.specs.Meaning.{Meaning, Env, Named, Signature, size, behind_name, binds, behind, numbered, fail_with}
 use Rattle.ca_forms.specs.FunctionsView.{find}
 use Rattle.ca_forms.specs.Names.{is_known}
 use Rattle.ca_forms.specs.Words.{builtin, special}
 use Rattle.ca_forms.specs.Operands.{with_vars}
-use Rattle.ca_forms.specs.Outcome.{Gathered, Outcome, done, refused, after, limited}
+use Rattle.ca_forms.specs.Outcome.{Gathered, WalkOutcome, done, refused, after_walk, limited}
 use Rattle.ca_forms.specs.Tops.{Written, wrong, defn_top, binders_in, with_binder, counted_patterns, names_of, numbers, same_names, looped, over_parameters}
 use Rattle.ca_check.specs.TopsView.{total_binders, in_function, AreCounted}
-use Rattle.ca_forms.specs.WalkView.{terms_of, parts_of, Fails}
+use Rattle.ca_forms.specs.WalkView.{terms_of, form_parts, Fails}
 use Rattle.ca_forms.proofs.PartLaws.{cut_at}
 use Rattle.ca_forms.proofs.ShapeLaws.{given, binder_is}
 
@@ -70,17 +70,17 @@ names_length (f ∷ fs) = ap suc (names_length fs)
 pub pattern_long : (f : Form) (xs : List Form) (q : Place) (bs : List Binder) (m : Meaning) (e : Env) (s : Gathered) → total_binder (form_tree f) ≡ many (total_names (form_trees xs)) q
     → 4096 < length xs → counted_patterns (total_binder (form_tree f) ∷ bs) m e s ≡ refused TooMany q
 pattern_long f xs q bs m e s t h = ap (λ b. counted_patterns (b ∷ bs) m e s) t
-    ∙ ap (λ b. cond b (fail TooMany q) (counted_patterns bs m) e s) (ap (nat_lt 4096) (names_length xs) ∙ lt-ltb 4096 (length xs) h)
+    ∙ ap (λ b. cond b (fail_with TooMany q) (counted_patterns bs m) e s) (ap (nat_lt 4096) (names_length xs) ∙ lt-ltb 4096 (length xs) h)
 
 pub pattern_short : (f : Form) (xs : List Form) (q : Place) (bs : List Binder) (m : Meaning) (e : Env) (s : Gathered) → total_binder (form_tree f) ≡ many (total_names (form_trees xs)) q
     → length xs ≤ 4096 → counted_patterns (total_binder (form_tree f) ∷ bs) m e s ≡ counted_patterns bs m e s
 pattern_short f xs q bs m e s t h = ap (λ b. counted_patterns (b ∷ bs) m e s) t
-    ∙ ap (λ b. cond b (fail TooMany q) (counted_patterns bs m) e s) (ap (nat_lt 4096) (names_length xs) ∙ le-ltb 4096 (length xs) h)
+    ∙ ap (λ b. cond b (fail_with TooMany q) (counted_patterns bs m) e s) (ap (nat_lt 4096) (names_length xs) ∙ le-ltb 4096 (length xs) h)
 
 pub patterns_over : (fs : List Form) (i : ℕ) (m : Meaning) (e : Env) (s : Gathered) → length fs ≤ i → counted_patterns (total_binders (form_trees (drop i fs))) m e s ≡ m e s
 patterns_over fs i m e s h = ap (λ (gs : List Form). counted_patterns (total_binders (form_trees gs)) m e s) (drop_over fs i h)
 
-pub fails_same : {A : Type 0} (x : CheckError) (o u : Outcome A) → o ≡ u → Fails x o → Fails x u
+pub fails_same : {A : Type 0} (x : CheckError) (o u : WalkOutcome A) → o ≡ u → Fails x o → Fails x u
 fails_same OutOfMemory o u e h = tt
 fails_same (Fault k p) o u e h = sym e ∙ h
 
@@ -157,9 +157,9 @@ vars_many ts n xs h = sym (length-map ts kernel) ∙ ap (λ (l : List Kernel). l
 -- each name again, bound to itself
 binds_same : (n : ℕ) (xs : List (List ℕ)) (e : Env) (s : Gathered) → binds (same_names n xs) e s ≡ done (numbered (size e) (map var (numbers n xs))) s
 binds_same n [] e s = refl
-binds_same n (x ∷ xs) e s = rw (binds_same (suc n) xs (named x e) s)
+binds_same n (x ∷ xs) e s = rw (binds_same (suc n) xs (behind_name x e) s)
     (ap (λ m. done (binding (size e) (var n) (numbered m (map var (numbers (suc n) xs)))) s) more) where
-      more : size (named x e) ≡ suc (size e)
+      more : size (behind_name x e) ≡ suc (size e)
       more = length-append e.scope (x ∷ []) ∙ omega arith
 
 same_again : (n : ℕ) (xs : List (List ℕ)) → map (λ (b : Named). b.name) (same_names n xs) ≡ xs
@@ -176,7 +176,7 @@ in_loop sc fs f = record { scope = (sc ++ names_of f.parameters) ++ names_of f.p
 
 pub looped_is : (f : Written) (p : Place) (sc : List (List ℕ)) (fs : List Signature) (s : Gathered)
     → looped f p (in_function sc fs) s
-    ≡ after (over_parameters f p (length sc + length f.parameters) (in_loop sc fs f) s)
+    ≡ after_walk (over_parameters f p (length sc + length f.parameters) (in_loop sc fs f) s)
     (λ u s. limited (loop [] (numbered (length sc + length f.parameters) (map var (numbers (length sc) (names_of f.parameters)))) u) s)
 looped_is f p sc fs s =
     let xs = names_of f.parameters in
@@ -184,11 +184,11 @@ looped_is f p sc fs s =
     let many : length xs ≡ length f.parameters = length-map f.parameters whole_name in
     let wide : size e ≡ length sc + length f.parameters = length-append sc xs ∙ ap (λ n. length sc + n) many in
     let target : length (same_names (length sc) xs) ≡ length f.parameters = same_length (length sc) xs ∙ many in
-    ap (λ (o : Outcome Bindings). after o (λ ts s. after (over_parameters f p (length sc + length f.parameters) (record (behind (same_names (length sc) xs) e) { target = Some (length (same_names (length sc) xs)) }) s) (λ u s. limited (loop [] ts u) s)))
+    ap (λ (o : WalkOutcome Bindings). after_walk o (λ ts s. after_walk (over_parameters f p (length sc + length f.parameters) (record (behind (same_names (length sc) xs) e) { target = Some (length (same_names (length sc) xs)) }) s) (λ u s. limited (loop [] ts u) s)))
     (binds_same (length sc) xs e s)
-    ∙ ap (λ (ys : List (List ℕ)). after (over_parameters f p (length sc + length f.parameters) (record { scope = (sc ++ xs) ++ ys; functions = fs; target = Some (length (same_names (length sc) xs)); context = Function }) s) (λ u s. limited (loop [] (numbered (size e) (map var (numbers (length sc) xs))) u) s)) (same_again (length sc) xs)
-    ∙ ap (λ n. after (over_parameters f p (length sc + length f.parameters) (record { scope = (sc ++ xs) ++ xs; functions = fs; target = Some n; context = Function }) s) (λ u s. limited (loop [] (numbered (size e) (map var (numbers (length sc) xs))) u) s)) target
-    ∙ ap (λ n. after (over_parameters f p (length sc + length f.parameters) (in_loop sc fs f) s) (λ u s. limited (loop [] (numbered n (map var (numbers (length sc) xs))) u) s)) wide
+    ∙ ap (λ (ys : List (List ℕ)). after_walk (over_parameters f p (length sc + length f.parameters) (record { scope = (sc ++ xs) ++ ys; functions = fs; target = Some (length (same_names (length sc) xs)); context = Function }) s) (λ u s. limited (loop [] (numbered (size e) (map var (numbers (length sc) xs))) u) s)) (same_again (length sc) xs)
+    ∙ ap (λ n. after_walk (over_parameters f p (length sc + length f.parameters) (record { scope = (sc ++ xs) ++ xs; functions = fs; target = Some n; context = Function }) s) (λ u s. limited (loop [] (numbered (size e) (map var (numbers (length sc) xs))) u) s)) target
+    ∙ ap (λ n. after_walk (over_parameters f p (length sc + length f.parameters) (in_loop sc fs f) s) (λ u s. limited (loop [] (numbered n (map var (numbers (length sc) xs))) u) s)) wide
 
 -- the body of a loop was walked
 module _ (f : Written) (p : Place) (sc : List (List ℕ)) (fs : List Signature) (s : Gathered) (sc1 sc2 : List (List ℕ)) (s0 : Gathered) (first n : ℕ)
@@ -208,14 +208,14 @@ module _ (f : Written) (p : Place) (sc : List (List ℕ)) (fs : List Signature) 
   pub looped_walked : (u : Kernel) (s2 : Gathered) (vs : List Term) → over_parameters f p first here s0 ≡ done u s2 → terms_of vs ≡ map var (numbers (length sc) (names_of f.parameters))
       → looped f p (in_function sc fs) s ≡ limited (loop [] (numbered first (terms_of vs)) u) s2
   looped_walked u s2 vs w v = looped_is f p sc fs s
-      ∙ ap (λ (o : Outcome Kernel). after o (λ u s. limited (loop [] (numbered (length sc + length f.parameters) (map var (numbers (length sc) (names_of f.parameters)))) u) s)) (sym walks_here ∙ w)
+      ∙ ap (λ (o : WalkOutcome Kernel). after_walk o (λ u s. limited (loop [] (numbered (length sc + length f.parameters) (map var (numbers (length sc) (names_of f.parameters)))) u) s)) (sym walks_here ∙ w)
       ∙ ap (λ m. limited (loop [] (numbered m (map var (numbers (length sc) (names_of f.parameters)))) u) s2) (sym first_is)
       ∙ ap (λ (ts : List Kernel). limited (loop [] (numbered first ts) u) s2) (sym v)
 
   pub looped_fails : (x : CheckError) → Fails x (over_parameters f p first here s0) → Fails x (looped f p (in_function sc fs) s)
   looped_fails OutOfMemory h = tt
   looped_fails (Fault k q) h = looped_is f p sc fs s
-      ∙ ap (λ (o : Outcome Kernel). after o (λ u s. limited (loop [] (numbered (length sc + length f.parameters) (map var (numbers (length sc) (names_of f.parameters)))) u) s)) (sym walks_here ∙ h)
+      ∙ ap (λ (o : WalkOutcome Kernel). after_walk o (λ u s. limited (loop [] (numbered (length sc + length f.parameters) (map var (numbers (length sc) (names_of f.parameters)))) u) s)) (sym walks_here ∙ h)
 
 pub err_is : {A E : Type 0} (r : Result A E) (e : E) (P : E → Type 0) → r ≡ Err e → P e → IfErr r P
 err_is r e P q h = subst (λ r. IfErr r P) (sym q) h
@@ -238,7 +238,7 @@ pub if_on_by : {A E : Type 0} (r : Result A E) (P Q : Type 0) → (P → Q) → 
 if_on_by (Ok a) P Q f h = f h
 if_on_by (Err e) P Q f h = h
 
-pub defn_short : (fs : List Form) → length fs < 3 → defn_top (parts_of (drop 1 fs)) ≡ wrong
+pub defn_short : (fs : List Form) → length fs < 3 → defn_top (form_parts (drop 1 fs)) ≡ wrong
 defn_short [] h = refl
 defn_short (f ∷ []) h = refl
 defn_short (f ∷ g ∷ []) h = refl

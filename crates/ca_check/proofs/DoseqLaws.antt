@@ -9,7 +9,7 @@ use Rattle.ca_term.specs.Kernel.{Kernel, Bindings, none as no_terms, item as ter
 use Rattle.ca_reader.specs.declared.form.Form.{Form}
 use Rattle.ca_reader.specs.declared.form.Shape.{Vector}
 use Rattle.ca_reader.specs.declared.form.Bracket.TheVariants.{Round, Square, Curly}
-use Rattle.ca_reader.specs.Form.{FormTree, form, atom, group, none, item, place_of}
+use Rattle.ca_reader.specs.Form.{FormTree, form, atom, group, none, item, form_place}
 use Rattle.ca_reader.specs.View.{form_tree}
 use Rattle.ca_forms.specs.declared.error.CheckError.{CheckError}
 use Rattle.ca_forms.specs.declared.error.CheckError.TheVariants.{Fault, OutOfMemory}
@@ -17,12 +17,12 @@ use Rattle.ca_forms.specs.declared.error.CheckErrorKind.TheVariants.{BadForm, To
 use Rattle.ca_forms.specs.Binders.{Part, Binder, Bound, binder, bounds, with_bound, bindings_in, spread, spread_one}
 use Rattle.ca_check.specs.Choices.{first_in, only_means, is_only, only_shape}
 use Rattle.ca_forms.specs.Judged.{total_binder, over_long, binder_names, binder_parts, bound_names}
-use Rattle.ca_forms.specs.Meaning.{Env, Meaning, Named, size, inner, named, behind, operation, local, block, binds, lets, unnamed, numbered}
-use Rattle.ca_forms.specs.Outcome.{Gathered, Outcome, done, refused, after, limited}
+use Rattle.ca_forms.specs.Meaning.{Env, Meaning, Named, size, inner, behind_name, behind, operation, local_name, block, binds, lets, unnamed, numbered}
+use Rattle.ca_forms.specs.Outcome.{Gathered, WalkOutcome, done, refused, after_walk, limited}
 use Rattle.ca_forms.specs.Plain.{meanings, counting, nth_bound, doseq, row_doseq}
-use Rattle.ca_forms.specs.Rounds.{counted_rounds, under, nth_term, count_term, items_of, item_of}
+use Rattle.ca_forms.specs.Rounds.{counted_rounds, under, nth_term, count_term, items_call, item_of}
 use Rattle.ca_forms.specs.Walk.{walk, within}
-use Rattle.ca_forms.specs.WalkView.{part, parts_of, pairs_of, Fails}
+use Rattle.ca_forms.specs.WalkView.{part, form_parts, form_pairs, Fails}
 use Rattle.ca_forms.proofs.BindLaws.{one_walked, one_names, one_long}
 use Rattle.ca_forms.proofs.PartLaws.{parts_second, after_after, after_fails}
 use Rattle.ca_forms.proofs.RoundLaws.{block_one}
@@ -32,28 +32,28 @@ use Rattle.ca_forms.proofs.ShapeLaws.{given, binder_is}
 
 -- the `let` of an item
 module _ (p : Place) (f : FormTree) (h j : ℕ) (body : Meaning) (e : Env) (s : Gathered) where
-  spread_is : spread p (size e) (nth_bound (total_binder f) h j p ∷ []) ≡ spread_one p (size e) (total_binder f) (operation (Builtin Nth) (local h ∷ local j ∷ []) p)
-  spread_is = append-nil (spread_one p (size e) (total_binder f) (operation (Builtin Nth) (local h ∷ local j ∷ []) p))
+  spread_is : spread p (size e) (nth_bound (total_binder f) h j p ∷ []) ≡ spread_one p (size e) (total_binder f) (operation (Builtin Nth) (local_name h ∷ local_name j ∷ []) p)
+  spread_is = append-nil (spread_one p (size e) (total_binder f) (operation (Builtin Nth) (local_name h ∷ local_name j ∷ []) p))
 
-  pub item_long : over_long (total_binder f) ≡ true → item_of (total_binder f) h j body p e s ≡ refused TooMany (place_of f)
+  pub item_long : over_long (total_binder f) ≡ true → item_of (total_binder f) h j body p e s ≡ refused TooMany (form_place f)
   item_long o = ap (λ bs. lets bs body e s) spread_is
-      ∙ ap (λ (z : Outcome Bindings). after z (λ ts s. after (body (behind (spread_one p (size e) (total_binder f) (operation (Builtin Nth) (local h ∷ local j ∷ []) p)) e) s) (λ u s. limited (bind ts u) s)))
-      (one_long e p f (operation (Builtin Nth) (local h ∷ local j ∷ []) p) e.scope s o)
+      ∙ ap (λ (z : WalkOutcome Bindings). after_walk z (λ ts s. after_walk (body (behind (spread_one p (size e) (total_binder f) (operation (Builtin Nth) (local_name h ∷ local_name j ∷ []) p)) e) s) (λ u s. limited (bind ts u) s)))
+      (one_long e p f (operation (Builtin Nth) (local_name h ∷ local_name j ∷ []) p) e.scope s o)
 
   module _ (sc2 : List (List ℕ)) (o : over_long (total_binder f) ≡ false) (names : sc2 ≡ e.scope ++ binder_names (total_binder f)) where
     item_is : item_of (total_binder f) h j body p e s
-        ≡ after (body (record e { scope = sc2 }) s) (λ u s. limited (bind (numbered (size e) (nth_term h j p ∷ binder_parts p (size e) (total_binder f))) u) s)
+        ≡ after_walk (body (record e { scope = sc2 }) s) (λ u s. limited (bind (numbered (size e) (nth_term h j p ∷ binder_parts p (size e) (total_binder f))) u) s)
     item_is =
-        let here : e.scope ++ bound_names (spread_one p (size e) (total_binder f) (operation (Builtin Nth) (local h ∷ local j ∷ []) p)) ≡ sc2
-        = ap (λ (z : List (List ℕ)). e.scope ++ z) (one_names p (size e) (total_binder f) (operation (Builtin Nth) (local h ∷ local j ∷ []) p)) ∙ sym names in
+        let here : e.scope ++ bound_names (spread_one p (size e) (total_binder f) (operation (Builtin Nth) (local_name h ∷ local_name j ∷ []) p)) ≡ sc2
+        = ap (λ (z : List (List ℕ)). e.scope ++ z) (one_names p (size e) (total_binder f) (operation (Builtin Nth) (local_name h ∷ local_name j ∷ []) p)) ∙ sym names in
         ap (λ bs. lets bs body e s) spread_is
-        ∙ ap (λ (z : Outcome Bindings). after z (λ ts s. after (body (behind (spread_one p (size e) (total_binder f) (operation (Builtin Nth) (local h ∷ local j ∷ []) p)) e) s) (λ u s. limited (bind ts u) s)))
-        (one_walked e p (total_binder f) (operation (Builtin Nth) (local h ∷ local j ∷ []) p) e.scope s s (nth_term h j p) o refl)
-        ∙ ap (λ (z : List (List ℕ)). after (body (record e { scope = z }) s) (λ u s. limited (bind (numbered (size e) (nth_term h j p ∷ binder_parts p (size e) (total_binder f))) u) s)) here
+        ∙ ap (λ (z : WalkOutcome Bindings). after_walk z (λ ts s. after_walk (body (behind (spread_one p (size e) (total_binder f) (operation (Builtin Nth) (local_name h ∷ local_name j ∷ []) p)) e) s) (λ u s. limited (bind ts u) s)))
+        (one_walked e p (total_binder f) (operation (Builtin Nth) (local_name h ∷ local_name j ∷ []) p) e.scope s s (nth_term h j p) o refl)
+        ∙ ap (λ (z : List (List ℕ)). after_walk (body (record e { scope = z }) s) (λ u s. limited (bind (numbered (size e) (nth_term h j p ∷ binder_parts p (size e) (total_binder f))) u) s)) here
 
     pub item_walked : (u : Kernel) (s2 : Gathered) → body (record e { scope = sc2 }) s ≡ done u s2
         → item_of (total_binder f) h j body p e s ≡ limited (bind (numbered (size e) (nth_term h j p ∷ binder_parts p (size e) (total_binder f))) u) s2
-    item_walked u s2 w = item_is ∙ ap (λ (z : Outcome Kernel). after z (λ u s. limited (bind (numbered (size e) (nth_term h j p ∷ binder_parts p (size e) (total_binder f))) u) s)) w
+    item_walked u s2 w = item_is ∙ ap (λ (z : WalkOutcome Kernel). after_walk z (λ u s. limited (bind (numbered (size e) (nth_term h j p ∷ binder_parts p (size e) (total_binder f))) u) s)) w
 
     pub item_fails : (x : CheckError) → Fails x (body (record e { scope = sc2 }) s) → Fails x (item_of (total_binder f) h j body p e s)
     item_fails x w = rw item_is (after_fails x (body (record e { scope = sc2 }) s) _ w)
@@ -94,7 +94,7 @@ not_only (Some b) m (Some (d ∷ bs)) h = refl
 
 pub only_binding : (f : Form) (s : Seq Form) (b : Form) → f.shape ≡ Vector s → length (list s) ≡ 2 → b ≡ get_or (list s) 0 b → is_some (binder (form_tree b)) ≡ is_only (bindings_in (part f))
 only_binding f s b e h x = by (list s) h x ∙ ap is_only (sym (vector_bindings f s e)) where
-  by : (fs : List Form) → length fs ≡ 2 → b ≡ get_or fs 0 b → is_some (binder (form_tree b)) ≡ is_only (bounds (pairs_of fs))
+  by : (fs : List Form) → length fs ≡ 2 → b ≡ get_or fs 0 b → is_some (binder (form_tree b)) ≡ is_only (bounds (form_pairs fs))
   by [] h x = absurd (omega (arith, h))
   by (k ∷ []) h x = absurd (omega (arith, h))
   by (k ∷ g ∷ []) h x = ap (λ z. is_some (binder (form_tree z))) x ∙ one_only (binder (form_tree k)) (walk (form_tree g))
@@ -102,11 +102,11 @@ only_binding f s b e h x = by (list s) h x ∙ ap is_only (sym (vector_bindings 
 
 pub only_binding_off : (f : Form) (s : Seq Form) → f.shape ≡ Vector s → (length (list s) ≡ 2 → ⊥) → false ≡ is_only (bindings_in (part f))
 only_binding_off f s e h = by (list s) h ∙ ap is_only (sym (vector_bindings f s e)) where
-  by : (fs : List Form) → (length fs ≡ 2 → ⊥) → false ≡ is_only (bounds (pairs_of fs))
+  by : (fs : List Form) → (length fs ≡ 2 → ⊥) → false ≡ is_only (bounds (form_pairs fs))
   by [] h = refl
   by (k ∷ []) h = refl
   by (k ∷ g ∷ []) h = absurd (h refl)
-  by (k ∷ g ∷ m ∷ fs) h = not_only (binder (form_tree k)) (walk (form_tree g)) _ (some_bound (record { form = form_tree m; means = walk (form_tree m) }) (pairs_of fs))
+  by (k ∷ g ∷ m ∷ fs) h = not_only (binder (form_tree k)) (walk (form_tree g)) _ (some_bound (record { form = form_tree m; means = walk (form_tree m) }) (form_pairs fs))
 
 -- (doseq [b e] e ..)
 doseq_wrong : (p : Place) (o : Option (List Bound)) (body : Meaning) (e : Env) (s : Gathered) → is_only o ≡ false → doseq o body p e s ≡ refused BadForm p
@@ -115,8 +115,8 @@ doseq_wrong p (Some []) body e s h = refl
 doseq_wrong p (Some (b ∷ [])) body e s h = absurd (cc)
 doseq_wrong p (Some (b ∷ d ∷ bs)) body e s h = refl
 
-pub doseq_off : (p : Place) (fs : List Form) (e : Env) (s : Gathered) → only_shape (parts_of (drop 1 fs)) ≡ false → row_doseq p (parts_of (drop 1 fs)) e s ≡ refused BadForm p
-doseq_off p fs e s k = by (parts_of (drop 1 fs)) k where
+pub doseq_off : (p : Place) (fs : List Form) (e : Env) (s : Gathered) → only_shape (form_parts (drop 1 fs)) ≡ false → row_doseq p (form_parts (drop 1 fs)) e s ≡ refused BadForm p
+doseq_off p fs e s k = by (form_parts (drop 1 fs)) k where
   by : (ps : List Part) → only_shape ps ≡ false → row_doseq p ps e s ≡ refused BadForm p
   by [] h = refl
   by (x ∷ ps) h = doseq_wrong p (bindings_in x) (block (meanings ps)) e s h
@@ -129,7 +129,7 @@ doseq_right p (Some (b ∷ [])) bd body e s f h = ap (λ z. doseq (Some (z ∷ [
 doseq_right p (Some (b ∷ d ∷ bs)) bd body e s f h = absurd (cc)
 
 abbrev items_then_count : Meaning → ℕ → Place → List Named
-items_then_count m n p = unnamed (operation (Builtin Items) (m ∷ []) p) ∷ unnamed (operation (Builtin Count) (local n ∷ []) p) ∷ []
+items_then_count m n p = unnamed (operation (Builtin Items) (m ∷ []) p) ∷ unnamed (operation (Builtin Count) (local_name n ∷ []) p) ∷ []
 
 module _ (p : Place) (bd : Bound) (body : Meaning) (e : Env) (s : Gathered) where
   abbrev inside : Env
@@ -138,25 +138,25 @@ module _ (p : Place) (bd : Bound) (body : Meaning) (e : Env) (s : Gathered) wher
   two_more : length (e.scope ++ [] ∷ [] ∷ []) ≡ size e + 2
   two_more = length-append e.scope ([] ∷ [] ∷ [])
 
-  module _ (v t : Kernel) (s1 s2 : Gathered) (w : bd.means (inner e) s ≡ done v s1) (g : limited (items_of v p) s1 ≡ done t s2) where
+  module _ (v t : Kernel) (s1 s2 : Gathered) (w : bd.means (inner e) s ≡ done v s1) (g : limited (items_call v p) s1 ≡ done t s2) where
     binds_are : binds (items_then_count bd.means (size e) p) e s ≡ done (numbered (size e) (t ∷ count_term (size e) p ∷ [])) s2
     binds_are = rw (w, g) (ap (λ n. done (binding (size e) t (binding n (count_term (size e) p) empty)) s2) (length-append e.scope ([] ∷ []) ∙ omega arith))
 
     abbrev round_of : Meaning
     round_of = counting [] (size e + 1) (item_of bd.by (size e) (size e + 2) body p ∷ []) p
 
-    doseq_is : doseq (Some (bd ∷ [])) body p e s ≡ after (round_of inside s2) (λ u s. under (size e) (t ∷ count_term (size e) p ∷ []) u s)
-    doseq_is = ap (λ (o : Outcome Bindings). after o (λ ts s. after (block (round_of ∷ []) inside s) (λ u s. limited (bind ts u) s))) binds_are
-        ∙ ap (λ (o : Outcome Kernel). after o (λ u s. limited (bind (numbered (size e) (t ∷ count_term (size e) p ∷ [])) u) s)) (block_one round_of inside s2)
+    doseq_is : doseq (Some (bd ∷ [])) body p e s ≡ after_walk (round_of inside s2) (λ u s. under (size e) (t ∷ count_term (size e) p ∷ []) u s)
+    doseq_is = ap (λ (o : WalkOutcome Bindings). after_walk o (λ ts s. after_walk (block (round_of ∷ []) inside s) (λ u s. limited (bind ts u) s))) binds_are
+        ∙ ap (λ (o : WalkOutcome Kernel). after_walk o (λ u s. limited (bind (numbered (size e) (t ∷ count_term (size e) p ∷ [])) u) s)) (block_one round_of inside s2)
         ∙ after_after (round_of inside s2) _ _
 
-    pub round_walked : (u : Kernel) (s3 : Gathered) → item_of bd.by (size e) (size e + 2) body p (inner (named [] inside)) s2 ≡ done u s3
-        → doseq (Some (bd ∷ [])) body p e s ≡ after (counted_rounds (size e + 2) (size e + 1) (term u no_terms) p s3) (λ u s. under (size e) (t ∷ count_term (size e) p ∷ []) u s)
-    round_walked u s3 h = doseq_is ∙ ap (λ (o : Outcome Kernel). after o (λ u s. under (size e) (t ∷ count_term (size e) p ∷ []) u s))
+    pub round_walked : (u : Kernel) (s3 : Gathered) → item_of bd.by (size e) (size e + 2) body p (inner (behind_name [] inside)) s2 ≡ done u s3
+        → doseq (Some (bd ∷ [])) body p e s ≡ after_walk (counted_rounds (size e + 2) (size e + 1) (term u no_terms) p s3) (λ u s. under (size e) (t ∷ count_term (size e) p ∷ []) u s)
+    round_walked u s3 h = doseq_is ∙ ap (λ (o : WalkOutcome Kernel). after_walk o (λ u s. under (size e) (t ∷ count_term (size e) p ∷ []) u s))
         (counting_walked [] (size e + 1) (item_of bd.by (size e) (size e + 2) body p ∷ []) p inside (term u no_terms) s2 s3 (rw h refl)
         ∙ ap (λ n. counted_rounds n (size e + 1) (term u no_terms) p s3) two_more)
 
-    pub round_fails : (x : CheckError) → Fails x (item_of bd.by (size e) (size e + 2) body p (inner (named [] inside)) s2) → Fails x (doseq (Some (bd ∷ [])) body p e s)
+    pub round_fails : (x : CheckError) → Fails x (item_of bd.by (size e) (size e + 2) body p (inner (behind_name [] inside)) s2) → Fails x (doseq (Some (bd ∷ [])) body p e s)
     round_fails x h = rw doseq_is (after_fails x (round_of inside s2) _ (counting_fails x [] (size e + 1) (item_of bd.by (size e) (size e + 2) body p ∷ []) p inside s2 (after_fails x _ _ h)))
 
   pub items_fail : (x : CheckError) → Fails x (bd.means (inner e) s) → Fails x (doseq (Some (bd ∷ [])) body p e s)
@@ -165,9 +165,9 @@ module _ (p : Place) (bd : Bound) (body : Meaning) (e : Env) (s : Gathered) wher
 
 -- by the forms of a list
 abbrev pub dosed : Place → Form → List Form → Meaning
-dosed p b fs = doseq (Some (record { by = total_binder (first_in (form_tree b)); means = only_means (form_tree b) } ∷ [])) (block (meanings (parts_of (drop 2 fs)))) p
+dosed p b fs = doseq (Some (record { by = total_binder (first_in (form_tree b)); means = only_means (form_tree b) } ∷ [])) (block (meanings (form_parts (drop 2 fs)))) p
 
-pub doseq_row : (p : Place) (fs : List Form) (b : Form) (e : Env) (s : Gathered) → 1 < length fs → b ≡ get_or fs 1 b → only_shape (parts_of (drop 1 fs)) ≡ true
-    → row_doseq p (parts_of (drop 1 fs)) e s ≡ dosed p b fs e s
+pub doseq_row : (p : Place) (fs : List Form) (b : Form) (e : Env) (s : Gathered) → 1 < length fs → b ≡ get_or fs 1 b → only_shape (form_parts (drop 1 fs)) ≡ true
+    → row_doseq p (form_parts (drop 1 fs)) e s ≡ dosed p b fs e s
 doseq_row p fs b e s h x k = ap (λ ps. row_doseq p ps e s) (parts_second fs b h x)
-    ∙ doseq_right p (bindings_in (part b)) (record { by = total_binder (first_in (form_tree b)); means = only_means (form_tree b) }) (block (meanings (parts_of (drop 2 fs)))) e s (only_bound (form_tree b)) (ap only_shape (sym (parts_second fs b h x)) ∙ k)
+    ∙ doseq_right p (bindings_in (part b)) (record { by = total_binder (first_in (form_tree b)); means = only_means (form_tree b) }) (block (meanings (form_parts (drop 2 fs)))) e s (only_bound (form_tree b)) (ap only_shape (sym (parts_second fs b h x)) ∙ k)

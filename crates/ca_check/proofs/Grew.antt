@@ -7,9 +7,9 @@ use Rattle.ca_term.specs.Kernel.{Kernel, const}
 use Rattle.ca_term.specs.Program.{ProcedureView, arity, IsProcedure}
 use Rattle.ca_term.specs.Fits.{Takes}
 use Rattle.ca_term.specs.Constants.{HasScalars}
-use Rattle.ca_forms.specs.Depth.{depth_of}
+use Rattle.ca_forms.specs.Depth.{kernel_depth}
 use Rattle.ca_forms.specs.Uses.{IsGoBody}
-use Rattle.ca_forms.specs.Outcome.{Gathered, Outcome, done, refused, after, limited}
+use Rattle.ca_forms.specs.Outcome.{Gathered, WalkOutcome, done, refused, after_walk, limited}
 use Rattle.ca_forms.specs.Go.{unmade}
 use Rattle.ca_check.proofs.Well.{Rules}
 
@@ -80,24 +80,24 @@ behind_it k s s1 s2 P Q x y = record {
 }
 
 -- where something was done, it is this
-abbrev pub IfDone : {A : Type 0} → Outcome A → (A → Gathered → Type 0) → Type 0
+abbrev pub IfDone : {A : Type 0} → WalkOutcome A → (A → Gathered → Type 0) → Type 0
 IfDone (done a s) P = P a s
 IfDone (refused e p) P = Unit {0}
 
-pub if_after : {A B : Type 0} (o : Outcome A) (f : A → Gathered → Outcome B) (P : A → Gathered → Type 0) (Q : B → Gathered → Type 0)
-    → IfDone o P → ((a : A) (s : Gathered) → P a s → IfDone (f a s) Q) → IfDone (after o f) Q
+pub if_after : {A B : Type 0} (o : WalkOutcome A) (f : A → Gathered → WalkOutcome B) (P : A → Gathered → Type 0) (Q : B → Gathered → Type 0)
+    → IfDone o P → ((a : A) (s : Gathered) → P a s → IfDone (f a s) Q) → IfDone (after_walk o f) Q
 if_after (done a s) f P Q h g = g a s h
 if_after (refused e p) f P Q h g = tt
 
-pub any_done : {A : Type 0} (o : Outcome A) → IfDone o (λ a s. Unit {0})
+pub any_done : {A : Type 0} (o : WalkOutcome A) → IfDone o (λ a s. Unit {0})
 any_done (done a s) = tt
 any_done (refused e p) = tt
 
-pub if_cond : {A : Type 0} (b : Bool) (x y : Outcome A) (Q : A → Gathered → Type 0) → IfDone x Q → IfDone y Q → IfDone (cond b x y) Q
+pub if_cond : {A : Type 0} (b : Bool) (x y : WalkOutcome A) (Q : A → Gathered → Type 0) → IfDone x Q → IfDone y Q → IfDone (cond b x y) Q
 if_cond true x y Q g h = g
 if_cond false x y Q g h = h
 
 -- nil in place of a term that is too deep
 pub if_limited : (k : Rules) (W : Kernel → Type 0) (s s2 : Gathered) (t : Kernel) → W (const nil) → Grew k s s2 (W t) → IfDone (limited t s2) (λ u s3. Grew k s s3 (W u))
-if_limited k W s s2 t w x = if_cond (nat_le (depth_of t) 400) (done t s2) (done (const nil) (record s2 { deep = true })) (λ u s3. Grew k s s3 (W u))
+if_limited k W s s2 t w x = if_cond (nat_le (kernel_depth t) 400) (done t s2) (done (const nil) (record s2 { deep = true })) (λ u s3. Grew k s s3 (W u))
     x (record { more = x.more; extends = x.extends; holds = λ a. ((x.holds a).0, w) })

@@ -16,20 +16,20 @@ use Rattle.ca_forms.specs.declared.error.CheckError.{CheckError}
 use Rattle.ca_forms.specs.declared.error.CheckError.TheVariants.{Fault, OutOfMemory}
 use Rattle.ca_forms.specs.declared.error.CheckErrorKind.TheVariants.{BadForm}
 use Rattle.ca_forms.specs.declared.planned.HiddenForm.{HiddenForm}
-use Rattle.ca_forms.specs.Outcome.{Gathered, Outcome, done, refused, after, limited}
-use Rattle.ca_forms.specs.Meaning.{Env, Meaning, Named, size, inner, named, binds, unnamed, joined, numbered, hiding, in_order, operation}
+use Rattle.ca_forms.specs.Outcome.{Gathered, WalkOutcome, done, refused, after_walk, limited}
+use Rattle.ca_forms.specs.Meaning.{Env, Meaning, Named, size, inner, behind_name, binds, unnamed, bindings_joined, numbered, hiding, means_in_order, operation}
 use Rattle.ca_forms.specs.Plain.{meanings}
 use Rattle.ca_forms.specs.Judged.{bound_names}
 use Rattle.ca_term.specs.declared.head.SystemTask.{SystemTask}
 use Rattle.ca_term.specs.declared.head.PlainFunction.{PlainFunction}
-use Rattle.ca_reader.specs.Form.{place_of}
+use Rattle.ca_reader.specs.Form.{form_place}
 use Rattle.ca_forms.specs.declared.error.CheckErrorKind.{CheckErrorKind}
 use Rattle.ca_forms.specs.GivenView.{IsWrong}
 use Rattle.ca_forms.specs.Names.{Given, applied, wrong, given}
-use Rattle.ca_forms.specs.Channels.{yes, started, made, pub_of, row_pub, stopping, operands_in, row_chan, with_buffer}
-use Rattle.ca_forms.specs.Planned.{and_yes, and_true, further, closing, hidden_row, hidden_let, merge_row, pub_over}
+use Rattle.ca_forms.specs.Channels.{yes, spawn_call, make_call, pub_of, row_pub, stopping, operands_in, row_chan, buffered_channel}
+use Rattle.ca_forms.specs.Planned.{and_yes, and_true, further, hidden_form_body, hidden_row, hidden_let, merge_row, pub_over}
 use Rattle.ca_forms.specs.Walk.{walk}
-use Rattle.ca_forms.specs.WalkView.{parts_of, pairs_of, terms_of, Fails}
+use Rattle.ca_forms.specs.WalkView.{form_parts, form_pairs, terms_of, Fails}
 use Rattle.ca_forms.proofs.TermLaws.{followed, followed_end, kernels_more}
 use Rattle.ca_forms.proofs.PartLaws.{after_after, after_fails, before_inner}
 use Rattle.ca_forms.proofs.BindLaws.{at, after_done, binds_append, numbered_append}
@@ -45,13 +45,13 @@ width_numbered n (k ∷ ks) = ap suc (width_numbered (suc n) ks)
 
 binds_width : (bs : List Named) (e : Env) (s : Gathered) (cs : Bindings) (s2 : Gathered) → binds bs e s ≡ done cs s2 → width_of cs ≡ length bs
 binds_width [] e s cs s2 h = let same : cs ≡ empty = cc in ap width_of same
-binds_width (b ∷ bs) e s cs s2 h = by (b.means (inner e) s) (λ s. binds_width bs (named b.name e) s) h where
-  by : (o : Outcome Kernel) → ((s : Gathered) (ds : Bindings) (s3 : Gathered) → binds bs (named b.name e) s ≡ done ds s3 → width_of ds ≡ length bs)
-      → after o (λ t s. after (binds bs (named b.name e) s) (λ ts s. done (binding (size e) t ts) s)) ≡ done cs s2 → width_of cs ≡ suc (length bs)
+binds_width (b ∷ bs) e s cs s2 h = by (b.means (inner e) s) (λ s. binds_width bs (behind_name b.name e) s) h where
+  by : (o : WalkOutcome Kernel) → ((s : Gathered) (ds : Bindings) (s3 : Gathered) → binds bs (behind_name b.name e) s ≡ done ds s3 → width_of ds ≡ length bs)
+      → after_walk o (λ t s. after_walk (binds bs (behind_name b.name e) s) (λ ts s. done (binding (size e) t ts) s)) ≡ done cs s2 → width_of cs ≡ suc (length bs)
   by (refused x p) ih h = absurd (cc)
-  by (done t s) ih h = rest (binds bs (named b.name e) s) (ih s) h where
-    rest : (o : Outcome Bindings) → ((ds : Bindings) (s3 : Gathered) → o ≡ done ds s3 → width_of ds ≡ length bs)
-        → after o (λ ts s. done (binding (size e) t ts) s) ≡ done cs s2 → width_of cs ≡ suc (length bs)
+  by (done t s) ih h = rest (binds bs (behind_name b.name e) s) (ih s) h where
+    rest : (o : WalkOutcome Bindings) → ((ds : Bindings) (s3 : Gathered) → o ≡ done ds s3 → width_of ds ≡ length bs)
+        → after_walk o (λ ts s. done (binding (size e) t ts) s) ≡ done cs s2 → width_of cs ≡ suc (length bs)
     rest (refused x p) ih h = absurd (cc)
     rest (done ds s) ih h = let same : cs ≡ binding (size e) t ds = cc in ap width_of same ∙ ap suc (ih ds s refl)
 
@@ -65,8 +65,8 @@ hides_count e sc s s2 ms ks h = sym (width_numbered (length sc) ks) ∙ binds_wi
 pub hiding_done : (e : Env) (sc : List (List ℕ)) (s s2 : Gathered) (ms : List Meaning) (ks : List Kernel) (more body : ℕ → List Kernel) → Hides e sc s ms ks s2
     → hiding ms more body (at e sc) s ≡ hidden_let (length sc) ks (more (length sc)) (body (length sc)) s2
 hiding_done e sc s s2 ms ks more body h =
-    ap (λ (o : Outcome Bindings). after o (λ bs s. limited (bind (joined bs (numbered (length sc + length ms) (more (length sc)))) (seq (kernels_of (body (length sc))))) s)) h
-    ∙ ap (λ n. limited (bind (joined (numbered (length sc) ks) (numbered (length sc + n) (more (length sc)))) (seq (kernels_of (body (length sc))))) s2) (sym (hides_count e sc s s2 ms ks h))
+    ap (λ (o : WalkOutcome Bindings). after_walk o (λ bs s. limited (bind (bindings_joined bs (numbered (length sc + length ms) (more (length sc)))) (seq (kernels_of (body (length sc))))) s)) h
+    ∙ ap (λ n. limited (bind (bindings_joined (numbered (length sc) ks) (numbered (length sc + n) (more (length sc)))) (seq (kernels_of (body (length sc))))) s2) (sym (hides_count e sc s s2 ms ks h))
 
 pub hiding_fails : (x : CheckError) (e : Env) (sc : List (List ℕ)) (s : Gathered) (ms : List Meaning) (more body : ℕ → List Kernel)
     → Fails x (binds (map unnamed ms) (at e sc) s) → Fails x (hiding ms more body (at e sc) s)
@@ -83,25 +83,25 @@ hides_more e sc sc2 s s2 s3 ms ns ks js h c g =
     = ap (λ (z : List (List ℕ)). length z) c ∙ length-append sc (bound_names (map unnamed ms)) ∙ ap (λ n. length sc + n) (names_width ms ∙ sym (hides_count e sc s s2 ms ks h)) in
     ap (λ bs. binds bs (at e sc) s) (map-append unnamed ms ns)
     ∙ binds_append e (map unnamed ms) (map unnamed ns) sc s
-    ∙ ap (λ (o : Outcome Bindings). after o (λ bs s. after (binds (map unnamed ns) (at e (sc ++ bound_names (map unnamed ms))) s) (λ cs s. done (joined bs cs) s))) h
-    ∙ ap (λ z. after (binds (map unnamed ns) (at e z) s2) (λ cs s. done (joined (numbered (length sc) ks) cs) s)) (sym c)
-    ∙ ap (λ (o : Outcome Bindings). after o (λ cs s. done (joined (numbered (length sc) ks) cs) s)) g
-    ∙ ap (λ n. done (joined (numbered (length sc) ks) (numbered n js)) s3) long
+    ∙ ap (λ (o : WalkOutcome Bindings). after_walk o (λ bs s. after_walk (binds (map unnamed ns) (at e (sc ++ bound_names (map unnamed ms))) s) (λ cs s. done (bindings_joined bs cs) s))) h
+    ∙ ap (λ z. after_walk (binds (map unnamed ns) (at e z) s2) (λ cs s. done (bindings_joined (numbered (length sc) ks) cs) s)) (sym c)
+    ∙ ap (λ (o : WalkOutcome Bindings). after_walk o (λ cs s. done (bindings_joined (numbered (length sc) ks) cs) s)) g
+    ∙ ap (λ n. done (bindings_joined (numbered (length sc) ks) (numbered n js)) s3) long
     ∙ ap (λ bs. done bs s3) (sym (numbered_append (length sc) ks js))
 
 pub first_fails : (x : CheckError) (e : Env) (sc : List (List ℕ)) (s : Gathered) (ms ns : List Meaning) → Fails x (binds (map unnamed ms) (at e sc) s) → Fails x (binds (map unnamed (ms ++ ns)) (at e sc) s)
 first_fails OutOfMemory e sc s ms ns h = tt
 first_fails (Fault q p) e sc s ms ns h = ap (λ bs. binds bs (at e sc) s) (map-append unnamed ms ns) ∙ binds_append e (map unnamed ms) (map unnamed ns) sc s
-    ∙ ap (λ (o : Outcome Bindings). after o (λ bs s. after (binds (map unnamed ns) (at e (sc ++ bound_names (map unnamed ms))) s) (λ cs s. done (joined bs cs) s))) h
+    ∙ ap (λ (o : WalkOutcome Bindings). after_walk o (λ bs s. after_walk (binds (map unnamed ns) (at e (sc ++ bound_names (map unnamed ms))) s) (λ cs s. done (bindings_joined bs cs) s))) h
 
 pub second_fails : (x : CheckError) (e : Env) (sc sc2 : List (List ℕ)) (s s2 : Gathered) (ms ns : List Meaning) (ks : List Kernel) → Hides e sc s ms ks s2 → sc2 ≡ sc ++ bound_names (map unnamed ms)
     → Fails x (binds (map unnamed ns) (at e sc2) s2) → Fails x (binds (map unnamed (ms ++ ns)) (at e sc) s)
 second_fails OutOfMemory e sc sc2 s s2 ms ns ks h c g = tt
 second_fails (Fault q p) e sc sc2 s s2 ms ns ks h c g = ap (λ bs. binds bs (at e sc) s) (map-append unnamed ms ns)
     ∙ binds_append e (map unnamed ms) (map unnamed ns) sc s
-    ∙ ap (λ (o : Outcome Bindings). after o (λ bs s. after (binds (map unnamed ns) (at e (sc ++ bound_names (map unnamed ms))) s) (λ cs s. done (joined bs cs) s))) h
-    ∙ ap (λ z. after (binds (map unnamed ns) (at e z) s2) (λ cs s. done (joined (numbered (length sc) ks) cs) s)) (sym c)
-    ∙ ap (λ (o : Outcome Bindings). after o (λ cs s. done (joined (numbered (length sc) ks) cs) s)) g
+    ∙ ap (λ (o : WalkOutcome Bindings). after_walk o (λ bs s. after_walk (binds (map unnamed ns) (at e (sc ++ bound_names (map unnamed ms))) s) (λ cs s. done (bindings_joined bs cs) s))) h
+    ∙ ap (λ z. after_walk (binds (map unnamed ns) (at e z) s2) (λ cs s. done (bindings_joined (numbered (length sc) ks) cs) s)) (sym c)
+    ∙ ap (λ (o : WalkOutcome Bindings). after_walk o (λ cs s. done (bindings_joined (numbered (length sc) ks) cs) s)) g
 
 -- true behind operands
 pub hides_yes : (unwritten : Bool) (e : Env) (sc : List (List ℕ)) (s s2 : Gathered) (ms : List Meaning) (ks : List Kernel) → Hides e sc s ms ks s2 → Hides e sc s (and_yes unwritten ms) (and_true unwritten ks) s2
@@ -117,84 +117,84 @@ take_all [] = refl
 take_all (f ∷ fs) = ap (λ z. f ∷ z) (take_all fs)
 
 -- the parts from a number on are those up to the end
-pub parts_to_end : (n : ℕ) (fs : List Form) → meanings (parts_of (drop n (take (length fs) fs))) ≡ meanings (parts_of (drop n fs))
-parts_to_end n fs = ap (λ gs. meanings (parts_of (drop n gs))) (take_all fs)
+pub parts_to_end : (n : ℕ) (fs : List Form) → meanings (form_parts (drop n (take (length fs) fs))) ≡ meanings (form_parts (drop n fs))
+parts_to_end n fs = ap (λ gs. meanings (form_parts (drop n gs))) (take_all fs)
 
 pub hidden_row_done : (w : HiddenForm) (unwritten : Bool) (p : Place) (e : Env) (sc : List (List ℕ)) (s s2 : Gathered) (fs : List Form) (ks : List Kernel)
-    → Hides e sc s (meanings (parts_of (drop 1 (take (length fs) fs)))) ks s2
-    → hidden_row w unwritten p (parts_of (drop 1 fs)) (at e sc) s ≡ hidden_let (length sc) (and_true unwritten ks) (further w p (length sc)) (closing w p (length sc)) s2
+    → Hides e sc s (meanings (form_parts (drop 1 (take (length fs) fs)))) ks s2
+    → hidden_row w unwritten p (form_parts (drop 1 fs)) (at e sc) s ≡ hidden_let (length sc) (and_true unwritten ks) (further w p (length sc)) (hidden_form_body w p (length sc)) s2
 hidden_row_done w unwritten p e sc s s2 fs ks h =
-    let walked : Hides e sc s (meanings (parts_of (drop 1 fs))) ks s2 = rw (parts_to_end 1 fs) at h in
-    hiding_done e sc s s2 (and_yes unwritten (meanings (parts_of (drop 1 fs)))) (and_true unwritten ks) (further w p) (closing w p) (hides_yes unwritten e sc s s2 (meanings (parts_of (drop 1 fs))) ks walked)
+    let walked : Hides e sc s (meanings (form_parts (drop 1 fs))) ks s2 = rw (parts_to_end 1 fs) at h in
+    hiding_done e sc s s2 (and_yes unwritten (meanings (form_parts (drop 1 fs)))) (and_true unwritten ks) (further w p) (hidden_form_body w p) (hides_yes unwritten e sc s s2 (meanings (form_parts (drop 1 fs))) ks walked)
 
 pub hidden_row_fails : (x : CheckError) (w : HiddenForm) (unwritten : Bool) (p : Place) (e : Env) (sc : List (List ℕ)) (s : Gathered) (fs : List Form)
-    → Fails x (binds (map unnamed (meanings (parts_of (drop 1 (take (length fs) fs))))) (at e sc) s) → Fails x (hidden_row w unwritten p (parts_of (drop 1 fs)) (at e sc) s)
+    → Fails x (binds (map unnamed (meanings (form_parts (drop 1 (take (length fs) fs))))) (at e sc) s) → Fails x (hidden_row w unwritten p (form_parts (drop 1 fs)) (at e sc) s)
 hidden_row_fails x w unwritten p e sc s fs h =
-    let walked : Fails x (binds (map unnamed (meanings (parts_of (drop 1 fs)))) (at e sc) s) = rw (parts_to_end 1 fs) at h in
-    hiding_fails x e sc s (and_yes unwritten (meanings (parts_of (drop 1 fs)))) (further w p) (closing w p) (yes_fails x unwritten e sc s (meanings (parts_of (drop 1 fs))) walked)
+    let walked : Fails x (binds (map unnamed (meanings (form_parts (drop 1 fs)))) (at e sc) s) = rw (parts_to_end 1 fs) at h in
+    hiding_fails x e sc s (and_yes unwritten (meanings (form_parts (drop 1 fs)))) (further w p) (hidden_form_body w p) (yes_fails x unwritten e sc s (meanings (form_parts (drop 1 fs))) walked)
 
 -- operands behind others, without names
 pub in_order_then : (ms ns : List Meaning) (e : Env) (s : Gathered)
-    → in_order (ms ++ ns) (inner e) s ≡ after (in_order ms (inner e) s) (λ ts s. after (in_order ns (inner e) s) (λ us s. done (followed ts us) s))
-in_order_then [] ns e s = sym (after_done (in_order ns (inner e) s))
+    → means_in_order (ms ++ ns) (inner e) s ≡ after_walk (means_in_order ms (inner e) s) (λ ts s. after_walk (means_in_order ns (inner e) s) (λ us s. done (followed ts us) s))
+in_order_then [] ns e s = sym (after_done (means_in_order ns (inner e) s))
 in_order_then (m ∷ ms) ns e s = rw (before_inner (length (ms ++ ns)) e, before_inner (length ms) e) (by (m (inner e) s) (λ s2. in_order_then ms ns e s2)) where
-  by : (o : Outcome Kernel) → ((s2 : Gathered) → in_order (ms ++ ns) (inner e) s2 ≡ after (in_order ms (inner e) s2) (λ ts s. after (in_order ns (inner e) s) (λ us s. done (followed ts us) s)))
-      → after o (λ t s. after (in_order (ms ++ ns) (inner e) s) (λ ts s. done (item t ts) s))
-      ≡ after (after o (λ t s. after (in_order ms (inner e) s) (λ ts s. done (item t ts) s))) (λ ts s. after (in_order ns (inner e) s) (λ us s. done (followed ts us) s))
+  by : (o : WalkOutcome Kernel) → ((s2 : Gathered) → means_in_order (ms ++ ns) (inner e) s2 ≡ after_walk (means_in_order ms (inner e) s2) (λ ts s. after_walk (means_in_order ns (inner e) s) (λ us s. done (followed ts us) s)))
+      → after_walk o (λ t s. after_walk (means_in_order (ms ++ ns) (inner e) s) (λ ts s. done (item t ts) s))
+      ≡ after_walk (after_walk o (λ t s. after_walk (means_in_order ms (inner e) s) (λ ts s. done (item t ts) s))) (λ ts s. after_walk (means_in_order ns (inner e) s) (λ us s. done (followed ts us) s))
   by (refused x p) ih = refl
-  by (done t s) ih = rw (ih s) (rest (in_order ms (inner e) s)) where
-    rest : (o : Outcome Kernels) → after (after o (λ ts s. after (in_order ns (inner e) s) (λ us s. done (followed ts us) s))) (λ ts s. done (item t ts) s)
-        ≡ after (after o (λ ts s. done (item t ts) s)) (λ ts s. after (in_order ns (inner e) s) (λ us s. done (followed ts us) s))
+  by (done t s) ih = rw (ih s) (rest (means_in_order ms (inner e) s)) where
+    rest : (o : WalkOutcome Kernels) → after_walk (after_walk o (λ ts s. after_walk (means_in_order ns (inner e) s) (λ us s. done (followed ts us) s))) (λ ts s. done (item t ts) s)
+        ≡ after_walk (after_walk o (λ ts s. done (item t ts) s)) (λ ts s. after_walk (means_in_order ns (inner e) s) (λ us s. done (followed ts us) s))
     rest (refused x p) = refl
-    rest (done ts s) = after_after (in_order ns (inner e) s) _ _
+    rest (done ts s) = after_after (means_in_order ns (inner e) s) _ _
 
 last_kernel : (ts : List Term) (t : Term) → kernels (ts ++ t ∷ []) ≡ followed (kernels ts) (item (kernel t) none)
 last_kernel ts t = sym (followed_end (kernels (ts ++ t ∷ []))) ∙ kernels_more ts t none
 
-pub operation_yes : (h : Head) (ms : List Meaning) (p : Place) (e : Env) (s s2 : Gathered) (ts : List Term) (t : Term) → in_order ms (inner e) s ≡ done (kernels ts) s2 → kernel t ≡ const (bool true)
+pub operation_yes : (h : Head) (ms : List Meaning) (p : Place) (e : Env) (s s2 : Gathered) (ts : List Term) (t : Term) → means_in_order ms (inner e) s ≡ done (kernels ts) s2 → kernel t ≡ const (bool true)
     → operation h (and_yes true ms) p e s ≡ limited (apply h (kernels (ts ++ t ∷ [])) p) s2
 operation_yes h ms p e s s2 ts t w k =
-    ap (λ (o : Outcome Kernels). after o (λ ts s. limited (apply h ts p) s)) (in_order_then ms (yes ∷ []) e s)
-    ∙ ap (λ (o : Outcome Kernels). after (after o (λ ts s. done (followed ts (item (const (bool true)) none)) s)) (λ ts s. limited (apply h ts p) s)) w
+    ap (λ (o : WalkOutcome Kernels). after_walk o (λ ts s. limited (apply h ts p) s)) (in_order_then ms (yes ∷ []) e s)
+    ∙ ap (λ (o : WalkOutcome Kernels). after_walk (after_walk o (λ ts s. done (followed ts (item (const (bool true)) none)) s)) (λ ts s. limited (apply h ts p) s)) w
     ∙ ap (λ k. limited (apply h (followed (kernels ts) (item k none)) p) s2) (sym k)
     ∙ ap (λ us. limited (apply h us p) s2) (sym (last_kernel ts t))
 
-pub operation_yes_fails : (x : CheckError) (h : Head) (ms : List Meaning) (p : Place) (e : Env) (s : Gathered) → Fails x (in_order ms (inner e) s) → Fails x (operation h (and_yes true ms) p e s)
+pub operation_yes_fails : (x : CheckError) (h : Head) (ms : List Meaning) (p : Place) (e : Env) (s : Gathered) → Fails x (means_in_order ms (inner e) s) → Fails x (operation h (and_yes true ms) p e s)
 operation_yes_fails OutOfMemory h ms p e s w = tt
 operation_yes_fails (Fault q r) h ms p e s w =
-    ap (λ (o : Outcome Kernels). after o (λ ts s. limited (apply h ts p) s)) (in_order_then ms (yes ∷ []) e s)
-    ∙ ap (λ (o : Outcome Kernels). after (after o (λ ts s. done (followed ts (item (const (bool true)) none)) s)) (λ ts s. limited (apply h ts p) s)) w
+    ap (λ (o : WalkOutcome Kernels). after_walk o (λ ts s. limited (apply h ts p) s)) (in_order_then ms (yes ∷ []) e s)
+    ∙ ap (λ (o : WalkOutcome Kernels). after_walk (after_walk o (λ ts s. done (followed ts (item (const (bool true)) none)) s)) (λ ts s. limited (apply h ts p) s)) w
 
 -- a new channel
-pub sized_on : (kind : MakeKind) (fs : List Form) (p : Place) → length fs ≡ 2 → with_buffer kind (pairs_of fs) p ≡ operation (Make kind) (meanings (parts_of (drop 1 fs))) p
+pub sized_on : (kind : MakeKind) (fs : List Form) (p : Place) → length fs ≡ 2 → buffered_channel kind (form_pairs fs) p ≡ operation (Make kind) (meanings (form_parts (drop 1 fs))) p
 sized_on kind [] p h = absurd (omega (arith, h))
 sized_on kind (a ∷ []) p h = absurd (omega (arith, h))
 sized_on kind (a ∷ b ∷ []) p h = refl
 sized_on kind (a ∷ b ∷ c ∷ fs) p h = absurd (omega (arith, h))
 
-pub sized_off : (kind : MakeKind) (fs : List Form) (p : Place) (e : Env) (s : Gathered) → (length fs ≡ 2 → ⊥) → with_buffer kind (pairs_of fs) p e s ≡ refused BadForm p
+pub sized_off : (kind : MakeKind) (fs : List Form) (p : Place) (e : Env) (s : Gathered) → (length fs ≡ 2 → ⊥) → buffered_channel kind (form_pairs fs) p e s ≡ refused BadForm p
 sized_off kind [] p e s x = refl
 sized_off kind (a ∷ []) p e s x = refl
 sized_off kind (a ∷ b ∷ []) p e s x = absurd (x refl)
 sized_off kind (a ∷ b ∷ c ∷ fs) p e s x = refl
 
-pub chan_off : (fs : List Form) (p : Place) (e : Env) (s : Gathered) → 1 < length fs → row_chan p (parts_of fs) e s ≡ refused BadForm p
+pub chan_off : (fs : List Form) (p : Place) (e : Env) (s : Gathered) → 1 < length fs → row_chan p (form_parts fs) e s ≡ refused BadForm p
 chan_off [] p e s h = absurd (omega (arith, h))
 chan_off (a ∷ []) p e s h = absurd (omega (arith, h))
 chan_off (a ∷ b ∷ fs) p e s h = refl
 
 -- a merge
 pub merge_done : (p : Place) (e : Env) (sc sc2 : List (List ℕ)) (s s1 s2 : Gathered) (fs : List Form) (ks : List Kernel) (k : Kernel) → 2 ≤ length fs
-    → Hides e sc s (meanings (parts_of (drop 1 (take 2 fs)))) ks s1 → sc2 ≡ sc ++ bound_names (map unnamed (meanings (parts_of (drop 1 (take 2 fs)))))
-    → row_chan p (parts_of (drop 2 fs)) (inner (at e sc2)) s1 ≡ done k s2
-    → merge_row p (parts_of (drop 1 fs)) (at e sc) s ≡ hidden_let (length sc) (ks ++ k ∷ []) [] (started SystemTask.Merge (var (length sc) ∷ var (length sc + 1) ∷ []) p ∷ var (length sc + 1) ∷ []) s2
+    → Hides e sc s (meanings (form_parts (drop 1 (take 2 fs)))) ks s1 → sc2 ≡ sc ++ bound_names (map unnamed (meanings (form_parts (drop 1 (take 2 fs)))))
+    → row_chan p (form_parts (drop 2 fs)) (inner (at e sc2)) s1 ≡ done k s2
+    → merge_row p (form_parts (drop 1 fs)) (at e sc) s ≡ hidden_let (length sc) (ks ++ k ∷ []) [] (spawn_call SystemTask.Merge (var (length sc) ∷ var (length sc + 1) ∷ []) p ∷ var (length sc + 1) ∷ []) s2
 merge_done p e sc sc2 s s1 s2 [] ks k l h c w = absurd (omega (arith, l))
 merge_done p e sc sc2 s s1 s2 (f ∷ []) ks k l h c w = absurd (omega (arith, l))
-merge_done p e sc sc2 s s1 s2 (f ∷ g ∷ gs) ks k l h c w = hiding_done e sc s s2 (walk (form_tree g) ∷ row_chan p (parts_of gs) ∷ []) (ks ++ k ∷ []) (λ n. []) (λ n. started SystemTask.Merge (var n ∷ var (n + 1) ∷ []) p ∷ var (n + 1) ∷ [])
-    (hides_more e sc sc2 s s1 s2 (walk (form_tree g) ∷ []) (row_chan p (parts_of gs) ∷ []) ks (k ∷ []) h c (rw w refl))
+merge_done p e sc sc2 s s1 s2 (f ∷ g ∷ gs) ks k l h c w = hiding_done e sc s s2 (walk (form_tree g) ∷ row_chan p (form_parts gs) ∷ []) (ks ++ k ∷ []) (λ n. []) (λ n. spawn_call SystemTask.Merge (var n ∷ var (n + 1) ∷ []) p ∷ var (n + 1) ∷ [])
+    (hides_more e sc sc2 s s1 s2 (walk (form_tree g) ∷ []) (row_chan p (form_parts gs) ∷ []) ks (k ∷ []) h c (rw w refl))
 
 -- one more term
-pub more_is : (o : Outcome Kernel) (js ks : List Kernel) (s2 : Gathered) → after o (λ k s. done (js ++ k ∷ []) s) ≡ done ks s2 → (k : Kernel) × (o ≡ done k s2) × (ks ≡ js ++ k ∷ [])
+pub more_is : (o : WalkOutcome Kernel) (js ks : List Kernel) (s2 : Gathered) → after_walk o (λ k s. done (js ++ k ∷ []) s) ≡ done ks s2 → (k : Kernel) × (o ≡ done k s2) × (ks ≡ js ++ k ∷ [])
 more_is (refused x p) js ks s2 h = absurd (cc)
 more_is (done k s) js ks s2 h =
     let a : js ++ k ∷ [] ≡ ks = cc in
@@ -206,7 +206,7 @@ kernels_listed [] = refl
 kernels_listed (t ∷ ts) = ap (item (kernel t)) (kernels_listed ts)
 
 abbrev pub More : Env → Gathered → Form → List Kernel → List Kernel → Gathered → Type 0
-More e s f js ks s2 = after (walk (form_tree f) (inner e) s) (λ k s. done (js ++ k ∷ []) s) ≡ done ks s2
+More e s f js ks s2 = after_walk (walk (form_tree f) (inner e) s) (λ k s. done (js ++ k ∷ []) s) ≡ done ks s2
 
 three_walked : (h : Head) (a b d : Meaning) (p : Place) (e : Env) (s s1 s2 s3 : Gathered) (j k l : Kernel) → a (inner e) s ≡ done j s1 → b (inner e) s1 ≡ done k s2 → d (inner e) s2 ≡ done l s3
     → operation h (a ∷ b ∷ d ∷ []) p e s ≡ limited (apply h (kernels_of (j ∷ k ∷ l ∷ [])) p) s3
@@ -218,7 +218,7 @@ two_walked h a b p e s s1 s2 j k x y = rw (x, y) refl
 
 pub alts_three : (o : AltsOptions) (p : Place) (e : Env) (s s1 s2 s3 : Gathered) (fs : List Form) (a b d : Form) (ks1 ks2 ks3 : List Kernel) → 6 ≤ length fs
     → a ≡ get_or fs 1 a → b ≡ get_or fs 3 b → d ≡ get_or fs 5 d → More e s a [] ks1 s1 → More e s1 b ks1 ks2 s2 → More e s2 d ks2 ks3 s3
-    → operation (Alts o) (operands_in (parts_of (drop 1 fs))) p e s ≡ limited (apply (Alts o) (kernels_of ks3) p) s3
+    → operation (Alts o) (operands_in (form_parts (drop 1 fs))) p e s ≡ limited (apply (Alts o) (kernels_of ks3) p) s3
 alts_three o p e s s1 s2 s3 (f1 ∷ f2 ∷ f3 ∷ f4 ∷ f5 ∷ f6 ∷ fs) a b d ks1 ks2 ks3 h x y z u v w =
     let A = more_is (walk (form_tree a) (inner e) s) [] ks1 s1 u in
     let B = more_is (walk (form_tree b) (inner e) s1) ks1 ks2 s2 v in
@@ -238,7 +238,7 @@ alts_three o p e s s1 s2 s3 (f1 ∷ f2 ∷ f3 ∷ f4 ∷ f5 ∷ []) a b d ks1 ks
 
 pub alts_two : (o : AltsOptions) (p : Place) (e : Env) (s s1 s2 : Gathered) (fs : List Form) (a b : Form) (ks1 ks2 : List Kernel) → 4 ≤ length fs → length fs < 6
     → a ≡ get_or fs 1 a → b ≡ get_or fs 3 b → More e s a [] ks1 s1 → More e s1 b ks1 ks2 s2
-    → operation (Alts o) (operands_in (parts_of (drop 1 fs))) p e s ≡ limited (apply (Alts o) (kernels_of ks2) p) s2
+    → operation (Alts o) (operands_in (form_parts (drop 1 fs))) p e s ≡ limited (apply (Alts o) (kernels_of ks2) p) s2
 alts_two o p e s s1 s2 fs a b ks1 ks2 h g x y u v =
     let A = more_is (walk (form_tree a) (inner e) s) [] ks1 s1 u in
     let B = more_is (walk (form_tree b) (inner e) s1) ks1 ks2 s2 v in
@@ -246,7 +246,7 @@ alts_two o p e s s1 s2 fs a b ks1 ks2 h g x y u v =
     ap (λ ms. operation (Alts o) ms p e s) (by fs h g x y)
     ∙ two_walked (Alts o) (walk (form_tree a)) (walk (form_tree b)) p e s s1 s2 A.0 B.0 A.1 B.1
     ∙ ap (λ q. limited (apply (Alts o) (kernels_of q) p) s2) (sym all) where
-      by : (fs : List Form) → 4 ≤ length fs → length fs < 6 → a ≡ get_or fs 1 a → b ≡ get_or fs 3 b → operands_in (parts_of (drop 1 fs)) ≡ walk (form_tree a) ∷ walk (form_tree b) ∷ []
+      by : (fs : List Form) → 4 ≤ length fs → length fs < 6 → a ≡ get_or fs 1 a → b ≡ get_or fs 3 b → operands_in (form_parts (drop 1 fs)) ≡ walk (form_tree a) ∷ walk (form_tree b) ∷ []
       by [] h g x y = absurd (omega (arith, h))
       by (f1 ∷ []) h g x y = absurd (omega (arith, h))
       by (f1 ∷ f2 ∷ []) h g x y = absurd (omega (arith, h))
@@ -255,7 +255,7 @@ alts_two o p e s s1 s2 fs a b ks1 ks2 h g x y u v =
       by (f1 ∷ f2 ∷ f3 ∷ f4 ∷ f5 ∷ []) h g x y = ap (λ k. walk (form_tree k) ∷ walk (form_tree f4) ∷ []) (sym x) ∙ ap (λ k. walk (form_tree a) ∷ walk (form_tree k) ∷ []) (sym y)
       by (f1 ∷ f2 ∷ f3 ∷ f4 ∷ f5 ∷ f6 ∷ fs) h g x y = absurd (omega (arith, g))
 
-pub alts_one : (fs : List Form) → length fs < 4 → operands_in (parts_of (drop 1 fs)) ≡ meanings (parts_of (drop 1 fs))
+pub alts_one : (fs : List Form) → length fs < 4 → operands_in (form_parts (drop 1 fs)) ≡ meanings (form_parts (drop 1 fs))
 alts_one [] h = refl
 alts_one (f1 ∷ []) h = refl
 alts_one (f1 ∷ f2 ∷ []) h = refl
@@ -264,24 +264,24 @@ alts_one (f1 ∷ f2 ∷ f3 ∷ f4 ∷ fs) h = absurd (omega (arith, h))
 
 -- a publication
 pub published_done : (f : PlainFunction) (js : List Kernel) (p : Place) (e : Env) (sc : List (List ℕ)) (s s2 : Gathered) (fs : List Form) (ks : List Kernel) → 2 < length fs
-    → Hides e sc s (meanings (parts_of (drop 1 (take 2 fs)))) ks s2
-    → pub_over (applied f js) p (parts_of (drop 1 fs)) (at e sc) s
-    ≡ hidden_let (length sc) ks (made MakeKind.Pub (var (length sc) ∷ []) p ∷ []) (started (SystemTask.Pub f) (var (length sc + 1) ∷ var (length sc) ∷ js) p ∷ var (length sc + 1) ∷ []) s2
+    → Hides e sc s (meanings (form_parts (drop 1 (take 2 fs)))) ks s2
+    → pub_over (applied f js) p (form_parts (drop 1 fs)) (at e sc) s
+    ≡ hidden_let (length sc) ks (make_call MakeKind.Pub (var (length sc) ∷ []) p ∷ []) (spawn_call (SystemTask.Pub f) (var (length sc + 1) ∷ var (length sc) ∷ js) p ∷ var (length sc + 1) ∷ []) s2
 published_done f js p e sc s s2 [] ks l h = absurd (omega (arith, l))
 published_done f js p e sc s s2 (a ∷ []) ks l h = absurd (omega (arith, l))
 published_done f js p e sc s s2 (a ∷ b ∷ []) ks l h = absurd (omega (arith, l))
-published_done f js p e sc s s2 (a ∷ b ∷ d ∷ fs) ks l h = hiding_done e sc s s2 (walk (form_tree b) ∷ []) ks (λ n. made MakeKind.Pub (var n ∷ []) p ∷ [])
-    (λ n. started (SystemTask.Pub f) (var (n + 1) ∷ var n ∷ js) p ∷ var (n + 1) ∷ []) h
+published_done f js p e sc s s2 (a ∷ b ∷ d ∷ fs) ks l h = hiding_done e sc s s2 (walk (form_tree b) ∷ []) ks (λ n. make_call MakeKind.Pub (var n ∷ []) p ∷ [])
+    (λ n. spawn_call (SystemTask.Pub f) (var (n + 1) ∷ var n ∷ js) p ∷ var (n + 1) ∷ []) h
 
 pub published_fails : (x : CheckError) (f : PlainFunction) (js : List Kernel) (p : Place) (e : Env) (sc : List (List ℕ)) (s : Gathered) (fs : List Form) → 2 < length fs
-    → Fails x (binds (map unnamed (meanings (parts_of (drop 1 (take 2 fs))))) (at e sc) s) → Fails x (pub_over (applied f js) p (parts_of (drop 1 fs)) (at e sc) s)
+    → Fails x (binds (map unnamed (meanings (form_parts (drop 1 (take 2 fs))))) (at e sc) s) → Fails x (pub_over (applied f js) p (form_parts (drop 1 fs)) (at e sc) s)
 published_fails x f js p e sc s [] l h = absurd (omega (arith, l))
 published_fails x f js p e sc s (a ∷ []) l h = absurd (omega (arith, l))
 published_fails x f js p e sc s (a ∷ b ∷ []) l h = absurd (omega (arith, l))
-published_fails x f js p e sc s (a ∷ b ∷ d ∷ fs) l h = hiding_fails x e sc s (walk (form_tree b) ∷ []) (λ n. made MakeKind.Pub (var n ∷ []) p ∷ [])
-    (λ n. started (SystemTask.Pub f) (var (n + 1) ∷ var n ∷ js) p ∷ var (n + 1) ∷ []) h
+published_fails x f js p e sc s (a ∷ b ∷ d ∷ fs) l h = hiding_fails x e sc s (walk (form_tree b) ∷ []) (λ n. make_call MakeKind.Pub (var n ∷ []) p ∷ [])
+    (λ n. spawn_call (SystemTask.Pub f) (var (n + 1) ∷ var n ∷ js) p ∷ var (n + 1) ∷ []) h
 
-pub pub_off : (p : Place) (e : Env) (s : Gathered) (fs : List Form) → (length fs ≡ 3 → ⊥) → row_pub p (parts_of (drop 1 fs)) e s ≡ refused BadForm p
+pub pub_off : (p : Place) (e : Env) (s : Gathered) (fs : List Form) → (length fs ≡ 3 → ⊥) → row_pub p (form_parts (drop 1 fs)) e s ≡ refused BadForm p
 pub_off p e s [] h = refl
 pub_off p e s (a ∷ []) h = refl
 pub_off p e s (a ∷ b ∷ []) h = refl
@@ -289,24 +289,24 @@ pub_off p e s (a ∷ b ∷ d ∷ []) h = absurd (h refl)
 pub_off p e s (a ∷ b ∷ d ∷ f ∷ fs) h = refl
 
 pub pub_on : (p : Place) (e : Env) (s : Gathered) (fs : List Form) (g : Form) (v : Given) → length fs ≡ 3 → g ≡ get_or fs 2 g → given (form_tree g) e ≡ v
-    → row_pub p (parts_of (drop 1 fs)) e s ≡ pub_over v p (parts_of (drop 1 fs)) e s
+    → row_pub p (form_parts (drop 1 fs)) e s ≡ pub_over v p (form_parts (drop 1 fs)) e s
 pub_on p e s [] g v h x y = absurd (omega (arith, h))
 pub_on p e s (a ∷ []) g v h x y = absurd (omega (arith, h))
 pub_on p e s (a ∷ b ∷ []) g v h x y = absurd (omega (arith, h))
 pub_on p e s (a ∷ b ∷ d ∷ []) g v h x y =
     let same : given (form_tree d) e ≡ v = ap (λ k. given (form_tree k) e) (sym x) ∙ y in
-    ap (λ w. pub_of w (walk (form_tree b)) (place_of (form_tree d)) p e s) same
+    ap (λ w. pub_of w (walk (form_tree b)) (form_place (form_tree d)) p e s) same
 pub_on p e s (a ∷ b ∷ d ∷ f ∷ fs) g v h x y = absurd (omega (arith, h))
 
-pub pub_wrong : (p : Place) (e : Env) (s : Gathered) (fs : List Form) (g : Form) (k : CheckErrorKind) (q : Place) → length fs ≡ 3 → g ≡ get_or fs 2 g → IsWrong (Fault k q) (place_of (form_tree g)) (given (form_tree g) e)
-    → row_pub p (parts_of (drop 1 fs)) e s ≡ stopping (meanings (parts_of (drop 1 (take 2 fs)))) k q e s
+pub pub_wrong : (p : Place) (e : Env) (s : Gathered) (fs : List Form) (g : Form) (k : CheckErrorKind) (q : Place) → length fs ≡ 3 → g ≡ get_or fs 2 g → IsWrong (Fault k q) (form_place (form_tree g)) (given (form_tree g) e)
+    → row_pub p (form_parts (drop 1 fs)) e s ≡ stopping (meanings (form_parts (drop 1 (take 2 fs)))) k q e s
 pub_wrong p e s [] g k q h x y = absurd (omega (arith, h))
 pub_wrong p e s (a ∷ []) g k q h x y = absurd (omega (arith, h))
 pub_wrong p e s (a ∷ b ∷ []) g k q h x y = absurd (omega (arith, h))
 pub_wrong p e s (a ∷ b ∷ d ∷ []) g k q h x y =
     let same : given (form_tree d) e ≡ wrong k = ap (λ z. given (form_tree z) e) (sym x) ∙ y.1 in
-    let here : place_of (form_tree d) ≡ q = ap (λ z. place_of (form_tree z)) (sym x) ∙ sym y.0 in
-    ap (λ w. pub_of w (walk (form_tree b)) (place_of (form_tree d)) p e s) same ∙ ap (λ r. stopping (walk (form_tree b) ∷ []) k r e s) here
+    let here : form_place (form_tree d) ≡ q = ap (λ z. form_place (form_tree z)) (sym x) ∙ sym y.0 in
+    ap (λ w. pub_of w (walk (form_tree b)) (form_place (form_tree d)) p e s) same ∙ ap (λ r. stopping (walk (form_tree b) ∷ []) k r e s) here
 pub_wrong p e s (a ∷ b ∷ d ∷ f ∷ fs) g k q h x y = absurd (omega (arith, h))
 
 -- an error behind the first part, behind the first two parts
@@ -314,7 +314,7 @@ one_stops : (m : Meaning) (k : CheckErrorKind) (q : Place) (e : Env) (s s1 : Gat
 one_stops m k q e s s1 j h = rw h refl
 
 pub stopped_one : (k : CheckErrorKind) (q : Place) (e : Env) (s s1 : Gathered) (fs : List Form) (a : Form) (js ks : List Kernel) → 1 < length fs → a ≡ get_or fs 1 a → More e s a js ks s1
-    → stopping (meanings (parts_of (drop 1 (take 2 fs)))) k q e s ≡ refused k q
+    → stopping (meanings (form_parts (drop 1 (take 2 fs)))) k q e s ≡ refused k q
 stopped_one k q e s s1 [] a js ks l x h = absurd (omega (arith, l))
 stopped_one k q e s s1 (f ∷ []) a js ks l x h = absurd (omega (arith, l))
 stopped_one k q e s s1 (f ∷ g ∷ fs) a js ks l x h =
@@ -326,7 +326,7 @@ one_fails_first OutOfMemory m k q e s h = tt
 one_fails_first (Fault c r) m k q e s h = rw h refl
 
 pub stopped_one_fails : (x : CheckError) (k : CheckErrorKind) (q : Place) (e : Env) (s : Gathered) (fs : List Form) (a : Form) → 1 < length fs → a ≡ get_or fs 1 a → Fails x (walk (form_tree a) (inner e) s)
-    → Fails x (stopping (meanings (parts_of (drop 1 (take 2 fs)))) k q e s)
+    → Fails x (stopping (meanings (form_parts (drop 1 (take 2 fs)))) k q e s)
 stopped_one_fails x k q e s [] a l y h = absurd (omega (arith, l))
 stopped_one_fails x k q e s (f ∷ []) a l y h = absurd (omega (arith, l))
 stopped_one_fails x k q e s (f ∷ g ∷ fs) a l y h = subst (λ z. Fails x (stopping (walk (form_tree z) ∷ []) k q e s)) y (one_fails_first x (walk (form_tree a)) k q e s h)
@@ -335,7 +335,7 @@ two_stop : (m n : Meaning) (k : CheckErrorKind) (q : Place) (e : Env) (s s1 s2 :
 two_stop m n k q e s s1 s2 j l h g = rw (h, g) refl
 
 pub stopped_two : (k : CheckErrorKind) (q : Place) (e : Env) (s s1 s2 : Gathered) (fs : List Form) (a b : Form) (js ks ls : List Kernel) → 2 < length fs → a ≡ get_or fs 1 a → b ≡ get_or fs 2 b
-    → More e s a js ks s1 → More e s1 b ks ls s2 → stopping (meanings (parts_of (drop 1 (take 3 fs)))) k q e s ≡ refused k q
+    → More e s a js ks s1 → More e s1 b ks ls s2 → stopping (meanings (form_parts (drop 1 (take 3 fs)))) k q e s ≡ refused k q
 stopped_two k q e s s1 s2 [] a b js ks ls l x y h g = absurd (omega (arith, l))
 stopped_two k q e s s1 s2 (f1 ∷ []) a b js ks ls l x y h g = absurd (omega (arith, l))
 stopped_two k q e s s1 s2 (f1 ∷ f2 ∷ []) a b js ks ls l x y h g = absurd (omega (arith, l))
@@ -354,14 +354,14 @@ two_fail_second OutOfMemory m n k q e s s1 j h g = tt
 two_fail_second (Fault c r) m n k q e s s1 j h g = rw (h, g) refl
 
 pub stopped_two_first : (x : CheckError) (k : CheckErrorKind) (q : Place) (e : Env) (s : Gathered) (fs : List Form) (a : Form) → 2 < length fs → a ≡ get_or fs 1 a → Fails x (walk (form_tree a) (inner e) s)
-    → Fails x (stopping (meanings (parts_of (drop 1 (take 3 fs)))) k q e s)
+    → Fails x (stopping (meanings (form_parts (drop 1 (take 3 fs)))) k q e s)
 stopped_two_first x k q e s [] a l y h = absurd (omega (arith, l))
 stopped_two_first x k q e s (f1 ∷ []) a l y h = absurd (omega (arith, l))
 stopped_two_first x k q e s (f1 ∷ f2 ∷ []) a l y h = absurd (omega (arith, l))
 stopped_two_first x k q e s (f1 ∷ f2 ∷ f3 ∷ fs) a l y h = subst (λ z. Fails x (stopping (walk (form_tree z) ∷ walk (form_tree f3) ∷ []) k q e s)) y (two_fail_first x (walk (form_tree a)) (walk (form_tree f3)) k q e s h)
 
 pub stopped_two_second : (x : CheckError) (k : CheckErrorKind) (q : Place) (e : Env) (s s1 : Gathered) (fs : List Form) (a b : Form) (js ks : List Kernel) → 2 < length fs → a ≡ get_or fs 1 a → b ≡ get_or fs 2 b
-    → More e s a js ks s1 → Fails x (walk (form_tree b) (inner e) s1) → Fails x (stopping (meanings (parts_of (drop 1 (take 3 fs)))) k q e s)
+    → More e s a js ks s1 → Fails x (walk (form_tree b) (inner e) s1) → Fails x (stopping (meanings (form_parts (drop 1 (take 3 fs)))) k q e s)
 stopped_two_second x k q e s s1 [] a b js ks l y z h g = absurd (omega (arith, l))
 stopped_two_second x k q e s s1 (f1 ∷ []) a b js ks l y z h g = absurd (omega (arith, l))
 stopped_two_second x k q e s s1 (f1 ∷ f2 ∷ []) a b js ks l y z h g = absurd (omega (arith, l))

@@ -9,13 +9,13 @@ use Rattle.ca_term.specs.Program.{ProcedureView}
 use Rattle.ca_reader.specs.View.{form_trees}
 use Rattle.ca_check.specs.declared.defn.Defn.{Defn}
 use Rattle.ca_check.specs.declared.defn.Pass.{Pass}
-use Rattle.ca_forms.specs.Outcome.{Gathered, Outcome, done}
+use Rattle.ca_forms.specs.Outcome.{Gathered, WalkOutcome, done}
 use Rattle.ca_forms.specs.Uses.{uses}
 use Rattle.ca_forms.specs.Meaning.{Env, Signature}
 use Rattle.ca_forms.specs.Plain.{meanings}
 use Rattle.ca_forms.specs.Tops.{Tops, Written, function_env, straight, names_of, is_empty}
 use Rattle.ca_check.specs.TopsView.{body_in, written_as, AreBelow, AreSafe}
-use Rattle.ca_forms.specs.WalkView.{parts_of}
+use Rattle.ca_forms.specs.WalkView.{form_parts}
 use Rattle.ca_check.proofs.Grew.{Grew, IfDone}
 use Rattle.ca_check.proofs.Well.{Rules, Well, uses_below}
 use Rattle.ca_check.proofs.Places.{any_places, any_forms}
@@ -53,7 +53,7 @@ signed_all n fs s = signed_from n (rules_of fs) [] fs (λ m. refl) refl s
 kept : (k : Rules) (P : Type 0) (s s2 : Gathered) → Grew k s s2 P → take (length s.bodies) s2.bodies ≡ s.bodies
 kept k P s s2 g = ap (λ (bs : List ProcedureView). take (length s.bodies) bs) g.extends ∙ take-append-le (length s.bodies) s.bodies g.more (omega arith) ∙ take_all (length s.bodies) s.bodies (omega arith)
 
-kept_if : (k : Rules) (P : Kernel → Type 0) (o : Outcome Kernel) (s s2 : Gathered) (b : Kernel) → o ≡ done b s2 → IfDone o (λ t s3. Grew k s s3 (P t)) → take (length s.bodies) s2.bodies ≡ s.bodies
+kept_if : (k : Rules) (P : Kernel → Type 0) (o : WalkOutcome Kernel) (s s2 : Gathered) (b : Kernel) → o ≡ done b s2 → IfDone o (λ t s3. Grew k s s3 (P t)) → take (length s.bodies) s2.bodies ≡ s.bodies
 kept_if k P o s s2 b e h = kept k (P b) s s2 (subst (λ o. IfDone o (λ t s3. Grew k s s3 (P t))) e h)
 
 pub body_keeps : (pass : Pass) (d : Defn) (p : Place) (t : Tops) (sig : Signature) (s s2 : Gathered) (b : Kernel) → AreSafe (length t.scope) (t.functions ++ sig ∷ [])
@@ -70,7 +70,7 @@ body_keeps pass d p t sig s s2 b safe h = by pass h where
   g = record { rules = k; base = length t.scope }
 
   body_sound : Sound g 0 w.body
-  body_sound = sound_block g 0 (meanings (parts_of d.body.now)) (means_sound g (parts_of d.body.now) (sound_parts g (form_trees d.body.now) (any_forms (form_trees d.body.now))))
+  body_sound = sound_block g 0 (meanings (form_parts d.body.now)) (means_sound g (form_parts d.body.now) (sound_parts g (form_trees d.body.now) (any_forms (form_trees d.body.now))))
 
   signed : AreSigned k (length t.scope) 0 (t.functions ++ sig ∷ [])
   signed = signed_all (length t.scope) (t.functions ++ sig ∷ []) safe

@@ -8,11 +8,11 @@ use Rattle.ca_term.specs.Kernel.{Kernel, const, branch, bind, loop, seq, apply, 
 use Rattle.ca_term.specs.Program.{ProcedureView}
 use Rattle.ca_term.specs.View.{kernels_of}
 use Rattle.ca_forms.specs.declared.error.CheckErrorKind.{CheckErrorKind}
-use Rattle.ca_forms.specs.Depth.{depth_of}
+use Rattle.ca_forms.specs.Depth.{kernel_depth}
 use Rattle.ca_forms.specs.Uses.{uses}
-use Rattle.ca_forms.specs.Outcome.{Gathered, Outcome, done, refused, after, limited}
-use Rattle.ca_forms.specs.Meaning.{Env, Meaning, Named, size, inner, named, fail, constant, local, iff, unless, before_others, in_order, operation, block, unnamed, binds, behind, lets, loops, name_as, hide, numbered, joined, hiding}
-use Rattle.ca_forms.specs.Go.{task, in_task, unmade, go}
+use Rattle.ca_forms.specs.Outcome.{Gathered, WalkOutcome, done, refused, after_walk, limited}
+use Rattle.ca_forms.specs.Meaning.{Env, Meaning, Named, size, inner, behind_name, fail_with, constant_value, local_name, iff, unless, before_others, means_in_order, operation, block, unnamed, binds, behind, lets, loops, name_as, hide, numbered, bindings_joined, hiding}
+use Rattle.ca_forms.specs.Go.{task, in_task, unmade, go_meaning}
 use Rattle.ca_forms.specs.GoView.{ending}
 use Rattle.ca_check.specs.Order.{end_place, block_place}
 use Rattle.ca_check.proofs.Grew.{IfDone, if_after}
@@ -45,28 +45,28 @@ pub adds_same : (ps qs : List Place) (s s2 : Gathered) → ps ≡ qs → Adds ps
 adds_same ps qs s s2 e f = subst (λ l. Adds l s s2) e f
 
 -- what is done from this state adds these
-abbrev pub Leaves : {A : Type 0} → List Place → Gathered → Outcome A → Type 0
+abbrev pub Leaves : {A : Type 0} → List Place → Gathered → WalkOutcome A → Type 0
 Leaves ps s o = IfDone o (λ a s2. Adds ps s s2)
 
-pub leaves_then : {A : Type 0} (ps qs : List Place) (s s1 : Gathered) (o : Outcome A) → Adds ps s s1 → Leaves qs s1 o → Leaves (ps ++ qs) s o
+pub leaves_then : {A : Type 0} (ps qs : List Place) (s s1 : Gathered) (o : WalkOutcome A) → Adds ps s s1 → Leaves qs s1 o → Leaves (ps ++ qs) s o
 leaves_then ps qs s s1 (done a s2) f g = adds_then ps qs s s1 s2 f g
 leaves_then ps qs s s1 (refused e p) f g = tt
 
-pub leaves_after : {A B : Type 0} (ps qs : List Place) (s : Gathered) (o : Outcome A) (f : A → Gathered → Outcome B)
-    → Leaves ps s o → ((a : A) (s1 : Gathered) → Leaves qs s1 (f a s1)) → Leaves (ps ++ qs) s (after o f)
+pub leaves_after : {A B : Type 0} (ps qs : List Place) (s : Gathered) (o : WalkOutcome A) (f : A → Gathered → WalkOutcome B)
+    → Leaves ps s o → ((a : A) (s1 : Gathered) → Leaves qs s1 (f a s1)) → Leaves (ps ++ qs) s (after_walk o f)
 leaves_after ps qs s (done a s1) f h g = leaves_then ps qs s s1 (f a s1) h (g a s1)
 leaves_after ps qs s (refused e p) f h g = tt
 
-pub leaves_same : {A : Type 0} (ps qs : List Place) (s : Gathered) (o : Outcome A) → ps ≡ qs → Leaves ps s o → Leaves qs s o
+pub leaves_same : {A : Type 0} (ps qs : List Place) (s : Gathered) (o : WalkOutcome A) → ps ≡ qs → Leaves ps s o → Leaves qs s o
 leaves_same ps qs s o e f = subst (λ l. Leaves l s o) e f
 
 -- where the rest adds none
-pub leaves_last : {A B : Type 0} (ps : List Place) (s : Gathered) (o : Outcome A) (f : A → Gathered → Outcome B)
-    → Leaves ps s o → ((a : A) (s1 : Gathered) → Leaves [] s1 (f a s1)) → Leaves ps s (after o f)
-leaves_last ps s o f h g = leaves_same (ps ++ []) ps s (after o f) (append-nil ps) (leaves_after ps [] s o f h g)
+pub leaves_last : {A B : Type 0} (ps : List Place) (s : Gathered) (o : WalkOutcome A) (f : A → Gathered → WalkOutcome B)
+    → Leaves ps s o → ((a : A) (s1 : Gathered) → Leaves [] s1 (f a s1)) → Leaves ps s (after_walk o f)
+leaves_last ps s o f h g = leaves_same (ps ++ []) ps s (after_walk o f) (append-nil ps) (leaves_after ps [] s o f h g)
 
 pub leaves_limited : (t : Kernel) (s : Gathered) → Leaves [] s (limited t s)
-leaves_limited t s = by (nat_le (depth_of t) 400) where
+leaves_limited t s = by (nat_le (kernel_depth t) 400) where
   by : (b : Bool) → Leaves [] s (cond b (done t s) (done (const nil) (record s { deep = true })))
   by true = adds_none s
   by false = λ e. cc
@@ -78,13 +78,13 @@ Ordered ps m = (env : Env) (s : Gathered) → Leaves ps s (m env s)
 pub ordered_same : (ps qs : List Place) (m : Meaning) → ps ≡ qs → Ordered ps m → Ordered qs m
 ordered_same ps qs m e f = subst (λ l. Ordered l m) e f
 
-pub ordered_constant : (v : Tree) → Ordered [] (constant v)
+pub ordered_constant : (v : Tree) → Ordered [] (constant_value v)
 ordered_constant v env s = adds_none s
 
-pub ordered_local : (n : ℕ) → Ordered [] (local n)
+pub ordered_local : (n : ℕ) → Ordered [] (local_name n)
 ordered_local n env s = adds_none s
 
-pub ordered_fail : (ps : List Place) (e : CheckErrorKind) (p : Place) → Ordered ps (fail e p)
+pub ordered_fail : (ps : List Place) (e : CheckErrorKind) (p : Place) → Ordered ps (fail_with e p)
 ordered_fail ps e p env s = tt
 
 pub ordered_cond : (ps : List Place) (b : Bool) (x y : Meaning) → Ordered ps x → Ordered ps y → Ordered ps (cond b x y)
@@ -122,22 +122,22 @@ all_append [] qss (m ∷ ms) ks f g = absurd f
 all_append (ps ∷ pss) qss [] ks f g = absurd f
 all_append (ps ∷ pss) qss (m ∷ ms) ks f g = (f.0, all_append pss qss ms ks f.1 g)
 
-pub ordered_in_order : (pss : List (List Place)) (ms : List Meaning) → AllOrdered pss ms → (env : Env) (s : Gathered) → Leaves (total pss) s (in_order ms env s)
+pub ordered_in_order : (pss : List (List Place)) (ms : List Meaning) → AllOrdered pss ms → (env : Env) (s : Gathered) → Leaves (total pss) s (means_in_order ms env s)
 ordered_in_order [] [] f env s = adds_none s
 ordered_in_order [] (m ∷ ms) f env s = absurd f
 ordered_in_order (ps ∷ pss) [] f env s = absurd f
 ordered_in_order (ps ∷ pss) (m ∷ ms) f env s = leaves_after ps (total pss) s (m (before_others (length ms) env) s) _ (f.0 (before_others (length ms) env) s) (λ t s1.
-    leaves_last (total pss) s1 (in_order ms env s1) _ (ordered_in_order pss ms f.1 env s1) (λ ts s2. adds_none s2))
+    leaves_last (total pss) s1 (means_in_order ms env s1) _ (ordered_in_order pss ms f.1 env s1) (λ ts s2. adds_none s2))
 
 pub ordered_operation : (pss : List (List Place)) (h : Head) (ms : List Meaning) (p : Place) → AllOrdered pss ms → Ordered (total pss) (operation h ms p)
-ordered_operation pss h ms p f env s = leaves_last (total pss) s (in_order ms (inner env) s) _ (ordered_in_order pss ms f (inner env) s) (λ ts s2. leaves_limited (apply h ts p) s2)
+ordered_operation pss h ms p f env s = leaves_last (total pss) s (means_in_order ms (inner env) s) _ (ordered_in_order pss ms f (inner env) s) (λ ts s2. leaves_limited (apply h ts p) s2)
 
 pub ordered_block : (pss : List (List Place)) (ms : List Meaning) → AllOrdered pss ms → Ordered (total pss) (block ms)
 ordered_block [] [] f env s = adds_none s
 ordered_block [] (m ∷ ms) f env s = absurd f
 ordered_block (ps ∷ pss) [] f env s = absurd f
 ordered_block (ps ∷ pss) (m ∷ ms) f env s =
-    leaves_last (total (ps ∷ pss)) s (in_order (m ∷ ms) env s) _ (ordered_in_order (ps ∷ pss) (m ∷ ms) f env s) (λ ts s2. leaves_limited (seq ts) s2)
+    leaves_last (total (ps ∷ pss)) s (means_in_order (m ∷ ms) env s) _ (ordered_in_order (ps ∷ pss) (m ∷ ms) f env s) (λ ts s2. leaves_limited (seq ts) s2)
 
 pub ordered_body : (ps : List Place) (m : Meaning) → Ordered ps m → Ordered ps (block (m ∷ []))
 ordered_body ps m f = ordered_same (ps ++ []) ps (block (m ∷ [])) (append-nil ps) (ordered_block (ps ∷ []) (m ∷ []) (f, tt))
@@ -160,7 +160,7 @@ ordered_binds [] [] f env s = adds_none s
 ordered_binds [] (b ∷ bs) f env s = absurd f
 ordered_binds (ps ∷ pss) [] f env s = absurd f
 ordered_binds (ps ∷ pss) (b ∷ bs) f env s = leaves_after ps (total pss) s (b.means (inner env) s) _ (f.0 (inner env) s) (λ t s1.
-    leaves_last (total pss) s1 (binds bs (named b.name env) s1) _ (ordered_binds pss bs f.1 (named b.name env) s1) (λ ts s2. adds_none s2))
+    leaves_last (total pss) s1 (binds bs (behind_name b.name env) s1) _ (ordered_binds pss bs f.1 (behind_name b.name env) s1) (λ ts s2. adds_none s2))
 
 pub ordered_lets : (pss : List (List Place)) (ps : List Place) (bs : List Named) (body : Meaning) → NamedOrdered pss bs → Ordered ps body → Ordered (total pss ++ ps) (lets bs body)
 ordered_lets pss ps bs body f g env s = leaves_after (total pss) ps s (binds bs env s) _ (ordered_binds pss bs f env s) (λ ts s1.
@@ -185,7 +185,7 @@ unnamed_ordered (ps ∷ pss) (m ∷ ms) f = (f.0, unnamed_ordered pss ms f.1)
 
 pub ordered_hiding : (pss : List (List Place)) (ms : List Meaning) (more body : ℕ → List Kernel) → AllOrdered pss ms → Ordered (total pss) (hiding ms more body)
 ordered_hiding pss ms more body f env s = leaves_last (total pss) s (binds (map unnamed ms) env s) _ (ordered_binds pss (map unnamed ms) (unnamed_ordered pss ms f) env s)
-    (λ bs s2. leaves_limited (bind (joined bs (numbered (size env + length ms) (more (size env)))) (seq (kernels_of (body (size env))))) s2)
+    (λ bs s2. leaves_limited (bind (bindings_joined bs (numbered (size env + length ms) (more (size env)))) (seq (kernels_of (body (size env))))) s2)
 
 -- the go block
 pub map_set : (bs : List ProcedureView) (n : ℕ) (b : ProcedureView) → places (slice_set bs n b) ≡ slice_set (places bs) n (block_place b)
@@ -209,11 +209,11 @@ go_set ps p s s2 b e h = map_set s2.bodies (length s.bodies) b
 pub task_ordered : (ps : List Place) (p : Place) (r : ℕ) (body : Meaning) (env : Env) (s : Gathered) → size env ≡ suc r → Ordered ps body
     → IfDone (task body r p env s) (λ t s2. s2.deep ≡ false → Added ps s s2 × (end_place t ≡ Some p))
 task_ordered ps p r body env s e f = found (body (inner env) s) refl (f (inner env) s) where
-  Ends : Outcome Kernel → Type 0
+  Ends : WalkOutcome Kernel → Type 0
   Ends o = IfDone o (λ t s2. s2.deep ≡ false → Added ps s s2 × (end_place t ≡ Some p))
 
   cut : (t : Kernel) (s2 : Gathered) → Adds ps s s2 → Ends (limited (bind (binding (suc r) t empty) (ending r p)) s2)
-  cut t s2 g = at (nat_le (depth_of (bind (binding (suc r) t empty) (ending r p))) 400) where
+  cut t s2 g = at (nat_le (kernel_depth (bind (binding (suc r) t empty) (ending r p))) 400) where
     at : (b : Bool) → Ends (cond b (done (bind (binding (suc r) t empty) (ending r p)) s2) (done (const nil) (record s2 { deep = true })))
     at true = λ d. (g d, refl)
     at false = λ d. cc
@@ -221,11 +221,11 @@ task_ordered ps p r body env s e f = found (body (inner env) s) refl (f (inner e
   stops : (x : CheckErrorKind) (q : Place) → body (inner env) s ≡ refused x q → task body r p env s ≡ refused x q
   stops x q h = rw h refl
 
-  found : (o : Outcome Kernel) → body (inner env) s ≡ o → Leaves ps s o → Ends (task body r p env s)
+  found : (o : WalkOutcome Kernel) → body (inner env) s ≡ o → Leaves ps s o → Ends (task body r p env s)
   found (done t s2) h k = subst Ends (sym (task_is body r p env s s2 t e h)) (cut t s2 k)
   found (refused x q) h k = subst Ends (sym (stops x q h)) tt
 
-pub ordered_go : (ps : List Place) (p : Place) (body : Meaning) → Ordered ps body → Ordered (p ∷ ps) (go body p)
+pub ordered_go : (ps : List Place) (p : Place) (body : Meaning) → Ordered ps body → Ordered (p ∷ ps) (go_meaning body p)
 ordered_go ps p body f env s = if_after (task body (size env) p (in_task env) (record s { bodies = s.bodies ++ unmade ∷ [] })) _ _ _
     (task_ordered ps p (size env) body (in_task env) (record s { bodies = s.bodies ++ unmade ∷ [] }) (size_named [] env) f)
     (λ t s2 x e. record {

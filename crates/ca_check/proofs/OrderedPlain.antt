@@ -9,9 +9,9 @@ use Rattle.ca_term.specs.declared.head.Head.TheVariants.{Recur, Builtin}
 use Rattle.ca_reader.specs.declared.form.Bracket.TheVariants.{Round, Square, Curly}
 use Rattle.ca_reader.specs.Form.{FormTree, FormTrees, form, atom, group, none, item}
 use Rattle.ca_forms.specs.declared.error.CheckErrorKind.TheVariants.{BadForm, BadArity, RecurNotTail, TooMany}
-use Rattle.ca_forms.specs.Meaning.{Meaning, Named, size, constant, nothing, local, fail, iff, unless, operation, block, unnamed, lets, loops, name_as}
+use Rattle.ca_forms.specs.Meaning.{Meaning, Named, size, constant_value, nothing, local_name, fail_with, iff, unless, operation, block, unnamed, lets, loops, name_as}
 use Rattle.ca_forms.specs.Binders.{Part, Pair, Binder, Bound, one, many, name_in, with_name, names_in, pattern, binder, with_bound, bounds, is_vector, bindings_in, spread_items, spread_one, spread, width, letting, is_pattern, patterns}
-use Rattle.ca_forms.specs.Plain.{meanings, number, let_of, row_let, row_if, row_if_not, row_when, row_when_not, is_even, cond_of, row_cond, and_of, or_of, by_truth, by_some, only, one_bound, if_bound, row_if_bound, row_when_bound, again, binders, loop_over_patterns, looping, loop_of, row_loop, recur_of, row_recur, recur_with_next, row_while, counting, dotimes, row_dotimes, nth_bound, doseq, row_doseq}
+use Rattle.ca_forms.specs.Plain.{meanings, constant_number, let_of, row_let, row_if, row_if_not, row_when, row_when_not, has_even_length, cond_of, row_cond, and_of, or_of, by_truth, by_some, lone_name, one_bound, if_bound, row_if_bound, row_when_bound, again, binders, loop_over_patterns, looping, loop_of, row_loop, recur_of, row_recur, recur_with_next, row_while, counting, dotimes, row_dotimes, nth_bound, doseq, row_doseq}
 use Rattle.ca_forms.specs.Channels.{is_list, word_of}
 use Rattle.ca_check.specs.Order.{is_go, go_blocks, go_blocks_in}
 use Rattle.ca_check.proofs.Ordered.{Leaves, Ordered, ordered_same, ordered_constant, ordered_local, ordered_fail, ordered_cond, ordered_iff, ordered_unless, total, total_append, AllOrdered, all_append, ordered_operation, ordered_block, ordered_body, NamedOrdered, named_append, ordered_lets, ordered_loops, ordered_name_as, ordered_hide}
@@ -138,14 +138,14 @@ loops_ordered ps qs bs body h g = ordered_same (total h.blocks ++ qs) (ps ++ qs)
 
 pub items_ordered : (p : Place) (h : ℕ) (xs : List (List ℕ)) (i : ℕ) → Names [] (spread_items p h xs i)
 items_ordered p h [] i = no_names
-items_ordered p h (x ∷ xs) i = one_more [] [] (record { name = x; means = operation (Builtin PartOf) (local h ∷ constant (int (pos i)) ∷ []) p }) (spread_items p h xs (suc i))
-    (ordered_operation ([] ∷ [] ∷ []) (Builtin PartOf) (local h ∷ constant (int (pos i)) ∷ []) p (ordered_local h, (ordered_constant (int (pos i)), tt)))
+items_ordered p h (x ∷ xs) i = one_more [] [] (record { name = x; means = operation (Builtin PartOf) (local_name h ∷ constant_value (int (pos i)) ∷ []) p }) (spread_items p h xs (suc i))
+    (ordered_operation ([] ∷ [] ∷ []) (Builtin PartOf) (local_name h ∷ constant_value (int (pos i)) ∷ []) p (ordered_local h, (ordered_constant (int (pos i)), tt)))
     (items_ordered p h xs (suc i))
 
 pub spread_one_ordered : (ps : List Place) (p : Place) (n : ℕ) (b : Binder) (m : Meaning) → Ordered ps m → Names (ps ++ []) (spread_one p n b m)
 spread_one_ordered ps p n (one x) m f = one_more ps [] (record { name = x; means = m }) [] f no_names
-spread_one_ordered ps p n (many xs q) m f = one_more ps [] (record { name = []; means = cond (nat_lt 4096 (length xs)) (fail TooMany q) m }) (spread_items p n xs 0)
-    (ordered_cond ps (nat_lt 4096 (length xs)) (fail TooMany q) m (ordered_fail ps TooMany q) f) (items_ordered p n xs 0)
+spread_one_ordered ps p n (many xs q) m f = one_more ps [] (record { name = []; means = cond (nat_lt 4096 (length xs)) (fail_with TooMany q) m }) (spread_items p n xs 0)
+    (ordered_cond ps (nat_lt 4096 (length xs)) (fail_with TooMany q) m (ordered_fail ps TooMany q) f) (items_ordered p n xs 0)
 
 pub spread_ordered : (pss : List (List Place)) (p : Place) (n : ℕ) (bs : List Bound) → BoundsOrdered pss bs → Names (total pss) (spread p n bs)
 spread_ordered [] p n [] f = no_names
@@ -163,7 +163,7 @@ ordered_letting ps qs bs body p h g env s = lets_ordered ps qs (spread p (size e
 
 pub ordered_let_of : (ps qs : List Place) (o : Option (List Bound)) (body : Meaning) (p : Place) → MayBind ps o → Ordered qs body → Ordered (ps ++ qs) (let_of o body p)
 ordered_let_of ps qs None body p h g = ordered_fail (ps ++ qs) BadForm p
-ordered_let_of ps qs (Some bs) body p h g = ordered_cond (ps ++ qs) (nat_lt 64 (length bs)) (fail TooMany p) (letting bs body p) (ordered_fail (ps ++ qs) TooMany p) (ordered_letting ps qs bs body p h g)
+ordered_let_of ps qs (Some bs) body p h g = ordered_cond (ps ++ qs) (nat_lt 64 (length bs)) (fail_with TooMany p) (letting bs body p) (ordered_fail (ps ++ qs) TooMany p) (ordered_letting ps qs bs body p h g)
 
 pub ordered_row_let : (p : Place) (qs : List Part) → PartsOrdered qs → Ordered (total (blocks_of qs)) (row_let p qs)
 ordered_row_let p [] f = ordered_fail [] BadForm p
@@ -197,7 +197,7 @@ ordered_row_when_not p [] f = ordered_fail [] BadForm p
 ordered_row_when_not p (a ∷ qs) f = short (go_blocks_in a.form) (total (blocks_of qs)) (unless a.means (block (meanings qs)) nothing)
     (ordered_unless (go_blocks_in a.form) (total (blocks_of qs)) [] a.means (block (meanings qs)) nothing f.0.means (block_ordered qs f.1) (ordered_constant nil))
 
-pub ordered_cond_of : (qs : List Part) → PartsOrdered qs → is_even qs ≡ true → Ordered (total (blocks_of qs)) (cond_of (meanings qs))
+pub ordered_cond_of : (qs : List Part) → PartsOrdered qs → has_even_length qs ≡ true → Ordered (total (blocks_of qs)) (cond_of (meanings qs))
 ordered_cond_of [] f e = ordered_constant nil
 ordered_cond_of (c ∷ []) f e = cc
 ordered_cond_of (c ∷ a ∷ qs) f e = ordered_same (go_blocks_in c.form ++ (go_blocks_in a.form ++ (total (blocks_of qs) ++ []))) (go_blocks_in c.form ++ (go_blocks_in a.form ++ total (blocks_of qs)))
@@ -205,8 +205,8 @@ ordered_cond_of (c ∷ a ∷ qs) f e = ordered_same (go_blocks_in c.form ++ (go_
     (ordered_iff (go_blocks_in c.form) (go_blocks_in a.form) (total (blocks_of qs)) c.means a.means (cond_of (meanings qs)) f.0.means f.1.0.means (ordered_cond_of qs f.1.1 e))
 
 pub ordered_row_cond : (p : Place) (qs : List Part) → PartsOrdered qs → Ordered (total (blocks_of qs)) (row_cond p qs)
-ordered_row_cond p qs f = by (is_even qs) (ordered_cond_of qs f) where
-  by : (b : Bool) → (b ≡ true → Ordered (total (blocks_of qs)) (cond_of (meanings qs))) → Ordered (total (blocks_of qs)) (cond b (cond_of (meanings qs)) (fail BadForm p))
+ordered_row_cond p qs f = by (has_even_length qs) (ordered_cond_of qs f) where
+  by : (b : Bool) → (b ≡ true → Ordered (total (blocks_of qs)) (cond_of (meanings qs))) → Ordered (total (blocks_of qs)) (cond b (cond_of (meanings qs)) (fail_with BadForm p))
   by true g = g refl
   by false g = ordered_fail (total (blocks_of qs)) BadForm p
 
@@ -217,8 +217,8 @@ ordered_and (ps ∷ pss) [] f = absurd f
 ordered_and (ps ∷ []) (a ∷ []) f = ordered_same ps (ps ++ []) a (sym (append-nil ps)) f.0
 ordered_and (ps ∷ qs ∷ pss) (a ∷ []) f = absurd f.1
 ordered_and (ps ∷ []) (a ∷ b ∷ ms) f = absurd f.1
-ordered_and (ps ∷ qs ∷ pss) (a ∷ b ∷ ms) f = ordered_hide ps (total (qs ∷ pss)) a (λ h. iff (local h) (and_of (b ∷ ms)) (local h)) f.0
-    (λ h. short [] (total (qs ∷ pss)) (iff (local h) (and_of (b ∷ ms)) (local h)) (ordered_iff [] (total (qs ∷ pss)) [] (local h) (and_of (b ∷ ms)) (local h) (ordered_local h) (ordered_and (qs ∷ pss) (b ∷ ms) f.1) (ordered_local h)))
+ordered_and (ps ∷ qs ∷ pss) (a ∷ b ∷ ms) f = ordered_hide ps (total (qs ∷ pss)) a (λ h. iff (local_name h) (and_of (b ∷ ms)) (local_name h)) f.0
+    (λ h. short [] (total (qs ∷ pss)) (iff (local_name h) (and_of (b ∷ ms)) (local_name h)) (ordered_iff [] (total (qs ∷ pss)) [] (local_name h) (and_of (b ∷ ms)) (local_name h) (ordered_local h) (ordered_and (qs ∷ pss) (b ∷ ms) f.1) (ordered_local h)))
 
 pub ordered_or : (pss : List (List Place)) (ms : List Meaning) → AllOrdered pss ms → Ordered (total pss) (or_of ms)
 ordered_or [] [] f = ordered_constant nil
@@ -227,8 +227,8 @@ ordered_or (ps ∷ pss) [] f = absurd f
 ordered_or (ps ∷ []) (a ∷ []) f = ordered_same ps (ps ++ []) a (sym (append-nil ps)) f.0
 ordered_or (ps ∷ qs ∷ pss) (a ∷ []) f = absurd f.1
 ordered_or (ps ∷ []) (a ∷ b ∷ ms) f = absurd f.1
-ordered_or (ps ∷ qs ∷ pss) (a ∷ b ∷ ms) f = ordered_hide ps (total (qs ∷ pss)) a (λ h. iff (local h) (local h) (or_of (b ∷ ms))) f.0
-    (λ h. short [] (total (qs ∷ pss)) (iff (local h) (local h) (or_of (b ∷ ms))) (ordered_iff [] [] (total (qs ∷ pss)) (local h) (local h) (or_of (b ∷ ms)) (ordered_local h) (ordered_local h) (ordered_or (qs ∷ pss) (b ∷ ms) f.1)))
+ordered_or (ps ∷ qs ∷ pss) (a ∷ b ∷ ms) f = ordered_hide ps (total (qs ∷ pss)) a (λ h. iff (local_name h) (local_name h) (or_of (b ∷ ms))) f.0
+    (λ h. short [] (total (qs ∷ pss)) (iff (local_name h) (local_name h) (or_of (b ∷ ms))) (ordered_iff [] [] (total (qs ∷ pss)) (local_name h) (local_name h) (or_of (b ∷ ms)) (ordered_local h) (ordered_local h) (ordered_or (qs ∷ pss) (b ∷ ms) f.1)))
 
 -- a test of a name
 abbrev pub TestOrdered : (Place → ℕ → Meaning) → Type 0
@@ -238,13 +238,13 @@ pub ordered_truth : TestOrdered by_truth
 ordered_truth p h = ordered_local h
 
 pub ordered_some : TestOrdered by_some
-ordered_some p h = ordered_operation ([] ∷ []) (Builtin IsSome) (local h ∷ []) p (ordered_local h, tt)
+ordered_some p h = ordered_operation ([] ∷ []) (Builtin IsSome) (local_name h ∷ []) p (ordered_local h, tt)
 
 abbrev pub IfNamed : List Place → Option Named → Type 0
 IfNamed ps None = Unit {0}
 IfNamed ps (Some x) = Ordered ps x.means
 
-pub ordered_only : (ps : List Place) (b : Binder) (m : Meaning) → Ordered ps m → IfNamed ps (only b m)
+pub ordered_only : (ps : List Place) (b : Binder) (m : Meaning) → Ordered ps m → IfNamed ps (lone_name b m)
 ordered_only ps (one x) m f = f
 ordered_only ps (many xs q) m f = tt
 
@@ -261,8 +261,8 @@ ordered_one_bound ps (Some (b ∷ c ∷ bs)) h = tt
 pub ordered_if_bound : (ps qs rs : List Place) (test : Place → ℕ → Meaning) (x : Option Named) (a b : Meaning) (p : Place) → TestOrdered test → IfNamed ps x → Ordered qs a → Ordered rs b
     → Ordered (ps ++ (qs ++ (rs ++ []))) (if_bound test x a b p)
 ordered_if_bound ps qs rs test None a b p t f g h = ordered_fail (ps ++ (qs ++ (rs ++ []))) BadForm p
-ordered_if_bound ps qs rs test (Some x) a b p t f g h = ordered_hide ps (qs ++ (rs ++ [])) x.means (λ n. iff (test p n) (name_as x.name (local n) a) b) f
-    (λ n. ordered_iff [] qs rs (test p n) (name_as x.name (local n) a) b (t p n) (ordered_name_as [] qs x.name (local n) a (ordered_local n) g) h)
+ordered_if_bound ps qs rs test (Some x) a b p t f g h = ordered_hide ps (qs ++ (rs ++ [])) x.means (λ n. iff (test p n) (name_as x.name (local_name n) a) b) f
+    (λ n. ordered_iff [] qs rs (test p n) (name_as x.name (local_name n) a) b (t p n) (ordered_name_as [] qs x.name (local_name n) a (ordered_local n) g) h)
 
 pub ordered_row_if_bound : (test : Place → ℕ → Meaning) (p : Place) (qs : List Part) → TestOrdered test → PartsOrdered qs → Ordered (total (blocks_of qs)) (row_if_bound test p qs)
 ordered_row_if_bound test p [] t f = λ env s. tt
@@ -307,7 +307,7 @@ ordered_looping ps qs bs body p h g env s = by (list_any is_pattern (binders bs)
 
 pub ordered_loop_of : (ps qs : List Place) (o : Option (List Bound)) (body : Meaning) (p : Place) → MayBind ps o → Ordered qs body → Ordered (ps ++ qs) (loop_of o body p)
 ordered_loop_of ps qs None body p h g = ordered_fail (ps ++ qs) BadForm p
-ordered_loop_of ps qs (Some bs) body p h g = ordered_cond (ps ++ qs) (nat_lt 64 (length bs)) (fail TooMany p) (looping bs body p) (ordered_fail (ps ++ qs) TooMany p) (ordered_looping ps qs bs body p h g)
+ordered_loop_of ps qs (Some bs) body p h g = ordered_cond (ps ++ qs) (nat_lt 64 (length bs)) (fail_with TooMany p) (looping bs body p) (ordered_fail (ps ++ qs) TooMany p) (ordered_looping ps qs bs body p h g)
 
 pub ordered_row_loop : (p : Place) (qs : List Part) → PartsOrdered qs → Ordered (total (blocks_of qs)) (row_loop p qs)
 ordered_row_loop p [] f = ordered_fail [] BadForm p
@@ -315,7 +315,7 @@ ordered_row_loop p (b ∷ qs) f = ordered_loop_of (go_blocks_in b.form) (total (
 
 pub ordered_recur_of : (o : Option ℕ) (pss : List (List Place)) (ms : List Meaning) (p : Place) → AllOrdered pss ms → Ordered (total pss) (recur_of o ms p)
 ordered_recur_of None pss ms p f = ordered_fail (total pss) RecurNotTail p
-ordered_recur_of (Some n) pss ms p f = ordered_cond (total pss) (nat_eq (length ms) n) (operation Recur ms p) (fail BadArity p) (ordered_operation pss Recur ms p f) (ordered_fail (total pss) BadArity p)
+ordered_recur_of (Some n) pss ms p f = ordered_cond (total pss) (nat_eq (length ms) n) (operation Recur ms p) (fail_with BadArity p) (ordered_operation pss Recur ms p f) (ordered_fail (total pss) BadArity p)
 
 pub ordered_row_recur : (p : Place) (qs : List Part) → PartsOrdered qs → Ordered (total (blocks_of qs)) (row_recur p qs)
 ordered_row_recur p qs f env s = ordered_recur_of env.target (blocks_of qs) (meanings qs) p (means_ordered qs f) env s
@@ -334,17 +334,17 @@ ordered_row_while p (c ∷ qs) f = loops_ordered [] (go_blocks_in c.form ++ tota
     (ordered_turn (blocks_of qs) (meanings qs) (operation Recur [] p) (means_ordered qs f.1) (ordered_operation [] Recur [] p tt)) (ordered_constant nil))))
 
 pub ordered_next : (i : ℕ) (p : Place) → Ordered [] (recur_with_next i p)
-ordered_next i p = ordered_operation ([] ∷ []) Recur (operation (Builtin Inc) (local i ∷ []) p ∷ []) p
-    (ordered_operation ([] ∷ []) (Builtin Inc) (local i ∷ []) p (ordered_local i, tt), tt)
+ordered_next i p = ordered_operation ([] ∷ []) Recur (operation (Builtin Inc) (local_name i ∷ []) p ∷ []) p
+    (ordered_operation ([] ∷ []) (Builtin Inc) (local_name i ∷ []) p (ordered_local i, tt), tt)
 
 pub ordered_counting : (pss : List (List Place)) (i : List ℕ) (n : ℕ) (ms : List Meaning) (p : Place) → AllOrdered pss ms → Ordered (total pss) (counting i n ms p)
-ordered_counting pss i n ms p f env s = loops_ordered [] (total pss) (record { name = i; means = number 0 } ∷ [])
-    (block (iff (operation (Builtin Less) (local (size env) ∷ local n ∷ []) p) (block (ms ++ recur_with_next (size env) p ∷ [])) nothing ∷ []))
-    (one_more [] [] (record { name = i; means = number 0 }) [] (ordered_constant (int (pos 0))) no_names)
-    (ordered_body (total pss) (iff (operation (Builtin Less) (local (size env) ∷ local n ∷ []) p) (block (ms ++ recur_with_next (size env) p ∷ [])) nothing)
-    (short [] (total pss) (iff (operation (Builtin Less) (local (size env) ∷ local n ∷ []) p) (block (ms ++ recur_with_next (size env) p ∷ [])) nothing)
-    (ordered_iff [] (total pss) [] (operation (Builtin Less) (local (size env) ∷ local n ∷ []) p) (block (ms ++ recur_with_next (size env) p ∷ [])) nothing
-    (ordered_operation ([] ∷ [] ∷ []) (Builtin Less) (local (size env) ∷ local n ∷ []) p (ordered_local (size env), (ordered_local n, tt)))
+ordered_counting pss i n ms p f env s = loops_ordered [] (total pss) (record { name = i; means = constant_number 0 } ∷ [])
+    (block (iff (operation (Builtin Less) (local_name (size env) ∷ local_name n ∷ []) p) (block (ms ++ recur_with_next (size env) p ∷ [])) nothing ∷ []))
+    (one_more [] [] (record { name = i; means = constant_number 0 }) [] (ordered_constant (int (pos 0))) no_names)
+    (ordered_body (total pss) (iff (operation (Builtin Less) (local_name (size env) ∷ local_name n ∷ []) p) (block (ms ++ recur_with_next (size env) p ∷ [])) nothing)
+    (short [] (total pss) (iff (operation (Builtin Less) (local_name (size env) ∷ local_name n ∷ []) p) (block (ms ++ recur_with_next (size env) p ∷ [])) nothing)
+    (ordered_iff [] (total pss) [] (operation (Builtin Less) (local_name (size env) ∷ local_name n ∷ []) p) (block (ms ++ recur_with_next (size env) p ∷ [])) nothing
+    (ordered_operation ([] ∷ [] ∷ []) (Builtin Less) (local_name (size env) ∷ local_name n ∷ []) p (ordered_local (size env), (ordered_local n, tt)))
     (ordered_turn pss ms (recur_with_next (size env) p) f (ordered_next (size env) p)) (ordered_constant nil)))) env s
 
 pub ordered_dotimes : (ps : List Place) (pss : List (List Place)) (o : Option Named) (ms : List Meaning) (p : Place) → IfNamed ps o → AllOrdered pss ms → Ordered (ps ++ total pss) (dotimes o ms p)
@@ -359,10 +359,10 @@ ordered_row_dotimes p (b ∷ qs) f = ordered_dotimes (go_blocks_in b.form) (bloc
 -- the items of a collection, and their count
 pub ordered_items : (ps qs : List Place) (b : Bound) (body : Meaning) (p : Place) → Ordered ps b.means → Ordered qs body → Ordered (ps ++ qs) (doseq (Some (b ∷ [])) body p)
 ordered_items ps qs b body p f g env s = lets_ordered ps qs
-    (unnamed (operation (Builtin Items) (b.means ∷ []) p) ∷ unnamed (operation (Builtin Count) (local (size env) ∷ []) p) ∷ [])
+    (unnamed (operation (Builtin Items) (b.means ∷ []) p) ∷ unnamed (operation (Builtin Count) (local_name (size env) ∷ []) p) ∷ [])
     (block (counting [] (size env + 1) (letting (nth_bound b.by (size env) (size env + 2) p ∷ []) body p ∷ []) p ∷ []))
     (names_same (ps ++ []) ps _ (append-nil ps) (one_more ps [] _ _ (ordered_same (ps ++ []) ps _ (append-nil ps) (ordered_operation (ps ∷ []) (Builtin Items) (b.means ∷ []) p (f, tt)))
-    (one_more [] [] _ [] (ordered_operation ([] ∷ []) (Builtin Count) (local (size env) ∷ []) p (ordered_local (size env), tt)) no_names)))
+    (one_more [] [] _ [] (ordered_operation ([] ∷ []) (Builtin Count) (local_name (size env) ∷ []) p (ordered_local (size env), tt)) no_names)))
     (ordered_body qs (counting [] (size env + 1) (letting (nth_bound b.by (size env) (size env + 2) p ∷ []) body p ∷ []) p)
     (ordered_same (qs ++ []) qs (counting [] (size env + 1) (letting (nth_bound b.by (size env) (size env + 2) p ∷ []) body p ∷ []) p) (append-nil qs)
     (ordered_counting (qs ∷ []) [] (size env + 1) (letting (nth_bound b.by (size env) (size env + 2) p ∷ []) body p ∷ []) p
@@ -370,7 +370,7 @@ ordered_items ps qs b body p f g env s = lets_ordered ps qs
       nth_bind : (h : ℕ) → Bind [] (nth_bound b.by h (h + 2) p ∷ [])
       nth_bind h = record {
         blocks = [] ∷ [];
-        ordered = (ordered_operation ([] ∷ [] ∷ []) (Builtin Nth) (local h ∷ local (h + 2) ∷ []) p (ordered_local h, (ordered_local (h + 2), tt)), tt);
+        ordered = (ordered_operation ([] ∷ [] ∷ []) (Builtin Nth) (local_name h ∷ local_name (h + 2) ∷ []) p (ordered_local h, (ordered_local (h + 2), tt)), tt);
         are = refl;
       }
 

@@ -12,11 +12,11 @@ use Rattle.ca_reader.specs.Form.{FormTree, FormTrees, ShapeTree, Atom, form, ato
 use Rattle.ca_forms.specs.declared.special.Special.{Special}
 use Rattle.ca_forms.specs.declared.error.CheckErrorKind.TheVariants.{TooMany}
 use Rattle.ca_forms.specs.Words.{special}
-use Rattle.ca_forms.specs.Meaning.{block, fail}
+use Rattle.ca_forms.specs.Meaning.{block, fail_with}
 use Rattle.ca_forms.specs.Binders.{Part, is_vector}
 use Rattle.ca_forms.specs.Plain.{meanings, row_loop, by_truth, by_some}
 use Rattle.ca_forms.specs.Channels.{parking, blocking, is_list, word_of}
-use Rattle.ca_forms.specs.Walk.{row, row_or_call, row_atom, row_group, walk, walk_shape, parts, within, within_shape, pairs}
+use Rattle.ca_forms.specs.Walk.{special_row, row_or_call, row_atom, row_group, walk, walk_shape, walked_parts, within, within_shape, pairs}
 use Rattle.ca_check.specs.Order.{is_go, go_blocks, go_blocks_in, go_blocks_of}
 use Rattle.ca_check.proofs.Ordered.{Ordered, ordered_same, ordered_constant, ordered_fail, ordered_cond, total, ordered_operation, ordered_body, ordered_go}
 use Rattle.ca_check.proofs.OrderedPlain.{blocks_of, pair_blocks, PairsOrdered, PartsOrdered, means_ordered, block_ordered, ordered_row_let, ordered_row_if, ordered_row_if_not, ordered_row_when, ordered_row_when_not, ordered_row_cond, ordered_and, ordered_or, ordered_truth, ordered_some, ordered_row_if_bound, ordered_row_when_bound, ordered_row_loop, ordered_row_recur, ordered_row_while, ordered_row_dotimes, ordered_row_doseq}
@@ -26,7 +26,7 @@ use Rattle.ca_check.proofs.OrderedChannels.{ordered_symbol, ordered_written, ord
 abbrev pub own : Option Special → Place → List Place
 own o p = cond (is_go o) (p ∷ []) []
 
-pub ordered_row : (k : Special) (p : Place) (qs : List Part) → PartsOrdered qs → Ordered (own (Some k) p ++ total (blocks_of qs)) (row k p qs)
+pub ordered_row : (k : Special) (p : Place) (qs : List Part) → PartsOrdered qs → Ordered (own (Some k) p ++ total (blocks_of qs)) (special_row k p qs)
 ordered_row Special.Def p qs f = λ env s. tt
 ordered_row Special.Defn p qs f = λ env s. tt
 ordered_row Special.Do p qs f = block_ordered qs f
@@ -94,7 +94,7 @@ ordered_row_or_call (Some k) s q qs p f = ordered_row k p qs f
 ordered_row_or_call None s q qs p f = ordered_row_call (blocks_of qs) s q (meanings qs) p (means_ordered qs f)
 
 -- the go blocks of forms, and those of their parts
-pub parts_blocks : (fs : FormTrees) → total (blocks_of (parts fs)) ≡ go_blocks fs
+pub parts_blocks : (fs : FormTrees) → total (blocks_of (walked_parts fs)) ≡ go_blocks fs
 parts_blocks none = refl
 parts_blocks (item f fs) = ap (λ l. go_blocks_in f ++ l) (parts_blocks fs)
 
@@ -110,18 +110,18 @@ ordered_row_atom (text_atom s) p = ordered_written [] s p _ (ordered_constant (t
 ordered_row_atom (key_atom s) p = ordered_written [] s p _ (ordered_constant (key s))
 ordered_row_atom (symbol s) p = ordered_symbol s p
 
-pub ordered_row_group : (b : Bracket) (fs : FormTrees) (p : Place) → PartsOrdered (parts fs) → Ordered (go_blocks_of (group b fs) p) (row_group b (parts fs) p)
+pub ordered_row_group : (b : Bracket) (fs : FormTrees) (p : Place) → PartsOrdered (walked_parts fs) → Ordered (go_blocks_of (group b fs) p) (row_group b (walked_parts fs) p)
 ordered_row_group Round none p f = λ env s. tt
-ordered_row_group Round (item (form (atom (symbol s)) q) fs) p f = ordered_same (own (special s) p ++ total (blocks_of (parts fs))) (own (special s) p ++ go_blocks fs) (row_or_call (special s) s q (parts fs) p)
-    (ap (λ l. own (special s) p ++ l) (parts_blocks fs)) (ordered_row_or_call (special s) s q (parts fs) p f.1)
-ordered_row_group Round (item (form (atom (key_atom k)) q) fs) p f = ordered_same (total (blocks_of (parts fs))) (go_blocks fs) _ (parts_blocks fs) (ordered_keyword k q (parts fs) p f.1)
+ordered_row_group Round (item (form (atom (symbol s)) q) fs) p f = ordered_same (own (special s) p ++ total (blocks_of (walked_parts fs))) (own (special s) p ++ go_blocks fs) (row_or_call (special s) s q (walked_parts fs) p)
+    (ap (λ l. own (special s) p ++ l) (parts_blocks fs)) (ordered_row_or_call (special s) s q (walked_parts fs) p f.1)
+ordered_row_group Round (item (form (atom (key_atom k)) q) fs) p f = ordered_same (total (blocks_of (walked_parts fs))) (go_blocks fs) _ (parts_blocks fs) (ordered_keyword k q (walked_parts fs) p f.1)
 ordered_row_group Round (item (form (atom nil_atom) q) fs) p f = λ env s. tt
 ordered_row_group Round (item (form (atom (bool_atom b)) q) fs) p f = λ env s. tt
 ordered_row_group Round (item (form (atom (int_atom z)) q) fs) p f = λ env s. tt
 ordered_row_group Round (item (form (atom (text_atom s)) q) fs) p f = λ env s. tt
 ordered_row_group Round (item (form (group c gs) q) fs) p f = λ env s. tt
-ordered_row_group Square fs p f = ordered_same (total (blocks_of (parts fs))) (go_blocks fs) _ (parts_blocks fs) (ordered_operation (blocks_of (parts fs)) (Builtin Vector) (meanings (parts fs)) p (means_ordered (parts fs) f))
-ordered_row_group Curly fs p f = ordered_same (total (blocks_of (parts fs))) (go_blocks fs) _ (parts_blocks fs) (ordered_builtin_call (blocks_of (parts fs)) HashMap (meanings (parts fs)) p (means_ordered (parts fs) f))
+ordered_row_group Square fs p f = ordered_same (total (blocks_of (walked_parts fs))) (go_blocks fs) _ (parts_blocks fs) (ordered_operation (blocks_of (walked_parts fs)) (Builtin Vector) (meanings (walked_parts fs)) p (means_ordered (walked_parts fs) f))
+ordered_row_group Curly fs p f = ordered_same (total (blocks_of (walked_parts fs))) (go_blocks fs) _ (parts_blocks fs) (ordered_builtin_call (blocks_of (walked_parts fs)) HashMap (meanings (walked_parts fs)) p (means_ordered (walked_parts fs) f))
 
 -- a vector has the go blocks of what stands in it
 pub vector_blocks : (f : FormTree) → is_vector f ≡ true → go_blocks_in f ≡ total (pair_blocks (within f))
@@ -150,10 +150,10 @@ mutual
 
   pub ordered_shape : (s : ShapeTree) (p : Place) → Ordered (go_blocks_of s p) (walk_shape s p)
   ordered_shape (atom a) p = ordered_row_atom a p
-  ordered_shape (group b fs) p = ordered_cond (go_blocks_of (group b fs) p) (nat_lt 4096 (length (parts fs))) (fail TooMany p) (row_group b (parts fs) p)
+  ordered_shape (group b fs) p = ordered_cond (go_blocks_of (group b fs) p) (nat_lt 4096 (length (walked_parts fs))) (fail_with TooMany p) (row_group b (walked_parts fs) p)
       (ordered_fail (go_blocks_of (group b fs) p) TooMany p) (ordered_row_group b fs p (ordered_parts fs))
 
-  pub ordered_parts : (fs : FormTrees) → PartsOrdered (parts fs)
+  pub ordered_parts : (fs : FormTrees) → PartsOrdered (walked_parts fs)
   ordered_parts none = tt
   ordered_parts (item f fs) = (record { means = ordered_walk f; within = ordered_within f; vector = vector_blocks f; list = list_blocks f }, ordered_parts fs)
 

@@ -13,8 +13,8 @@ use Rattle.ca_forms.specs.declared.error.CheckError.{CheckError}
 use Rattle.ca_forms.specs.declared.error.CheckError.TheVariants.{Fault, OutOfMemory}
 use Rattle.ca_forms.specs.Binders.{Binder, one, many, is_pattern, spread_items, patterns, unpacked}
 use Rattle.ca_forms.specs.Judged.{total_binder, total_names, binder_parts, bound_names, part_terms, pattern_of}
-use Rattle.ca_forms.specs.Meaning.{Env, Meaning, Named, binds, lets, joined, numbered}
-use Rattle.ca_forms.specs.Outcome.{Gathered, Outcome, done, after, limited}
+use Rattle.ca_forms.specs.Meaning.{Env, Meaning, Named, binds, lets, bindings_joined, numbered}
+use Rattle.ca_forms.specs.Outcome.{Gathered, WalkOutcome, done, after_walk, limited}
 use Rattle.ca_check.specs.TopsView.{total_binders, inner_names, pattern_names, pattern_parts, AreCounted}
 use Rattle.ca_forms.specs.WalkView.{terms_of, Fails}
 use Rattle.ca_forms.proofs.BindLaws.{at, binds_append, numbered_append, bound_names_append, parts_bound, items_names, parts_count}
@@ -137,9 +137,9 @@ patterns_bound e p n (many xs q ∷ bs) sc s =
     let many_items : length (bound_names items) ≡ length (part_terms p n 0 (length xs)) = ap (λ (l : List (List ℕ)). length l) (items_names p n xs 0) ∙ sym (parts_count p n 0 (length xs)) in
     let longer : length (sc ++ bound_names items) ≡ length sc + length (part_terms p n 0 (length xs)) = length-append sc (bound_names items) ∙ ap (λ k. length sc + k) many_items in
     binds_append e items (patterns p (suc n) bs) sc s
-    ∙ ap (λ (o : Outcome Bindings). after o (λ cs s. after (binds (patterns p (suc n) bs) (at e (sc ++ bound_names items)) s) (λ ds s. done (joined cs ds) s))) (parts_bound e p n xs 0 sc s)
-    ∙ ap (λ (o : Outcome Bindings). after o (λ ds s. done (joined (numbered (length sc) (part_terms p n 0 (length xs))) ds) s)) (patterns_bound e p (suc n) bs (sc ++ bound_names items) s)
-    ∙ ap (λ k. done (joined (numbered (length sc) (part_terms p n 0 (length xs))) (numbered k (pattern_parts p (suc n) bs))) s) longer
+    ∙ ap (λ (o : WalkOutcome Bindings). after_walk o (λ cs s. after_walk (binds (patterns p (suc n) bs) (at e (sc ++ bound_names items)) s) (λ ds s. done (bindings_joined cs ds) s))) (parts_bound e p n xs 0 sc s)
+    ∙ ap (λ (o : WalkOutcome Bindings). after_walk o (λ ds s. done (bindings_joined (numbered (length sc) (part_terms p n 0 (length xs))) ds) s)) (patterns_bound e p (suc n) bs (sc ++ bound_names items) s)
+    ∙ ap (λ k. done (bindings_joined (numbered (length sc) (part_terms p n 0 (length xs))) (numbered k (pattern_parts p (suc n) bs))) s) longer
     ∙ ap (λ (b : Bindings). done b s) (sym (numbered_append (length sc) (part_terms p n 0 (length xs)) (pattern_parts p (suc n) bs)))
 
 pub patterns_named : (p : Place) (n : ℕ) (bs : List Binder) → bound_names (patterns p n bs) ≡ pattern_names bs
@@ -154,20 +154,20 @@ unpacked_without p n bs m h = ap (λ b. cond b (lets (patterns p n bs) m) m) h
 -- behind a Let of the patterns
 module _ (e : Env) (p : Place) (n : ℕ) (bs : List Binder) (m : Meaning) (sc sc2 : List (List ℕ)) (s s1 : Gathered) (some : list_any is_pattern bs ≡ true)
     (names : sc2 ≡ sc ++ pattern_names bs) (same : s1 ≡ s) where
-  unpacked_is : unpacked p n bs m (at e sc) s ≡ after (m (at e sc2) s1) (λ u s. limited (bind (numbered (length sc) (pattern_parts p n bs)) u) s)
+  unpacked_is : unpacked p n bs m (at e sc) s ≡ after_walk (m (at e sc2) s1) (λ u s. limited (bind (numbered (length sc) (pattern_parts p n bs)) u) s)
   unpacked_is =
       let here : sc ++ bound_names (patterns p n bs) ≡ sc2 = ap (λ (l : List (List ℕ)). sc ++ l) (patterns_named p n bs) ∙ sym names in
       ap (λ b. cond b (lets (patterns p n bs) m) m (at e sc) s) some
-      ∙ ap (λ (o : Outcome Bindings). after o (λ ts s. after (m (at e (sc ++ bound_names (patterns p n bs))) s) (λ u s. limited (bind ts u) s))) (patterns_bound e p n bs sc s)
-      ∙ ap (λ (z : List (List ℕ)). after (m (at e z) s) (λ u s. limited (bind (numbered (length sc) (pattern_parts p n bs)) u) s)) here
-      ∙ ap (λ z. after (m (at e sc2) z) (λ u s. limited (bind (numbered (length sc) (pattern_parts p n bs)) u) s)) (sym same)
+      ∙ ap (λ (o : WalkOutcome Bindings). after_walk o (λ ts s. after_walk (m (at e (sc ++ bound_names (patterns p n bs))) s) (λ u s. limited (bind ts u) s))) (patterns_bound e p n bs sc s)
+      ∙ ap (λ (z : List (List ℕ)). after_walk (m (at e z) s) (λ u s. limited (bind (numbered (length sc) (pattern_parts p n bs)) u) s)) here
+      ∙ ap (λ z. after_walk (m (at e sc2) z) (λ u s. limited (bind (numbered (length sc) (pattern_parts p n bs)) u) s)) (sym same)
 
   pub unpacked_walked : (u : Kernel) (s2 : Gathered) (ks : List Kernel) → m (at e sc2) s1 ≡ done u s2 → ks ≡ pattern_parts p n bs
       → unpacked p n bs m (at e sc) s ≡ limited (bind (numbered (length sc) ks) u) s2
   unpacked_walked u s2 ks w k = unpacked_is
-      ∙ ap (λ (o : Outcome Kernel). after o (λ u s. limited (bind (numbered (length sc) (pattern_parts p n bs)) u) s)) w
+      ∙ ap (λ (o : WalkOutcome Kernel). after_walk o (λ u s. limited (bind (numbered (length sc) (pattern_parts p n bs)) u) s)) w
       ∙ ap (λ (l : List Kernel). limited (bind (numbered (length sc) l) u) s2) (sym k)
 
   pub unpacked_fails : (x : CheckError) → Fails x (m (at e sc2) s1) → Fails x (unpacked p n bs m (at e sc) s)
   unpacked_fails OutOfMemory h = tt
-  unpacked_fails (Fault k q) h = unpacked_is ∙ ap (λ (o : Outcome Kernel). after o (λ u s. limited (bind (numbered (length sc) (pattern_parts p n bs)) u) s)) h
+  unpacked_fails (Fault k q) h = unpacked_is ∙ ap (λ (o : WalkOutcome Kernel). after_walk o (λ u s. limited (bind (numbered (length sc) (pattern_parts p n bs)) u) s)) h

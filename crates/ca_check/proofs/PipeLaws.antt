@@ -21,18 +21,18 @@ use Rattle.ca_forms.specs.Judged.{bound_names}
 use Rattle.ca_term.specs.declared.head.SystemTask.{SystemTask}
 use Rattle.ca_term.specs.declared.head.PlainFunction.{PlainFunction}
 use Rattle.ca_term.specs.declared.head.Transform.{Transform}
-use Rattle.ca_reader.specs.Form.{FormTree, place_of}
+use Rattle.ca_reader.specs.Form.{FormTree, form_place}
 use Rattle.ca_forms.specs.declared.error.CheckErrorKind.{CheckErrorKind}
 use Rattle.ca_forms.specs.Names.{applied, wrong, given}
-use Rattle.ca_forms.specs.Channels.{yes, started, made, whole, repeated, stopping, pipeline_of, pipeline_over, workers}
+use Rattle.ca_forms.specs.Channels.{yes, spawn_call, make_call, whole_number, repeated, stopping, pipeline_of, pipeline_over, workers}
 use Rattle.ca_forms.specs.Planned.{and_yes, and_true, hidden_let, pipeline_row, pipeline_by, function_within}
 use Rattle.ca_forms.specs.Walk.{walk, within}
-use Rattle.ca_forms.specs.WalkView.{parts_of, terms_of, Fails}
+use Rattle.ca_forms.specs.WalkView.{form_parts, terms_of, Fails}
 use Rattle.ca_forms.proofs.BindLaws.{at}
 use Rattle.ca_check.proofs.HideLaws.{Hides, hiding_done, hiding_fails, hides_more, hides_yes, first_fails, second_fails, yes_fails, take_all, More, more_is, kernels_listed}
 
 -- a pipeline
-pub pipeline_off : (xf : Transform) (p : Place) (e : Env) (s : Gathered) (fs : List Form) → (length fs < 5) ⊎ (6 < length fs) → pipeline_row xf p (parts_of (drop 1 fs)) e s ≡ refused BadForm p
+pub pipeline_off : (xf : Transform) (p : Place) (e : Env) (s : Gathered) (fs : List Form) → (length fs < 5) ⊎ (6 < length fs) → pipeline_row xf p (form_parts (drop 1 fs)) e s ≡ refused BadForm p
 pipeline_off xf p e s [] h = refl
 pipeline_off xf p e s (a ∷ []) h = refl
 pipeline_off xf p e s (a ∷ b ∷ []) h = refl
@@ -43,12 +43,12 @@ pipeline_off xf p e s (a ∷ b ∷ c ∷ d ∷ f ∷ g ∷ []) h = absurd (elim 
 pipeline_off xf p e s (a ∷ b ∷ c ∷ d ∷ f ∷ g ∷ k ∷ fs) h = refl
 
 function_on : (xf : Transform) (qs : List Pair) (ft : FormTree) (n t f z : Meaning) (p : Place) (e : Env) (s : Gathered) → Some ft ≡ function_within qs
-    → pipeline_of (Some xf) qs n t f z p e s ≡ pipeline_over xf (given ft e) (place_of ft) n t f z p e s
+    → pipeline_of (Some xf) qs n t f z p e s ≡ pipeline_over xf (given ft e) (form_place ft) n t f z p e s
 function_on xf [] ft n t f z p e s h = absurd (cc)
 function_on xf (a ∷ []) ft n t f z p e s h = absurd (cc)
 function_on xf (a ∷ b ∷ []) ft n t f z p e s h =
     let same : b.form ≡ ft = cc in
-    ap (λ k. pipeline_over xf (given k e) (place_of k) n t f z p e s) same
+    ap (λ k. pipeline_over xf (given k e) (form_place k) n t f z p e s) same
 function_on xf (a ∷ b ∷ c ∷ qs) ft n t f z p e s h = absurd (cc)
 
 function_off : (xf : Transform) (qs : List Pair) (n t f z : Meaning) (p : Place) (e : Env) (s : Gathered) → None ≡ function_within qs → pipeline_of (Some xf) qs n t f z p e s ≡ refused BadForm p
@@ -59,7 +59,7 @@ function_off xf (a ∷ b ∷ c ∷ qs) n t f z p e s h = refl
 
 module _ (xf : Transform) (p : Place) (e : Env) (s : Gathered) where
   pub pipeline_on : (fs : List Form) (x : Form) (ft : FormTree) → 5 ≤ length fs → length fs ≤ 6 → x ≡ get_or fs 3 x → Some ft ≡ function_within (within (form_tree x))
-      → pipeline_row xf p (parts_of (drop 1 fs)) e s ≡ pipeline_by xf (given ft e) (place_of ft) p (parts_of (drop 1 fs)) e s
+      → pipeline_row xf p (form_parts (drop 1 fs)) e s ≡ pipeline_by xf (given ft e) (form_place ft) p (form_parts (drop 1 fs)) e s
   pipeline_on [] x ft l m y h = absurd (omega (arith, l))
   pipeline_on (a ∷ []) x ft l m y h = absurd (omega (arith, l))
   pipeline_on (a ∷ b ∷ []) x ft l m y h = absurd (omega (arith, l))
@@ -69,7 +69,7 @@ module _ (xf : Transform) (p : Place) (e : Env) (s : Gathered) where
   pipeline_on (a ∷ b ∷ c ∷ d ∷ f ∷ g ∷ []) x ft l m y h = function_on xf (within (form_tree d)) ft (walk (form_tree b)) (walk (form_tree c)) (walk (form_tree f)) (walk (form_tree g)) p e s (h ∙ ap (λ k. function_within (within (form_tree k))) y)
   pipeline_on (a ∷ b ∷ c ∷ d ∷ f ∷ g ∷ k ∷ fs) x ft l m y h = absurd (omega (arith, m))
 
-  pub pipeline_none : (fs : List Form) (x : Form) → 5 ≤ length fs → length fs ≤ 6 → x ≡ get_or fs 3 x → None ≡ function_within (within (form_tree x)) → pipeline_row xf p (parts_of (drop 1 fs)) e s ≡ refused BadForm p
+  pub pipeline_none : (fs : List Form) (x : Form) → 5 ≤ length fs → length fs ≤ 6 → x ≡ get_or fs 3 x → None ≡ function_within (within (form_tree x)) → pipeline_row xf p (form_parts (drop 1 fs)) e s ≡ refused BadForm p
   pipeline_none [] x l m y h = absurd (omega (arith, l))
   pipeline_none (a ∷ []) x l m y h = absurd (omega (arith, l))
   pipeline_none (a ∷ b ∷ []) x l m y h = absurd (omega (arith, l))
@@ -80,7 +80,7 @@ module _ (xf : Transform) (p : Place) (e : Env) (s : Gathered) where
   pipeline_none (a ∷ b ∷ c ∷ d ∷ f ∷ g ∷ k ∷ fs) x l m y h = absurd (omega (arith, m))
 
   pub by_wrong : (fs : List Form) (k : CheckErrorKind) (q r : Place) → 5 ≤ length fs → length fs ≤ 6 → q ≡ r
-      → pipeline_by xf (wrong k) r p (parts_of (drop 1 fs)) e s ≡ stopping (meanings (parts_of (drop 1 (take 3 fs)))) k q e s
+      → pipeline_by xf (wrong k) r p (form_parts (drop 1 fs)) e s ≡ stopping (meanings (form_parts (drop 1 (take 3 fs)))) k q e s
   by_wrong [] k q r l m y = absurd (omega (arith, l))
   by_wrong (a ∷ []) k q r l m y = absurd (omega (arith, l))
   by_wrong (a ∷ b ∷ []) k q r l m y = absurd (omega (arith, l))
@@ -91,7 +91,7 @@ module _ (xf : Transform) (p : Place) (e : Env) (s : Gathered) where
   by_wrong (a ∷ b ∷ c ∷ d ∷ f ∷ g ∷ n ∷ fs) k q r l m y = absurd (omega (arith, m))
 
   pub by_any : (fs : List Form) (g : PlainFunction) (ks : List Kernel) (q r : Place) → 5 ≤ length fs → length fs ≤ 6
-      → pipeline_by xf (applied g ks) q p (parts_of (drop 1 fs)) e s ≡ pipeline_by xf (applied g ks) r p (parts_of (drop 1 fs)) e s
+      → pipeline_by xf (applied g ks) q p (form_parts (drop 1 fs)) e s ≡ pipeline_by xf (applied g ks) r p (form_parts (drop 1 fs)) e s
   by_any [] g ks q r l m = refl
   by_any (a ∷ []) g ks q r l m = refl
   by_any (a ∷ b ∷ []) g ks q r l m = refl
@@ -119,36 +119,36 @@ worker_fails (Fault q r) m p e s h = rw h refl
 
 -- the operands: the first is the count of workers, and the transform is none
 abbrev piped_operands : Place → List Form → List Meaning
-piped_operands p (f ∷ a ∷ b ∷ x ∷ ds) = workers (walk (form_tree a)) p ∷ walk (form_tree b) ∷ meanings (parts_of ds)
+piped_operands p (f ∷ a ∷ b ∷ x ∷ ds) = workers (walk (form_tree a)) p ∷ walk (form_tree b) ∷ meanings (form_parts ds)
 piped_operands p fs = []
 
 abbrev target_of : List Form → List Meaning
-target_of fs = meanings (parts_of (drop 2 (take 3 fs)))
+target_of fs = meanings (form_parts (drop 2 (take 3 fs)))
 
 abbrev source_of : List Form → List Meaning
-source_of fs = meanings (parts_of (drop 4 (take (length fs) fs)))
+source_of fs = meanings (form_parts (drop 4 (take (length fs) fs)))
 
 operands_split : (p : Place) (fs : List Form) (a : Form) → 5 ≤ length fs → a ≡ get_or fs 1 a → piped_operands p fs ≡ (workers (walk (form_tree a)) p ∷ []) ++ (target_of fs ++ source_of fs)
 operands_split p [] a l x = absurd (omega (arith, l))
 operands_split p (f1 ∷ []) a l x = absurd (omega (arith, l))
 operands_split p (f1 ∷ f2 ∷ []) a l x = absurd (omega (arith, l))
 operands_split p (f1 ∷ f2 ∷ f3 ∷ []) a l x = absurd (omega (arith, l))
-operands_split p (f1 ∷ f2 ∷ f3 ∷ f4 ∷ fs) a l x = ap (λ z. workers (walk (form_tree z)) p ∷ walk (form_tree f3) ∷ meanings (parts_of fs)) (sym x)
-    ∙ ap (λ gs. workers (walk (form_tree a)) p ∷ walk (form_tree f3) ∷ meanings (parts_of gs)) (sym (take_all fs))
+operands_split p (f1 ∷ f2 ∷ f3 ∷ f4 ∷ fs) a l x = ap (λ z. workers (walk (form_tree z)) p ∷ walk (form_tree f3) ∷ meanings (form_parts fs)) (sym x)
+    ∙ ap (λ gs. workers (walk (form_tree a)) p ∷ walk (form_tree f3) ∷ meanings (form_parts gs)) (sym (take_all fs))
 
 -- what stands behind the operands
 abbrev pub pipes : Place → ℕ → List Kernel
-pipes p n = made MakeKind.Fixed (var n ∷ []) p ∷ made MakeKind.Fixed (var n ∷ []) p ∷ made MakeKind.Fixed (whole 1 ∷ []) p ∷ []
+pipes p n = make_call MakeKind.Fixed (var n ∷ []) p ∷ make_call MakeKind.Fixed (var n ∷ []) p ∷ make_call MakeKind.Fixed (whole_number 1 ∷ []) p ∷ []
 
 abbrev pub tasks : Transform → PlainFunction → List Kernel → Place → ℕ → List Kernel
-tasks xf g js p n = repeated n (n + 7) (started (SystemTask.Job xf g) (var (n + 4) ∷ js) p) p
-    ∷ started SystemTask.Feed (var (n + 2) ∷ var (n + 4) ∷ var (n + 5) ∷ []) p
-    ∷ started SystemTask.Collect (var (n + 5) ∷ var (n + 1) ∷ var (n + 3) ∷ var (n + 6) ∷ []) p
+tasks xf g js p n = repeated n (n + 7) (spawn_call (SystemTask.Job xf g) (var (n + 4) ∷ js) p) p
+    ∷ spawn_call SystemTask.Feed (var (n + 2) ∷ var (n + 4) ∷ var (n + 5) ∷ []) p
+    ∷ spawn_call SystemTask.Collect (var (n + 5) ∷ var (n + 1) ∷ var (n + 3) ∷ var (n + 6) ∷ []) p
     ∷ var (n + 6) ∷ []
 
 module _ (xf : Transform) (g : PlainFunction) (js : List Kernel) (q p : Place) where
   piped_row : (e : Env) (fs : List Form) (s : Gathered) → 5 ≤ length fs → length fs ≤ 6
-      → pipeline_by xf (applied g js) q p (parts_of (drop 1 fs)) e s ≡ hiding (and_yes (nat_eq (length fs) 5) (piped_operands p fs)) (pipes p) (tasks xf g js p) e s
+      → pipeline_by xf (applied g js) q p (form_parts (drop 1 fs)) e s ≡ hiding (and_yes (nat_eq (length fs) 5) (piped_operands p fs)) (pipes p) (tasks xf g js p) e s
   piped_row e [] s l m = absurd (omega (arith, l))
   piped_row e (a ∷ []) s l m = absurd (omega (arith, l))
   piped_row e (a ∷ b ∷ []) s l m = absurd (omega (arith, l))
@@ -162,7 +162,7 @@ module _ (xf : Transform) (g : PlainFunction) (js : List Kernel) (q p : Place) w
     pub piped_done : (sc1 sc2 : List (List ℕ)) (s1 s2 s3 : Gathered) (w : Kernel) (ts us : List Kernel)
         → Hides e sc s (workers (walk (form_tree a)) p ∷ []) (w ∷ []) s1 → sc1 ≡ sc ++ [] ∷ []
         → Hides e sc1 s1 (target_of fs) ts s2 → sc2 ≡ sc1 ++ bound_names (map unnamed (target_of fs)) → Hides e sc2 s2 (source_of fs) us s3
-        → pipeline_by xf (applied g js) q p (parts_of (drop 1 fs)) (at e sc) s ≡ hidden_let (length sc) (and_true (nat_eq (length fs) 5) (w ∷ (ts ++ us))) (pipes p (length sc)) (tasks xf g js p (length sc)) s3
+        → pipeline_by xf (applied g js) q p (form_parts (drop 1 fs)) (at e sc) s ≡ hidden_let (length sc) (and_true (nat_eq (length fs) 5) (w ∷ (ts ++ us))) (pipes p (length sc)) (tasks xf g js p (length sc)) s3
     piped_done sc1 sc2 s1 s2 s3 w ts us h c i d k =
         let whole : Hides e sc s (piped_operands p fs) (w ∷ (ts ++ us)) s3
         = ap (λ ms. binds (map unnamed ms) (at e sc) s) (operands_split p fs a l x)
@@ -172,22 +172,22 @@ module _ (xf : Transform) (g : PlainFunction) (js : List Kernel) (q p : Place) w
         (hides_yes (nat_eq (length fs) 5) e sc s s3 (piped_operands p fs) (w ∷ (ts ++ us)) whole)
 
     piped_fails : (y : CheckError) → Fails y (binds (map unnamed ((workers (walk (form_tree a)) p ∷ []) ++ (target_of fs ++ source_of fs))) (at e sc) s)
-        → Fails y (pipeline_by xf (applied g js) q p (parts_of (drop 1 fs)) (at e sc) s)
+        → Fails y (pipeline_by xf (applied g js) q p (form_parts (drop 1 fs)) (at e sc) s)
     piped_fails OutOfMemory h = tt
     piped_fails (Fault k r) h = piped_row (at e sc) fs s l m
         ∙ hiding_fails (Fault k r) e sc s (and_yes (nat_eq (length fs) 5) (piped_operands p fs)) (pipes p) (tasks xf g js p)
         (yes_fails (Fault k r) (nat_eq (length fs) 5) e sc s (piped_operands p fs) (ap (λ ms. binds (map unnamed ms) (at e sc) s) (operands_split p fs a l x) ∙ h))
 
-    pub count_fails : (y : CheckError) → Fails y (walk (form_tree a) (inner (at e sc)) s) → Fails y (pipeline_by xf (applied g js) q p (parts_of (drop 1 fs)) (at e sc) s)
+    pub count_fails : (y : CheckError) → Fails y (walk (form_tree a) (inner (at e sc)) s) → Fails y (pipeline_by xf (applied g js) q p (form_parts (drop 1 fs)) (at e sc) s)
     count_fails y h = piped_fails y (first_fails y e sc s (workers (walk (form_tree a)) p ∷ []) (target_of fs ++ source_of fs) (worker_fails y (walk (form_tree a)) p (at e sc) s h))
 
     pub target_fails : (y : CheckError) (sc1 : List (List ℕ)) (s1 : Gathered) (w : Kernel) → Hides e sc s (workers (walk (form_tree a)) p ∷ []) (w ∷ []) s1 → sc1 ≡ sc ++ [] ∷ []
-        → Fails y (binds (map unnamed (target_of fs)) (at e sc1) s1) → Fails y (pipeline_by xf (applied g js) q p (parts_of (drop 1 fs)) (at e sc) s)
+        → Fails y (binds (map unnamed (target_of fs)) (at e sc1) s1) → Fails y (pipeline_by xf (applied g js) q p (form_parts (drop 1 fs)) (at e sc) s)
     target_fails y sc1 s1 w h c f = piped_fails y (second_fails y e sc sc1 s s1 (workers (walk (form_tree a)) p ∷ []) (target_of fs ++ source_of fs) (w ∷ []) h c (first_fails y e sc1 s1 (target_of fs) (source_of fs) f))
 
     pub source_fails : (y : CheckError) (sc1 sc2 : List (List ℕ)) (s1 s2 : Gathered) (w : Kernel) (ts : List Kernel) → Hides e sc s (workers (walk (form_tree a)) p ∷ []) (w ∷ []) s1 → sc1 ≡ sc ++ [] ∷ []
         → Hides e sc1 s1 (target_of fs) ts s2 → sc2 ≡ sc1 ++ bound_names (map unnamed (target_of fs)) → Fails y (binds (map unnamed (source_of fs)) (at e sc2) s2)
-        → Fails y (pipeline_by xf (applied g js) q p (parts_of (drop 1 fs)) (at e sc) s)
+        → Fails y (pipeline_by xf (applied g js) q p (form_parts (drop 1 fs)) (at e sc) s)
     source_fails y sc1 sc2 s1 s2 w ts h c i d f = piped_fails y (second_fails y e sc sc1 s s1 (workers (walk (form_tree a)) p ∷ []) (target_of fs ++ source_of fs) (w ∷ []) h c
         (second_fails y e sc1 sc2 s1 s2 (target_of fs) (source_of fs) ts i d f))
 

@@ -12,9 +12,9 @@ use Rattle.ca_term.specs.Program.{ProcedureView, IsProcedure}
 use Rattle.ca_term.specs.View.{kernels_of}
 use Rattle.ca_forms.specs.declared.error.CheckErrorKind.{CheckErrorKind}
 use Rattle.ca_forms.specs.Uses.{uses}
-use Rattle.ca_forms.specs.Outcome.{Gathered, Outcome, after, limited}
-use Rattle.ca_forms.specs.Meaning.{Env, Signature, Meaning, Named, size, inner, named, fail, constant, nothing, local, iff, unless, before_others, in_order, operation, block, unnamed, binds, behind, lets, loops, name_as, hide, numbered, joined, hiding}
-use Rattle.ca_forms.specs.Go.{task, in_task, unmade, go}
+use Rattle.ca_forms.specs.Outcome.{Gathered, WalkOutcome, after_walk, limited}
+use Rattle.ca_forms.specs.Meaning.{Env, Signature, Meaning, Named, size, inner, behind_name, fail_with, constant_value, nothing, local_name, iff, unless, before_others, means_in_order, operation, block, unnamed, binds, behind, lets, loops, name_as, hide, numbered, bindings_joined, hiding}
+use Rattle.ca_forms.specs.Go.{task, in_task, unmade, go_meaning}
 use Rattle.ca_check.proofs.Well.{Rules, IsConstant, scalars_in, Suited, Well, WellTerms, WellInOrder, WellBindings, fits, source, anew, closed, Below, below_more, below_append, uses_only, uses_below, in_left, in_right}
 use Rattle.ca_check.proofs.Places.{small}
 use Rattle.ca_check.proofs.Grew.{Each, Agrees, agrees_unmade, agrees_at, set_between, IsRight, IsMade, Grew, stays, gives, behind_it, IfDone, if_after, if_limited}
@@ -40,7 +40,7 @@ abbrev pub Stands : Ground → ℕ → Env → Type 0
 Stands g n env = (n ≤ size env) × (g.base ≤ size env) × AreSigned g.rules g.base 0 env.functions
 
 -- what is made in this environment from this state stands well
-abbrev pub Makes : Ground → Env → Gathered → Outcome Kernel → Type 0
+abbrev pub Makes : Ground → Env → Gathered → WalkOutcome Kernel → Type 0
 Makes g env s o = IfDone o (λ t s2. Grew g.rules s s2 (Well g.rules (size env) env.target t))
 
 abbrev pub Sound : Ground → ℕ → Meaning → Type 0
@@ -59,17 +59,17 @@ weaken g n m b l f env s st = f env s (omega (arith, l, st.0), st.1, st.2)
 pub weaken_aimed : (g : Ground) (n m j : ℕ) (b : Meaning) → n ≤ m → Aimed g n j b → Aimed g m j b
 weaken_aimed g n m j b l f env s st e = f env s (omega (arith, l, st.0), st.1, st.2) e
 
-pub sound_constant : (g : Ground) (n : ℕ) (v : Tree) → IsConstant g.rules.scalars v → Sound g n (constant v)
+pub sound_constant : (g : Ground) (n : ℕ) (v : Tree) → IsConstant g.rules.scalars v → Sound g n (constant_value v)
 sound_constant g n v l env s st = stays g.rules s (IsConstant g.rules.scalars v) l
 
-pub sound_local : (g : Ground) (n h : ℕ) → h < n → Sound g n (local h)
+pub sound_local : (g : Ground) (n h : ℕ) → h < n → Sound g n (local_name h)
 sound_local g n h l env s st = stays g.rules s (h < size env) (omega (arith, l, st.0))
 
 -- a name of the main text
-pub sound_low : (g : Ground) (n h : ℕ) → h < g.base → Sound g n (local h)
+pub sound_low : (g : Ground) (n h : ℕ) → h < g.base → Sound g n (local_name h)
 sound_low g n h l env s st = stays g.rules s (h < size env) (omega (arith, l, st.1))
 
-pub sound_fail : (g : Ground) (n : ℕ) (e : CheckErrorKind) (p : Place) → Sound g n (fail e p)
+pub sound_fail : (g : Ground) (n : ℕ) (e : CheckErrorKind) (p : Place) → Sound g n (fail_with e p)
 sound_fail g n e p env s st = tt
 
 pub sound_cond : (g : Ground) (n : ℕ) (b : Bool) (x y : Meaning) → Sound g n x → Sound g n y → Sound g n (cond b x y)
@@ -123,25 +123,25 @@ first_well k env (suc i) none t e w = absurd (omega (arith, e))
 first_well k env (suc i) (item u us) t e w = w
 
 -- terms in order, so many of them
-abbrev pub MakesInOrder : Ground → Env → Gathered → ℕ → Outcome Kernels → Type 0
+abbrev pub MakesInOrder : Ground → Env → Gathered → ℕ → WalkOutcome Kernels → Type 0
 MakesInOrder g env s i o = IfDone o (λ ts s2. (count_terms ts ≡ i) × Grew g.rules s s2 (WellInOrder g.rules (size env) env.target ts))
 
 pub one_in_order : (g : Ground) (m : Meaning) (ms : List Meaning) (env : Env) (s : Gathered)
-    → Makes g (before_others (length ms) env) s (m (before_others (length ms) env) s) → ((s : Gathered) → MakesInOrder g env s (length ms) (in_order ms env s))
-    → MakesInOrder g env s (suc (length ms)) (in_order (m ∷ ms) env s)
+    → Makes g (before_others (length ms) env) s (m (before_others (length ms) env) s) → ((s : Gathered) → MakesInOrder g env s (length ms) (means_in_order ms env s))
+    → MakesInOrder g env s (suc (length ms)) (means_in_order (m ∷ ms) env s)
 one_in_order g m ms env s f h =
     if_after (m (before_others (length ms) env) s) _ _ _ f (λ t s1 x.
-    if_after (in_order ms env s1) _ _ _ (h s1) (λ ts s2 y.
+    if_after (means_in_order ms env s1) _ _ _ (h s1) (λ ts s2 y.
     (ap suc y.0, gives g.rules s s2 _ _ (λ q. first_well g.rules env (length ms) ts t y.0 q) (behind_it g.rules s s1 s2 _ _ x y.1))))
 
-pub sound_in_order : (g : Ground) (n : ℕ) (ms : List Meaning) → AllSound g n ms → (env : Env) (s : Gathered) → Stands g n env → MakesInOrder g env s (length ms) (in_order ms env s)
+pub sound_in_order : (g : Ground) (n : ℕ) (ms : List Meaning) → AllSound g n ms → (env : Env) (s : Gathered) → Stands g n env → MakesInOrder g env s (length ms) (means_in_order ms env s)
 sound_in_order g n [] f env s st = (refl, stays g.rules s (Unit {0}) tt)
 sound_in_order g n (m ∷ ms) f env s st = one_in_order g m ms env s (f.0 (before_others (length ms) env) s (stands_before g n (length ms) env st))
     (λ s. sound_in_order g n ms f.1 env s st)
 
 -- the last one where a `recur` takes j values
 pub aimed_in_order : (g : Ground) (n j : ℕ) (ms : List Meaning) (m : Meaning) → AllSound g n ms → Aimed g n j m → (env : Env) (s : Gathered) → Stands g n env → env.target ≡ Some j
-    → MakesInOrder g env s (length (ms ++ m ∷ [])) (in_order (ms ++ m ∷ []) env s)
+    → MakesInOrder g env s (length (ms ++ m ∷ [])) (means_in_order (ms ++ m ∷ []) env s)
 aimed_in_order g n j [] m f h env s st e = one_in_order g m [] env s (h env s st e) (λ s. (refl, stays g.rules s (Unit {0}) tt))
 aimed_in_order g n j (x ∷ xs) m f h env s st e = one_in_order g x (xs ++ m ∷ []) env s
     (f.0 (before_others (length (xs ++ m ∷ [])) env) s (stands_before g n (length (xs ++ m ∷ [])) env st)) (λ s. aimed_in_order g n j xs m f.1 h env s st e)
@@ -154,7 +154,7 @@ all_none k n (item t (item u us)) w = (w.0, all_none k n (item u us) w.1)
 pub makes_operation : (g : Ground) (n : ℕ) (h : Head) (ms : List Meaning) (p : Place) (env : Env) (s : Gathered) → Stands g n env → AllSound g n ms
     → Suited g.rules env.target h (length ms) → Makes g env s (operation h ms p env s)
 makes_operation g n h ms p env s st f u =
-    if_after (in_order ms (inner env) s) _ _ _ (sound_in_order g n ms f (inner env) s st) (λ ts s2 x.
+    if_after (means_in_order ms (inner env) s) _ _ _ (sound_in_order g n ms f (inner env) s st) (λ ts s2 x.
     makes_limited g env s s2 (apply h ts p) (gives g.rules s s2 _ _
     (λ w. (subst (λ i. Suited g.rules env.target h i) (sym x.0) u, all_none g.rules (size env) ts w)) x.1))
 
@@ -165,19 +165,19 @@ sound_operation g n h ms p f u env s st = makes_operation g n h ms p env s st f 
 pub aimed_recur : (g : Ground) (n : ℕ) (ms : List Meaning) (p : Place) → AllSound g n ms → Aimed g n (length ms) (operation Recur ms p)
 aimed_recur g n ms p f env s st e = makes_operation g n Recur ms p env s st f e
 
-pub makes_seq : (g : Ground) (env : Env) (s : Gathered) (i : ℕ) (o : Outcome Kernels) → MakesInOrder g env s i o → Makes g env s (after o (λ ts s. limited (seq ts) s))
+pub makes_seq : (g : Ground) (env : Env) (s : Gathered) (i : ℕ) (o : WalkOutcome Kernels) → MakesInOrder g env s i o → Makes g env s (after_walk o (λ ts s. limited (seq ts) s))
 makes_seq g env s i o h = if_after o _ _ _ h (λ ts s2 x. makes_limited g env s s2 (seq ts) x.1)
 
 pub sound_block : (g : Ground) (n : ℕ) (ms : List Meaning) → AllSound g n ms → Sound g n (block ms)
 sound_block g n [] f env s st = sound_constant g n nil tt env s st
-sound_block g n (m ∷ ms) f env s st = makes_seq g env s (suc (length ms)) (in_order (m ∷ ms) env s) (sound_in_order g n (m ∷ ms) f env s st)
+sound_block g n (m ∷ ms) f env s st = makes_seq g env s (suc (length ms)) (means_in_order (m ∷ ms) env s) (sound_in_order g n (m ∷ ms) f env s st)
 
 pub sound_body : (g : Ground) (n : ℕ) (m : Meaning) → Sound g n m → Sound g n (block (m ∷ []))
 sound_body g n m f = sound_block g n (m ∷ []) (f, tt)
 
 pub aimed_block : (g : Ground) (n j : ℕ) (ms : List Meaning) (m : Meaning) → AllSound g n ms → Aimed g n j m → Aimed g n j (block (ms ++ m ∷ []))
-aimed_block g n j [] m f h env s st e = makes_seq g env s 1 (in_order (m ∷ []) env s) (aimed_in_order g n j [] m f h env s st e)
-aimed_block g n j (x ∷ xs) m f h env s st e = makes_seq g env s (suc (length (xs ++ m ∷ []))) (in_order (x ∷ xs ++ m ∷ []) env s) (aimed_in_order g n j (x ∷ xs) m f h env s st e)
+aimed_block g n j [] m f h env s st e = makes_seq g env s 1 (means_in_order (m ∷ []) env s) (aimed_in_order g n j [] m f h env s st e)
+aimed_block g n j (x ∷ xs) m f h env s st e = makes_seq g env s (suc (length (xs ++ m ∷ []))) (means_in_order (x ∷ xs ++ m ∷ []) env s) (aimed_in_order g n j (x ∷ xs) m f h env s st e)
 
 -- (when c e ..) as a body
 pub aimed_when : (g : Ground) (n j : ℕ) (c a : Meaning) → Sound g n c → Aimed g n j a → Aimed g n j (block (iff c a nothing ∷ []))
@@ -197,20 +197,20 @@ pub named_append : (g : Ground) (n : ℕ) (bs cs : List Named) → NamedSound g 
 named_append g n [] cs f h = named_weaken g (n + 0) n cs (omega arith) h
 named_append g n (b ∷ bs) cs f h = (f.0, named_append g (suc n) bs cs f.1 (named_weaken g (n + suc (length bs)) (suc n + length bs) cs (omega arith) h))
 
-pub size_named : (x : List ℕ) (env : Env) → size (named x env) ≡ suc (size env)
+pub size_named : (x : List ℕ) (env : Env) → size (behind_name x env) ≡ suc (size env)
 size_named x env = length-append env.scope (x ∷ []) ∙ omega arith
 
-pub stands_named : (g : Ground) (n : ℕ) (x : List ℕ) (env : Env) → Stands g n env → Stands g (suc n) (named x env)
+pub stands_named : (g : Ground) (n : ℕ) (x : List ℕ) (env : Env) → Stands g n env → Stands g (suc n) (behind_name x env)
 stands_named g n x env st = (omega (arith, size_named x env, st.0), omega (arith, size_named x env, st.1), st.2)
 
-abbrev pub MakesBindings : Ground → Env → Gathered → ℕ → Outcome Bindings → Type 0
+abbrev pub MakesBindings : Ground → Env → Gathered → ℕ → WalkOutcome Bindings → Type 0
 MakesBindings g env s i o = IfDone o (λ ts s2. (count_bindings ts ≡ i) × Grew g.rules s s2 (WellBindings g.rules (size env) ts))
 
 pub sound_binds : (g : Ground) (n : ℕ) (bs : List Named) → NamedSound g n bs → (env : Env) (s : Gathered) → Stands g n env → MakesBindings g env s (length bs) (binds bs env s)
 sound_binds g n [] f env s st = (refl, stays g.rules s (Unit {0}) tt)
 sound_binds g n (b ∷ bs) f env s st =
     if_after (b.means (inner env) s) _ _ _ (f.0 (inner env) s st) (λ t s1 x.
-    if_after (binds bs (named b.name env) s1) _ _ _ (sound_binds g (suc n) bs f.1 (named b.name env) s1 (stands_named g n b.name env st)) (λ ts s2 y.
+    if_after (binds bs (behind_name b.name env) s1) _ _ _ (sound_binds g (suc n) bs f.1 (behind_name b.name env) s1 (stands_named g n b.name env st)) (λ ts s2 y.
     (ap suc y.0, gives g.rules s s2 _ _ (λ q. (refl, q.0, subst (λ m. WellBindings g.rules m ts) (size_named b.name env) q.1)) (behind_it g.rules s s1 s2 _ _ x y.1))))
 
 pub size_behind : (bs : List Named) (env : Env) → size (behind bs env) ≡ size env + length bs
@@ -258,11 +258,11 @@ pub numbered_well : (k : Rules) (n : ℕ) (ts : List Kernel) → WellNumbered k 
 numbered_well k n [] w = (refl, tt)
 numbered_well k n (t ∷ ts) w = (ap suc (numbered_well k (suc n) ts w.1).0, (refl, w.0, (numbered_well k (suc n) ts w.1).1))
 
-pub joined_well : (k : Rules) (n : ℕ) (bs cs : Bindings) → WellBindings k n bs → WellBindings k (n + count_bindings bs) cs → WellBindings k n (joined bs cs)
+pub joined_well : (k : Rules) (n : ℕ) (bs cs : Bindings) → WellBindings k n bs → WellBindings k (n + count_bindings bs) cs → WellBindings k n (bindings_joined bs cs)
 joined_well k n empty cs w v = subst (λ m. WellBindings k m cs) (omega arith) v
 joined_well k n (binding m t bs) cs w v = (w.0, w.1, joined_well k (suc n) bs cs w.2 (subst (λ m. WellBindings k m cs) (omega arith) v))
 
-pub joined_count : (bs cs : Bindings) → count_bindings (joined bs cs) ≡ count_bindings bs + count_bindings cs
+pub joined_count : (bs cs : Bindings) → count_bindings (bindings_joined bs cs) ≡ count_bindings bs + count_bindings cs
 joined_count empty cs = omega arith
 joined_count (binding n t bs) cs = omega (arith, joined_count bs cs)
 
@@ -275,7 +275,7 @@ sound_hiding g n ms more body f wm wb env s st =
     let count : count_bindings bs ≡ length ms = x.0 ∙ length-map ms unnamed in
     let rest : (count_bindings (numbered (size env + length ms) (more (size env))) ≡ length (more (size env)))
     × WellBindings g.rules (size env + length ms) (numbered (size env + length ms) (more (size env))) = numbered_well g.rules (size env + length ms) (more (size env)) (wm (size env)) in
-    makes_limited g env s s2 (bind (joined bs (numbered (size env + length ms) (more (size env)))) (seq (kernels_of (body (size env))))) (gives g.rules s s2 _ _
+    makes_limited g env s s2 (bind (bindings_joined bs (numbered (size env + length ms) (more (size env)))) (seq (kernels_of (body (size env))))) (gives g.rules s s2 _ _
     (λ w. (
       joined_well g.rules (size env) bs (numbered (size env + length ms) (more (size env))) w
           (subst (λ i. WellBindings g.rules (size env + i) (numbered (size env + length ms) (more (size env)))) (sym count) rest.1),
@@ -286,13 +286,13 @@ sound_hiding g n ms more body f wm wb env s st =
 -- the go block
 pub sound_task : (g : Ground) (r : ℕ) (body : Meaning) (p : Place) → Sound g (suc r) body → Sound g (suc r) (task body r p)
 sound_task g r body p f = sound_name_as g (suc r) [] body (block (
-    iff (operation (Builtin IsNil) (local (suc r) ∷ []) p) nothing (operation Post (local r ∷ local (suc r) ∷ []) p) ∷ operation Close (local r ∷ []) p ∷ [])) f
-    (sound_block g (suc (suc r)) (iff (operation (Builtin IsNil) (local (suc r) ∷ []) p) nothing (operation Post (local r ∷ local (suc r) ∷ []) p) ∷ operation Close (local r ∷ []) p ∷ []) (
-      sound_iff g (suc (suc r)) (operation (Builtin IsNil) (local (suc r) ∷ []) p) nothing (operation Post (local r ∷ local (suc r) ∷ []) p)
-          (sound_operation g (suc (suc r)) (Builtin IsNil) (local (suc r) ∷ []) p (sound_local g (suc (suc r)) (suc r) (omega arith), tt) (λ target. refl))
+    iff (operation (Builtin IsNil) (local_name (suc r) ∷ []) p) nothing (operation Post (local_name r ∷ local_name (suc r) ∷ []) p) ∷ operation Close (local_name r ∷ []) p ∷ [])) f
+    (sound_block g (suc (suc r)) (iff (operation (Builtin IsNil) (local_name (suc r) ∷ []) p) nothing (operation Post (local_name r ∷ local_name (suc r) ∷ []) p) ∷ operation Close (local_name r ∷ []) p ∷ []) (
+      sound_iff g (suc (suc r)) (operation (Builtin IsNil) (local_name (suc r) ∷ []) p) nothing (operation Post (local_name r ∷ local_name (suc r) ∷ []) p)
+          (sound_operation g (suc (suc r)) (Builtin IsNil) (local_name (suc r) ∷ []) p (sound_local g (suc (suc r)) (suc r) (omega arith), tt) (λ target. refl))
           (sound_constant g (suc (suc r)) nil tt)
-          (sound_operation g (suc (suc r)) Post (local r ∷ local (suc r) ∷ []) p (sound_local g (suc (suc r)) r (omega arith), (sound_local g (suc (suc r)) (suc r) (omega arith), tt)) (λ target. tt)),
-      (sound_operation g (suc (suc r)) Close (local r ∷ []) p (sound_local g (suc (suc r)) r (omega arith), tt) (λ target. tt), tt),
+          (sound_operation g (suc (suc r)) Post (local_name r ∷ local_name (suc r) ∷ []) p (sound_local g (suc (suc r)) r (omega arith), (sound_local g (suc (suc r)) (suc r) (omega arith), tt)) (λ target. tt)),
+      (sound_operation g (suc (suc r)) Close (local_name r ∷ []) p (sound_local g (suc (suc r)) r (omega arith), tt) (λ target. tt), tt),
     ))
 
 pub vars_well : (k : Rules) (n : ℕ) (ms : List ℕ) → Below n ms → WellTerms k n (kernels_of (map var ms))
@@ -315,8 +315,8 @@ body_procedure k n t w = (is_one, scalars_in k (suc n) None t w) where
     source = source k (suc n) None t w;
   }
 
-pub sound_go : (g : Ground) (n : ℕ) (body : Meaning) (p : Place) → Sound g n body → Sound g n (go body p)
-sound_go g n body p f = at_size g n (go body p) (λ env s l st.
+pub sound_go : (g : Ground) (n : ℕ) (body : Meaning) (p : Place) → Sound g n body → Sound g n (go_meaning body p)
+sound_go g n body p f = at_size g n (go_meaning body p) (λ env s l st.
     if_after (task body (size env) p (in_task env) (record s { bodies = s.bodies ++ unmade ∷ [] })) _ _ _
     (sound_task g (size env) body p (weaken g n (suc (size env)) body (omega (arith, l)) f) (in_task env) (record s { bodies = s.bodies ++ unmade ∷ [] })
     (stands_named g (size env) [] env st))

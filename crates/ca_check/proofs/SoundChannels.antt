@@ -17,15 +17,15 @@ use Rattle.ca_term.specs.declared.head.PlainFunction.{PlainFunction}
 use Rattle.ca_check.proofs.Well.{Rules, Suited}
 use Rattle.ca_check.proofs.Places.{small, PairsHave, PartsHave}
 use Rattle.ca_term.specs.View.{kernels_of}
-use Rattle.ca_reader.specs.Form.{place_of}
+use Rattle.ca_reader.specs.Form.{form_place}
 use Rattle.ca_forms.specs.declared.context.Context.{Context}
 use Rattle.ca_forms.specs.declared.context.Context.TheVariants.{Main, Go, Function}
 use Rattle.ca_forms.specs.declared.error.CheckErrorKind.{CheckErrorKind}
 use Rattle.ca_forms.specs.declared.error.CheckErrorKind.TheVariants.{BadForm, ParkOutsideGo, BlockOutsideMain}
-use Rattle.ca_forms.specs.Meaning.{Meaning, inner, fail, in_order, operation, hiding}
+use Rattle.ca_forms.specs.Meaning.{Meaning, inner, fail_with, means_in_order, operation, hiding}
 use Rattle.ca_forms.specs.Binders.{Pair, Part}
 use Rattle.ca_forms.specs.Names.{Given, applied, wrong, given}
-use Rattle.ca_forms.specs.Channels.{parking, blocking, row_of_one, row_of_two, row_take, row_put, options_in, operands_in, alts_of, row_alts, whole, built, made, started, registered, nth_of, tried, unless_default, row_offer, row_poll, buffer_named, word_in, with_buffer, chan_of, row_chan, row_promise, row_mult, yes, row_tap, row_mix, changing, row_change_of_one, row_change_of_two, stopping, pub_of, row_pub, placed, subscribing, row_sub, row_unsub, row_unsub_all, piping, row_pipe, merging, is_sized, row_merge, transform_named, repeated, pipelining, workers, pipeline_over, pipeline_of, row_pipeline, putting_onto, row_onto, row_to}
+use Rattle.ca_forms.specs.Channels.{parking, blocking, row_of_one, row_of_two, row_take, row_put, options_in, operands_in, alts_meaning, row_alts, whole_number, built, make_call, spawn_call, register_call, nth_call, alts_or_nil, unless_default, row_offer, row_poll, buffer_named, word_of_part, buffered_channel, chan_of, row_chan, row_promise, row_mult, yes, row_tap, row_mix, changing, row_change_of_one, row_change_of_two, stopping, pub_of, row_pub, topic_placed, subscribing, row_sub, row_unsub, row_unsub_all, piping, row_pipe, merging, is_sized, row_merge, transform_named, repeated, pipelining, workers, pipeline_over, pipeline_of, row_pipeline, putting_onto, row_onto, row_to}
 use Rattle.ca_check.proofs.Grew.{if_after, any_done}
 use Rattle.ca_check.proofs.Sound.{Ground, Sound, sound_constant, sound_fail, sound_cond, AllSound, sound_operation, WellNumbered, sound_hiding}
 use Rattle.ca_check.proofs.Well.{Well, WellTerms, WellInOrder}
@@ -73,7 +73,7 @@ sound_row_put g w p (a ∷ b ∷ []) u f = λ env s st. u (operation Put (a.mean
     (sound_operation g 0 Put (a.means ∷ b.means ∷ []) p (f.0, (f.2.0, tt)) (λ target. tt)) env s st
 sound_row_put g w p (a ∷ b ∷ c ∷ qs) u f = sound_fail g 0 BadForm p
 
-pub sound_alts_of : (g : Ground) (w : Meaning → Place → Context → Meaning) (o : Option AltsOptions) (ms : List Meaning) (p : Place) → PlaceSound g w → AllSound g 0 ms → Sound g 0 (alts_of w o ms p)
+pub sound_alts_of : (g : Ground) (w : Meaning → Place → Context → Meaning) (o : Option AltsOptions) (ms : List Meaning) (p : Place) → PlaceSound g w → AllSound g 0 ms → Sound g 0 (alts_meaning w o ms p)
 sound_alts_of g w None ms p u f = sound_fail g 0 BadForm p
 sound_alts_of g w (Some o) ms p u f = λ env s st. u (operation (Alts o) ms p) p env.context (sound_operation g 0 (Alts o) ms p f (λ target. tt)) env s st
 
@@ -101,10 +101,10 @@ default_named : (scalars : Scalars) → IsKeyword scalars (codes "default")
 default_named any = tt
 default_named written = refl
 
-pub nth_well : (k : Rules) (n : ℕ) (target : Option ℕ) (h i : ℕ) (p : Place) → h < n → i ≤ 4096 → Well k n target (nth_of h i p)
+pub nth_well : (k : Rules) (n : ℕ) (target : Option ℕ) (h i : ℕ) (p : Place) → h < n → i ≤ 4096 → Well k n target (nth_call h i p)
 nth_well k n target h i p l m = (refl, (l, (small k.scalars i m, tt)))
 
-pub tried_well : (k : Rules) (n : ℕ) (ports : List Kernel) (p : Place) → WellTerms k n (kernels_of ports) → Well k n None (tried ports p)
+pub tried_well : (k : Rules) (n : ℕ) (ports : List Kernel) (p : Place) → WellTerms k n (kernels_of ports) → Well k n None (alts_or_nil ports p)
 tried_well k n ports p w = (tt, ((refl, w), (tt, tt)))
 
 pub unless_default_well : (k : Rules) (n : ℕ) (target : Option ℕ) (h : ℕ) (p : Place) → h < n → Well k n target (unless_default h p)
@@ -114,19 +114,19 @@ pub sound_row_offer : (g : Ground) (p : Place) (qs : List Part) → PartsSound g
 sound_row_offer g p [] f = sound_fail g 0 BadForm p
 sound_row_offer g p (a ∷ []) f = sound_fail g 0 BadForm p
 sound_row_offer g p (c ∷ v ∷ []) f = sound_fixed g 0 2 1 (c.means ∷ v.means ∷ [])
-    (λ h. tried (built Vector (var h ∷ var (h + 1) ∷ []) p ∷ []) p ∷ []) (λ h. unless_default (h + 2) p ∷ []) (f.0, (f.2.0, tt)) refl (λ h. refl)
+    (λ h. alts_or_nil (built Vector (var h ∷ var (h + 1) ∷ []) p ∷ []) p ∷ []) (λ h. unless_default (h + 2) p ∷ []) (f.0, (f.2.0, tt)) refl (λ h. refl)
     (λ h. (tried_well g.rules (h + 2) (built Vector (var h ∷ var (h + 1) ∷ []) p ∷ []) p ((refl, (omega arith, (omega arith, tt))), tt), tt))
     (λ h target. unless_default_well g.rules (h + 2 + 1) target (h + 2) p (omega arith))
 sound_row_offer g p (a ∷ b ∷ c ∷ qs) f = sound_fail g 0 BadForm p
 
 pub sound_row_poll : (g : Ground) (p : Place) (qs : List Part) → PartsSound g qs → Sound g 0 (row_poll p qs)
 sound_row_poll g p [] f = sound_fail g 0 BadForm p
-sound_row_poll g p (c ∷ []) f = sound_fixed g 0 1 1 (c.means ∷ []) (λ h. tried (var h ∷ []) p ∷ []) (λ h. unless_default (h + 1) p ∷ []) (f.0, tt) refl (λ h. refl)
+sound_row_poll g p (c ∷ []) f = sound_fixed g 0 1 1 (c.means ∷ []) (λ h. alts_or_nil (var h ∷ []) p ∷ []) (λ h. unless_default (h + 1) p ∷ []) (f.0, tt) refl (λ h. refl)
     (λ h. (tried_well g.rules (h + 1) (var h ∷ []) p (omega arith, tt), tt))
     (λ h target. unless_default_well g.rules (h + 1 + 1) target (h + 1) p (omega arith))
 sound_row_poll g p (a ∷ b ∷ qs) f = sound_fail g 0 BadForm p
 
-pub sound_with_buffer : (g : Ground) (kind : MakeKind) (qs : List Pair) (p : Place) → PairsSound g qs → Sound g 0 (with_buffer kind qs p)
+pub sound_with_buffer : (g : Ground) (kind : MakeKind) (qs : List Pair) (p : Place) → PairsSound g qs → Sound g 0 (buffered_channel kind qs p)
 sound_with_buffer g kind [] p f = sound_fail g 0 BadForm p
 sound_with_buffer g kind (a ∷ []) p f = sound_fail g 0 BadForm p
 sound_with_buffer g kind (a ∷ n ∷ []) p f = sound_operation g 0 (Make kind) (n.means ∷ []) p (f.1.0, tt) (λ target. tt)
@@ -138,7 +138,7 @@ sound_chan_of g (Some kind) a p f h = sound_with_buffer g kind a.within p h
 
 pub sound_row_chan : (g : Ground) (p : Place) (qs : List Part) → PartsSound g qs → Sound g 0 (row_chan p qs)
 sound_row_chan g p [] f = sound_operation g 0 (Make MakeKind.Unbuffered) [] p tt (λ target. tt)
-sound_row_chan g p (a ∷ []) f = sound_chan_of g (buffer_named (word_in a)) a p f.0 f.1
+sound_row_chan g p (a ∷ []) f = sound_chan_of g (buffer_named (word_of_part a)) a p f.0 f.1
 sound_row_chan g p (a ∷ b ∷ qs) f = sound_fail g 0 BadForm p
 
 pub sound_row_promise : (g : Ground) (p : Place) (qs : List Part) → PartsSound g qs → Sound g 0 (row_promise p qs)
@@ -147,8 +147,8 @@ sound_row_promise g p (a ∷ qs) f = sound_fail g 0 BadForm p
 
 pub sound_row_mult : (g : Ground) (p : Place) (qs : List Part) → PartsSound g qs → Sound g 0 (row_mult p qs)
 sound_row_mult g p [] f = sound_fail g 0 BadForm p
-sound_row_mult g p (c ∷ []) f = sound_fixed g 0 1 2 (c.means ∷ []) (λ h. made MakeKind.Unbuffered [] p ∷ made MakeKind.Mult (var h ∷ []) p ∷ [])
-    (λ h. started SystemTask.Mult (var (h + 2) ∷ var h ∷ var (h + 1) ∷ []) p ∷ var (h + 2) ∷ []) (f.0, tt) refl (λ h. refl)
+sound_row_mult g p (c ∷ []) f = sound_fixed g 0 1 2 (c.means ∷ []) (λ h. make_call MakeKind.Unbuffered [] p ∷ make_call MakeKind.Mult (var h ∷ []) p ∷ [])
+    (λ h. spawn_call SystemTask.Mult (var (h + 2) ∷ var h ∷ var (h + 1) ∷ []) p ∷ var (h + 2) ∷ []) (f.0, tt) refl (λ h. refl)
     (λ h. ((tt, tt), ((tt, (omega arith, tt)), tt)))
     (λ h target. ((tt, (omega arith, (omega arith, (omega arith, tt)))), omega arith))
 sound_row_mult g p (a ∷ b ∷ qs) f = sound_fail g 0 BadForm p
@@ -165,8 +165,8 @@ sound_row_tap g p (a ∷ b ∷ c ∷ d ∷ qs) f = sound_fail g 0 BadForm p
 
 pub sound_row_mix : (g : Ground) (p : Place) (qs : List Part) → PartsSound g qs → Sound g 0 (row_mix p qs)
 sound_row_mix g p [] f = sound_fail g 0 BadForm p
-sound_row_mix g p (o ∷ []) f = sound_fixed g 0 1 2 (o.means ∷ []) (λ h. made MakeKind.Sliding (whole 1 ∷ []) p ∷ made MakeKind.Mix (var h ∷ var (h + 1) ∷ []) p ∷ [])
-    (λ h. started SystemTask.Mix (var (h + 2) ∷ var h ∷ var (h + 1) ∷ []) p ∷ var (h + 2) ∷ []) (f.0, tt) refl (λ h. refl)
+sound_row_mix g p (o ∷ []) f = sound_fixed g 0 1 2 (o.means ∷ []) (λ h. make_call MakeKind.Sliding (whole_number 1 ∷ []) p ∷ make_call MakeKind.Mix (var h ∷ var (h + 1) ∷ []) p ∷ [])
+    (λ h. spawn_call SystemTask.Mix (var (h + 2) ∷ var h ∷ var (h + 1) ∷ []) p ∷ var (h + 2) ∷ []) (f.0, tt) refl (λ h. refl)
     (λ h. ((tt, (small g.rules.scalars 1 (omega arith), tt)), ((tt, (omega arith, (omega arith, tt))), tt)))
     (λ h target. ((tt, (omega arith, (omega arith, (omega arith, tt)))), omega arith))
 sound_row_mix g p (a ∷ b ∷ qs) f = sound_fail g 0 BadForm p
@@ -188,23 +188,23 @@ sound_row_change_of_two g name p (a ∷ b ∷ []) f = sound_changing g name (a.m
 sound_row_change_of_two g name p (a ∷ b ∷ c ∷ qs) f = sound_fail g 0 BadForm p
 
 pub sound_stopping : (g : Ground) (n : ℕ) (ms : List Meaning) (e : CheckErrorKind) (p : Place) → Sound g n (stopping ms e p)
-sound_stopping g n ms e p env s st = if_after (in_order ms (inner env) s) _ (λ ts s2. Unit {0}) _ (any_done (in_order ms (inner env) s)) (λ ts s2 x. tt)
+sound_stopping g n ms e p env s st = if_after (means_in_order ms (inner env) s) _ (λ ts s2. Unit {0}) _ (any_done (means_in_order ms (inner env) s)) (λ ts s2 x. tt)
 
 pub sound_pub_of : (g : Ground) (r : Given) (c : Meaning) (q p : Place) → IsGiven g r → Sound g 0 c → Sound g 0 (pub_of r c q p)
 sound_pub_of g (wrong e) c q p r f = sound_stopping g 0 (c ∷ []) e q
-sound_pub_of g (applied fn ks) c q p r f = sound_fixed g 0 1 1 (c ∷ []) (λ h. made MakeKind.Pub (var h ∷ []) p ∷ [])
-    (λ h. started (SystemTask.Pub fn) (var (h + 1) ∷ var h ∷ ks) p ∷ var (h + 1) ∷ []) (f, tt) refl (λ h. refl)
+sound_pub_of g (applied fn ks) c q p r f = sound_fixed g 0 1 1 (c ∷ []) (λ h. make_call MakeKind.Pub (var h ∷ []) p ∷ [])
+    (λ h. spawn_call (SystemTask.Pub fn) (var (h + 1) ∷ var h ∷ ks) p ∷ var (h + 1) ∷ []) (f, tt) refl (λ h. refl)
     (λ h. ((tt, (omega arith, tt)), tt))
     (λ h target. ((r.0, (omega arith, (omega arith, r.1 (h + 1 + 1)))), omega arith))
 
 pub sound_row_pub : (g : Ground) (p : Place) (qs : List Part) → PartsHave g.rules.scalars qs → PartsSound g qs → Sound g 0 (row_pub p qs)
 sound_row_pub g p [] y f = sound_fail g 0 BadForm p
 sound_row_pub g p (a ∷ []) y f = sound_fail g 0 BadForm p
-sound_row_pub g p (c ∷ fn ∷ []) y f = λ env s st. sound_pub_of g (given fn.form env) c.means (place_of fn.form) p (given_sound g fn.form env y.2.0 st.2) f.0 env s st
+sound_row_pub g p (c ∷ fn ∷ []) y f = λ env s st. sound_pub_of g (given fn.form env) c.means (form_place fn.form) p (given_sound g fn.form env y.2.0 st.2) f.0 env s st
 sound_row_pub g p (a ∷ b ∷ c ∷ qs) y f = sound_fail g 0 BadForm p
 
 -- in a scope of n names, q being the last
-pub placed_well : (k : Rules) (hp ht q : ℕ) (p : Place) → hp < q → ht < q → Well k q None (placed hp ht q p)
+pub placed_well : (k : Rules) (hp ht q : ℕ) (p : Place) → hp < q → ht < q → Well k q None (topic_placed hp ht q p)
 placed_well k hp ht q p l m = (
   (refl, (tt, tt), (refl, (tt, tt), (omega arith, (tt, (omega arith, tt)), (omega arith, (omega arith, (omega (arith, l), (omega (arith, m), (omega arith, (omega arith, tt))))), tt)))),
   (((refl, (nth_well k (q + 4) None (q + 3) 0 p (omega arith) (omega arith), (omega arith, tt))), (tt, (omega arith, (omega arith, (omega arith, tt)))), tt), omega arith),
@@ -212,12 +212,12 @@ placed_well k hp ht q p l m = (
 
 pub sound_subscribing : (g : Ground) (ms : List Meaning) (p : Place) → length ms ≡ 4 → AllSound g 0 ms → Sound g 0 (subscribing ms p)
 sound_subscribing g ms p e f = sound_fixed g 0 4 2 ms
-    (λ n. registered RegisterName.Find (var n ∷ var (n + 1) ∷ []) p
-    ∷ branch (built IsNil (var (n + 4) ∷ []) p) (placed n (n + 1) (n + 5) p) (var (n + 4)) ∷ [])
-    (λ n. registered RegisterName.Tap (nth_of (n + 5) 0 p ∷ var (n + 2) ∷ var (n + 3) ∷ []) p ∷ const nil ∷ []) f e (λ h. refl)
+    (λ n. register_call RegisterName.Find (var n ∷ var (n + 1) ∷ []) p
+    ∷ branch (built IsNil (var (n + 4) ∷ []) p) (topic_placed n (n + 1) (n + 5) p) (var (n + 4)) ∷ [])
+    (λ n. register_call RegisterName.Tap (nth_call (n + 5) 0 p ∷ var (n + 2) ∷ var (n + 3) ∷ []) p ∷ const nil ∷ []) f e (λ h. refl)
     (λ n. (
       (omega arith, (omega arith, (omega arith, tt))),
-      (((refl, (omega arith, tt)), subst (λ m. Well g.rules m None (placed n (n + 1) (n + 5) p)) (omega arith) (placed_well g.rules n (n + 1) (n + 5) p (omega arith) (omega arith)), omega arith), tt),
+      (((refl, (omega arith, tt)), subst (λ m. Well g.rules m None (topic_placed n (n + 1) (n + 5) p)) (omega arith) (placed_well g.rules n (n + 1) (n + 5) p (omega arith) (omega arith)), omega arith), tt),
     ))
     (λ n target. ((omega arith, (nth_well g.rules (n + 4 + 2) None (n + 5) 0 p (omega arith) (omega arith), (omega arith, (omega arith, tt)))), tt))
 
@@ -234,8 +234,8 @@ sound_row_unsub g p [] f = sound_fail g 0 BadForm p
 sound_row_unsub g p (a ∷ []) f = sound_fail g 0 BadForm p
 sound_row_unsub g p (a ∷ b ∷ []) f = sound_fail g 0 BadForm p
 sound_row_unsub g p (b ∷ t ∷ c ∷ []) f = sound_fixed g 0 3 1 (b.means ∷ t.means ∷ c.means ∷ [])
-    (λ n. registered RegisterName.Find (var n ∷ var (n + 1) ∷ []) p ∷ [])
-    (λ n. branch (built IsSome (var (n + 3) ∷ []) p) (registered RegisterName.Untap (nth_of (n + 3) 0 p ∷ var (n + 2) ∷ []) p) (const nil) ∷ const nil ∷ [])
+    (λ n. register_call RegisterName.Find (var n ∷ var (n + 1) ∷ []) p ∷ [])
+    (λ n. branch (built IsSome (var (n + 3) ∷ []) p) (register_call RegisterName.Untap (nth_call (n + 3) 0 p ∷ var (n + 2) ∷ []) p) (const nil) ∷ const nil ∷ [])
     (f.0, (f.2.0, (f.2.2.0, tt))) refl (λ h. refl)
     (λ n. ((omega arith, (omega arith, (omega arith, tt))), tt))
     (λ n target. (((refl, (omega arith, tt)), (omega arith, (nth_well g.rules (n + 3 + 1) None (n + 3) 0 p (omega arith) (omega arith), (omega arith, tt))), tt), tt))
@@ -248,7 +248,7 @@ sound_row_unsub_all g p (a ∷ b ∷ []) f = sound_operation g 0 (Register Regis
 sound_row_unsub_all g p (a ∷ b ∷ c ∷ qs) f = sound_fail g 0 BadForm p
 
 pub sound_piping : (g : Ground) (ms : List Meaning) (p : Place) → length ms ≡ 3 → AllSound g 0 ms → Sound g 0 (piping ms p)
-sound_piping g ms p e f = sound_fixed g 0 3 0 ms (λ h. []) (λ h. started SystemTask.Pipe (var h ∷ var (h + 1) ∷ var (h + 2) ∷ []) p ∷ var (h + 1) ∷ []) f e (λ h. refl)
+sound_piping g ms p e f = sound_fixed g 0 3 0 ms (λ h. []) (λ h. spawn_call SystemTask.Pipe (var h ∷ var (h + 1) ∷ var (h + 2) ∷ []) p ∷ var (h + 1) ∷ []) f e (λ h. refl)
     (λ h. tt) (λ h target. ((tt, (omega arith, (omega arith, (omega arith, tt)))), omega arith))
 
 pub sound_row_pipe : (g : Ground) (p : Place) (qs : List Part) → PartsSound g qs → Sound g 0 (row_pipe p qs)
@@ -259,13 +259,13 @@ sound_row_pipe g p (a ∷ b ∷ z ∷ []) f = sound_piping g (a.means ∷ b.mean
 sound_row_pipe g p (a ∷ b ∷ c ∷ d ∷ qs) f = sound_fail g 0 BadForm p
 
 pub sound_merging : (g : Ground) (v o : Meaning) (p : Place) → Sound g 0 v → Sound g 0 o → Sound g 0 (merging v o p)
-sound_merging g v o p f h = sound_fixed g 0 2 0 (v ∷ o ∷ []) (λ h. []) (λ h. started SystemTask.Merge (var h ∷ var (h + 1) ∷ []) p ∷ var (h + 1) ∷ []) (f, (h, tt)) refl (λ h. refl)
+sound_merging g v o p f h = sound_fixed g 0 2 0 (v ∷ o ∷ []) (λ h. []) (λ h. spawn_call SystemTask.Merge (var h ∷ var (h + 1) ∷ []) p ∷ var (h + 1) ∷ []) (f, (h, tt)) refl (λ h. refl)
     (λ h. tt) (λ h target. ((tt, (omega arith, (omega arith, tt))), omega arith))
 
 pub sound_row_merge : (g : Ground) (p : Place) (qs : List Part) → PartsSound g qs → Sound g 0 (row_merge p qs)
 sound_row_merge g p [] f = sound_fail g 0 BadForm p
 sound_row_merge g p (v ∷ []) f = sound_merging g v.means (row_chan p []) p f.0 (sound_row_chan g p [] tt)
-sound_row_merge g p (v ∷ b ∷ []) f = sound_cond g 0 (is_sized (buffer_named (word_in b)) b.within) (merging v.means (row_chan p (b ∷ [])) p) (fail BadForm p)
+sound_row_merge g p (v ∷ b ∷ []) f = sound_cond g 0 (is_sized (buffer_named (word_of_part b)) b.within) (merging v.means (row_chan p (b ∷ [])) p) (fail_with BadForm p)
     (sound_merging g v.means (row_chan p (b ∷ [])) p f.0 (sound_row_chan g p (b ∷ []) f.2)) (sound_fail g 0 BadForm p)
 sound_row_merge g p (a ∷ b ∷ c ∷ qs) f = sound_fail g 0 BadForm p
 
@@ -276,15 +276,15 @@ repeated_well k n i target job p l w =
 pub sound_pipelining : (g : Ground) (xf : Transform) (fn : PlainFunction) (ks : List Kernel) (ms : List Meaning) (p : Place) → length ms ≡ 4
     → IsGiven g (applied fn ks) → AllSound g 0 ms → Sound g 0 (pipelining xf fn ks ms p)
 sound_pipelining g xf fn ks ms p e r f = sound_fixed g 0 4 3 ms
-    (λ n. made MakeKind.Fixed (var n ∷ []) p ∷ made MakeKind.Fixed (var n ∷ []) p ∷ made MakeKind.Fixed (whole 1 ∷ []) p ∷ [])
-    (λ n. repeated n (n + 7) (started (SystemTask.Job xf fn) (var (n + 4) ∷ ks) p) p
-    ∷ started SystemTask.Feed (var (n + 2) ∷ var (n + 4) ∷ var (n + 5) ∷ []) p
-    ∷ started SystemTask.Collect (var (n + 5) ∷ var (n + 1) ∷ var (n + 3) ∷ var (n + 6) ∷ []) p
+    (λ n. make_call MakeKind.Fixed (var n ∷ []) p ∷ make_call MakeKind.Fixed (var n ∷ []) p ∷ make_call MakeKind.Fixed (whole_number 1 ∷ []) p ∷ [])
+    (λ n. repeated n (n + 7) (spawn_call (SystemTask.Job xf fn) (var (n + 4) ∷ ks) p) p
+    ∷ spawn_call SystemTask.Feed (var (n + 2) ∷ var (n + 4) ∷ var (n + 5) ∷ []) p
+    ∷ spawn_call SystemTask.Collect (var (n + 5) ∷ var (n + 1) ∷ var (n + 3) ∷ var (n + 6) ∷ []) p
     ∷ var (n + 6) ∷ []) f e (λ h. refl)
     (λ n. ((tt, (omega arith, tt)), ((tt, (omega arith, tt)), ((tt, (small g.rules.scalars 1 (omega arith), tt)), tt))))
     (λ n target. (
-      subst (λ m. Well g.rules m None (repeated n (n + 7) (started (SystemTask.Job xf fn) (var (n + 4) ∷ ks) p) p)) (omega arith)
-          (repeated_well g.rules n (n + 7) None (started (SystemTask.Job xf fn) (var (n + 4) ∷ ks) p) p (omega arith) (r.0, (omega arith, r.1 (n + 7 + 1)))),
+      subst (λ m. Well g.rules m None (repeated n (n + 7) (spawn_call (SystemTask.Job xf fn) (var (n + 4) ∷ ks) p) p)) (omega arith)
+          (repeated_well g.rules n (n + 7) None (spawn_call (SystemTask.Job xf fn) (var (n + 4) ∷ ks) p) p (omega arith) (r.0, (omega arith, r.1 (n + 7 + 1)))),
       ((tt, (omega arith, (omega arith, (omega arith, tt)))), ((tt, (omega arith, (omega arith, (omega arith, (omega arith, tt))))), omega arith)),
     ))
 
@@ -302,7 +302,7 @@ sound_pipeline_of g None qs n t f z p y gn gt gf gz = sound_fail g 0 BadForm p
 sound_pipeline_of g (Some xf) [] n t f z p y gn gt gf gz = sound_fail g 0 BadForm p
 sound_pipeline_of g (Some xf) (a ∷ []) n t f z p y gn gt gf gz = sound_fail g 0 BadForm p
 sound_pipeline_of g (Some xf) (a ∷ b ∷ []) n t f z p y gn gt gf gz = λ env s st.
-    sound_pipeline_over g xf (given b.form env) (place_of b.form) n t f z p (given_sound g b.form env y.1.0 st.2) gn gt gf gz env s st
+    sound_pipeline_over g xf (given b.form env) (form_place b.form) n t f z p (given_sound g b.form env y.1.0 st.2) gn gt gf gz env s st
 sound_pipeline_of g (Some xf) (a ∷ b ∷ c ∷ qs) n t f z p y gn gt gf gz = sound_fail g 0 BadForm p
 
 pub sound_row_pipeline : (g : Ground) (p : Place) (qs : List Part) → PartsHave g.rules.scalars qs → PartsSound g qs → Sound g 0 (row_pipeline p qs)
@@ -310,13 +310,13 @@ sound_row_pipeline g p [] y f = sound_fail g 0 BadForm p
 sound_row_pipeline g p (a ∷ []) y f = sound_fail g 0 BadForm p
 sound_row_pipeline g p (a ∷ b ∷ []) y f = sound_fail g 0 BadForm p
 sound_row_pipeline g p (a ∷ b ∷ c ∷ []) y f = sound_fail g 0 BadForm p
-sound_row_pipeline g p (n ∷ t ∷ x ∷ i ∷ []) y f = sound_pipeline_of g (transform_named (word_in x)) x.within n.means t.means i.means yes p y.2.2.1 f.0 f.2.0 f.2.2.2.0 (sound_yes g)
-sound_row_pipeline g p (n ∷ t ∷ x ∷ i ∷ z ∷ []) y f = sound_pipeline_of g (transform_named (word_in x)) x.within n.means t.means i.means z.means p y.2.2.1 f.0 f.2.0 f.2.2.2.0 f.2.2.2.2.0
+sound_row_pipeline g p (n ∷ t ∷ x ∷ i ∷ []) y f = sound_pipeline_of g (transform_named (word_of_part x)) x.within n.means t.means i.means yes p y.2.2.1 f.0 f.2.0 f.2.2.2.0 (sound_yes g)
+sound_row_pipeline g p (n ∷ t ∷ x ∷ i ∷ z ∷ []) y f = sound_pipeline_of g (transform_named (word_of_part x)) x.within n.means t.means i.means z.means p y.2.2.1 f.0 f.2.0 f.2.2.2.0 f.2.2.2.2.0
 sound_row_pipeline g p (a ∷ b ∷ c ∷ d ∷ e ∷ i ∷ qs) y f = sound_fail g 0 BadForm p
 
 pub sound_putting_onto : (g : Ground) (ms : List Meaning) (p : Place) → length ms ≡ 3 → AllSound g 0 ms → Sound g 0 (putting_onto ms p)
-sound_putting_onto g ms p e f = sound_fixed g 0 3 1 ms (λ h. made MakeKind.Fixed (whole 1 ∷ []) p ∷ [])
-    (λ h. started SystemTask.Onto (var h ∷ var (h + 1) ∷ var (h + 2) ∷ var (h + 3) ∷ []) p ∷ var (h + 3) ∷ []) f e (λ h. refl)
+sound_putting_onto g ms p e f = sound_fixed g 0 3 1 ms (λ h. make_call MakeKind.Fixed (whole_number 1 ∷ []) p ∷ [])
+    (λ h. spawn_call SystemTask.Onto (var h ∷ var (h + 1) ∷ var (h + 2) ∷ var (h + 3) ∷ []) p ∷ var (h + 3) ∷ []) f e (λ h. refl)
     (λ h. ((tt, (small g.rules.scalars 1 (omega arith), tt)), tt)) (λ h target. ((tt, (omega arith, (omega arith, (omega arith, (omega arith, tt))))), omega arith))
 
 pub sound_row_onto : (g : Ground) (p : Place) (qs : List Part) → PartsSound g qs → Sound g 0 (row_onto p qs)
@@ -329,8 +329,8 @@ sound_row_onto g p (a ∷ b ∷ c ∷ d ∷ qs) f = sound_fail g 0 BadForm p
 pub sound_row_to : (g : Ground) (p : Place) (qs : List Part) → PartsSound g qs → Sound g 0 (row_to p qs)
 sound_row_to g p [] f = sound_fail g 0 BadForm p
 sound_row_to g p (v ∷ []) f = sound_fixed g 0 1 2 (v.means ∷ [])
-    (λ h. made MakeKind.Sized (built Min (whole 100 ∷ built Count (var h ∷ []) p ∷ []) p ∷ []) p ∷ made MakeKind.Fixed (whole 1 ∷ []) p ∷ [])
-    (λ h. started SystemTask.Onto (var (h + 1) ∷ var h ∷ const (bool true) ∷ var (h + 2) ∷ []) p ∷ var (h + 1) ∷ []) (f.0, tt) refl (λ h. refl)
+    (λ h. make_call MakeKind.Sized (built Min (whole_number 100 ∷ built Count (var h ∷ []) p ∷ []) p ∷ []) p ∷ make_call MakeKind.Fixed (whole_number 1 ∷ []) p ∷ [])
+    (λ h. spawn_call SystemTask.Onto (var (h + 1) ∷ var h ∷ const (bool true) ∷ var (h + 2) ∷ []) p ∷ var (h + 1) ∷ []) (f.0, tt) refl (λ h. refl)
     (λ h. ((tt, ((refl, (small g.rules.scalars 100 (omega arith), ((refl, (omega arith, tt)), tt))), tt)), ((tt, (small g.rules.scalars 1 (omega arith), tt)), tt)))
     (λ h target. ((tt, (omega arith, (omega arith, (tt, (omega arith, tt))))), omega arith))
 sound_row_to g p (a ∷ b ∷ qs) f = sound_fail g 0 BadForm p

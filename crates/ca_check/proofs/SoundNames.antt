@@ -6,27 +6,27 @@ use Rattle.std.proofs.lemmas.List.{length-append, length-map}
 use Rattle.std.proofs.lemmas.Bool.{eqb-true, and_parts}
 use Rattle.ca_value.specs.Tree.{key}
 use Rattle.ca_value.specs.IsValue.{IsKeyword}
-use Rattle.ca_value.specs.Builtins.{admits}
+use Rattle.ca_value.specs.Builtins.{admits_arguments}
 use Rattle.ca_value.specs.declared.builtin.Builtin.{Builtin as BuiltinName}
 use Rattle.ca_value.specs.declared.builtin.Builtin.TheVariants.{Get}
 use Rattle.ca_term.specs.declared.place.Place.{Place}
 use Rattle.ca_term.specs.declared.head.Head.TheVariants.{Builtin, Call}
 use Rattle.ca_term.specs.declared.head.PlainFunction.{PlainFunction}
 use Rattle.ca_term.specs.Kernel.{const}
-use Rattle.ca_term.specs.Fits.{Takes, IsApplied}
+use Rattle.ca_term.specs.Fits.{Takes, IsApplicable}
 use Rattle.ca_term.specs.View.{kernels_of}
 use Rattle.ca_reader.specs.Form.{FormTree, Atom, form, atom, group, symbol, nil as nil_atom, bool as bool_atom, int as int_atom, text as text_atom, key as keyword}
 use Rattle.ca_forms.specs.declared.error.CheckErrorKind.TheVariants.{UnknownName, BadArity, NotPlain, TooMany}
 use Rattle.ca_forms.specs.Words.{special, builtin}
-use Rattle.ca_forms.specs.Meaning.{Env, Signature, Meaning, size, last_of, lookup, constant, local, fail, operation}
-use Rattle.ca_forms.specs.Names.{find_function, symbol_of, row_symbol, written, builtin_call, function_call, call_of_builtin, call_of_function, call_of, row_call, row_keyword, Given, applied, wrong, given_builtin, given_function, given_name, given_atom, given}
+use Rattle.ca_forms.specs.Meaning.{Env, Signature, Meaning, size, last_position, lookup, constant_value, local_name, fail_with, operation}
+use Rattle.ca_forms.specs.Names.{find_function, symbol_of, row_symbol, written_text, builtin_call, function_call, call_of_builtin, call_of_function, call_of, row_call, row_keyword, Given, applied, wrong, given_builtin, given_function, given_name, given_atom, given}
 use Rattle.ca_reader.specs.Written.{AtomHas}
 use Rattle.ca_check.proofs.Well.{Rules, WellTerms, Below}
 use Rattle.ca_check.proofs.Places.{Has}
 use Rattle.ca_check.proofs.Sound.{Ground, IsSigned, AreSigned, Makes, Sound, sound_constant, sound_low, sound_local, sound_fail, sound_cond, AllSound, all_append, sound_operation}
 
 -- a name's number is one of the scope
-pub below_of : (x : List ℕ) (ys : List (List ℕ)) (i : ℕ) (best : Option ℕ) (n : ℕ) → ((m : ℕ) → best ≡ Some m → m < i) → last_of x ys i best ≡ Some n → n < i + length ys
+pub below_of : (x : List ℕ) (ys : List (List ℕ)) (i : ℕ) (best : Option ℕ) (n : ℕ) → ((m : ℕ) → best ≡ Some m → m < i) → last_position x ys i best ≡ Some n → n < i + length ys
 below_of x [] i best n f e = omega (arith, f n e)
 below_of x (y ∷ ys) i best n f e = omega (arith, below_of x ys (suc i) (cond (bytes_eq x y) (Some i) best) n (more (bytes_eq x y)) e) where
   more : (b : Bool) (m : ℕ) → cond b (Some i) best ≡ Some m → m < suc i
@@ -39,15 +39,15 @@ sound_symbol g s p env st r = by (lookup s env.scope) (λ n e. omega (arith, bel
   by None f = tt
   by (Some n) f = sound_local g (size env) n (f n refl) env st (omega arith, r.1, r.2)
 
-pub sound_written : (g : Ground) (n : ℕ) (s : List ℕ) (p : Place) (m : Meaning) → (length s ≤ 65_535 → Sound g n m) → Sound g n (written s p m)
+pub sound_written : (g : Ground) (n : ℕ) (s : List ℕ) (p : Place) (m : Meaning) → (length s ≤ 65_535 → Sound g n m) → Sound g n (written_text s p m)
 sound_written g n s p m f = by (nat_lt 65535 (length s)) refl where
-  by : (b : Bool) → nat_lt 65535 (length s) ≡ b → Sound g n (cond b (fail TooMany p) m)
+  by : (b : Bool) → nat_lt 65535 (length s) ≡ b → Sound g n (cond b (fail_with TooMany p) m)
   by true e = sound_fail g n TooMany p
   by false e = f (grind (arith, nat_tests))
 
 pub sound_builtin_call : (g : Ground) (n : ℕ) (b : BuiltinName) (ms : List Meaning) (p : Place) → AllSound g n ms → Sound g n (builtin_call b ms p)
-sound_builtin_call g n b ms p f = by (admits b (length ms)) (λ e. e) where
-  by : (t : Bool) → (t ≡ true → IsTrue (admits b (length ms))) → Sound g n (cond t (operation (Builtin b) ms p) (fail BadArity p))
+sound_builtin_call g n b ms p f = by (admits_arguments b (length ms)) (λ e. e) where
+  by : (t : Bool) → (t ≡ true → IsTrue (admits_arguments b (length ms))) → Sound g n (cond t (operation (Builtin b) ms p) (fail_with BadArity p))
   by true h = sound_operation g n (Builtin b) ms p f (λ target. h refl)
   by false h = sound_fail g n BadArity p
 
@@ -62,17 +62,17 @@ find_signed k base i s (f ∷ fs) a r e = by (bytes_eq s f.name) (λ h. find_sig
     IfSigned (Some q) = IsSigned k base q.0 q.1
   by false h e = h e
 
-pub lows_sound : (g : Ground) (n : ℕ) (ms : List ℕ) → Below g.base ms → AllSound g n (map local ms)
+pub lows_sound : (g : Ground) (n : ℕ) (ms : List ℕ) → Below g.base ms → AllSound g n (map local_name ms)
 lows_sound g n [] b = tt
 lows_sound g n (m ∷ ms) b = (sound_low g n m b.0, lows_sound g n ms b.1)
 
 pub sound_function_call : (g : Ground) (n i : ℕ) (f : Signature) (ms : List Meaning) (p : Place) → IsSigned g.rules g.base i f → AllSound g n ms → Sound g n (function_call i f ms p)
 sound_function_call g n i f ms p a h = by (nat_eq (length ms) f.arity) (eqb-true (length ms) f.arity) where
-  count : length ms ≡ f.arity → length (ms ++ map local f.hidden) ≡ f.arity + length f.hidden
-  count e = length-append ms (map local f.hidden) ∙ omega (arith, e, length-map f.hidden local)
+  count : length ms ≡ f.arity → length (ms ++ map local_name f.hidden) ≡ f.arity + length f.hidden
+  count e = length-append ms (map local_name f.hidden) ∙ omega (arith, e, length-map f.hidden local_name)
 
-  by : (b : Bool) → (b ≡ true → length ms ≡ f.arity) → Sound g n (cond b (operation (Call i) (ms ++ map local f.hidden) p) (fail BadArity p))
-  by true e = sound_operation g n (Call i) (ms ++ map local f.hidden) p (all_append g n ms (map local f.hidden) h (lows_sound g n f.hidden a.below))
+  by : (b : Bool) → (b ≡ true → length ms ≡ f.arity) → Sound g n (cond b (operation (Call i) (ms ++ map local_name f.hidden) p) (fail_with BadArity p))
+  by true e = sound_operation g n (Call i) (ms ++ map local_name f.hidden) p (all_append g n ms (map local_name f.hidden) h (lows_sound g n f.hidden a.below))
       (λ target. subst (λ c. Takes g.rules.known.functions i c) (sym (count (e refl))) a.takes)
   by false e = sound_fail g n BadArity p
 
@@ -92,20 +92,20 @@ sound_row_call g s q ms p f env st r = by (lookup s env.scope) where
 
 pub sound_keyword : (g : Ground) (k : List ℕ) (q : Place) (ms : List Meaning) (p : Place) → IsKeyword g.rules.scalars k → AllSound g 0 ms → Sound g 0 (row_keyword k q ms p)
 sound_keyword g k q [] p h f = sound_fail g 0 BadArity p
-sound_keyword g k q (m ∷ []) p h f = sound_written g 0 k q (operation (Builtin Get) (m ∷ constant (key k) ∷ []) p)
-    (λ l. sound_operation g 0 (Builtin Get) (m ∷ constant (key k) ∷ []) p (f.0, (sound_constant g 0 (key k) (l, h), tt)) (λ target. refl))
-sound_keyword g k q (m ∷ d ∷ []) p h f = sound_written g 0 k q (operation (Builtin Get) (m ∷ constant (key k) ∷ d ∷ []) p)
-    (λ l. sound_operation g 0 (Builtin Get) (m ∷ constant (key k) ∷ d ∷ []) p (f.0, (sound_constant g 0 (key k) (l, h), (f.1.0, tt))) (λ target. refl))
+sound_keyword g k q (m ∷ []) p h f = sound_written g 0 k q (operation (Builtin Get) (m ∷ constant_value (key k) ∷ []) p)
+    (λ l. sound_operation g 0 (Builtin Get) (m ∷ constant_value (key k) ∷ []) p (f.0, (sound_constant g 0 (key k) (l, h), tt)) (λ target. refl))
+sound_keyword g k q (m ∷ d ∷ []) p h f = sound_written g 0 k q (operation (Builtin Get) (m ∷ constant_value (key k) ∷ d ∷ []) p)
+    (λ l. sound_operation g 0 (Builtin Get) (m ∷ constant_value (key k) ∷ d ∷ []) p (f.0, (sound_constant g 0 (key k) (l, h), (f.1.0, tt))) (λ target. refl))
 sound_keyword g k q (m ∷ d ∷ e ∷ ms) p h f = sound_fail g 0 BadArity p
 
 -- a function that a system task can apply, and constants
 abbrev pub IsGiven : Ground → Given → Type 0
-IsGiven g (applied f ks) = IsApplied g.rules.known f × ((n : ℕ) → WellTerms g.rules n (kernels_of ks))
+IsGiven g (applied f ks) = IsApplicable g.rules.known f × ((n : ℕ) → WellTerms g.rules n (kernels_of ks))
 IsGiven g (wrong e) = Unit {0}
 
 pub given_by_builtin : (g : Ground) (o : Option BuiltinName) (b : Bool) → IsGiven g (given_builtin o b)
-given_by_builtin g (Some b) known = by (admits b 1) (λ e. e) where
-  by : (t : Bool) → (t ≡ true → IsTrue (admits b 1)) → IsGiven g (cond t (applied (PlainFunction.Builtin b) []) (wrong NotPlain))
+given_by_builtin g (Some b) known = by (admits_arguments b 1) (λ e. e) where
+  by : (t : Bool) → (t ≡ true → IsTrue (admits_arguments b 1)) → IsGiven g (cond t (applied (PlainFunction.Builtin b) []) (wrong NotPlain))
   by true h = (h refl, λ n. tt)
   by false h = tt
 given_by_builtin g None known = tt

@@ -10,9 +10,9 @@ use Rattle.ca_term.specs.declared.place.Place.{Place}
 use Rattle.ca_term.specs.declared.head.Head.TheVariants.{Recur, Builtin}
 use Rattle.ca_forms.specs.declared.error.CheckErrorKind.TheVariants.{BadForm, BadArity, TooMany}
 use Rattle.ca_forms.specs.Outcome.{Gathered}
-use Rattle.ca_forms.specs.Meaning.{Env, Meaning, Named, size, constant, nothing, local, fail, iff, operation, block, unnamed, lets, loops, name_as}
+use Rattle.ca_forms.specs.Meaning.{Env, Meaning, Named, size, constant_value, nothing, local_name, fail_with, iff, operation, block, unnamed, lets, loops, name_as}
 use Rattle.ca_forms.specs.Binders.{Part, Pair, Binder, Bound, one, many, with_bound, bounds, binder, is_vector, bindings_in, spread_items, spread_one, spread, width, letting, is_pattern, patterns}
-use Rattle.ca_forms.specs.Plain.{meanings, number, let_of, row_let, row_if, row_if_not, row_when, row_when_not, is_even, cond_of, row_cond, and_of, or_of, by_truth, by_some, only, one_bound, if_bound, row_if_bound, row_when_bound, again, binders, loop_over_patterns, looping, loop_of, row_loop, recur_of, row_recur, recur_with_next, row_while, counting, dotimes, row_dotimes, nth_bound, doseq, row_doseq}
+use Rattle.ca_forms.specs.Plain.{meanings, constant_number, let_of, row_let, row_if, row_if_not, row_when, row_when_not, has_even_length, cond_of, row_cond, and_of, or_of, by_truth, by_some, lone_name, one_bound, if_bound, row_if_bound, row_when_bound, again, binders, loop_over_patterns, looping, loop_of, row_loop, recur_of, row_recur, recur_with_next, row_while, counting, dotimes, row_dotimes, nth_bound, doseq, row_doseq}
 use Rattle.ca_check.proofs.Places.{small, HasPlaces, HavePlaces, where_done, lets_places, loops_places}
 use Rattle.ca_check.proofs.Sound.{Ground, Stands, Makes, Sound, Aimed, aimed, weaken, sound_constant, sound_local, sound_fail, sound_cond, sound_iff, sound_unless, AllSound, all_weaken, makes_operation, sound_operation, aimed_recur, sound_block, sound_body, aimed_block, aimed_when, NamedSound, named_weaken, named_append, sound_lets, sound_loops, sound_name_as, at_size, sound_hide}
 
@@ -62,7 +62,7 @@ bindings_sound g q f bs e = by (is_vector q.form) (bounds_sound g q.within f) e 
 pub items_sound : (g : Ground) (p : Place) (h : ℕ) (xs : List (List ℕ)) (i n : ℕ) → h < n → ((j : ℕ) → j < i + length xs → IsInteger g.rules.scalars (pos j)) → NamedSound g n (spread_items p h xs i)
 items_sound g p h [] i n l f = tt
 items_sound g p h (x ∷ xs) i n l f = (
-  sound_operation g n (Builtin PartOf) (local h ∷ constant (int (pos i)) ∷ []) p (sound_local g n h l, (sound_constant g n (int (pos i)) (f i (omega arith)), tt)) (λ target. refl),
+  sound_operation g n (Builtin PartOf) (local_name h ∷ constant_value (int (pos i)) ∷ []) p (sound_local g n h l, (sound_constant g n (int (pos i)) (f i (omega arith)), tt)) (λ target. refl),
   items_sound g p h xs (suc i) (suc n) (omega (arith, l)) (λ j k. f j (omega (arith, k))),
 )
 
@@ -77,7 +77,7 @@ spread_one_length p n (many xs q) m = ap suc (items_length p n xs 0)
 pub spread_one_sound : (g : Ground) (p : Place) (n : ℕ) (b : Binder) (m : Meaning) → HasPlaces g.rules.scalars b → Sound g n m → NamedSound g n (spread_one p n b m)
 spread_one_sound g p n (one x) m h f = (f, tt)
 spread_one_sound g p n (many xs q) m h f =
-    (sound_cond g n (nat_lt 4096 (length xs)) (fail TooMany q) m (sound_fail g n TooMany q) f, items_sound g p n xs 0 (suc n) (omega arith) (λ j k. h j (omega (arith, k))))
+    (sound_cond g n (nat_lt 4096 (length xs)) (fail_with TooMany q) m (sound_fail g n TooMany q) f, items_sound g p n xs 0 (suc n) (omega arith) (λ j k. h j (omega (arith, k))))
 
 abbrev pub widths : List Bound → ℕ
 widths [] = 0
@@ -100,7 +100,7 @@ sound_letting g n bs body p f h = at_size g n (letting bs body p) (λ env s l st
 
 pub sound_let_of : (g : Ground) (o : Option (List Bound)) (body : Meaning) (p : Place) → ((bs : List Bound) → o ≡ Some bs → BoundsSound g bs) → Sound g 0 body → Sound g 0 (let_of o body p)
 sound_let_of g None body p f h = sound_fail g 0 BadForm p
-sound_let_of g (Some bs) body p f h = sound_cond g 0 (nat_lt 64 (length bs)) (fail TooMany p) (letting bs body p) (sound_fail g 0 TooMany p) (sound_letting g 0 bs body p (f bs refl) h)
+sound_let_of g (Some bs) body p f h = sound_cond g 0 (nat_lt 64 (length bs)) (fail_with TooMany p) (letting bs body p) (sound_fail g 0 TooMany p) (sound_letting g 0 bs body p (f bs refl) h)
 
 pub sound_row_let : (g : Ground) (p : Place) (qs : List Part) → PartsSound g qs → Sound g 0 (row_let p qs)
 sound_row_let g p [] f = sound_fail g 0 BadForm p
@@ -134,19 +134,19 @@ sound_cond_of g n (a ∷ []) f = sound_constant g n nil tt
 sound_cond_of g n (a ∷ b ∷ ms) f = sound_iff g n a b (cond_of ms) f.0 f.1.0 (sound_cond_of g n ms f.1.1)
 
 pub sound_row_cond : (g : Ground) (p : Place) (qs : List Part) → PartsSound g qs → Sound g 0 (row_cond p qs)
-sound_row_cond g p qs f = sound_cond g 0 (is_even qs) (cond_of (meanings qs)) (fail BadForm p) (sound_cond_of g 0 (meanings qs) (means_sound g qs f)) (sound_fail g 0 BadForm p)
+sound_row_cond g p qs f = sound_cond g 0 (has_even_length qs) (cond_of (meanings qs)) (fail_with BadForm p) (sound_cond_of g 0 (meanings qs) (means_sound g qs f)) (sound_fail g 0 BadForm p)
 
 pub sound_and : (g : Ground) (n : ℕ) (ms : List Meaning) → AllSound g n ms → Sound g n (and_of ms)
 sound_and g n [] f = sound_constant g n (bool true) tt
 sound_and g n (a ∷ []) f = f.0
-sound_and g n (a ∷ b ∷ ms) f = sound_hide g n a (λ h. iff (local h) (and_of (b ∷ ms)) (local h)) f.0
-    (λ h l. sound_iff g (suc h) (local h) (and_of (b ∷ ms)) (local h) (sound_local g (suc h) h (omega arith)) (weaken g n (suc h) (and_of (b ∷ ms)) (omega (arith, l)) (sound_and g n (b ∷ ms) f.1)) (sound_local g (suc h) h (omega arith)))
+sound_and g n (a ∷ b ∷ ms) f = sound_hide g n a (λ h. iff (local_name h) (and_of (b ∷ ms)) (local_name h)) f.0
+    (λ h l. sound_iff g (suc h) (local_name h) (and_of (b ∷ ms)) (local_name h) (sound_local g (suc h) h (omega arith)) (weaken g n (suc h) (and_of (b ∷ ms)) (omega (arith, l)) (sound_and g n (b ∷ ms) f.1)) (sound_local g (suc h) h (omega arith)))
 
 pub sound_or : (g : Ground) (n : ℕ) (ms : List Meaning) → AllSound g n ms → Sound g n (or_of ms)
 sound_or g n [] f = sound_constant g n nil tt
 sound_or g n (a ∷ []) f = f.0
-sound_or g n (a ∷ b ∷ ms) f = sound_hide g n a (λ h. iff (local h) (local h) (or_of (b ∷ ms))) f.0
-    (λ h l. sound_iff g (suc h) (local h) (local h) (or_of (b ∷ ms)) (sound_local g (suc h) h (omega arith)) (sound_local g (suc h) h (omega arith)) (weaken g n (suc h) (or_of (b ∷ ms)) (omega (arith, l)) (sound_or g n (b ∷ ms) f.1)))
+sound_or g n (a ∷ b ∷ ms) f = sound_hide g n a (λ h. iff (local_name h) (local_name h) (or_of (b ∷ ms))) f.0
+    (λ h l. sound_iff g (suc h) (local_name h) (local_name h) (or_of (b ∷ ms)) (sound_local g (suc h) h (omega arith)) (sound_local g (suc h) h (omega arith)) (weaken g n (suc h) (or_of (b ∷ ms)) (omega (arith, l)) (sound_or g n (b ∷ ms) f.1)))
 
 -- a test of a name
 abbrev pub TestSound : Ground → (Place → ℕ → Meaning) → Type 0
@@ -156,13 +156,13 @@ pub sound_truth : (g : Ground) → TestSound g by_truth
 sound_truth g p h = sound_local g (suc h) h (omega arith)
 
 pub sound_some : (g : Ground) → TestSound g by_some
-sound_some g p h = sound_operation g (suc h) (Builtin IsSome) (local h ∷ []) p (sound_local g (suc h) h (omega arith), tt) (λ target. refl)
+sound_some g p h = sound_operation g (suc h) (Builtin IsSome) (local_name h ∷ []) p (sound_local g (suc h) h (omega arith), tt) (λ target. refl)
 
 abbrev pub IfNamed : Ground → Option Named → Type 0
 IfNamed g None = Unit {0}
 IfNamed g (Some x) = Sound g 0 x.means
 
-pub sound_only : (g : Ground) (b : Binder) (m : Meaning) → Sound g 0 m → IfNamed g (only b m)
+pub sound_only : (g : Ground) (b : Binder) (m : Meaning) → Sound g 0 m → IfNamed g (lone_name b m)
 sound_only g (one x) m f = f
 sound_only g (many xs q) m f = tt
 
@@ -174,9 +174,9 @@ sound_one_bound g (Some (b ∷ c ∷ bs)) f = tt
 
 pub sound_if_bound : (g : Ground) (test : Place → ℕ → Meaning) (x : Option Named) (a b : Meaning) (p : Place) → TestSound g test → IfNamed g x → Sound g 0 a → Sound g 0 b → Sound g 0 (if_bound test x a b p)
 sound_if_bound g test None a b p t f ga gb = sound_fail g 0 BadForm p
-sound_if_bound g test (Some x) a b p t f ga gb = sound_hide g 0 x.means (λ h. iff (test p h) (name_as x.name (local h) a) b) f
-    (λ h l. sound_iff g (suc h) (test p h) (name_as x.name (local h) a) b (t p h)
-    (sound_name_as g (suc h) x.name (local h) a (sound_local g (suc h) h (omega arith)) (weaken g 0 (suc (suc h)) a (omega arith) ga)) (weaken g 0 (suc h) b (omega arith) gb))
+sound_if_bound g test (Some x) a b p t f ga gb = sound_hide g 0 x.means (λ h. iff (test p h) (name_as x.name (local_name h) a) b) f
+    (λ h l. sound_iff g (suc h) (test p h) (name_as x.name (local_name h) a) b (t p h)
+    (sound_name_as g (suc h) x.name (local_name h) a (sound_local g (suc h) h (omega arith)) (weaken g 0 (suc (suc h)) a (omega arith) ga)) (weaken g 0 (suc h) b (omega arith) gb))
 
 pub sound_row_if_bound : (g : Ground) (test : Place → ℕ → Meaning) (p : Place) (qs : List Part) → TestSound g test → PartsSound g qs → Sound g 0 (row_if_bound test p qs)
 sound_row_if_bound g test p [] t f = sound_fail g 0 BadForm p
@@ -240,7 +240,7 @@ sound_looping g bs body p f h = at_size g 0 (looping bs body p) (λ env s l st. 
 
 pub sound_loop_of : (g : Ground) (o : Option (List Bound)) (body : Meaning) (p : Place) → ((bs : List Bound) → o ≡ Some bs → BoundsSound g bs) → Sound g 0 body → Sound g 0 (loop_of o body p)
 sound_loop_of g None body p f h = sound_fail g 0 BadForm p
-sound_loop_of g (Some bs) body p f h = sound_cond g 0 (nat_lt 64 (length bs)) (fail TooMany p) (looping bs body p) (sound_fail g 0 TooMany p) (sound_looping g bs body p (f bs refl) h)
+sound_loop_of g (Some bs) body p f h = sound_cond g 0 (nat_lt 64 (length bs)) (fail_with TooMany p) (looping bs body p) (sound_fail g 0 TooMany p) (sound_looping g bs body p (f bs refl) h)
 
 pub sound_row_loop : (g : Ground) (p : Place) (qs : List Part) → PartsSound g qs → Sound g 0 (row_loop p qs)
 sound_row_loop g p [] f = sound_fail g 0 BadForm p
@@ -248,7 +248,7 @@ sound_row_loop g p (b ∷ qs) f = sound_loop_of g (bindings_in b) (block (meanin
 
 pub sound_row_recur : (g : Ground) (p : Place) (qs : List Part) → PartsSound g qs → Sound g 0 (row_recur p qs)
 sound_row_recur g p qs f env s st = by env.target refl where
-  tested : (j : ℕ) → env.target ≡ Some j → (b : Bool) → (b ≡ true → length (meanings qs) ≡ j) → Makes g env s (cond b (operation Recur (meanings qs) p) (fail BadArity p) env s)
+  tested : (j : ℕ) → env.target ≡ Some j → (b : Bool) → (b ≡ true → length (meanings qs) ≡ j) → Makes g env s (cond b (operation Recur (meanings qs) p) (fail_with BadArity p) env s)
   tested j e false h = tt
   tested j e true h = makes_operation g 0 Recur (meanings qs) p env s st (means_sound g qs f) (e ∙ ap (λ n. Some n) (sym (h refl)))
 
@@ -257,8 +257,8 @@ sound_row_recur g p qs f env s st = by env.target refl where
   by (Some j) e = tested j e (nat_eq (length (meanings qs)) j) (eqb-true (length (meanings qs)) j)
 
 pub aimed_next : (g : Ground) (n i : ℕ) (p : Place) → i < n → Aimed g n 1 (recur_with_next i p)
-aimed_next g n i p l = aimed_recur g n (operation (Builtin Inc) (local i ∷ []) p ∷ []) p
-    (sound_operation g n (Builtin Inc) (local i ∷ []) p (sound_local g n i l, tt) (λ target. refl), tt)
+aimed_next g n i p l = aimed_recur g n (operation (Builtin Inc) (local_name i ∷ []) p ∷ []) p
+    (sound_operation g n (Builtin Inc) (local_name i ∷ []) p (sound_local g n i l, tt) (λ target. refl), tt)
 
 pub sound_row_while : (g : Ground) (p : Place) (qs : List Part) → PartsSound g qs → Sound g 0 (row_while p qs)
 sound_row_while g p [] f = sound_fail g 0 BadForm p
@@ -269,11 +269,11 @@ sound_row_while g p (c ∷ qs) f = sound_loops g 0 [] (block (iff c.means (block
 -- ms stand in a scope of at least m names, to which the name that counts may be added
 pub sound_counting : (g : Ground) (m : ℕ) (i : List ℕ) (n : ℕ) (ms : List Meaning) (p : Place) → n < m → ((h : ℕ) → m ≤ h → AllSound g (suc h) ms) → Sound g m (counting i n ms p)
 sound_counting g m i n ms p l f = at_size g m (counting i n ms p) (λ env s l2 st.
-    sound_loops g (size env) (record { name = i; means = number 0 } ∷ [])
-    (block (iff (operation (Builtin Less) (local (size env) ∷ local n ∷ []) p) (block (ms ++ recur_with_next (size env) p ∷ [])) nothing ∷ []))
+    sound_loops g (size env) (record { name = i; means = constant_number 0 } ∷ [])
+    (block (iff (operation (Builtin Less) (local_name (size env) ∷ local_name n ∷ []) p) (block (ms ++ recur_with_next (size env) p ∷ [])) nothing ∷ []))
     (sound_constant g (size env) (int (pos 0)) (small g.rules.scalars 0 (omega arith)), tt)
-    (aimed_when g (size env + 1) 1 (operation (Builtin Less) (local (size env) ∷ local n ∷ []) p) (block (ms ++ recur_with_next (size env) p ∷ []))
-    (sound_operation g (size env + 1) (Builtin Less) (local (size env) ∷ local n ∷ []) p
+    (aimed_when g (size env + 1) 1 (operation (Builtin Less) (local_name (size env) ∷ local_name n ∷ []) p) (block (ms ++ recur_with_next (size env) p ∷ []))
+    (sound_operation g (size env + 1) (Builtin Less) (local_name (size env) ∷ local_name n ∷ []) p
     (sound_local g (size env + 1) (size env) (omega arith), (sound_local g (size env + 1) n (omega (arith, l, l2)), tt)) (λ target. refl))
     (aimed_block g (size env + 1) 1 ms (recur_with_next (size env) p) (all_weaken g (suc (size env)) (size env + 1) ms (omega arith) (f (size env) l2))
     (aimed_next g (size env + 1) (size env) p (omega arith)))) env s st)
@@ -295,14 +295,14 @@ sound_letting_one g n b body p f h = at_size g n (letting (b ∷ []) body p) (λ
     (weaken g 0 (size env + length (spread p (size env) (b ∷ []))) body (omega arith) h) env s st))
 
 pub sound_nth_bound : (g : Ground) (n : ℕ) (b : Binder) (h j : ℕ) (p : Place) → h < n → j < n → Sound g n (nth_bound b h j p).means
-sound_nth_bound g n b h j p l k = sound_operation g n (Builtin Nth) (local h ∷ local j ∷ []) p (sound_local g n h l, (sound_local g n j k, tt)) (λ target. refl)
+sound_nth_bound g n b h j p l k = sound_operation g n (Builtin Nth) (local_name h ∷ local_name j ∷ []) p (sound_local g n h l, (sound_local g n j k, tt)) (λ target. refl)
 
 pub sound_doseq_one : (g : Ground) (b : Bound) (body : Meaning) (p : Place) → Sound g 0 b.means → Sound g 0 body → Sound g 0 (doseq (Some (b ∷ [])) body p)
 sound_doseq_one g b body p f h = at_size g 0 (doseq (Some (b ∷ [])) body p) (λ env s l st.
-    sound_lets g (size env) (unnamed (operation (Builtin Items) (b.means ∷ []) p) ∷ unnamed (operation (Builtin Count) (local (size env) ∷ []) p) ∷ [])
+    sound_lets g (size env) (unnamed (operation (Builtin Items) (b.means ∷ []) p) ∷ unnamed (operation (Builtin Count) (local_name (size env) ∷ []) p) ∷ [])
     (block (counting [] (size env + 1) (letting (nth_bound b.by (size env) (size env + 2) p ∷ []) body p ∷ []) p ∷ [])) (
       sound_operation g (size env) (Builtin Items) (b.means ∷ []) p (weaken g 0 (size env) b.means (omega arith) f, tt) (λ target. refl),
-      (sound_operation g (suc (size env)) (Builtin Count) (local (size env) ∷ []) p (sound_local g (suc (size env)) (size env) (omega arith), tt) (λ target. refl), tt),
+      (sound_operation g (suc (size env)) (Builtin Count) (local_name (size env) ∷ []) p (sound_local g (suc (size env)) (size env) (omega arith), tt) (λ target. refl), tt),
     )
     (sound_body g (size env + 2) (counting [] (size env + 1) (letting (nth_bound b.by (size env) (size env + 2) p ∷ []) body p ∷ []) p)
     (sound_counting g (size env + 2) [] (size env + 1) (letting (nth_bound b.by (size env) (size env + 2) p ∷ []) body p ∷ []) p (omega arith)

@@ -12,12 +12,12 @@ use Rattle.ca_reader.specs.Form.{FormTree, form, atom, group}
 use Rattle.ca_forms.specs.declared.special.Special.{Special}
 use Rattle.ca_forms.specs.declared.error.CheckErrorKind.TheVariants.{TooMany}
 use Rattle.ca_forms.specs.Uses.{uses}
-use Rattle.ca_forms.specs.Outcome.{Gathered, Outcome, done, refused, after}
+use Rattle.ca_forms.specs.Outcome.{Gathered, WalkOutcome, done, refused, after_walk}
 use Rattle.ca_forms.specs.Meaning.{Env, Signature, Meaning}
 use Rattle.ca_forms.specs.Binders.{Part, Binder, is_pattern, whole_name}
 use Rattle.ca_forms.specs.Plain.{meanings}
 use Rattle.ca_forms.specs.Walk.{walk}
-use Rattle.ca_forms.specs.Tops.{Tops, Written, Top, definition, function, expression, wrong, top_name, definition_of, def_top, parameters_in, function_of, note_in, defn_behind, defn_top, word_at_head, behind_head, list_top, list_parts, top, numbers, same_names, names_of, over_parameters, straight, looped, body_of, signature, function_env, Settled, settled}
+use Rattle.ca_forms.specs.Tops.{Tops, Written, Top, definition, function, expression, wrong, top_name, definition_of, def_top, parameters_in, function_top, note_in, defn_behind, defn_top, word_at_head, behind_head, list_top, list_parts, top, numbers, same_names, names_of, over_parameters, straight, looped, body_of, signature, function_env, Settled, body_settled}
 use Rattle.ca_check.proofs.Well.{Rules, scalars_in, Well, fits, source, anew, closed, Below, below_more, below_append, Only, uses_only, uses_below, uses_extends, extended_same, in_left, in_right}
 use Rattle.ca_check.proofs.Grew.{IsRight, Grew, IfDone, if_cond}
 use Rattle.ca_check.proofs.Places.{HavePlaces, Has}
@@ -42,7 +42,7 @@ sound_def_top g (x ∷ []) f = tt
 sound_def_top g (x ∷ e ∷ []) f = sound_definition_of g (top_name x.form) e.means f.2.0
 sound_def_top g (x ∷ e ∷ y ∷ qs) f = tt
 
-pub sound_function_of : (g : Ground) (x : Option (List ℕ)) (bs : Option (List Binder)) (n : Option (List ℕ × Place)) (qs : List Part) → PartsSound g qs → TopSound g (function_of x bs n qs)
+pub sound_function_of : (g : Ground) (x : Option (List ℕ)) (bs : Option (List Binder)) (n : Option (List ℕ × Place)) (qs : List Part) → PartsSound g qs → TopSound g (function_top x bs n qs)
 sound_function_of g None bs n qs f = tt
 sound_function_of g (Some x) None n qs f = tt
 sound_function_of g (Some x) (Some bs) n qs f = sound_block g 0 (meanings qs) (means_sound g qs f)
@@ -142,7 +142,7 @@ body_makes k f p t sig s looping places h a = by looping where
   here : Stands g (length t.scope + length (names_of f.parameters)) within
   here = (omega (arith, length-append t.scope (names_of f.parameters)), omega (arith, length-append t.scope (names_of f.parameters)), a)
 
-  moved : (o : Outcome Kernel) → Makes g within s o → IfDone o (λ body s2. Grew k s s2 (Well k (length t.scope + length (names_of f.parameters)) None body))
+  moved : (o : WalkOutcome Kernel) → Makes g within s o → IfDone o (λ body s2. Grew k s s2 (Well k (length t.scope + length (names_of f.parameters)) None body))
   moved o m = subst (λ i. IfDone o (λ body s2. Grew k s s2 (Well k i None body))) (length-append t.scope (names_of f.parameters)) m
 
   by : (b : Bool) → IfDone (body_of b f p (function_env sig t) s) (λ body s2. Grew k s s2 (Well k (length t.scope + length (names_of f.parameters)) None body))
@@ -164,20 +164,20 @@ pub record Settles (k : Rules) (f : Written) (t : Tops) (s : Gathered) (r : Sett
       → Grew k s s2 (Well k (length t.scope + length (names_of f.parameters)) None r.body)
 
 pub settled_settles : (k : Rules) (f : Written) (p : Place) (t : Tops) (s : Gathered) (looping : Bool) → HavePlaces k.scalars f.parameters → Sound (record { rules = k; base = length t.scope }) 0 f.body
-    → (n : ℕ) (hidden : List ℕ) → Below (length t.scope) hidden → IfDone (settled n looping hidden f p t s) (Settles k f t s)
+    → (n : ℕ) (hidden : List ℕ) → Below (length t.scope) hidden → IfDone (body_settled n looping hidden f p t s) (Settles k f t s)
 settled_settles k f p t s looping places h zero hidden b = tt
 settled_settles k f p t s looping places h (suc n) hidden b = by (body_of looping f p (function_env (signature f hidden false) t) s)
     (λ a. body_makes k f p t (signature f hidden false) s looping places h a) (λ body. settled_settles k f p t s looping places h n (uses (length t.scope) body hidden) (uses_below (length t.scope) body hidden b)) where
-      by : (o : Outcome Kernel)
+      by : (o : WalkOutcome Kernel)
           → (AreSigned k (length t.scope) 0 (t.functions ++ signature f hidden false ∷ []) → IfDone o (λ body s2. Grew k s s2 (Well k (length t.scope + length (names_of f.parameters)) None body)))
-          → ((body : Kernel) → IfDone (settled n looping (uses (length t.scope) body hidden) f p t s) (Settles k f t s))
-          → IfDone (after o (λ body s2. cond (nat_lt 64 (length (uses (length t.scope) body hidden))) (refused TooMany p)
+          → ((body : Kernel) → IfDone (body_settled n looping (uses (length t.scope) body hidden) f p t s) (Settles k f t s))
+          → IfDone (after_walk o (λ body s2. cond (nat_lt 64 (length (uses (length t.scope) body hidden))) (refused TooMany p)
           (cond (nat_eq (length (uses (length t.scope) body hidden)) (length hidden)) (done (record { body = body; hidden = hidden }) s2)
-          (settled n looping (uses (length t.scope) body hidden) f p t s)))) (Settles k f t s)
+          (body_settled n looping (uses (length t.scope) body hidden) f p t s)))) (Settles k f t s)
       by (refused e q) m rest = tt
       by (done body s2) m rest = if_cond (nat_lt 64 (length (uses (length t.scope) body hidden))) (refused TooMany p) _ (Settles k f t s) tt
           (same (nat_eq (length (uses (length t.scope) body hidden)) (length hidden)) (eqb-true (length (uses (length t.scope) body hidden)) (length hidden))) where
             same : (c : Bool) → (c ≡ true → length (uses (length t.scope) body hidden) ≡ length hidden)
-                → IfDone (cond c (done (record { body = body; hidden = hidden }) s2) (settled n looping (uses (length t.scope) body hidden) f p t s)) (Settles k f t s)
+                → IfDone (cond c (done (record { body = body; hidden = hidden }) s2) (body_settled n looping (uses (length t.scope) body hidden) f p t s)) (Settles k f t s)
             same true e = record { below = b; same = e refl; grew = m }
             same false e = rest body

@@ -16,7 +16,7 @@ use Rattle.ca_forms.specs.Meaning.{block}
 use Rattle.ca_forms.specs.Binders.{Part}
 use Rattle.ca_forms.specs.Plain.{meanings, row_loop, by_truth, by_some}
 use Rattle.ca_forms.specs.Channels.{parking, blocking}
-use Rattle.ca_forms.specs.Walk.{row, row_or_call, headed, row_list, row_atom, row_group, walk, walk_shape, parts, within, within_shape, pairs}
+use Rattle.ca_forms.specs.Walk.{special_row, row_or_call, headed, row_list, row_atom, row_group, walk, walk_shape, walked_parts, within, within_shape, pairs}
 use Rattle.ca_reader.specs.Written.{ShapeAtoms, AtomHas, HaveScalars}
 use Rattle.ca_check.proofs.Places.{Has, PartsHave, parts_have}
 use Rattle.ca_check.proofs.Sound.{Ground, Sound, sound_constant, sound_fail, sound_cond, sound_operation, sound_body, sound_go}
@@ -24,7 +24,7 @@ use Rattle.ca_check.proofs.SoundPlain.{PairsSound, PartsSound, means_sound, bloc
 use Rattle.ca_check.proofs.SoundNames.{sound_symbol, sound_written, sound_builtin_call, sound_row_call, sound_keyword}
 use Rattle.ca_check.proofs.SoundChannels.{sound_row_of_one, sound_row_of_two, parking_sound, blocking_sound, sound_row_take, sound_row_put, sound_row_alts, sound_row_offer, sound_row_poll, sound_row_chan, sound_row_promise, sound_row_mult, sound_row_tap, sound_row_mix, sound_row_change_of_one, sound_row_change_of_two, sound_row_pub, sound_row_sub, sound_row_unsub, sound_row_unsub_all, sound_row_pipe, sound_row_merge, sound_row_pipeline, sound_row_onto, sound_row_to}
 
-pub sound_row : (g : Ground) (k : Special) (p : Place) (qs : List Part) → PartsHave g.rules.scalars qs → PartsSound g qs → Sound g 0 (row k p qs)
+pub sound_row : (g : Ground) (k : Special) (p : Place) (qs : List Part) → PartsHave g.rules.scalars qs → PartsSound g qs → Sound g 0 (special_row k p qs)
 sound_row g Special.Def p qs y f = sound_fail g 0 BadForm p
 sound_row g Special.Defn p qs y f = sound_fail g 0 BadForm p
 sound_row g Special.Do p qs y f = block_sound g 0 qs f
@@ -123,9 +123,9 @@ mutual
 
   pub sound_shape : (g : Ground) (s : ShapeTree) (p : Place) → ShapeAtoms (AtomHas g.rules.scalars) s → Sound g 0 (walk_shape s p)
   sound_shape g (atom a) p y = sound_row_atom g a p y
-  sound_shape g (group b fs) p y = sound_cond g 0 (nat_lt 4096 (length (parts fs))) _ (row_group b (parts fs) p) (sound_fail g 0 TooMany p) (sound_row_group g b (parts fs) p (parts_have g.rules.scalars fs y) (sound_parts g fs y))
+  sound_shape g (group b fs) p y = sound_cond g 0 (nat_lt 4096 (length (walked_parts fs))) _ (row_group b (walked_parts fs) p) (sound_fail g 0 TooMany p) (sound_row_group g b (walked_parts fs) p (parts_have g.rules.scalars fs y) (sound_parts g fs y))
 
-  pub sound_parts : (g : Ground) (fs : FormTrees) → HaveScalars g.rules.scalars fs → PartsSound g (parts fs)
+  pub sound_parts : (g : Ground) (fs : FormTrees) → HaveScalars g.rules.scalars fs → PartsSound g (walked_parts fs)
   sound_parts g none y = tt
   sound_parts g (item f fs) y = (sound_walk g f y.0, sound_within g f y.0, sound_parts g fs y.1)
 

@@ -8,11 +8,11 @@ use Rattle.ca_value.specs.IsValue.{Scalars, IsInteger, IsKeyword}
 use Rattle.ca_term.specs.declared.head.Head.{Head}
 use Rattle.ca_term.specs.declared.head.Head.TheVariants.{Recur, Builtin, Call, Take, Put, Alts, Make, Spawn, Close, Register, Print, Post}
 use Rattle.ca_term.specs.Kernel.{Kernel, Kernels, Bindings, const, var, branch, bind, loop, seq, frame, turn, apply, none, item, empty, binding}
-use Rattle.ca_term.specs.Constants.{IsScalar, HasScalars, HaveScalars, BindingsHaveScalars}
-use Rattle.ca_term.specs.Closed.{IsIn, IsClosed, AreClosed, AreClosedBindings, behind}
+use Rattle.ca_term.specs.Constants.{IsScalar, HasScalars, TermsHaveScalars, BindingsHaveScalars}
+use Rattle.ca_term.specs.Closed.{IsIn, IsClosed, AreClosed, AreClosedBindings, names_behind}
 use Rattle.ca_term.specs.Fits.{Known, Suits, Fits, FitTerms, FitInOrder, FitBindings, count_terms, count_bindings, BindsAnew, TermsAnew, BindingsAnew, IsPlainHead, IsPlain, ArePlain, ArePlainBindings}
 use Rattle.ca_term.specs.Source.{IsLiteral, IsFew, IsSource, AreSource, AreSourceBindings}
-use Rattle.ca_forms.specs.Uses.{is_among, noted, uses, uses_items, uses_bindings, is_plain_head, is_plain, are_plain, are_plain_bindings}
+use Rattle.ca_forms.specs.Uses.{is_name_among, name_noted, uses, uses_items, uses_bindings, is_plain_head, is_plain, are_plain, are_plain_bindings}
 
 -- what the program knows, and what is said of the integers and keywords in its constants
 pub record Rules : Type 0 where
@@ -155,11 +155,11 @@ mutual
   scalars_in k n target (turn names text now) w = absurd w
   scalars_in k n target (apply h ts p) w = terms_scalars k n ts w.1
 
-  pub terms_scalars : (k : Rules) (n : ℕ) (ts : Kernels) → WellTerms k n ts → HaveScalars k.scalars ts
+  pub terms_scalars : (k : Rules) (n : ℕ) (ts : Kernels) → WellTerms k n ts → TermsHaveScalars k.scalars ts
   terms_scalars k n none w = tt
   terms_scalars k n (item t ts) w = (scalars_in k n None t w.0, terms_scalars k n ts w.1)
 
-  pub in_order_scalars : (k : Rules) (n : ℕ) (target : Option ℕ) (ts : Kernels) → WellInOrder k n target ts → HaveScalars k.scalars ts
+  pub in_order_scalars : (k : Rules) (n : ℕ) (target : Option ℕ) (ts : Kernels) → WellInOrder k n target ts → TermsHaveScalars k.scalars ts
   in_order_scalars k n target none w = tt
   in_order_scalars k n target (item t none) w = (scalars_in k n target t w, tt)
   in_order_scalars k n target (item t (item u us)) w = (scalars_in k n None t w.0, in_order_scalars k n target (item u us) w.1)
@@ -185,9 +185,9 @@ pub is_new : (n m : ℕ) (ns : List ℕ) → m ≡ n → Below n ns → IsIn m n
 is_new n m [] e g h = h
 is_new n m (x ∷ ns) e g h = ⊎_elim (λ i. omega (arith, e, i, g.0)) (λ i. is_new n m ns e g.1 i) h
 
-pub below_behind : (k : Rules) (n : ℕ) (bs : Bindings) (ns : List ℕ) → WellBindings k n bs → Below n ns → Below (n + count_bindings bs) (behind bs ns)
+pub below_behind : (k : Rules) (n : ℕ) (bs : Bindings) (ns : List ℕ) → WellBindings k n bs → Below n ns → Below (n + count_bindings bs) (names_behind bs ns)
 below_behind k n empty ns w g = subst (λ m. Below m ns) (omega arith) g
-below_behind k n (binding m t bs) ns w g = subst (λ i. Below i (behind bs (m ∷ ns))) (omega arith)
+below_behind k n (binding m t bs) ns w g = subst (λ i. Below i (names_behind bs (m ∷ ns))) (omega arith)
     (below_behind k (suc n) bs (m ∷ ns) w.2 (omega (arith, w.0), below_more n (suc n) ns (omega arith) g))
 
 mutual
@@ -197,12 +197,12 @@ mutual
   anew k n target (branch c a b) ns w g = (anew k n None c ns w.0 g, anew k n target a ns w.1 g, anew k n target b ns w.2 g)
   anew k n target (bind bs body) ns w g = (
     bindings_anew k n bs ns w.0 g,
-    anew k (n + count_bindings bs) target body (behind bs ns) w.1 (below_behind k n bs ns w.0 g),
+    anew k (n + count_bindings bs) target body (names_behind bs ns) w.1 (below_behind k n bs ns w.0 g),
   )
   anew k n target (loop [] bs body) ns w g = (
     tt,
     bindings_anew k n bs ns w.0 g,
-    anew k (n + count_bindings bs) (Some (count_bindings bs)) body (behind bs ns) w.1 (below_behind k n bs ns w.0 g),
+    anew k (n + count_bindings bs) (Some (count_bindings bs)) body (names_behind bs ns) w.1 (below_behind k n bs ns w.0 g),
   )
   anew k n target (loop (f ∷ fs) bs body) ns w g = absurd w
   anew k n target (seq ts) ns w g = in_order_anew k n target ts ns w g
@@ -279,22 +279,22 @@ pub in_right : (m : ℕ) (xs ys : List ℕ) → IsIn m ys → IsIn m (xs ++ ys)
 in_right m [] ys h = h
 in_right m (x ∷ xs) ys h = inr (in_right m xs ys h)
 
-pub among_in : (m : ℕ) (xs : List ℕ) → is_among m xs ≡ true → IsIn m xs
+pub among_in : (m : ℕ) (xs : List ℕ) → is_name_among m xs ≡ true → IsIn m xs
 among_in m [] e = cc
 among_in m (x ∷ xs) e = by (m == x) (eqb-true m x) (λ r. among_in m xs r) e where
-  by : (b : Bool) → (b ≡ true → m ≡ x) → (is_among m xs ≡ true → IsIn m xs) → (b || is_among m xs) ≡ true → IsIn m (x ∷ xs)
+  by : (b : Bool) → (b ≡ true → m ≡ x) → (is_name_among m xs ≡ true → IsIn m xs) → (b || is_name_among m xs) ≡ true → IsIn m (x ∷ xs)
   by true f r e = inl (f refl)
   by false f r e = inr (r e)
 
 -- what was seen stays, and what is used is seen
-pub noted_keeps : (n m : ℕ) (seen : List ℕ) → Within seen (noted n m seen)
-noted_keeps n m seen x h = by (nat_lt m n && not (is_among m seen)) where
+pub noted_keeps : (n m : ℕ) (seen : List ℕ) → Within seen (name_noted n m seen)
+noted_keeps n m seen x h = by (nat_lt m n && not (is_name_among m seen)) where
   by : (b : Bool) → IsIn x (cond b (seen ++ m ∷ []) seen)
   by true = in_left x seen (m ∷ []) h
   by false = h
 
-pub noted_has : (n m : ℕ) (seen : List ℕ) → m < n → IsIn m (noted n m seen)
-noted_has n m seen l = by (nat_lt m n) (ltb-false m n) (is_among m seen) (among_in m seen) where
+pub noted_has : (n m : ℕ) (seen : List ℕ) → m < n → IsIn m (name_noted n m seen)
+noted_has n m seen l = by (nat_lt m n) (ltb-false m n) (is_name_among m seen) (among_in m seen) where
   by : (a : Bool) → (a ≡ false → n ≤ m) → (b : Bool) → (b ≡ true → IsIn m seen) → IsIn m (cond (a && not b) (seen ++ m ∷ []) seen)
   by true f true g = g refl
   by true f false g = in_right m seen (m ∷ []) (inl refl)
@@ -354,8 +354,8 @@ mutual
       (only_more n (uses n t seen) (uses_bindings n bs (uses n t seen)) (uses_bindings_keep n bs (uses n t seen)) t (uses_only n t seen), uses_bindings_only n bs (uses n t seen))
 
 -- what is used is below
-pub noted_below : (n m : ℕ) (seen : List ℕ) → Below n seen → Below n (noted n m seen)
-noted_below n m seen g = by (nat_lt m n) (is_among m seen) (ltb-true m n) where
+pub noted_below : (n m : ℕ) (seen : List ℕ) → Below n seen → Below n (name_noted n m seen)
+noted_below n m seen g = by (nat_lt m n) (is_name_among m seen) (ltb-true m n) where
   by : (a b : Bool) → (a ≡ true → m < n) → Below n (cond (a && not b) (seen ++ m ∷ []) seen)
   by false b f = g
   by true true f = g
@@ -389,9 +389,9 @@ pub covers_next : (base : ℕ) (us : List ℕ) (n m : ℕ) (ns : List ℕ) → m
 covers_next base us n m ns e c = (λ x h. inr (c.0 x h), λ x l u. ⊎_elim (λ b. inr (c.1 x l b)) (λ b. inl (omega (arith, e, u, b))) (cases_lt x n))
 
 pub covers_behind : (k : Rules) (base : ℕ) (us : List ℕ) (n : ℕ) (bs : Bindings) (ns : List ℕ) → WellBindings k n bs → Covers base us n ns
-    → Covers base us (n + count_bindings bs) (behind bs ns)
+    → Covers base us (n + count_bindings bs) (names_behind bs ns)
 covers_behind k base us n empty ns w c = subst (λ m. Covers base us m ns) (omega arith) c
-covers_behind k base us n (binding m t bs) ns w c = subst (λ i. Covers base us i (behind bs (m ∷ ns))) (omega arith)
+covers_behind k base us n (binding m t bs) ns w c = subst (λ i. Covers base us i (names_behind bs (m ∷ ns))) (omega arith)
     (covers_behind k base us (suc n) bs (m ∷ ns) w.2 (covers_next base us n m ns w.0 c))
 
 -- each name is bound
@@ -403,11 +403,11 @@ mutual
   closed k base us n target (branch t a b) ns w o c = (closed k base us n None t ns w.0 o.0 c, closed k base us n target a ns w.1 o.1 c, closed k base us n target b ns w.2 o.2 c)
   closed k base us n target (bind bs body) ns w o c = (
     bindings_closed k base us n bs ns w.0 o.0 c,
-    closed k base us (n + count_bindings bs) target body (behind bs ns) w.1 o.1 (covers_behind k base us n bs ns w.0 c),
+    closed k base us (n + count_bindings bs) target body (names_behind bs ns) w.1 o.1 (covers_behind k base us n bs ns w.0 c),
   )
   closed k base us n target (loop [] bs body) ns w o c = (
     bindings_closed k base us n bs ns w.0 o.0 c,
-    closed k base us (n + count_bindings bs) (Some (count_bindings bs)) body (behind bs ns) w.1 o.1 (covers_behind k base us n bs ns w.0 c),
+    closed k base us (n + count_bindings bs) (Some (count_bindings bs)) body (names_behind bs ns) w.1 o.1 (covers_behind k base us n bs ns w.0 c),
   )
   closed k base us n target (loop (f ∷ fs) bs body) ns w o c = absurd w
   closed k base us n target (seq ts) ns w o c = in_order_closed k base us n target ts ns w o c
@@ -494,8 +494,8 @@ Extends seen out = (extra : List ℕ) × (out ≡ seen ++ extra)
 pub extends_on : (a b c : List ℕ) → Extends a b → Extends b c → Extends a c
 extends_on a b c x y = (x.0 ++ y.0, y.1 ∙ ap (λ (l : List ℕ). l ++ y.0) x.1 ∙ append_assoc a x.0 y.0)
 
-pub noted_extends : (n m : ℕ) (seen : List ℕ) → Extends seen (noted n m seen)
-noted_extends n m seen = by (nat_lt m n && not (is_among m seen)) where
+pub noted_extends : (n m : ℕ) (seen : List ℕ) → Extends seen (name_noted n m seen)
+noted_extends n m seen = by (nat_lt m n && not (is_name_among m seen)) where
   by : (b : Bool) → Extends seen (cond b (seen ++ m ∷ []) seen)
   by true = (m ∷ [], refl)
   by false = ([], sym (append-nil seen))

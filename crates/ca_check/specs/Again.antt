@@ -7,7 +7,7 @@ use Rattle.ca_forms.specs.Binders.{Binder, Bound, width, whole_name, patterns}
 use Rattle.ca_forms.specs.Judged.{total_bounds}
 use Rattle.ca_forms.specs.Meaning.{Meaning, size, block, lets, loops}
 use Rattle.ca_forms.specs.Plain.{again, binders}
-use Rattle.ca_forms.specs.WalkView.{pairs_of}
+use Rattle.ca_forms.specs.WalkView.{form_pairs}
 
 -- how many names they bind
 abbrev pub widths : List Binder → ℕ
@@ -24,7 +24,7 @@ whole_names bs = map whole_name bs
 
 -- the binders of bindings
 abbrev pub binders_of : List Form → List Binder
-binders_of fs = binders (total_bounds (pairs_of fs))
+binders_of fs = binders (total_bounds (form_pairs fs))
 
 -- the loop over the whole values, and the patterns in it
 abbrev pub again_row : ℕ → Place → List Bound → Meaning → Meaning

@@ -13,20 +13,20 @@ use Rattle.ca_forms.specs.Plain.{meanings, by_truth, by_some, one_bound, row_if_
 use Rattle.ca_forms.specs.Rounds.{under}
 use Rattle.ca_forms.specs.Walk.{walk}
 use Rattle.ca_check.specs.declared.choices.Choice.{Choice}
-use Rattle.ca_forms.specs.Outcome.{Gathered, Outcome, done, after, limited}
+use Rattle.ca_forms.specs.Outcome.{Gathered, WalkOutcome, done, after_walk, limited}
 use Rattle.ca_forms.specs.Meaning.{Env, Meaning, inner, nothing, block}
 
 -- the tests of a `cond`, each with what is done where it holds
-abbrev pub tested : List Meaning → Env → Gathered → Outcome (List (Kernel × Kernel))
+abbrev pub tested : List Meaning → Env → Gathered → WalkOutcome (List (Kernel × Kernel))
 tested [] env s = done [] s
 tested (c ∷ []) env s = done [] s
 tested (c ∷ e ∷ ms) env s =
-    after (c (inner env) s) (λ t s. after (e env s) (λ u s. after (tested ms env s) (λ cs s. done ((t, u) ∷ cs) s)))
+    after_walk (c (inner env) s) (λ t s. after_walk (e env s) (λ u s. after_walk (tested ms env s) (λ cs s. done ((t, u) ∷ cs) s)))
 
 -- the Ifs of these, each in the other branch of the one before it, from the last one back
-abbrev pub chosen : List (Kernel × Kernel) → Gathered → Outcome Kernel
-chosen [] s = done (const nil) s
-chosen (c ∷ cs) s = after (chosen cs s) (λ v s. limited (branch c.0 c.1 v) s)
+abbrev pub chain_of_ifs : List (Kernel × Kernel) → Gathered → WalkOutcome Kernel
+chain_of_ifs [] s = done (const nil) s
+chain_of_ifs (c ∷ cs) s = after_walk (chain_of_ifs cs s) (λ v s. limited (branch c.0 c.1 v) s)
 
 abbrev pub choice_terms : List Choice → List (Kernel × Kernel)
 choice_terms cs = map (λ c. (kernel c.test, kernel c.term)) cs
@@ -78,8 +78,8 @@ test_term true n p = apply (Builtin IsSome) (kernels_of (var n ∷ [])) p
 test_term false n p = var n
 
 -- the choice by the value that has the hidden name n
-abbrev pub bound_choice : Bool → ℕ → List Kernel → Kernel → Kernel → Place → Gathered → Outcome Kernel
-bound_choice some n vs u v p s = after (limited (branch (test_term some n p) u v) s) (λ w s. under n vs w s)
+abbrev pub bound_choice : Bool → ℕ → List Kernel → Kernel → Kernel → Place → Gathered → WalkOutcome Kernel
+bound_choice some n vs u v p s = after_walk (limited (branch (test_term some n p) u v) s) (λ w s. under n vs w s)
 
 -- one binding alone
 abbrev pub is_only : Option (List Bound) → Bool

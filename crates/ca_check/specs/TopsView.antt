@@ -15,14 +15,14 @@ use Rattle.ca_check.specs.declared.defn.Defn.{Defn}
 use Rattle.ca_check.specs.declared.defn.Pass.{Pass}
 use Rattle.ca_check.specs.declared.definitions.Definitions.{Definitions}
 use Rattle.ca_forms.specs.declared.error.CheckErrorKind.TheVariants.{TooMany}
-use Rattle.ca_forms.specs.Depth.{depth_of}
-use Rattle.ca_forms.specs.Outcome.{Gathered, Outcome, done, refused, after}
+use Rattle.ca_forms.specs.Depth.{kernel_depth}
+use Rattle.ca_forms.specs.Outcome.{Gathered, WalkOutcome, done, refused, after_walk}
 use Rattle.ca_forms.specs.Meaning.{Meaning, Env, Signature, block}
 use Rattle.ca_forms.specs.Binders.{Binder, one, many}
 use Rattle.ca_forms.specs.Plain.{meanings}
-use Rattle.ca_forms.specs.Tops.{Tops, Written, Settled, note_in, straight, looped, settled, with_function}
+use Rattle.ca_forms.specs.Tops.{Tops, Written, Settled, note_in, straight, looped, body_settled, with_function}
 use Rattle.ca_forms.specs.Judged.{total_binder, binder_parts}
-use Rattle.ca_forms.specs.WalkView.{parts_of}
+use Rattle.ca_forms.specs.WalkView.{form_parts}
 
 -- the parameters of a function, read without a test
 abbrev pub total_binders : FormTrees → List Binder
@@ -53,7 +53,7 @@ written_as d = record {
   name = d.name.now;
   parameters = total_binders (form_trees d.parameters.now);
   note = note_of d.note;
-  body = block (meanings (parts_of d.body.now));
+  body = block (meanings (form_parts d.body.now));
 }
 
 -- where the body of a function stands
@@ -69,13 +69,13 @@ body_in Pass.Looped f p = looped f p
 abbrev pub tops_of : Definitions → Tops
 tops_of d = record { scope = d.walker.scope; functions = d.functions; procedures = map procedure_view (list d.procedures); defined = d.defined }
 
-abbrev pub settled_as : Term → List ℕ → Settled
-settled_as t hidden = record { body = kernel t; hidden = hidden }
+abbrev pub settled_view : Term → List ℕ → Settled
+settled_view t hidden = record { body = kernel t; hidden = hidden }
 
 -- the function, once a first walk has told what is asked here
-abbrev pub settled_function : Bool → List ℕ → Written → Place → Tops → Gathered → Outcome Tops
-settled_function looping hidden f p t s = after (settled 66 looping hidden f p t s) (λ r s2.
-    cond (nat_lt 60 (depth_of r.body)) (refused TooMany p) (done (with_function f r.hidden r.body t) s2))
+abbrev pub settled_function : Bool → List ℕ → Written → Place → Tops → Gathered → WalkOutcome Tops
+settled_function looping hidden f p t s = after_walk (body_settled 66 looping hidden f p t s) (λ r s2.
+    cond (nat_lt 60 (kernel_depth r.body)) (refused TooMany p) (done (with_function f r.hidden r.body t) s2))
 
 -- each of the numbers is below n
 abbrev pub AreBelow : ℕ → List ℕ → Type 0

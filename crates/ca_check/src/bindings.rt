@@ -1,5 +1,5 @@
 ghost use Rattle.std.specs.Prelude.{◌≡◌, ◌≤◌, ◌<◌, ◌+◌, ◌∷◌, ◌++◌};
-ghost use Rattle.ca_check.specs.Words.{false, IfOk, IfErr, OnOk, [], length, drop, list, kernel, form_tree, form_trees, done, CheckError, let_parts, over_long, binder_names, binder_parts, bound_names, total_name, total_names, total_binder, total_bounds, part_terms, binds, numbered, spread, row_let, within, gathered, env, parts_of, pairs_of, terms_of, Fails};
+ghost use Rattle.ca_check.specs.Words.{false, IfOk, IfErr, OnOk, [], length, drop, list, kernel, form_tree, form_trees, done, CheckError, let_parts, over_long, binder_names, binder_parts, bound_names, total_name, total_names, total_binder, total_bounds, part_terms, binds, numbered, spread, row_let, within, gathered, env, form_parts, form_pairs, terms_of, Fails};
 
 use crate::walk::Walker;
 use ca_forms::context::At;
@@ -24,8 +24,8 @@ impl Walker {
         parts: &[Form],
     ) -> Result<Made, CheckError>
         requires { 0 < length parts.now }
-        ensures ok { IfOk result (λ t. row_let place (parts_of (drop 1 parts.now)) (env self.old.scope functions.now at) (gathered self.old.gathered) ≡ done (kernel t) (gathered self.new.gathered)) }
-        ensures err { IfErr result (λ e. Fails e (row_let place (parts_of (drop 1 parts.now)) (env self.old.scope functions.now at) (gathered self.old.gathered))) }
+        ensures ok { IfOk result (λ t. row_let place (form_parts (drop 1 parts.now)) (env self.old.scope functions.now at) (gathered self.old.gathered) ≡ done (kernel t) (gathered self.new.gathered)) }
+        ensures err { IfErr result (λ e. Fails e (row_let place (form_parts (drop 1 parts.now)) (env self.old.scope functions.now at) (gathered self.old.gathered))) }
         ensures scope { OnOk result (self.new.scope ≡ self.old.scope) }
     {
         if parts.len() < 2 {
@@ -47,8 +47,8 @@ impl Walker {
         parts: &[Form],
     ) -> Result<Made, CheckError>
         requires { 1 < length parts.now }
-        ensures ok { IfOk result (λ t. let_parts place (parts_of (drop 1 parts.now)) (env self.old.scope functions.now at) (gathered self.old.gathered) ≡ done (kernel t) (gathered self.new.gathered)) }
-        ensures err { IfErr result (λ e. Fails e (let_parts place (parts_of (drop 1 parts.now)) (env self.old.scope functions.now at) (gathered self.old.gathered))) }
+        ensures ok { IfOk result (λ t. let_parts place (form_parts (drop 1 parts.now)) (env self.old.scope functions.now at) (gathered self.old.gathered) ≡ done (kernel t) (gathered self.new.gathered)) }
+        ensures err { IfErr result (λ e. Fails e (let_parts place (form_parts (drop 1 parts.now)) (env self.old.scope functions.now at) (gathered self.old.gathered))) }
         ensures scope { OnOk result (self.new.scope ≡ self.old.scope) }
     {
         let first = self.scope.len();
@@ -98,9 +98,9 @@ impl Walker {
         place: Place,
         items: &[Form],
     ) -> Result<Seq<Made>, CheckError>
-        ensures ok { IfOk result (λ t. binds (spread place (length self.old.scope) (total_bounds (pairs_of items.now))) (env self.old.scope functions.now at) (gathered self.old.gathered) ≡ done (numbered (length self.old.scope) (terms_of (list t))) (gathered self.new.gathered)) }
-        ensures err { IfErr result (λ e. Fails e (binds (spread place (length self.old.scope) (total_bounds (pairs_of items.now))) (env self.old.scope functions.now at) (gathered self.old.gathered))) }
-        ensures names { OnOk result (self.new.scope ≡ self.old.scope ++ bound_names (spread place (length self.old.scope) (total_bounds (pairs_of items.now)))) }
+        ensures ok { IfOk result (λ t. binds (spread place (length self.old.scope) (total_bounds (form_pairs items.now))) (env self.old.scope functions.now at) (gathered self.old.gathered) ≡ done (numbered (length self.old.scope) (terms_of (list t))) (gathered self.new.gathered)) }
+        ensures err { IfErr result (λ e. Fails e (binds (spread place (length self.old.scope) (total_bounds (form_pairs items.now))) (env self.old.scope functions.now at) (gathered self.old.gathered))) }
+        ensures names { OnOk result (self.new.scope ≡ self.old.scope ++ bound_names (spread place (length self.old.scope) (total_bounds (form_pairs items.now)))) }
         ensures longer { IfOk result (λ t. length self.new.scope ≡ length self.old.scope + length (list t)) }
     {
         let mut values = Seq::new(alloc);

@@ -1,5 +1,5 @@
 ghost use Rattle.std.specs.Prelude.{◌≡◌, ◌<◌, ◌+◌, ◌^◌};
-ghost use Rattle.ca_check.specs.Words.{IfOk, IfErr, OnOk, length, drop, is_some, true, list, form_tree, form_trees, kernel, bindings_in, is_only, only_shape, first_in, second_means, only_means, row_bound, bound_shape, bound_body, bound_other, test_term, bound_choice, total_name, local, name_as, done, one_bound, gathered, env, part, parts_of, terms_of, Fails, CheckError};
+ghost use Rattle.ca_check.specs.Words.{IfOk, IfErr, OnOk, length, drop, is_some, true, list, form_tree, form_trees, kernel, bindings_in, is_only, only_shape, first_in, second_means, only_means, row_bound, bound_shape, bound_body, bound_other, test_term, bound_choice, total_name, local_name, name_as, done, one_bound, gathered, env, part, form_parts, terms_of, Fails, CheckError};
 
 use crate::walk::Walker;
 use ca_forms::context::At;
@@ -58,7 +58,7 @@ fn is_only_name(bindings: &Form) -> bool
 /// Whether the parts are those of a form that binds one name to a value, with one branch or two behind it or with any
 /// other parts.
 pub fn is_bound_shape(branches: bool, parts: &[Form]) -> bool
-    ensures { result ≡ bound_shape branches (parts_of (drop 1 parts.now)) }
+    ensures { result ≡ bound_shape branches (form_parts (drop 1 parts.now)) }
 {
     if parts.len() < 2 {
         return false;
@@ -97,7 +97,7 @@ fn is_only_binding(bindings: &Form) -> bool
 
 /// Whether the parts are those of a form that binds one name or pattern to a value.
 pub fn is_only_shape(parts: &[Form]) -> bool
-    ensures { result ≡ only_shape (parts_of (drop 1 parts.now)) }
+    ensures { result ≡ only_shape (form_parts (drop 1 parts.now)) }
 {
     if parts.len() < 2 {
         false
@@ -153,8 +153,8 @@ impl Walker {
         parts: &[Form],
     ) -> Result<Made, CheckError>
         requires { 0 < length parts.now }
-        ensures ok { IfOk result (λ t. row_bound some branches place (parts_of (drop 1 parts.now)) (env self.old.scope functions.now at) (gathered self.old.gathered) ≡ done (kernel t) (gathered self.new.gathered)) }
-        ensures err { IfErr result (λ e. Fails e (row_bound some branches place (parts_of (drop 1 parts.now)) (env self.old.scope functions.now at) (gathered self.old.gathered))) }
+        ensures ok { IfOk result (λ t. row_bound some branches place (form_parts (drop 1 parts.now)) (env self.old.scope functions.now at) (gathered self.old.gathered) ≡ done (kernel t) (gathered self.new.gathered)) }
+        ensures err { IfErr result (λ e. Fails e (row_bound some branches place (form_parts (drop 1 parts.now)) (env self.old.scope functions.now at) (gathered self.old.gathered))) }
         ensures scope { OnOk result (self.new.scope ≡ self.old.scope) }
     {
         if parts.len() < 2 {
@@ -179,9 +179,9 @@ impl Walker {
         parts: &[Form],
     ) -> Result<Made, CheckError>
         requires more { 1 < length parts.now }
-        requires shape { bound_shape branches (parts_of (drop 1 parts.now)) ≡ true }
-        ensures ok { IfOk result (λ t. row_bound some branches place (parts_of (drop 1 parts.now)) (env self.old.scope functions.now at) (gathered self.old.gathered) ≡ done (kernel t) (gathered self.new.gathered)) }
-        ensures err { IfErr result (λ e. Fails e (row_bound some branches place (parts_of (drop 1 parts.now)) (env self.old.scope functions.now at) (gathered self.old.gathered))) }
+        requires shape { bound_shape branches (form_parts (drop 1 parts.now)) ≡ true }
+        ensures ok { IfOk result (λ t. row_bound some branches place (form_parts (drop 1 parts.now)) (env self.old.scope functions.now at) (gathered self.old.gathered) ≡ done (kernel t) (gathered self.new.gathered)) }
+        ensures err { IfErr result (λ e. Fails e (row_bound some branches place (form_parts (drop 1 parts.now)) (env self.old.scope functions.now at) (gathered self.old.gathered))) }
         ensures scope { OnOk result (self.new.scope ≡ self.old.scope) }
     {
         let first = self.scope.len();
@@ -259,8 +259,8 @@ impl Walker {
         bindings: &Form,
     ) -> Result<Made, CheckError>
         requires { 1 < length parts.now }
-        ensures ok { IfOk result (λ t. name_as (total_name (first_in (form_tree bindings.now))) (local hidden) (bound_body branches (parts_of (drop 2 parts.now))) (env self.old.scope functions.now at) (gathered self.old.gathered) ≡ done (kernel t) (gathered self.new.gathered)) }
-        ensures err { IfErr result (λ e. Fails e (name_as (total_name (first_in (form_tree bindings.now))) (local hidden) (bound_body branches (parts_of (drop 2 parts.now))) (env self.old.scope functions.now at) (gathered self.old.gathered))) }
+        ensures ok { IfOk result (λ t. name_as (total_name (first_in (form_tree bindings.now))) (local_name hidden) (bound_body branches (form_parts (drop 2 parts.now))) (env self.old.scope functions.now at) (gathered self.old.gathered) ≡ done (kernel t) (gathered self.new.gathered)) }
+        ensures err { IfErr result (λ e. Fails e (name_as (total_name (first_in (form_tree bindings.now))) (local_name hidden) (bound_body branches (form_parts (drop 2 parts.now))) (env self.old.scope functions.now at) (gathered self.old.gathered))) }
         ensures scope { OnOk result (self.new.scope ≡ self.old.scope) }
     {
         let first = self.scope.len();
@@ -281,8 +281,8 @@ impl Walker {
         parts: &[Form],
     ) -> Result<Made, CheckError>
         requires { 1 < length parts.now }
-        ensures ok { IfOk result (λ t. bound_body branches (parts_of (drop 2 parts.now)) (env self.old.scope functions.now at) (gathered self.old.gathered) ≡ done (kernel t) (gathered self.new.gathered)) }
-        ensures err { IfErr result (λ e. Fails e (bound_body branches (parts_of (drop 2 parts.now)) (env self.old.scope functions.now at) (gathered self.old.gathered))) }
+        ensures ok { IfOk result (λ t. bound_body branches (form_parts (drop 2 parts.now)) (env self.old.scope functions.now at) (gathered self.old.gathered) ≡ done (kernel t) (gathered self.new.gathered)) }
+        ensures err { IfErr result (λ e. Fails e (bound_body branches (form_parts (drop 2 parts.now)) (env self.old.scope functions.now at) (gathered self.old.gathered))) }
         ensures scope { OnOk result (self.new.scope ≡ self.old.scope) }
     {
         if branches {
@@ -308,8 +308,8 @@ impl Walker {
         parts: &[Form],
     ) -> Result<Made, CheckError>
         requires { 1 < length parts.now }
-        ensures ok { IfOk result (λ t. bound_other branches (parts_of (drop 2 parts.now)) (env self.old.scope functions.now at) (gathered self.old.gathered) ≡ done (kernel t) (gathered self.new.gathered)) }
-        ensures err { IfErr result (λ e. Fails e (bound_other branches (parts_of (drop 2 parts.now)) (env self.old.scope functions.now at) (gathered self.old.gathered))) }
+        ensures ok { IfOk result (λ t. bound_other branches (form_parts (drop 2 parts.now)) (env self.old.scope functions.now at) (gathered self.old.gathered) ≡ done (kernel t) (gathered self.new.gathered)) }
+        ensures err { IfErr result (λ e. Fails e (bound_other branches (form_parts (drop 2 parts.now)) (env self.old.scope functions.now at) (gathered self.old.gathered))) }
         ensures scope { OnOk result (self.new.scope ≡ self.old.scope) }
     {
         if branches {

@@ -1,5 +1,5 @@
 ghost use Rattle.std.specs.Prelude.{◌≡◌, ◌<◌};
-ghost use Rattle.ca_check.specs.Words.{IfOk, IfErr, OnOk, length, drop, kernel, done, more_of, meanings, row_if, row_if_not, row_when, row_when_not, gathered, env, parts_of, Fails};
+ghost use Rattle.ca_check.specs.Words.{IfOk, IfErr, OnOk, length, drop, kernel, done, more_of, meanings, row_if, row_if_not, row_when, row_when_not, gathered, env, form_parts, Fails};
 
 use crate::walk::Walker;
 use ca_forms::context::At;
@@ -25,8 +25,8 @@ impl Walker {
         parts: &[Form],
     ) -> Result<Made, CheckError>
         requires { 0 < length parts.now }
-        ensures ok { IfOk result (λ t. row_if place (parts_of (drop 1 parts.now)) (env self.old.scope functions.now at) (gathered self.old.gathered) ≡ done (kernel t) (gathered self.new.gathered)) }
-        ensures err { IfErr result (λ e. Fails e (row_if place (parts_of (drop 1 parts.now)) (env self.old.scope functions.now at) (gathered self.old.gathered))) }
+        ensures ok { IfOk result (λ t. row_if place (form_parts (drop 1 parts.now)) (env self.old.scope functions.now at) (gathered self.old.gathered) ≡ done (kernel t) (gathered self.new.gathered)) }
+        ensures err { IfErr result (λ e. Fails e (row_if place (form_parts (drop 1 parts.now)) (env self.old.scope functions.now at) (gathered self.old.gathered))) }
         ensures scope { OnOk result (self.new.scope ≡ self.old.scope) }
     {
         match parts {
@@ -57,8 +57,8 @@ impl Walker {
         parts: &[Form],
     ) -> Result<Made, CheckError>
         requires { 0 < length parts.now }
-        ensures ok { IfOk result (λ t. row_if_not place (parts_of (drop 1 parts.now)) (env self.old.scope functions.now at) (gathered self.old.gathered) ≡ done (kernel t) (gathered self.new.gathered)) }
-        ensures err { IfErr result (λ e. Fails e (row_if_not place (parts_of (drop 1 parts.now)) (env self.old.scope functions.now at) (gathered self.old.gathered))) }
+        ensures ok { IfOk result (λ t. row_if_not place (form_parts (drop 1 parts.now)) (env self.old.scope functions.now at) (gathered self.old.gathered) ≡ done (kernel t) (gathered self.new.gathered)) }
+        ensures err { IfErr result (λ e. Fails e (row_if_not place (form_parts (drop 1 parts.now)) (env self.old.scope functions.now at) (gathered self.old.gathered))) }
         ensures scope { OnOk result (self.new.scope ≡ self.old.scope) }
     {
         match parts {
@@ -88,8 +88,8 @@ impl Walker {
         parts: &[Form],
     ) -> Result<Made, CheckError>
         requires { 0 < length parts.now }
-        ensures ok { IfOk result (λ t. row_when place (parts_of (drop 1 parts.now)) (env self.old.scope functions.now at) (gathered self.old.gathered) ≡ done (kernel t) (gathered self.new.gathered)) }
-        ensures err { IfErr result (λ e. Fails e (row_when place (parts_of (drop 1 parts.now)) (env self.old.scope functions.now at) (gathered self.old.gathered))) }
+        ensures ok { IfOk result (λ t. row_when place (form_parts (drop 1 parts.now)) (env self.old.scope functions.now at) (gathered self.old.gathered) ≡ done (kernel t) (gathered self.new.gathered)) }
+        ensures err { IfErr result (λ e. Fails e (row_when place (form_parts (drop 1 parts.now)) (env self.old.scope functions.now at) (gathered self.old.gathered))) }
         ensures scope { OnOk result (self.new.scope ≡ self.old.scope) }
     {
         match parts {
@@ -113,8 +113,8 @@ impl Walker {
         parts: &[Form],
     ) -> Result<Made, CheckError>
         requires { 0 < length parts.now }
-        ensures ok { IfOk result (λ t. row_when_not place (parts_of (drop 1 parts.now)) (env self.old.scope functions.now at) (gathered self.old.gathered) ≡ done (kernel t) (gathered self.new.gathered)) }
-        ensures err { IfErr result (λ e. Fails e (row_when_not place (parts_of (drop 1 parts.now)) (env self.old.scope functions.now at) (gathered self.old.gathered))) }
+        ensures ok { IfOk result (λ t. row_when_not place (form_parts (drop 1 parts.now)) (env self.old.scope functions.now at) (gathered self.old.gathered) ≡ done (kernel t) (gathered self.new.gathered)) }
+        ensures err { IfErr result (λ e. Fails e (row_when_not place (form_parts (drop 1 parts.now)) (env self.old.scope functions.now at) (gathered self.old.gathered))) }
         ensures scope { OnOk result (self.new.scope ≡ self.old.scope) }
     {
         match parts {
@@ -138,8 +138,8 @@ impl Walker {
         parts: &[Form],
     ) -> Result<Made, CheckError>
         requires { 0 < length parts.now }
-        ensures ok { IfOk result (λ t. more_of both (meanings (parts_of (drop 1 parts.now))) (env self.old.scope functions.now at) (gathered self.old.gathered) ≡ done (kernel t) (gathered self.new.gathered)) }
-        ensures err { IfErr result (λ e. Fails e (more_of both (meanings (parts_of (drop 1 parts.now))) (env self.old.scope functions.now at) (gathered self.old.gathered))) }
+        ensures ok { IfOk result (λ t. more_of both (meanings (form_parts (drop 1 parts.now))) (env self.old.scope functions.now at) (gathered self.old.gathered) ≡ done (kernel t) (gathered self.new.gathered)) }
+        ensures err { IfErr result (λ e. Fails e (more_of both (meanings (form_parts (drop 1 parts.now))) (env self.old.scope functions.now at) (gathered self.old.gathered))) }
         ensures scope { OnOk result (self.new.scope ≡ self.old.scope) }
     {
         let count = parts.len();

@@ -1,5 +1,5 @@
 ghost use Rattle.std.specs.Prelude.{◌≡◌, ◌≤◌, ◌<◌};
-ghost use Rattle.ca_check.specs.Words.{IfOk, IfErr, OnOk, length, drop, list, kernel, done, meanings, row_symbol, row_call, row_keyword, builtin_call, function_call, named_function, gathered, env, parts_of, Fails};
+ghost use Rattle.ca_check.specs.Words.{IfOk, IfErr, OnOk, length, drop, list, kernel, done, meanings, row_symbol, row_call, row_keyword, builtin_call, function_call, named_function, gathered, env, form_parts, Fails};
 
 use crate::walk::Walker;
 use ca_forms::context::At;
@@ -29,8 +29,8 @@ impl Walker {
         place: Place,
     ) -> Result<Made, CheckError>
         requires { 0 < length parts.now }
-        ensures ok { IfOk result (λ t. row_call (list name.now) head (meanings (parts_of (drop 1 parts.now))) place (env self.old.scope functions.now at) (gathered self.old.gathered) ≡ done (kernel t) (gathered self.new.gathered)) }
-        ensures err { IfErr result (λ e. Fails e (row_call (list name.now) head (meanings (parts_of (drop 1 parts.now))) place (env self.old.scope functions.now at) (gathered self.old.gathered))) }
+        ensures ok { IfOk result (λ t. row_call (list name.now) head (meanings (form_parts (drop 1 parts.now))) place (env self.old.scope functions.now at) (gathered self.old.gathered) ≡ done (kernel t) (gathered self.new.gathered)) }
+        ensures err { IfErr result (λ e. Fails e (row_call (list name.now) head (meanings (form_parts (drop 1 parts.now))) place (env self.old.scope functions.now at) (gathered self.old.gathered))) }
         ensures scope { OnOk result (self.new.scope ≡ self.old.scope) }
     {
         match self.scope.find(name.as_slice()) {
@@ -62,8 +62,8 @@ impl Walker {
         place: Place,
     ) -> Result<Made, CheckError>
         requires { 0 < length parts.now }
-        ensures ok { IfOk result (λ t. function_call number (named_function (list name.now) function.now) (meanings (parts_of (drop 1 parts.now))) place (env self.old.scope functions.now at) (gathered self.old.gathered) ≡ done (kernel t) (gathered self.new.gathered)) }
-        ensures err { IfErr result (λ e. Fails e (function_call number (named_function (list name.now) function.now) (meanings (parts_of (drop 1 parts.now))) place (env self.old.scope functions.now at) (gathered self.old.gathered))) }
+        ensures ok { IfOk result (λ t. function_call number (named_function (list name.now) function.now) (meanings (form_parts (drop 1 parts.now))) place (env self.old.scope functions.now at) (gathered self.old.gathered) ≡ done (kernel t) (gathered self.new.gathered)) }
+        ensures err { IfErr result (λ e. Fails e (function_call number (named_function (list name.now) function.now) (meanings (form_parts (drop 1 parts.now))) place (env self.old.scope functions.now at) (gathered self.old.gathered))) }
         ensures scope { OnOk result (self.new.scope ≡ self.old.scope) }
     {
         if parts.len() as u64 - 1 == function.arity {
@@ -88,8 +88,8 @@ impl Walker {
         place: Place,
     ) -> Result<Made, CheckError>
         requires { from ≤ length parts.now }
-        ensures ok { IfOk result (λ t. builtin_call builtin (meanings (parts_of (drop from parts.now))) place (env self.old.scope functions.now at) (gathered self.old.gathered) ≡ done (kernel t) (gathered self.new.gathered)) }
-        ensures err { IfErr result (λ e. Fails e (builtin_call builtin (meanings (parts_of (drop from parts.now))) place (env self.old.scope functions.now at) (gathered self.old.gathered))) }
+        ensures ok { IfOk result (λ t. builtin_call builtin (meanings (form_parts (drop from parts.now))) place (env self.old.scope functions.now at) (gathered self.old.gathered) ≡ done (kernel t) (gathered self.new.gathered)) }
+        ensures err { IfErr result (λ e. Fails e (builtin_call builtin (meanings (form_parts (drop from parts.now))) place (env self.old.scope functions.now at) (gathered self.old.gathered))) }
         ensures scope { OnOk result (self.new.scope ≡ self.old.scope) }
     {
         if builtin.admits((parts.len() - from) as u64) {
@@ -120,8 +120,8 @@ impl Walker {
         place: Place,
     ) -> Result<Made, CheckError>
         requires { 0 < length parts.now }
-        ensures ok { IfOk result (λ t. row_keyword (list name.now) head (meanings (parts_of (drop 1 parts.now))) place (env self.old.scope functions.now at) (gathered self.old.gathered) ≡ done (kernel t) (gathered self.new.gathered)) }
-        ensures err { IfErr result (λ e. Fails e (row_keyword (list name.now) head (meanings (parts_of (drop 1 parts.now))) place (env self.old.scope functions.now at) (gathered self.old.gathered))) }
+        ensures ok { IfOk result (λ t. row_keyword (list name.now) head (meanings (form_parts (drop 1 parts.now))) place (env self.old.scope functions.now at) (gathered self.old.gathered) ≡ done (kernel t) (gathered self.new.gathered)) }
+        ensures err { IfErr result (λ e. Fails e (row_keyword (list name.now) head (meanings (form_parts (drop 1 parts.now))) place (env self.old.scope functions.now at) (gathered self.old.gathered))) }
         ensures scope { OnOk result (self.new.scope ≡ self.old.scope) }
     {
         if parts.len() < 2 {

@@ -1,5 +1,5 @@
 ghost use Rattle.std.specs.Prelude.{◌≡◌, ◌<◌};
-ghost use Rattle.ca_check.specs.Words.{IsTrue, Ok, IfOk, IfErr, length, drop, list, nil, Place, bind, const, program_view, kernel, bindings, form, group, Round, form_tree, form_trees, is_namespace, script, tops, expansion_of, Refuses, Gathered, done, Tops, tops_of, has_namespace, nothing_defined, nothing_gathered, gathered, Fails, CheckError};
+ghost use Rattle.ca_check.specs.Words.{IsTrue, Ok, IfOk, IfErr, length, drop, list, nil, Place, bind, const, program_view, kernel, bindings, form, group, Round, form_tree, form_trees, is_namespace, script_tops, tops, expansion_of, RefusesForms, Gathered, done, Tops, tops_of, has_namespace, nothing_defined, nothing_gathered, gathered, Fails, CheckError};
 
 use crate::defn::list_items;
 use crate::tops::Expansion;
@@ -50,8 +50,8 @@ fn has_namespace(forms: &[Form]) -> bool
 
 // How many forms are passed over: the first one, if it is a list headed by `ns`.
 fn passed_over(forms: &[Form]) -> Result<usize, CheckError>
-    ensures ok { IfOk result (λ n. (t : Tops) (s : Gathered) → script (form_trees forms.now) t s ≡ tops n (form_trees (drop n forms.now)) t s) }
-    ensures err { IfErr result (λ e. (t : Tops) (s : Gathered) → Fails e (script (form_trees forms.now) t s)) }
+    ensures ok { IfOk result (λ n. (t : Tops) (s : Gathered) → script_tops (form_trees forms.now) t s ≡ tops n (form_trees (drop n forms.now)) t s) }
+    ensures err { IfErr result (λ e. (t : Tops) (s : Gathered) → Fails e (script_tops (form_trees forms.now) t s)) }
 {
     if !has_namespace(forms) {
         return Ok(0);
@@ -64,8 +64,8 @@ fn passed_over(forms: &[Form]) -> Result<usize, CheckError>
 }
 
 fn expand(alloc: Global, forms: &[Form]) -> Result<Expansion, CheckError>
-    ensures ok { IfOk result (λ e. script (form_trees forms.now) nothing_defined nothing_gathered ≡ done (record { bindings = bindings (list e.bindings); tops = tops_of e.definitions }) (gathered e.definitions.walker.gathered)) }
-    ensures err { IfErr result (λ e. Fails e (script (form_trees forms.now) nothing_defined nothing_gathered)) }
+    ensures ok { IfOk result (λ e. script_tops (form_trees forms.now) nothing_defined nothing_gathered ≡ done (record { bindings = bindings (list e.bindings); tops = tops_of e.definitions }) (gathered e.definitions.walker.gathered)) }
+    ensures err { IfErr result (λ e. Fails e (script_tops (form_trees forms.now) nothing_defined nothing_gathered)) }
 {
     let first = passed_over(forms)?;
     let mut expansion = Expansion::new(alloc);
@@ -85,7 +85,7 @@ fn main_text(alloc: Global, rest: Seq<Binding>) -> Result<Term, OutOfMemory>
 /// The program of a script's forms, or the first error in them with its place.
 pub fn check(alloc: Global, forms: &Forms) -> Result<Program, CheckError>
     ensures accepted { IfOk result (λ p. expansion_of (form_trees (list forms.now)) ≡ Ok (program_view p)) }
-    ensures refused { IfErr result (λ e. Refuses e (form_trees (list forms.now))) }
+    ensures refused { IfErr result (λ e. RefusesForms e (form_trees (list forms.now))) }
 {
     let expansion = expand(alloc, forms.as_slice())?;
     let main = main_text(alloc, expansion.bindings)?;

@@ -1,5 +1,5 @@
 ghost use Rattle.std.specs.Prelude.{◌≡◌, ◌<◌};
-ghost use Rattle.ca_check.specs.Words.{IfOk, IfErr, OnOk, length, drop, list, kernel, CheckError, tested, chosen, choice_terms, done, meanings, row_cond, gathered, env, parts_of, Fails};
+ghost use Rattle.ca_check.specs.Words.{IfOk, IfErr, OnOk, length, drop, list, kernel, CheckError, tested, chain_of_ifs, choice_terms, done, meanings, row_cond, gathered, env, form_parts, Fails};
 
 use crate::walk::Walker;
 use ca_forms::context::At;
@@ -21,7 +21,7 @@ pub struct Choice {
 
 // The Ifs of these choices, each in the other branch of the one before it; nil behind the last.
 fn choose(bodies: &mut Bodies, alloc: Global, mut choices: Seq<Choice>) -> Result<Made, CheckError>
-    ensures ok { IfOk result (λ t. chosen (choice_terms (list choices)) (gathered bodies.old) ≡ done (kernel t) (gathered bodies.new)) }
+    ensures ok { IfOk result (λ t. chain_of_ifs (choice_terms (list choices)) (gathered bodies.old) ≡ done (kernel t) (gathered bodies.new)) }
     ensures err { IfErr result (λ e. e ≡ CheckError.OutOfMemory) }
 {
     let mut made = nothing();
@@ -44,8 +44,8 @@ impl Walker {
         parts: &[Form],
     ) -> Result<Made, CheckError>
         requires { 0 < length parts.now }
-        ensures ok { IfOk result (λ t. row_cond place (parts_of (drop 1 parts.now)) (env self.old.scope functions.now at) (gathered self.old.gathered) ≡ done (kernel t) (gathered self.new.gathered)) }
-        ensures err { IfErr result (λ e. Fails e (row_cond place (parts_of (drop 1 parts.now)) (env self.old.scope functions.now at) (gathered self.old.gathered))) }
+        ensures ok { IfOk result (λ t. row_cond place (form_parts (drop 1 parts.now)) (env self.old.scope functions.now at) (gathered self.old.gathered) ≡ done (kernel t) (gathered self.new.gathered)) }
+        ensures err { IfErr result (λ e. Fails e (row_cond place (form_parts (drop 1 parts.now)) (env self.old.scope functions.now at) (gathered self.old.gathered))) }
         ensures scope { OnOk result (self.new.scope ≡ self.old.scope) }
     {
         let pairs = (parts.len() - 1) / 2;
@@ -67,8 +67,8 @@ impl Walker {
         parts: &[Form],
     ) -> Result<Seq<Choice>, CheckError>
         requires { 0 < length parts.now }
-        ensures ok { IfOk result (λ t. tested (meanings (parts_of (drop 1 parts.now))) (env self.old.scope functions.now at) (gathered self.old.gathered) ≡ done (choice_terms (list t)) (gathered self.new.gathered)) }
-        ensures err { IfErr result (λ e. Fails e (tested (meanings (parts_of (drop 1 parts.now))) (env self.old.scope functions.now at) (gathered self.old.gathered))) }
+        ensures ok { IfOk result (λ t. tested (meanings (form_parts (drop 1 parts.now))) (env self.old.scope functions.now at) (gathered self.old.gathered) ≡ done (choice_terms (list t)) (gathered self.new.gathered)) }
+        ensures err { IfErr result (λ e. Fails e (tested (meanings (form_parts (drop 1 parts.now))) (env self.old.scope functions.now at) (gathered self.old.gathered))) }
         ensures scope { OnOk result (self.new.scope ≡ self.old.scope) }
     {
         let mut choices = Seq::new(alloc);

@@ -1,5 +1,5 @@
 ghost use Rattle.std.specs.Prelude.{◌≡◌, ◌≤◌, ◌<◌, ◌+◌, ◌^◌, ◌∷◌, ◌++◌, ◌&&◌};
-ghost use Rattle.ca_check.specs.Words.{ℕ, suc, [], length, false, None, IfOk, IfErr, IfSome, IfNone, OnOk, list, kernel, form_trees, CheckError, find, named_function, is_known, done, names_of, numbers, straight, looped, signature, function_env, settled, add_function, with_function, is_empty, plain_with, is_plain, total_binders, written_as, in_function, body_in, tops_of, settled_as, settled_function, AreBelow, AreCounted, IsSafe, gathered, Fails};
+ghost use Rattle.ca_check.specs.Words.{ℕ, suc, [], length, false, None, IfOk, IfErr, IfSome, IfNone, OnOk, list, kernel, form_trees, CheckError, find, named_function, is_known, done, names_of, numbers, straight, looped, signature, function_env, body_settled, add_function, with_function, is_empty, plain_with, is_plain, total_binders, written_as, in_function, body_in, tops_of, settled_view, settled_function, AreBelow, AreCounted, IsSafe, gathered, Fails};
 
 use crate::defn::{Defn, Pass};
 use crate::function_body::all_parameters;
@@ -137,9 +137,9 @@ impl Definitions {
         requires safe { IsSafe (tops_of self.old) }
         requires below { AreBelow (length self.old.walker.scope) hidden.old.keys }
         requires patterns { AreCounted (written_as defn.now).parameters }
-        ensures ok { IfOk result (λ r. IfSome r (λ t. (n : ℕ) → settled (suc n) looping hidden.old.keys (written_as defn.now) place (tops_of self.old) (gathered self.old.walker.gathered) ≡ done (settled_as t hidden.new.keys) (gathered self.new.walker.gathered))) }
-        ensures more { IfOk result (λ r. IfNone r ((n : ℕ) → settled (suc n) looping hidden.old.keys (written_as defn.now) place (tops_of self.old) (gathered self.old.walker.gathered) ≡ settled n looping hidden.new.keys (written_as defn.now) place (tops_of self.old) (gathered self.old.walker.gathered))) }
-        ensures err { IfErr result (λ e. (n : ℕ) → Fails e (settled (suc n) looping hidden.old.keys (written_as defn.now) place (tops_of self.old) (gathered self.old.walker.gathered))) }
+        ensures ok { IfOk result (λ r. IfSome r (λ t. (n : ℕ) → body_settled (suc n) looping hidden.old.keys (written_as defn.now) place (tops_of self.old) (gathered self.old.walker.gathered) ≡ done (settled_view t hidden.new.keys) (gathered self.new.walker.gathered))) }
+        ensures more { IfOk result (λ r. IfNone r ((n : ℕ) → body_settled (suc n) looping hidden.old.keys (written_as defn.now) place (tops_of self.old) (gathered self.old.walker.gathered) ≡ body_settled n looping hidden.new.keys (written_as defn.now) place (tops_of self.old) (gathered self.old.walker.gathered))) }
+        ensures err { IfErr result (λ e. (n : ℕ) → Fails e (body_settled (suc n) looping hidden.old.keys (written_as defn.now) place (tops_of self.old) (gathered self.old.walker.gathered))) }
         ensures kept { OnOk result (tops_of self.new ≡ tops_of self.old) }
         ensures gathered { IfOk result (λ r. IfNone r (gathered self.new.walker.gathered ≡ gathered self.old.walker.gathered)) }
         ensures below { OnOk result (AreBelow (length self.old.walker.scope) hidden.new.keys) }
@@ -174,8 +174,8 @@ impl Definitions {
         requires safe { IsSafe (tops_of self.old) }
         requires below { AreBelow (length self.old.walker.scope) hints.hidden.keys }
         requires patterns { AreCounted (written_as defn.now).parameters }
-        ensures ok { IfOk result (λ r. settled 66 hints.looping hints.hidden.keys (written_as defn.now) place (tops_of self.old) (gathered self.old.walker.gathered) ≡ done (settled_as r.made r.hidden.keys) (gathered self.new.walker.gathered)) }
-        ensures err { IfErr result (λ e. Fails e (settled 66 hints.looping hints.hidden.keys (written_as defn.now) place (tops_of self.old) (gathered self.old.walker.gathered))) }
+        ensures ok { IfOk result (λ r. body_settled 66 hints.looping hints.hidden.keys (written_as defn.now) place (tops_of self.old) (gathered self.old.walker.gathered) ≡ done (settled_view r.made r.hidden.keys) (gathered self.new.walker.gathered)) }
+        ensures err { IfErr result (λ e. Fails e (body_settled 66 hints.looping hints.hidden.keys (written_as defn.now) place (tops_of self.old) (gathered self.old.walker.gathered))) }
         ensures kept { OnOk result (tops_of self.new ≡ tops_of self.old) }
         ensures below { IfOk result (λ r. AreBelow (length self.old.walker.scope) r.hidden.keys) }
     {

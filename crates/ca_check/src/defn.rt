@@ -1,5 +1,5 @@
 ghost use Rattle.std.specs.Prelude.{◌≡◌, ◌∷◌};
-ghost use Rattle.ca_check.specs.Words.{List, drop, option_map, is_some, cond, IfErr, OnOk, MatchOption, Pass, form_tree, form_trees, Binder, Meaning, Env, Gathered, top_name, binders_in, parameters_in, note_in, function_of, defn_top, word_at_head, list_parts, counted_patterns, judged_body, noted_text, function, wrong, total_binder, total_binders, note_of, written_as, AreCounted, parts_of, Fails};
+ghost use Rattle.ca_check.specs.Words.{List, drop, option_map, is_some, cond, IfErr, OnOk, MatchOption, Pass, form_tree, form_trees, Binder, Meaning, Env, Gathered, top_name, binders_in, parameters_in, note_in, function_top, defn_top, word_at_head, list_parts, counted_patterns, judged_body, noted_text, function, wrong, total_binder, total_binders, note_of, written_as, AreCounted, form_parts, Fails};
 
 use ca_forms::error::{CheckError, CheckErrorKind};
 use ca_forms::shapes::{is_binder, is_odd};
@@ -42,7 +42,7 @@ impl Pass {
 
 /// The items of a list; none of another form.
 pub fn list_items(form: &Form) -> &[Form]
-    ensures { parts_of result.now ≡ list_parts (form_tree form.now) }
+    ensures { form_parts result.now ≡ list_parts (form_tree form.now) }
 {
     match &form.shape {
         Shape::List(parts) => parts.as_slice(),
@@ -54,7 +54,7 @@ pub fn list_items(form: &Form) -> &[Form]
 
 /// The word at the head of a list of these items.
 pub fn word_at_head(parts: &[Form]) -> Option<Special>
-    ensures { result ≡ word_at_head (parts_of parts.now) }
+    ensures { result ≡ word_at_head (form_parts parts.now) }
 {
     if parts.is_empty() {
         return None;
@@ -125,7 +125,7 @@ fn is_text(form: &Form) -> bool
 impl<'a> Defn<'a> {
     /// The function that a `defn` of these parts writes, if they have its shape.
     pub fn of(parts: &'a [Form]) -> Option<Defn<'a>>
-        ensures { MatchOption result (defn_top (parts_of (drop 1 parts.now)) ≡ wrong) (λ d. defn_top (parts_of (drop 1 parts.now)) ≡ function (written_as d)) }
+        ensures { MatchOption result (defn_top (form_parts (drop 1 parts.now)) ≡ wrong) (λ d. defn_top (form_parts (drop 1 parts.now)) ≡ function (written_as d)) }
     {
         if parts.len() < 3 {
             None
@@ -144,8 +144,8 @@ impl<'a> Defn<'a> {
         binders: &'a Form,
         body: &'a [Form],
     ) -> Option<Defn<'a>>
-        ensures { MatchOption result (function_of (top_name (form_tree name.now)) (parameters_in (form_tree binders.now)) (note_of note.entry) (parts_of body.now) ≡ wrong)
-            (λ d. function_of (top_name (form_tree name.now)) (parameters_in (form_tree binders.now)) (note_of note.entry) (parts_of body.now) ≡ function (written_as d)) }
+        ensures { MatchOption result (function_top (top_name (form_tree name.now)) (parameters_in (form_tree binders.now)) (note_of note.entry) (form_parts body.now) ≡ wrong)
+            (λ d. function_top (top_name (form_tree name.now)) (parameters_in (form_tree binders.now)) (note_of note.entry) (form_parts body.now) ≡ function (written_as d)) }
     {
         let name = top_name(name)?;
         let parameters = parameters(binders)?;

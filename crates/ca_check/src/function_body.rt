@@ -1,5 +1,5 @@
 ghost use Rattle.std.specs.Prelude.{◌≡◌, ◌≤◌, ◌<◌, ◌+◌, ◌^◌, ◌++◌};
-ghost use Rattle.ca_check.specs.Words.{length, IfOk, IfErr, OnOk, list_any, list, kernel, form_trees, CheckError, is_pattern, unpacked, block, done, meanings, names_of, numbers, straight, looped, total_binders, pattern_parts, pattern_names, written_as, in_function, body_in, AreCounted, gathered, env, parts_of, terms_of, Fails};
+ghost use Rattle.ca_check.specs.Words.{length, IfOk, IfErr, OnOk, list_any, list, kernel, form_trees, CheckError, is_pattern, unpacked, block, done, meanings, names_of, numbers, straight, looped, total_binders, pattern_parts, pattern_names, written_as, in_function, body_in, AreCounted, gathered, env, form_parts, terms_of, Fails};
 
 use crate::defn::{Defn, Pass};
 use crate::walk::Walker;
@@ -99,8 +99,8 @@ impl Walker {
     ) -> Result<Made, CheckError>
         requires room { first + length parameters.now ≤ length self.old.scope }
         requires patterns { AreCounted (total_binders (form_trees parameters.now)) }
-        ensures ok { IfOk result (λ t. unpacked place first (total_binders (form_trees parameters.now)) (block (meanings (parts_of body.now))) (env self.old.scope functions.now at) (gathered self.old.gathered) ≡ done (kernel t) (gathered self.new.gathered)) }
-        ensures err { IfErr result (λ e. Fails e (unpacked place first (total_binders (form_trees parameters.now)) (block (meanings (parts_of body.now))) (env self.old.scope functions.now at) (gathered self.old.gathered))) }
+        ensures ok { IfOk result (λ t. unpacked place first (total_binders (form_trees parameters.now)) (block (meanings (form_parts body.now))) (env self.old.scope functions.now at) (gathered self.old.gathered) ≡ done (kernel t) (gathered self.new.gathered)) }
+        ensures err { IfErr result (λ e. Fails e (unpacked place first (total_binders (form_trees parameters.now)) (block (meanings (form_parts body.now))) (env self.old.scope functions.now at) (gathered self.old.gathered))) }
         ensures scope { OnOk result (self.new.scope ≡ self.old.scope) }
     {
         if !have_pattern(parameters) {

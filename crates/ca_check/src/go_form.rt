@@ -1,5 +1,5 @@
 ghost use Rattle.std.specs.Prelude.{◌≡◌, ◌<◌};
-ghost use Rattle.ca_check.specs.Words.{IfOk, IfErr, OnOk, length, drop, kernel, go, go_text, done, gathered, env, parts_of, Fails};
+ghost use Rattle.ca_check.specs.Words.{IfOk, IfErr, OnOk, length, drop, kernel, go_meaning, go_form_body, done, gathered, env, form_parts, Fails};
 
 use crate::walk::Walker;
 use ca_forms::context::At;
@@ -24,8 +24,8 @@ impl Walker {
         parts: &[Form],
     ) -> Result<Made, CheckError>
         requires { 0 < length parts.now }
-        ensures ok { IfOk result (λ t. go (go_text repeats place (parts_of (drop 1 parts.now))) place (env self.old.scope functions.now at) (gathered self.old.gathered) ≡ done (kernel t) (gathered self.new.gathered)) }
-        ensures err { IfErr result (λ e. Fails e (go (go_text repeats place (parts_of (drop 1 parts.now))) place (env self.old.scope functions.now at) (gathered self.old.gathered))) }
+        ensures ok { IfOk result (λ t. go_meaning (go_form_body repeats place (form_parts (drop 1 parts.now))) place (env self.old.scope functions.now at) (gathered self.old.gathered) ≡ done (kernel t) (gathered self.new.gathered)) }
+        ensures err { IfErr result (λ e. Fails e (go_meaning (go_form_body repeats place (form_parts (drop 1 parts.now))) place (env self.old.scope functions.now at) (gathered self.old.gathered))) }
         ensures scope { OnOk result (self.new.scope ≡ self.old.scope) }
     {
         let port = self.scope.len();
@@ -49,8 +49,8 @@ impl Walker {
         parts: &[Form],
     ) -> Result<Made, CheckError>
         requires { 0 < length parts.now }
-        ensures ok { IfOk result (λ t. go_text repeats place (parts_of (drop 1 parts.now)) (env self.old.scope functions.now at) (gathered self.old.gathered) ≡ done (kernel t) (gathered self.new.gathered)) }
-        ensures err { IfErr result (λ e. Fails e (go_text repeats place (parts_of (drop 1 parts.now)) (env self.old.scope functions.now at) (gathered self.old.gathered))) }
+        ensures ok { IfOk result (λ t. go_form_body repeats place (form_parts (drop 1 parts.now)) (env self.old.scope functions.now at) (gathered self.old.gathered) ≡ done (kernel t) (gathered self.new.gathered)) }
+        ensures err { IfErr result (λ e. Fails e (go_form_body repeats place (form_parts (drop 1 parts.now)) (env self.old.scope functions.now at) (gathered self.old.gathered))) }
         ensures scope { OnOk result (self.new.scope ≡ self.old.scope) }
     {
         if repeats {

@@ -27,24 +27,24 @@ pub fn go_bodies_are_in_order_of_text()
 
 /// Scripts whose expansion can be read beside the table of forms. The first ones are refused.
 pub fn worked_expansions()
-    ensures unknown_name { expansion_of worked.unknown_name ≡ Err (UnknownName, worked.at 10) }
-    ensures wrong_first_part { expansion_of worked.wrong_first_part ≡ Err (BadArity, worked.at 5) }
-    ensures wrong_form_with_wrong_part { expansion_of worked.wrong_form_with_wrong_part ≡ Err (BadForm, worked.at 1) }
-    ensures recur_before_another { expansion_of worked.recur_before_another ≡ Err (RecurNotTail, worked.at 14) }
-    ensures take_outside_go { expansion_of worked.take_outside_go ≡ Err (ParkOutsideGo, worked.at 1) }
-    ensures blocking_take_in_go { expansion_of worked.blocking_take_in_go ≡ Err (BlockOutsideMain, worked.at 5) }
-    ensures no_argument { expansion_of worked.no_argument ≡ Err (BadArity, worked.at 1) }
-    ensures builtin_defined { expansion_of worked.builtin_defined ≡ Err (Redefined, worked.at 1) }
-    ensures definition_inside { expansion_of worked.definition_inside ≡ Err (BadForm, worked.at 5) }
-    ensures operation_given { expansion_of worked.operation_given ≡ Err (NotPlain, worked.at 8) }
-    ensures unknown_source_and_function { expansion_of worked.unknown_source_and_function ≡ Err (UnknownName, worked.at 6) }
-    ensures seventeen_parameters { expansion_of worked.seventeen_parameters ≡ Err (TooMany, worked.at 1) }
+    ensures unknown_name { expansion_of worked.unknown_name ≡ Err (UnknownName, worked.place_at_column 10) }
+    ensures wrong_first_part { expansion_of worked.wrong_first_part ≡ Err (BadArity, worked.place_at_column 5) }
+    ensures wrong_form_with_wrong_part { expansion_of worked.wrong_form_with_wrong_part ≡ Err (BadForm, worked.place_at_column 1) }
+    ensures recur_before_another { expansion_of worked.recur_before_another ≡ Err (RecurNotTail, worked.place_at_column 14) }
+    ensures take_outside_go { expansion_of worked.take_outside_go ≡ Err (ParkOutsideGo, worked.place_at_column 1) }
+    ensures blocking_take_in_go { expansion_of worked.blocking_take_in_go ≡ Err (BlockOutsideMain, worked.place_at_column 5) }
+    ensures no_argument { expansion_of worked.no_argument ≡ Err (BadArity, worked.place_at_column 1) }
+    ensures builtin_defined { expansion_of worked.builtin_defined ≡ Err (Redefined, worked.place_at_column 1) }
+    ensures definition_inside { expansion_of worked.definition_inside ≡ Err (BadForm, worked.place_at_column 5) }
+    ensures operation_given { expansion_of worked.operation_given ≡ Err (NotPlain, worked.place_at_column 8) }
+    ensures unknown_source_and_function { expansion_of worked.unknown_source_and_function ≡ Err (UnknownName, worked.place_at_column 6) }
+    ensures seventeen_parameters { expansion_of worked.seventeen_parameters ≡ Err (TooMany, worked.place_at_column 1) }
     ensures hidden_parameter { expansion_of worked.hidden_parameter ≡ Ok worked.hidden_parameter_program }
     ensures recur_to_function { expansion_of worked.recur_to_function ≡ Ok worked.recur_to_function_program }
     ensures captures { expansion_of worked.captures ≡ Ok worked.captures_program }
-    ensures go_blocks { expansion_of worked.go_blocks ≡ Ok worked.go_blocks_program }
+    ensures go_blocks { expansion_of worked.nested_go_blocks ≡ Ok worked.go_blocks_program }
     ensures conjunction { expansion_of worked.conjunction ≡ Ok worked.conjunction_program }
-    ensures pattern { expansion_of worked.pattern ≡ Ok worked.pattern_program }
+    ensures pattern { expansion_of worked.worked_pattern ≡ Ok worked.pattern_program }
     ensures loop_over_pattern { expansion_of worked.loop_over_pattern ≡ Ok worked.loop_over_pattern_program }
     ensures counted_loop { expansion_of worked.counted_loop ≡ Ok worked.counted_loop_program }
     ensures choice_with_options { expansion_of worked.choice_with_options ≡ Ok worked.choice_with_options_program }

@@ -1,5 +1,5 @@
 ghost use Rattle.std.specs.Prelude.{◌≡◌, ◌<◌, ◌+◌, ◌^◌, ◌∷◌, ◌++◌};
-ghost use Rattle.ca_check.specs.Words.{IfOk, IfErr, OnOk, [], length, drop, false, true, form_tree, kernel, bound_shape, first_in, only_shape, total_binder, block, done, CheckError, meanings, row_loop, row_while, row_dotimes, row_doseq, loop_parts, loop_names, item_of, gathered, env, parts_of, Fails};
+ghost use Rattle.ca_check.specs.Words.{IfOk, IfErr, OnOk, [], length, drop, false, true, form_tree, kernel, bound_shape, first_in, only_shape, total_binder, block, done, CheckError, meanings, row_loop, row_while, row_dotimes, row_doseq, loop_parts, loop_names, item_of, gathered, env, form_parts, Fails};
 
 use crate::bound::{binder_in, is_bound_shape, is_only_shape};
 use crate::walk::Walker;
@@ -30,8 +30,8 @@ impl Walker {
         parts: &[Form],
     ) -> Result<Made, CheckError>
         requires { 0 < length parts.now }
-        ensures ok { IfOk result (λ t. row_loop place (parts_of (drop 1 parts.now)) (env self.old.scope functions.now at) (gathered self.old.gathered) ≡ done (kernel t) (gathered self.new.gathered)) }
-        ensures err { IfErr result (λ e. Fails e (row_loop place (parts_of (drop 1 parts.now)) (env self.old.scope functions.now at) (gathered self.old.gathered))) }
+        ensures ok { IfOk result (λ t. row_loop place (form_parts (drop 1 parts.now)) (env self.old.scope functions.now at) (gathered self.old.gathered) ≡ done (kernel t) (gathered self.new.gathered)) }
+        ensures err { IfErr result (λ e. Fails e (row_loop place (form_parts (drop 1 parts.now)) (env self.old.scope functions.now at) (gathered self.old.gathered))) }
         ensures scope { OnOk result (self.new.scope ≡ self.old.scope) }
     {
         if parts.len() < 2 {
@@ -53,8 +53,8 @@ impl Walker {
         parts: &[Form],
     ) -> Result<Made, CheckError>
         requires { 1 < length parts.now }
-        ensures ok { IfOk result (λ t. loop_parts place (parts_of (drop 1 parts.now)) (env self.old.scope functions.now at) (gathered self.old.gathered) ≡ done (kernel t) (gathered self.new.gathered)) }
-        ensures err { IfErr result (λ e. Fails e (loop_parts place (parts_of (drop 1 parts.now)) (env self.old.scope functions.now at) (gathered self.old.gathered))) }
+        ensures ok { IfOk result (λ t. loop_parts place (form_parts (drop 1 parts.now)) (env self.old.scope functions.now at) (gathered self.old.gathered) ≡ done (kernel t) (gathered self.new.gathered)) }
+        ensures err { IfErr result (λ e. Fails e (loop_parts place (form_parts (drop 1 parts.now)) (env self.old.scope functions.now at) (gathered self.old.gathered))) }
         ensures scope { OnOk result (self.new.scope ≡ self.old.scope) }
     {
         if have_pattern(&parts[1]) {
@@ -75,8 +75,8 @@ impl Walker {
         parts: &[Form],
     ) -> Result<Made, CheckError>
         requires { 1 < length parts.now }
-        ensures ok { IfOk result (λ t. loop_names place (parts_of (drop 1 parts.now)) (env self.old.scope functions.now at) (gathered self.old.gathered) ≡ done (kernel t) (gathered self.new.gathered)) }
-        ensures err { IfErr result (λ e. Fails e (loop_names place (parts_of (drop 1 parts.now)) (env self.old.scope functions.now at) (gathered self.old.gathered))) }
+        ensures ok { IfOk result (λ t. loop_names place (form_parts (drop 1 parts.now)) (env self.old.scope functions.now at) (gathered self.old.gathered) ≡ done (kernel t) (gathered self.new.gathered)) }
+        ensures err { IfErr result (λ e. Fails e (loop_names place (form_parts (drop 1 parts.now)) (env self.old.scope functions.now at) (gathered self.old.gathered))) }
         ensures scope { OnOk result (self.new.scope ≡ self.old.scope) }
     {
         let first = self.scope.len();
@@ -98,8 +98,8 @@ impl Walker {
         parts: &[Form],
     ) -> Result<Made, CheckError>
         requires { 0 < length parts.now }
-        ensures ok { IfOk result (λ t. row_while place (parts_of (drop 1 parts.now)) (env self.old.scope functions.now at) (gathered self.old.gathered) ≡ done (kernel t) (gathered self.new.gathered)) }
-        ensures err { IfErr result (λ e. Fails e (row_while place (parts_of (drop 1 parts.now)) (env self.old.scope functions.now at) (gathered self.old.gathered))) }
+        ensures ok { IfOk result (λ t. row_while place (form_parts (drop 1 parts.now)) (env self.old.scope functions.now at) (gathered self.old.gathered) ≡ done (kernel t) (gathered self.new.gathered)) }
+        ensures err { IfErr result (λ e. Fails e (row_while place (form_parts (drop 1 parts.now)) (env self.old.scope functions.now at) (gathered self.old.gathered))) }
         ensures scope { OnOk result (self.new.scope ≡ self.old.scope) }
     {
         if parts.len() < 2 {
@@ -124,8 +124,8 @@ impl Walker {
         parts: &[Form],
     ) -> Result<Made, CheckError>
         requires { 0 < length parts.now }
-        ensures ok { IfOk result (λ t. row_dotimes place (parts_of (drop 1 parts.now)) (env self.old.scope functions.now at) (gathered self.old.gathered) ≡ done (kernel t) (gathered self.new.gathered)) }
-        ensures err { IfErr result (λ e. Fails e (row_dotimes place (parts_of (drop 1 parts.now)) (env self.old.scope functions.now at) (gathered self.old.gathered))) }
+        ensures ok { IfOk result (λ t. row_dotimes place (form_parts (drop 1 parts.now)) (env self.old.scope functions.now at) (gathered self.old.gathered) ≡ done (kernel t) (gathered self.new.gathered)) }
+        ensures err { IfErr result (λ e. Fails e (row_dotimes place (form_parts (drop 1 parts.now)) (env self.old.scope functions.now at) (gathered self.old.gathered))) }
         ensures scope { OnOk result (self.new.scope ≡ self.old.scope) }
     {
         if parts.len() < 2 {
@@ -148,9 +148,9 @@ impl Walker {
         parts: &[Form],
     ) -> Result<Made, CheckError>
         requires more { 1 < length parts.now }
-        requires shape { bound_shape false (parts_of (drop 1 parts.now)) ≡ true }
-        ensures ok { IfOk result (λ t. row_dotimes place (parts_of (drop 1 parts.now)) (env self.old.scope functions.now at) (gathered self.old.gathered) ≡ done (kernel t) (gathered self.new.gathered)) }
-        ensures err { IfErr result (λ e. Fails e (row_dotimes place (parts_of (drop 1 parts.now)) (env self.old.scope functions.now at) (gathered self.old.gathered))) }
+        requires shape { bound_shape false (form_parts (drop 1 parts.now)) ≡ true }
+        ensures ok { IfOk result (λ t. row_dotimes place (form_parts (drop 1 parts.now)) (env self.old.scope functions.now at) (gathered self.old.gathered) ≡ done (kernel t) (gathered self.new.gathered)) }
+        ensures err { IfErr result (λ e. Fails e (row_dotimes place (form_parts (drop 1 parts.now)) (env self.old.scope functions.now at) (gathered self.old.gathered))) }
         ensures scope { OnOk result (self.new.scope ≡ self.old.scope) }
     {
         let first = self.scope.len();
@@ -176,8 +176,8 @@ impl Walker {
         parts: &[Form],
     ) -> Result<Made, CheckError>
         requires { 0 < length parts.now }
-        ensures ok { IfOk result (λ t. row_doseq place (parts_of (drop 1 parts.now)) (env self.old.scope functions.now at) (gathered self.old.gathered) ≡ done (kernel t) (gathered self.new.gathered)) }
-        ensures err { IfErr result (λ e. Fails e (row_doseq place (parts_of (drop 1 parts.now)) (env self.old.scope functions.now at) (gathered self.old.gathered))) }
+        ensures ok { IfOk result (λ t. row_doseq place (form_parts (drop 1 parts.now)) (env self.old.scope functions.now at) (gathered self.old.gathered) ≡ done (kernel t) (gathered self.new.gathered)) }
+        ensures err { IfErr result (λ e. Fails e (row_doseq place (form_parts (drop 1 parts.now)) (env self.old.scope functions.now at) (gathered self.old.gathered))) }
         ensures scope { OnOk result (self.new.scope ≡ self.old.scope) }
     {
         if parts.len() < 2 {
@@ -200,9 +200,9 @@ impl Walker {
         parts: &[Form],
     ) -> Result<Made, CheckError>
         requires more { 1 < length parts.now }
-        requires shape { only_shape (parts_of (drop 1 parts.now)) ≡ true }
-        ensures ok { IfOk result (λ t. row_doseq place (parts_of (drop 1 parts.now)) (env self.old.scope functions.now at) (gathered self.old.gathered) ≡ done (kernel t) (gathered self.new.gathered)) }
-        ensures err { IfErr result (λ e. Fails e (row_doseq place (parts_of (drop 1 parts.now)) (env self.old.scope functions.now at) (gathered self.old.gathered))) }
+        requires shape { only_shape (form_parts (drop 1 parts.now)) ≡ true }
+        ensures ok { IfOk result (λ t. row_doseq place (form_parts (drop 1 parts.now)) (env self.old.scope functions.now at) (gathered self.old.gathered) ≡ done (kernel t) (gathered self.new.gathered)) }
+        ensures err { IfErr result (λ e. Fails e (row_doseq place (form_parts (drop 1 parts.now)) (env self.old.scope functions.now at) (gathered self.old.gathered))) }
         ensures scope { OnOk result (self.new.scope ≡ self.old.scope) }
     {
         let first = self.scope.next_number();
@@ -250,8 +250,8 @@ impl Walker {
     ) -> Result<Made, CheckError>
         requires more { 1 < length parts.now }
         requires number { vector + 2 < 2 ^ 64 }
-        ensures ok { IfOk result (λ t. item_of (total_binder (first_in (form_tree bindings.now))) vector (vector + 2) (block (meanings (parts_of (drop 2 parts.now)))) place (env self.old.scope functions.now at) (gathered self.old.gathered) ≡ done (kernel t) (gathered self.new.gathered)) }
-        ensures err { IfErr result (λ e. Fails e (item_of (total_binder (first_in (form_tree bindings.now))) vector (vector + 2) (block (meanings (parts_of (drop 2 parts.now)))) place (env self.old.scope functions.now at) (gathered self.old.gathered))) }
+        ensures ok { IfOk result (λ t. item_of (total_binder (first_in (form_tree bindings.now))) vector (vector + 2) (block (meanings (form_parts (drop 2 parts.now)))) place (env self.old.scope functions.now at) (gathered self.old.gathered) ≡ done (kernel t) (gathered self.new.gathered)) }
+        ensures err { IfErr result (λ e. Fails e (item_of (total_binder (first_in (form_tree bindings.now))) vector (vector + 2) (block (meanings (form_parts (drop 2 parts.now)))) place (env self.old.scope functions.now at) (gathered self.old.gathered))) }
         ensures scope { OnOk result (self.new.scope ≡ self.old.scope) }
     {
         let binder = binder_in(bindings);

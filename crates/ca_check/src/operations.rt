@@ -1,5 +1,5 @@
 ghost use Rattle.std.specs.Prelude.{◌≡◌, ◌≤◌, ◌<◌, ◌+◌, ◌∷◌, ◌++◌};
-ghost use Rattle.ca_check.specs.Words.{true, IfOk, IfErr, OnOk, [], length, drop, List, list, Alts, kernel, form_tree, operands_in, row_chan, with_buffer, inner, operation, done, after, meanings, is_planned, planned_row, and_yes, walk, row, within, gathered, env, parts_of, pairs_of, terms_of, Fails};
+ghost use Rattle.ca_check.specs.Words.{true, IfOk, IfErr, OnOk, [], length, drop, List, list, Alts, kernel, form_tree, operands_in, row_chan, buffered_channel, inner, operation, done, after_walk, meanings, is_planned, planned_row, and_yes, walk, special_row, within, gathered, env, form_parts, form_pairs, terms_of, Fails};
 
 use crate::walk::Walker;
 use ca_forms::context::At;
@@ -30,8 +30,8 @@ impl Walker {
     ) -> Result<Made, CheckError>
         requires some { 0 < length parts.now }
         requires planned { is_planned special ≡ true }
-        ensures ok { IfOk result (λ t. row special place (parts_of (drop 1 parts.now)) (env self.old.scope functions.now at) (gathered self.old.gathered) ≡ done (kernel t) (gathered self.new.gathered)) }
-        ensures err { IfErr result (λ e. Fails e (row special place (parts_of (drop 1 parts.now)) (env self.old.scope functions.now at) (gathered self.old.gathered))) }
+        ensures ok { IfOk result (λ t. special_row special place (form_parts (drop 1 parts.now)) (env self.old.scope functions.now at) (gathered self.old.gathered) ≡ done (kernel t) (gathered self.new.gathered)) }
+        ensures err { IfErr result (λ e. Fails e (special_row special place (form_parts (drop 1 parts.now)) (env self.old.scope functions.now at) (gathered self.old.gathered))) }
         ensures scope { OnOk result (self.new.scope ≡ self.old.scope) }
     {
         let plan = plan_of(special, at.context, parts);
@@ -50,8 +50,8 @@ impl Walker {
         parts: &[Form],
     ) -> Result<Made, CheckError>
         requires { 0 < length parts.now }
-        ensures ok { IfOk result (λ t. planned_row plan place (parts_of (drop 1 parts.now)) (env self.old.scope functions.now at) (gathered self.old.gathered) ≡ done (kernel t) (gathered self.new.gathered)) }
-        ensures err { IfErr result (λ e. Fails e (planned_row plan place (parts_of (drop 1 parts.now)) (env self.old.scope functions.now at) (gathered self.old.gathered))) }
+        ensures ok { IfOk result (λ t. planned_row plan place (form_parts (drop 1 parts.now)) (env self.old.scope functions.now at) (gathered self.old.gathered) ≡ done (kernel t) (gathered self.new.gathered)) }
+        ensures err { IfErr result (λ e. Fails e (planned_row plan place (form_parts (drop 1 parts.now)) (env self.old.scope functions.now at) (gathered self.old.gathered))) }
         ensures scope { OnOk result (self.new.scope ≡ self.old.scope) }
     {
         match plan {
@@ -89,8 +89,8 @@ impl Walker {
         parts: &[Form],
     ) -> Result<Made, CheckError>
         requires { 0 < length parts.now }
-        ensures ok { IfOk result (λ t. operation head (and_yes true (meanings (parts_of (drop 1 parts.now)))) place (env self.old.scope functions.now at) (gathered self.old.gathered) ≡ done (kernel t) (gathered self.new.gathered)) }
-        ensures err { IfErr result (λ e. Fails e (operation head (and_yes true (meanings (parts_of (drop 1 parts.now)))) place (env self.old.scope functions.now at) (gathered self.old.gathered))) }
+        ensures ok { IfOk result (λ t. operation head (and_yes true (meanings (form_parts (drop 1 parts.now)))) place (env self.old.scope functions.now at) (gathered self.old.gathered) ≡ done (kernel t) (gathered self.new.gathered)) }
+        ensures err { IfErr result (λ e. Fails e (operation head (and_yes true (meanings (form_parts (drop 1 parts.now)))) place (env self.old.scope functions.now at) (gathered self.old.gathered))) }
         ensures scope { OnOk result (self.new.scope ≡ self.old.scope) }
     {
         let terms = self.in_order(alloc, functions, at.inner(), parts, 1)?;
@@ -108,7 +108,7 @@ impl Walker {
         terms: Seq<Made>,
         form: &Form,
     ) -> Result<Seq<Made>, CheckError>
-        ensures ok { IfOk result (λ t. after (walk (form_tree form.now) (inner (env self.old.scope functions.now at)) (gathered self.old.gathered)) (λ k s. done (terms_of (list terms) ++ k ∷ []) s) ≡ done (terms_of (list t)) (gathered self.new.gathered)) }
+        ensures ok { IfOk result (λ t. after_walk (walk (form_tree form.now) (inner (env self.old.scope functions.now at)) (gathered self.old.gathered)) (λ k s. done (terms_of (list terms) ++ k ∷ []) s) ≡ done (terms_of (list t)) (gathered self.new.gathered)) }
         ensures err { IfErr result (λ e. Fails e (walk (form_tree form.now) (inner (env self.old.scope functions.now at)) (gathered self.old.gathered))) }
         ensures scope { OnOk result (self.new.scope ≡ self.old.scope) }
     {
@@ -128,8 +128,8 @@ impl Walker {
         parts: &[Form],
     ) -> Result<Made, CheckError>
         requires { 0 < length parts.now }
-        ensures ok { IfOk result (λ t. operation (Alts options) (operands_in (parts_of (drop 1 parts.now))) place (env self.old.scope functions.now at) (gathered self.old.gathered) ≡ done (kernel t) (gathered self.new.gathered)) }
-        ensures err { IfErr result (λ e. Fails e (operation (Alts options) (operands_in (parts_of (drop 1 parts.now))) place (env self.old.scope functions.now at) (gathered self.old.gathered))) }
+        ensures ok { IfOk result (λ t. operation (Alts options) (operands_in (form_parts (drop 1 parts.now))) place (env self.old.scope functions.now at) (gathered self.old.gathered) ≡ done (kernel t) (gathered self.new.gathered)) }
+        ensures err { IfErr result (λ e. Fails e (operation (Alts options) (operands_in (form_parts (drop 1 parts.now))) place (env self.old.scope functions.now at) (gathered self.old.gathered))) }
         ensures scope { OnOk result (self.new.scope ≡ self.old.scope) }
     {
         if 6 <= parts.len() {
@@ -160,8 +160,8 @@ impl Walker {
         from: usize,
     ) -> Result<Made, CheckError>
         requires { from ≤ length parts.now }
-        ensures ok { IfOk result (λ t. row_chan place (parts_of (drop from parts.now)) (env self.old.scope functions.now at) (gathered self.old.gathered) ≡ done (kernel t) (gathered self.new.gathered)) }
-        ensures err { IfErr result (λ e. Fails e (row_chan place (parts_of (drop from parts.now)) (env self.old.scope functions.now at) (gathered self.old.gathered))) }
+        ensures ok { IfOk result (λ t. row_chan place (form_parts (drop from parts.now)) (env self.old.scope functions.now at) (gathered self.old.gathered) ≡ done (kernel t) (gathered self.new.gathered)) }
+        ensures err { IfErr result (λ e. Fails e (row_chan place (form_parts (drop from parts.now)) (env self.old.scope functions.now at) (gathered self.old.gathered))) }
         ensures scope { OnOk result (self.new.scope ≡ self.old.scope) }
     {
         let count = parts.len() - from;
@@ -204,8 +204,8 @@ impl Walker {
         place: Place,
         buffer: &Form,
     ) -> Result<Made, CheckError>
-        ensures ok { IfOk result (λ t. with_buffer kind (within (form_tree buffer.now)) place (env self.old.scope functions.now at) (gathered self.old.gathered) ≡ done (kernel t) (gathered self.new.gathered)) }
-        ensures err { IfErr result (λ e. Fails e (with_buffer kind (within (form_tree buffer.now)) place (env self.old.scope functions.now at) (gathered self.old.gathered))) }
+        ensures ok { IfOk result (λ t. buffered_channel kind (within (form_tree buffer.now)) place (env self.old.scope functions.now at) (gathered self.old.gathered) ≡ done (kernel t) (gathered self.new.gathered)) }
+        ensures err { IfErr result (λ e. Fails e (buffered_channel kind (within (form_tree buffer.now)) place (env self.old.scope functions.now at) (gathered self.old.gathered))) }
         ensures scope { OnOk result (self.new.scope ≡ self.old.scope) }
     {
         match &buffer.shape {
@@ -254,8 +254,8 @@ impl Walker {
         place: Place,
         items: &[Form],
     ) -> Result<Made, CheckError>
-        ensures ok { IfOk result (λ t. with_buffer kind (pairs_of items.now) place (env self.old.scope functions.now at) (gathered self.old.gathered) ≡ done (kernel t) (gathered self.new.gathered)) }
-        ensures err { IfErr result (λ e. Fails e (with_buffer kind (pairs_of items.now) place (env self.old.scope functions.now at) (gathered self.old.gathered))) }
+        ensures ok { IfOk result (λ t. buffered_channel kind (form_pairs items.now) place (env self.old.scope functions.now at) (gathered self.old.gathered) ≡ done (kernel t) (gathered self.new.gathered)) }
+        ensures err { IfErr result (λ e. Fails e (buffered_channel kind (form_pairs items.now) place (env self.old.scope functions.now at) (gathered self.old.gathered))) }
         ensures scope { OnOk result (self.new.scope ≡ self.old.scope) }
     {
         if items.len() == 2 {

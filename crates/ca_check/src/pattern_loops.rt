@@ -1,5 +1,5 @@
 ghost use Rattle.std.specs.Prelude.{◌≡◌, ◌≤◌, ◌<◌, ◌+◌, ◌++◌};
-ghost use Rattle.ca_check.specs.Words.{suc, IfOk, IfErr, OnOk, length, drop, get_or, true, Form, list_any, list, kernel, form_tree, form_trees, CheckError, widths, again_terms, whole_names, binders_of, again_row, is_pattern, width, patterns, total_binder, total_bounds, block, lets, done, meanings, binders, loop_parts, pattern_names, pattern_parts, AreCounted, within, gathered, env, parts_of, pairs_of, terms_of, Fails};
+ghost use Rattle.ca_check.specs.Words.{suc, IfOk, IfErr, OnOk, length, drop, get_or, true, Form, list_any, list, kernel, form_tree, form_trees, CheckError, widths, again_terms, whole_names, binders_of, again_row, is_pattern, width, patterns, total_binder, total_bounds, block, lets, done, meanings, binders, loop_parts, pattern_names, pattern_parts, AreCounted, within, gathered, env, form_parts, form_pairs, terms_of, Fails};
 
 use crate::walk::Walker;
 use ca_forms::context::At;
@@ -15,7 +15,7 @@ use std::alloc::Global;
 
 // The forms in the brackets of a form.
 fn items_in(form: &Form) -> &[Form]
-    ensures { pairs_of result.now ≡ within (form_tree form.now) }
+    ensures { form_pairs result.now ≡ within (form_tree form.now) }
 {
     match &form.shape {
         Shape::List(items) => items.as_slice(),
@@ -104,8 +104,8 @@ impl Walker {
     ) -> Result<Made, CheckError>
         requires more { 1 < length parts.now }
         requires some { (b : Form) → b ≡ get_or parts.now 1 b → list_any is_pattern (binders (total_bounds (within (form_tree b)))) ≡ true }
-        ensures ok { IfOk result (λ t. loop_parts place (parts_of (drop 1 parts.now)) (env self.old.scope functions.now at) (gathered self.old.gathered) ≡ done (kernel t) (gathered self.new.gathered)) }
-        ensures err { IfErr result (λ e. Fails e (loop_parts place (parts_of (drop 1 parts.now)) (env self.old.scope functions.now at) (gathered self.old.gathered))) }
+        ensures ok { IfOk result (λ t. loop_parts place (form_parts (drop 1 parts.now)) (env self.old.scope functions.now at) (gathered self.old.gathered) ≡ done (kernel t) (gathered self.new.gathered)) }
+        ensures err { IfErr result (λ e. Fails e (loop_parts place (form_parts (drop 1 parts.now)) (env self.old.scope functions.now at) (gathered self.old.gathered))) }
         ensures scope { OnOk result (self.new.scope ≡ self.old.scope) }
     {
         let first = self.scope.len();
@@ -132,8 +132,8 @@ impl Walker {
         requires more { 1 < length parts.now }
         requires room { bound + widths (binders_of items.now) ≤ length self.old.scope }
         requires patterns { AreCounted (binders_of items.now) }
-        ensures ok { IfOk result (λ t. again_row bound place (total_bounds (pairs_of items.now)) (block (meanings (parts_of (drop 2 parts.now)))) (env self.old.scope functions.now at) (gathered self.old.gathered) ≡ done (kernel t) (gathered self.new.gathered)) }
-        ensures err { IfErr result (λ e. Fails e (again_row bound place (total_bounds (pairs_of items.now)) (block (meanings (parts_of (drop 2 parts.now)))) (env self.old.scope functions.now at) (gathered self.old.gathered))) }
+        ensures ok { IfOk result (λ t. again_row bound place (total_bounds (form_pairs items.now)) (block (meanings (form_parts (drop 2 parts.now)))) (env self.old.scope functions.now at) (gathered self.old.gathered) ≡ done (kernel t) (gathered self.new.gathered)) }
+        ensures err { IfErr result (λ e. Fails e (again_row bound place (total_bounds (form_pairs items.now)) (block (meanings (form_parts (drop 2 parts.now)))) (env self.old.scope functions.now at) (gathered self.old.gathered))) }
         ensures scope { OnOk result (self.new.scope ≡ self.old.scope) }
     {
         let first = self.scope.len();
@@ -160,8 +160,8 @@ impl Walker {
         requires more { 1 < length parts.now }
         requires room { whole + length (binders_of items.now) ≤ length self.old.scope }
         requires patterns { AreCounted (binders_of items.now) }
-        ensures ok { IfOk result (λ t. lets (patterns place whole (binders_of items.now)) (block (meanings (parts_of (drop 2 parts.now)))) (env self.old.scope functions.now at) (gathered self.old.gathered) ≡ done (kernel t) (gathered self.new.gathered)) }
-        ensures err { IfErr result (λ e. Fails e (lets (patterns place whole (binders_of items.now)) (block (meanings (parts_of (drop 2 parts.now)))) (env self.old.scope functions.now at) (gathered self.old.gathered))) }
+        ensures ok { IfOk result (λ t. lets (patterns place whole (binders_of items.now)) (block (meanings (form_parts (drop 2 parts.now)))) (env self.old.scope functions.now at) (gathered self.old.gathered) ≡ done (kernel t) (gathered self.new.gathered)) }
+        ensures err { IfErr result (λ e. Fails e (lets (patterns place whole (binders_of items.now)) (block (meanings (form_parts (drop 2 parts.now)))) (env self.old.scope functions.now at) (gathered self.old.gathered))) }
         ensures scope { OnOk result (self.new.scope ≡ self.old.scope) }
     {
         let size = self.scope.len();

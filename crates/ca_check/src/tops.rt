@@ -1,5 +1,5 @@
 ghost use Rattle.std.specs.Prelude.{◌≡◌, ◌≤◌, ◌<◌, ◌+◌, ◌||◌, ◌&&◌};
-ghost use Rattle.ca_check.specs.Words.{nat_lt, List, [], length, drop, false, IfOk, IfErr, OnOk, list, nil, bind, const, empty, program_view, kernel, bindings, form_tree, CheckError, Meaning, Part, is_defining, is_taken, list_top, bound_top, one_top, def_top, defn_top, function, tops_of, written_as, kind_top, is_defining_kind, Behind, Leads, Stops, form_top, nothing_defined, nothing_gathered, walk, gathered, parts_of};
+ghost use Rattle.ca_check.specs.Words.{nat_lt, List, [], length, drop, false, IfOk, IfErr, OnOk, list, nil, bind, const, empty, program_view, kernel, bindings, form_tree, CheckError, Meaning, Part, is_defining, is_taken, list_top, bound_top, one_top, def_top, defn_top, function, tops_of, written_as, kind_top, is_defining_kind, Behind, FormLeads, Stops, form_top, nothing_defined, nothing_gathered, walk, gathered, form_parts};
 
 use crate::definitions::Definitions;
 use crate::defn::{Defn, list_items, top_name, word_at_head};
@@ -108,7 +108,7 @@ impl Expansion {
     /// Goes on with the top-level form that so many others stand before.
     pub fn form(&mut self, alloc: Global, number: u64, form: &Form) -> Result<(), CheckError>
         requires { Behind number self.old }
-        ensures ok { OnOk result (Leads (form_top number (form_tree form.now)) self.old self.new) }
+        ensures ok { OnOk result (FormLeads (form_top number (form_tree form.now)) self.old self.new) }
         ensures err { IfErr result (λ e. Stops e (form_top number (form_tree form.now)) self.old) }
         ensures behind { OnOk result (Behind (number + 1) self.new) }
     {
@@ -136,8 +136,8 @@ impl Expansion {
     ) -> Result<(), CheckError>
         requires behind { Behind number self.old }
         requires first { number ≤ 4095 }
-        ensures ok { OnOk result (Leads (one_top (def_top (parts_of (drop 1 parts.now))) place) self.old self.new) }
-        ensures err { IfErr result (λ e. Stops e (one_top (def_top (parts_of (drop 1 parts.now))) place) self.old) }
+        ensures ok { OnOk result (FormLeads (one_top (def_top (form_parts (drop 1 parts.now))) place) self.old self.new) }
+        ensures err { IfErr result (λ e. Stops e (one_top (def_top (form_parts (drop 1 parts.now))) place) self.old) }
         ensures behind { OnOk result (Behind (number + 1) self.new) }
     {
         match parts {
@@ -168,7 +168,7 @@ impl Expansion {
         requires behind { Behind number self.old }
         requires first { number ≤ 4095 }
         requires one { defined ≤ 1 }
-        ensures ok { OnOk result (Leads (bound_top name.now (walk (form_tree form.now)) defined place) self.old self.new) }
+        ensures ok { OnOk result (FormLeads (bound_top name.now (walk (form_tree form.now)) defined place) self.old self.new) }
         ensures err { IfErr result (λ e. Stops e (bound_top name.now (walk (form_tree form.now)) defined place) self.old) }
         ensures behind { OnOk result (Behind (number + 1) self.new) }
     {
@@ -200,8 +200,8 @@ impl Expansion {
     ) -> Result<(), CheckError>
         requires behind { Behind number self.old }
         requires first { number ≤ 4095 }
-        ensures ok { OnOk result (Leads (one_top (defn_top (parts_of (drop 1 parts.now))) place) self.old self.new) }
-        ensures err { IfErr result (λ e. Stops e (one_top (defn_top (parts_of (drop 1 parts.now))) place) self.old) }
+        ensures ok { OnOk result (FormLeads (one_top (defn_top (form_parts (drop 1 parts.now))) place) self.old self.new) }
+        ensures err { IfErr result (λ e. Stops e (one_top (defn_top (form_parts (drop 1 parts.now))) place) self.old) }
         ensures behind { OnOk result (Behind (number + 1) self.new) }
     {
         match Defn::of(parts) {
@@ -219,7 +219,7 @@ impl Expansion {
     ) -> Result<(), CheckError>
         requires behind { Behind number self.old }
         requires first { number ≤ 4095 }
-        ensures ok { OnOk result (Leads (one_top (function (written_as defn.now)) place) self.old self.new) }
+        ensures ok { OnOk result (FormLeads (one_top (function (written_as defn.now)) place) self.old self.new) }
         ensures err { IfErr result (λ e. Stops e (one_top (function (written_as defn.now)) place) self.old) }
         ensures behind { OnOk result (Behind (number + 1) self.new) }
     {

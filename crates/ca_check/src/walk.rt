@@ -1,5 +1,5 @@
 ghost use Rattle.std.specs.Prelude.{◌≡◌, ◌≤◌, ◌<◌, ◌+◌, ◌++◌};
-ghost use Rattle.ca_check.specs.Words.{IfOk, IfErr, OnOk, length, map, drop, take, List, ℕ, list, kernel, kernels, form_tree, done, bound_names, Signature, binds, numbered, unnamed, before_others, in_order, operation, block, counted, meanings, row_recur, walk, row, row_list, row_group, gathered, env, parts_of, terms_of, Fails};
+ghost use Rattle.ca_check.specs.Words.{IfOk, IfErr, OnOk, length, map, drop, take, List, ℕ, list, kernel, kernels, form_tree, done, bound_names, Signature, binds, numbered, unnamed, before_others, means_in_order, operation, block, counted, meanings, row_recur, walk, special_row, row_list, row_group, gathered, env, form_parts, terms_of, Fails};
 
 use ca_forms::context::At;
 use ca_forms::error::{CheckError, CheckErrorKind};
@@ -89,8 +89,8 @@ impl Walker {
         place: Place,
         parts: &[Form],
     ) -> Result<Made, CheckError>
-        ensures ok { IfOk result (λ t. counted (length (parts_of parts.now)) place (row_group bracket (parts_of parts.now) place) (env self.old.scope functions.now at) (gathered self.old.gathered) ≡ done (kernel t) (gathered self.new.gathered)) }
-        ensures err { IfErr result (λ e. Fails e (counted (length (parts_of parts.now)) place (row_group bracket (parts_of parts.now) place) (env self.old.scope functions.now at) (gathered self.old.gathered))) }
+        ensures ok { IfOk result (λ t. counted (length (form_parts parts.now)) place (row_group bracket (form_parts parts.now) place) (env self.old.scope functions.now at) (gathered self.old.gathered) ≡ done (kernel t) (gathered self.new.gathered)) }
+        ensures err { IfErr result (λ e. Fails e (counted (length (form_parts parts.now)) place (row_group bracket (form_parts parts.now) place) (env self.old.scope functions.now at) (gathered self.old.gathered))) }
         ensures scope { OnOk result (self.new.scope ≡ self.old.scope) }
     {
         if 4096 < parts.len() {
@@ -128,8 +128,8 @@ impl Walker {
         place: Place,
         parts: &[Form],
     ) -> Result<Made, CheckError>
-        ensures ok { IfOk result (λ t. row_list (parts_of parts.now) place (env self.old.scope functions.now at) (gathered self.old.gathered) ≡ done (kernel t) (gathered self.new.gathered)) }
-        ensures err { IfErr result (λ e. Fails e (row_list (parts_of parts.now) place (env self.old.scope functions.now at) (gathered self.old.gathered))) }
+        ensures ok { IfOk result (λ t. row_list (form_parts parts.now) place (env self.old.scope functions.now at) (gathered self.old.gathered) ≡ done (kernel t) (gathered self.new.gathered)) }
+        ensures err { IfErr result (λ e. Fails e (row_list (form_parts parts.now) place (env self.old.scope functions.now at) (gathered self.old.gathered))) }
         ensures scope { OnOk result (self.new.scope ≡ self.old.scope) }
     {
         if parts.len() == 0 {
@@ -166,8 +166,8 @@ impl Walker {
         parts: &[Form],
     ) -> Result<Made, CheckError>
         requires { 0 < length parts.now }
-        ensures ok { IfOk result (λ t. row special place (parts_of (drop 1 parts.now)) (env self.old.scope functions.now at) (gathered self.old.gathered) ≡ done (kernel t) (gathered self.new.gathered)) }
-        ensures err { IfErr result (λ e. Fails e (row special place (parts_of (drop 1 parts.now)) (env self.old.scope functions.now at) (gathered self.old.gathered))) }
+        ensures ok { IfOk result (λ t. special_row special place (form_parts (drop 1 parts.now)) (env self.old.scope functions.now at) (gathered self.old.gathered) ≡ done (kernel t) (gathered self.new.gathered)) }
+        ensures err { IfErr result (λ e. Fails e (special_row special place (form_parts (drop 1 parts.now)) (env self.old.scope functions.now at) (gathered self.old.gathered))) }
         ensures scope { OnOk result (self.new.scope ≡ self.old.scope) }
     {
         match special {
@@ -245,8 +245,8 @@ impl Walker {
         parts: &[Form],
     ) -> Result<Made, CheckError>
         requires { 0 < length parts.now }
-        ensures ok { IfOk result (λ t. row_recur place (parts_of (drop 1 parts.now)) (env self.old.scope functions.now at) (gathered self.old.gathered) ≡ done (kernel t) (gathered self.new.gathered)) }
-        ensures err { IfErr result (λ e. Fails e (row_recur place (parts_of (drop 1 parts.now)) (env self.old.scope functions.now at) (gathered self.old.gathered))) }
+        ensures ok { IfOk result (λ t. row_recur place (form_parts (drop 1 parts.now)) (env self.old.scope functions.now at) (gathered self.old.gathered) ≡ done (kernel t) (gathered self.new.gathered)) }
+        ensures err { IfErr result (λ e. Fails e (row_recur place (form_parts (drop 1 parts.now)) (env self.old.scope functions.now at) (gathered self.old.gathered))) }
         ensures scope { OnOk result (self.new.scope ≡ self.old.scope) }
     {
         match at.target {
@@ -272,8 +272,8 @@ impl Walker {
         from: usize,
     ) -> Result<Made, CheckError>
         requires { from ≤ length parts.now }
-        ensures ok { IfOk result (λ t. block (meanings (parts_of (drop from parts.now))) (env self.old.scope functions.now at) (gathered self.old.gathered) ≡ done (kernel t) (gathered self.new.gathered)) }
-        ensures err { IfErr result (λ e. Fails e (block (meanings (parts_of (drop from parts.now))) (env self.old.scope functions.now at) (gathered self.old.gathered))) }
+        ensures ok { IfOk result (λ t. block (meanings (form_parts (drop from parts.now))) (env self.old.scope functions.now at) (gathered self.old.gathered) ≡ done (kernel t) (gathered self.new.gathered)) }
+        ensures err { IfErr result (λ e. Fails e (block (meanings (form_parts (drop from parts.now))) (env self.old.scope functions.now at) (gathered self.old.gathered))) }
         ensures scope { OnOk result (self.new.scope ≡ self.old.scope) }
     {
         if from == parts.len() {
@@ -296,8 +296,8 @@ impl Walker {
         place: Place,
     ) -> Result<Made, CheckError>
         requires { from ≤ length parts.now }
-        ensures ok { IfOk result (λ t. operation head (meanings (parts_of (drop from parts.now))) place (env self.old.scope functions.now at) (gathered self.old.gathered) ≡ done (kernel t) (gathered self.new.gathered)) }
-        ensures err { IfErr result (λ e. Fails e (operation head (meanings (parts_of (drop from parts.now))) place (env self.old.scope functions.now at) (gathered self.old.gathered))) }
+        ensures ok { IfOk result (λ t. operation head (meanings (form_parts (drop from parts.now))) place (env self.old.scope functions.now at) (gathered self.old.gathered) ≡ done (kernel t) (gathered self.new.gathered)) }
+        ensures err { IfErr result (λ e. Fails e (operation head (meanings (form_parts (drop from parts.now))) place (env self.old.scope functions.now at) (gathered self.old.gathered))) }
         ensures scope { OnOk result (self.new.scope ≡ self.old.scope) }
     {
         let terms = self.in_order(alloc, functions, at.inner(), parts, from)?;
@@ -315,8 +315,8 @@ impl Walker {
         from: usize,
     ) -> Result<Seq<Made>, CheckError>
         requires { from ≤ length parts.now }
-        ensures ok { IfOk result (λ t. in_order (meanings (parts_of (drop from parts.now))) (env self.old.scope functions.now at) (gathered self.old.gathered) ≡ done (kernels (list t)) (gathered self.new.gathered)) }
-        ensures err { IfErr result (λ e. Fails e (in_order (meanings (parts_of (drop from parts.now))) (env self.old.scope functions.now at) (gathered self.old.gathered))) }
+        ensures ok { IfOk result (λ t. means_in_order (meanings (form_parts (drop from parts.now))) (env self.old.scope functions.now at) (gathered self.old.gathered) ≡ done (kernels (list t)) (gathered self.new.gathered)) }
+        ensures err { IfErr result (λ e. Fails e (means_in_order (meanings (form_parts (drop from parts.now))) (env self.old.scope functions.now at) (gathered self.old.gathered))) }
         ensures scope { OnOk result (self.new.scope ≡ self.old.scope) }
     {
         let mut terms = Seq::new(alloc);
@@ -341,9 +341,9 @@ impl Walker {
         to: usize,
     ) -> Result<Seq<Made>, CheckError>
         requires { (from ≤ to) × (to ≤ length parts.now) }
-        ensures ok { IfOk result (λ t. binds (map unnamed (meanings (parts_of (drop from (take to parts.now))))) (env self.old.scope functions.now at) (gathered self.old.gathered) ≡ done (numbered (length self.old.scope) (terms_of (list t))) (gathered self.new.gathered)) }
-        ensures err { IfErr result (λ e. Fails e (binds (map unnamed (meanings (parts_of (drop from (take to parts.now))))) (env self.old.scope functions.now at) (gathered self.old.gathered))) }
-        ensures names { OnOk result (self.new.scope ≡ self.old.scope ++ bound_names (map unnamed (meanings (parts_of (drop from (take to parts.now)))))) }
+        ensures ok { IfOk result (λ t. binds (map unnamed (meanings (form_parts (drop from (take to parts.now))))) (env self.old.scope functions.now at) (gathered self.old.gathered) ≡ done (numbered (length self.old.scope) (terms_of (list t))) (gathered self.new.gathered)) }
+        ensures err { IfErr result (λ e. Fails e (binds (map unnamed (meanings (form_parts (drop from (take to parts.now))))) (env self.old.scope functions.now at) (gathered self.old.gathered))) }
+        ensures names { OnOk result (self.new.scope ≡ self.old.scope ++ bound_names (map unnamed (meanings (form_parts (drop from (take to parts.now)))))) }
         ensures longer { IfOk result (λ t. length self.new.scope ≡ length self.old.scope + length (list t)) }
     {
         let mut values = Seq::new(alloc);

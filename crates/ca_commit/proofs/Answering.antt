@@ -9,12 +9,12 @@ use Rattle.ca_meaning.specs.Registry.{Registry}
 use Rattle.ca_meaning.specs.Task.{TaskBody}
 use Rattle.ca_meaning.specs.Refusal.{too_many}
 use Rattle.ca_meaning.specs.State.{State, runs}
-use Rattle.ca_meaning.specs.Going.{Stands as StandsAt}
+use Rattle.ca_meaning.specs.Going.{RunsAtOperation as StandsAt}
 use Rattle.ca_commit.specs.Contents.{Kept, LaneView, Parts, alive_in, whole}
-use Rattle.ca_commit.specs.Holds.{Holds}
+use Rattle.ca_commit.specs.Holds.{KeepsChannels}
 use Rattle.ca_commit.specs.Moves.{Answers, Stays}
 use Rattle.ca_commit.specs.Seated.{Seated}
-use Rattle.ca_commit.specs.Stands.{Stands, ports_of, tasks_of}
+use Rattle.ca_commit.specs.Stands.{Stands, port_count, task_count}
 use Rattle.ca_commit.proofs.AgentLaws.{GoesOn, TakesAnswers}
 use Rattle.ca_commit.proofs.Fitting.{fits}
 use Rattle.ca_commit.proofs.Laid.{IsPart, laid, laid_parts, untouched}
@@ -30,18 +30,18 @@ module _ {A : Type 0} (place : A → At) (stands : ProgramView → A → Option 
       → (st : Stands place stands program n now s) → (part : IsPart old now) → (a : Answers place advances gives w t op v old new) → (g : WentTask place stands program n advances goes_on_law gives answers_law s.tasks t op a.at v a.agent2)
       → a.stands.lane2.counts ≡ a.stands.lane.counts → s2.tasks ≡ update eqb s.tasks t (Some (runs g.0.result g.4.0)) → s2.waits ≡ s.waits → s2.used ≡ s.used → s2.deadlines ≡ s.deadlines → s2.now ≡ s.now
       → whole (laid now.bank new.bank) ≡ ports → whole (laid now.registry new.registry) ≡ registries → Stays old.shard new.shard → Stays old.ready new.ready → new.timers ≡ old.timers
-      → Holds ports (alive_in now) s2.channels s.waits s.used → ((p : ℕ) → s2.registries p ≡ registries p)
-      → From n ports_of (update eqb now.lane w (Some a.stands.lane2)) s.channels s2.channels → From n ports_of (update eqb now.lane w (Some a.stands.lane2)) s.registries s2.registries
+      → KeepsChannels ports (alive_in now) s2.channels s.waits s.used → ((p : ℕ) → s2.registries p ≡ registries p)
+      → From n port_count (update eqb now.lane w (Some a.stands.lane2)) s.channels s2.channels → From n port_count (update eqb now.lane w (Some a.stands.lane2)) s.registries s2.registries
       → Stands place stands program n (laid_parts now new) s2
   goes_to now old new s s2 w t op v ports registries st part a g counts tasks waits used deadlines moment banks regs shards readys clock holds registered chans rs =
       lands place stands program n now old new s s2 w l l2 ports registries (whole now.shard) now.ready now.timers st part a.stands.lanes a.stands.program_stays banks regs
       (unaltered now.shard old.shard new.shard part.shards shards) (untouched now.ready old.ready new.ready part.readys readys) (timers_as_before now old new part clock)
-      (subst (λ ws. Holds ports (alive_in now) s2.channels ws s2.used) (sym waits) (subst (λ us. Holds ports (alive_in now) s2.channels s.waits us) (sym used) holds)) registered
+      (subst (λ ws. KeepsChannels ports (alive_in now) s2.channels ws s2.used) (sym waits) (subst (λ us. KeepsChannels ports (alive_in now) s2.channels s.waits us) (sym used) holds)) registered
       (subst (λ ws. Seated place (stands program) lane2 now.ready (whole now.shard) s2.tasks ws) (sym waits) (subst (λ ts. Seated place (stands program) lane2 now.ready (whole now.shard) ts s.waits) (sym tasks)
       (seated_on place stands program n advances goes_on_law gives answers_law now old new s w t op v st part a g)))
       (λ c e. let k = st.clocked c e in (k.0 ∙ sym deadlines, k.1 ∙ sym moment, k.2))
       (numbered_more n now.lane lane2 s s2 st.numbered (same_grow now.lane w l l2 at counts)
-      (subst (λ ts. From n tasks_of lane2 s.tasks ts) (sym tasks) (from_there n tasks_of lane2 s.tasks t g.0 (runs g.0.result g.4.0) g.1)) chans rs
+      (subst (λ ts. From n task_count lane2 s.tasks ts) (sym tasks) (from_there n task_count lane2 s.tasks t g.0 (runs g.0.result g.4.0) g.1)) chans rs
       (subst (λ us. UsedFrom n lane2 s.used us) (sym used) (used_same n lane2 s.used))) where
         l : LaneView A
         l = a.stands.lane

@@ -7,12 +7,12 @@ use Rattle.ca_value.specs.declared.memory.OutOfMemory.{OutOfMemory}
 use Rattle.ca_value.specs.declared.value.Value.{Value}
 use Rattle.ca_term.specs.Operation.{OpView, choosing, posting, putting, taking}
 use Rattle.ca_term.specs.Event.{BranchView, put_of, take_of}
-use Rattle.ca_meaning.specs.Operands.{or_else, port_number, values_in}
+use Rattle.ca_meaning.specs.Operands.{or_else, port_of_value, values_in}
 use Rattle.ca_meaning.specs.Choice.{branch_of}
 use Rattle.ca_meaning.specs.Refusal.{nil_put, not_a_channel}
 use Rattle.ca_commit.specs.Planning.{Planned, Seen, all_counted, chosen, counted_for, decided, first_from, found_of, in_turn, otherwise, planned, state_of, to_park, unless_refused}
 use Rattle.ca_commit.specs.Plans.{plan_view}
-use Rattle.ca_commit.specs.Branching.{branches_in, plan_or, put_as, single}
+use Rattle.ca_commit.specs.Branching.{branches_in, plan_or, put_as, single_branch}
 use Rattle.ca_commit.specs.declared.planned.Plan.{Plan}
 
 -- the branches of an alts are those of its ports
@@ -76,26 +76,26 @@ second_part x at vs (Err e) f g = tt
 
 module _ (x : Seen) where
   -- a take, a put and a posted put have one branch
-  take_is : (c : Tree) (start : ℕ) → not_a_channel (state_of x.ports x.registries) c ≡ None → planned x (taking c) start ≡ single x true (take_of (port_number c))
-  take_is c start e = ap (λ f. unless_refused x f (chosen x (taking c) start)) e ∙ one_is x start (take_of (port_number c)) (otherwise x (taking c) None)
+  take_is : (c : Tree) (start : ℕ) → not_a_channel (state_of x.ports x.registries) c ≡ None → planned x (taking c) start ≡ single_branch x true (take_of (port_of_value c))
+  take_is c start e = ap (λ f. unless_refused x f (chosen x (taking c) start)) e ∙ one_is x start (take_of (port_of_value c)) (otherwise x (taking c) None)
 
-  put_is : (c v : Tree) (start : ℕ) → or_else (not_a_channel (state_of x.ports x.registries) c) (nil_put v) ≡ None → planned x (putting c v) start ≡ single x true (put_of (port_number c) v)
-  put_is c v start e = ap (λ f. unless_refused x f (chosen x (putting c v) start)) e ∙ one_is x start (put_of (port_number c) v) (otherwise x (putting c v) None)
+  put_is : (c v : Tree) (start : ℕ) → or_else (not_a_channel (state_of x.ports x.registries) c) (nil_put v) ≡ None → planned x (putting c v) start ≡ single_branch x true (put_of (port_of_value c) v)
+  put_is c v start e = ap (λ f. unless_refused x f (chosen x (putting c v) start)) e ∙ one_is x start (put_of (port_of_value c) v) (otherwise x (putting c v) None)
 
-  post_is : (c v : Tree) (start : ℕ) → or_else (not_a_channel (state_of x.ports x.registries) c) (nil_put v) ≡ None → planned x (posting c v) start ≡ single x false (put_of (port_number c) v)
-  post_is c v start e = ap (λ f. unless_refused x f (chosen x (posting c v) start)) e ∙ one_is x start (put_of (port_number c) v) (otherwise x (posting c v) None)
+  post_is : (c v : Tree) (start : ℕ) → or_else (not_a_channel (state_of x.ports x.registries) c) (nil_put v) ≡ None → planned x (posting c v) start ≡ single_branch x false (put_of (port_of_value c) v)
+  post_is c v start e = ap (λ f. unless_refused x f (chosen x (posting c v) start)) e ∙ one_is x start (put_of (port_of_value c) v) (otherwise x (posting c v) None)
 
   -- what the code has planned, where it plans anything
   becomes : (p q : Planned) (r : Result Plan OutOfMemory) → q ≡ p → IfOk r (λ k. plan_view k ≡ q) → IfOk r (λ k. plan_view k ≡ p)
   becomes p q (Ok k) e f = f ∙ e
   becomes p q (Err k) e f = tt
 
-  pub take_planned : (c : Tree) (n start : ℕ) (r : Result Plan OutOfMemory) → not_a_channel (state_of x.ports x.registries) c ≡ None → n ≡ port_number c → IfOk r (λ k. plan_view k ≡ single x true (take_of n)) → IfOk r (λ k. plan_view k ≡ planned x (taking c) start)
-  take_planned c n start r e f h = becomes (planned x (taking c) start) (single x true (take_of n)) r (ap (λ m. single x true (take_of m)) f ∙ sym (take_is c start e)) h
+  pub take_planned : (c : Tree) (n start : ℕ) (r : Result Plan OutOfMemory) → not_a_channel (state_of x.ports x.registries) c ≡ None → n ≡ port_of_value c → IfOk r (λ k. plan_view k ≡ single_branch x true (take_of n)) → IfOk r (λ k. plan_view k ≡ planned x (taking c) start)
+  take_planned c n start r e f h = becomes (planned x (taking c) start) (single_branch x true (take_of n)) r (ap (λ m. single_branch x true (take_of m)) f ∙ sym (take_is c start e)) h
 
-  pub put_planned : (parks : Bool) (c v : Tree) (n start : ℕ) (r : Result Plan OutOfMemory) → or_else (not_a_channel (state_of x.ports x.registries) c) (nil_put v) ≡ None → n ≡ port_number c → IfOk r (λ k. plan_view k ≡ single x parks (put_of n v)) → IfOk r (λ k. plan_view k ≡ planned x (put_as parks c v) start)
-  put_planned true c v n start r e f h = becomes (planned x (putting c v) start) (single x true (put_of n v)) r (ap (λ m. single x true (put_of m v)) f ∙ sym (put_is c v start e)) h
-  put_planned false c v n start r e f h = becomes (planned x (posting c v) start) (single x false (put_of n v)) r (ap (λ m. single x false (put_of m v)) f ∙ sym (post_is c v start e)) h
+  pub put_planned : (parks : Bool) (c v : Tree) (n start : ℕ) (r : Result Plan OutOfMemory) → or_else (not_a_channel (state_of x.ports x.registries) c) (nil_put v) ≡ None → n ≡ port_of_value c → IfOk r (λ k. plan_view k ≡ single_branch x parks (put_of n v)) → IfOk r (λ k. plan_view k ≡ planned x (put_as parks c v) start)
+  put_planned true c v n start r e f h = becomes (planned x (putting c v) start) (single_branch x true (put_of n v)) r (ap (λ m. single_branch x true (put_of m v)) f ∙ sym (put_is c v start e)) h
+  put_planned false c v n start r e f h = becomes (planned x (posting c v) start) (single_branch x false (put_of n v)) r (ap (λ m. single_branch x false (put_of m v)) f ∙ sym (post_is c v start e)) h
 
   -- an alts where no branch is ready
   pub unready_planned : (vs : List Value) (priority : Bool) (d : Option Value) (r : Result Plan OutOfMemory) → d ≡ None → IfOk r (λ k. plan_view k ≡ all_counted x (branches_in vs) (to_park (branches_in vs))) → IfOk r (λ k. plan_view k ≡ otherwise x (choosing (trees vs) priority (option_map view d)) (option_map view d))

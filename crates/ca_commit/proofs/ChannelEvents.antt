@@ -15,8 +15,8 @@ use Rattle.ca_meaning.specs.ChannelSteps.{with_default}
 use Rattle.ca_meaning.specs.State.{State, Channels, runs, shut_at}
 use Rattle.ca_commit.specs.ChannelMoves.{MovesClose, MovesDefault, MovesDone}
 use Rattle.ca_commit.specs.Contents.{Parts, alive_in, channel_of, whole, with_channel}
-use Rattle.ca_commit.specs.Holds.{Holds}
-use Rattle.ca_commit.specs.Stands.{Stands, ports_of}
+use Rattle.ca_commit.specs.Holds.{KeepsChannels}
+use Rattle.ca_commit.specs.Stands.{Stands, port_count}
 use Rattle.ca_commit.proofs.AgentLaws.{GoesOn, TakesAnswers}
 use Rattle.ca_commit.proofs.Answering.{goes_to, stands_at}
 use Rattle.ca_commit.proofs.Fitting.{default_fits, ready_fits, some_ready}
@@ -51,7 +51,7 @@ module _ {A : Type 0} (place : A → At) (stands : ProgramView → A → Option 
         goes_to place stands program n advances goes_on_law gives answers_law now old new s s2 w t op (reply_to op p v) (update eqb (whole now.bank) p (Some (with_channel m.after m.kept))) (whole now.registry) st part a g m.counts refl refl refl refl refl
             (altered now.bank old.bank new.bank p (Some (with_channel m.after m.kept)) part.banks m.banks) (unaltered now.registry old.registry new.registry part.registries m.registries) m.shards m.readys m.timers
             (changed (whole now.bank) (alive_in now) s.channels s.waits s.used p m.kept m.after st.holds there) st.registered
-            (from_there n ports_of lane2 s.channels p m.kept.channel m.after (st.holds.channels_are p ∙ ap channel_of there)) (from_same n ports_of lane2 s.registries),
+            (from_there n port_count lane2 s.channels p m.kept.channel m.after (st.holds.channels_are p ∙ ap channel_of there)) (from_same n port_count lane2 s.registries),
       )
 
   pub default_steps : (now old new : Parts A) (s : State) (w t : ℕ) (v : Tree) → Stands place stands program n now s → IsPart old now → MovesDefault place advances gives w t v old new → Leads place stands program n (laid_parts now new) s (defaulted t v)
@@ -62,7 +62,7 @@ module _ {A : Type 0} (place : A → At) (stands : ProgramView → A → Option 
         (x, op, tasks, stands_at place stands program n advances goes_on_law gives answers_law now old new s w t op (with_default v) st part a g (default_fits s op v m.default_is), m.default_is, none_ready now old s (branches_of op) (shown_by st) part m.unready, (g.4.0, g.4.1, refl), refl),
         goes_to place stands program n advances goes_on_law gives answers_law now old new s s2 w t op (with_default v) (whole now.bank) (whole now.registry) st part a g m.counts refl refl refl refl refl
             (unaltered now.bank old.bank new.bank part.banks m.banks) (unaltered now.registry old.registry new.registry part.registries m.registries) m.shards m.readys m.timers st.holds st.registered
-            (from_same n ports_of lane2 s.channels) (from_same n ports_of lane2 s.registries),
+            (from_same n port_count lane2 s.channels) (from_same n port_count lane2 s.registries),
       )
 
   pub close_steps : (now old new : Parts A) (s : State) (w t p : ℕ) → Stands place stands program n now s → IsPart old now → MovesClose place advances gives w t p old new → Leads place stands program n (laid_parts now new) s (closed t p)
@@ -75,6 +75,6 @@ module _ {A : Type 0} (place : A → At) (stands : ProgramView → A → Option 
         (x, tasks, stands_at place stands program n advances goes_on_law gives answers_law now old new s w t op nil st part a g refl, (g.4.0, g.4.1, refl), refl),
         goes_to place stands program n advances goes_on_law gives answers_law now old new s s2 w t op nil (update eqb (whole now.bank) p (Some (with_channel (shut m.kept.channel) m.kept))) (whole now.registry) st part a g m.counts refl refl refl refl refl
             (altered now.bank old.bank new.bank p (Some (with_channel (shut m.kept.channel) m.kept)) part.banks m.banks) (unaltered now.registry old.registry new.registry part.registries m.registries) m.shards m.readys m.timers
-            (subst (λ (f : Channels). Holds (update eqb (whole now.bank) p (Some (with_channel (shut m.kept.channel) m.kept))) (alive_in now) f s.waits s.used) shuts (changed (whole now.bank) (alive_in now) s.channels s.waits s.used p m.kept (shut m.kept.channel) st.holds there)) st.registered
-            (subst (λ (f : Channels). From n ports_of lane2 s.channels f) shuts (from_there n ports_of lane2 s.channels p m.kept.channel (shut m.kept.channel) here)) (from_same n ports_of lane2 s.registries),
+            (subst (λ (f : Channels). KeepsChannels (update eqb (whole now.bank) p (Some (with_channel (shut m.kept.channel) m.kept))) (alive_in now) f s.waits s.used) shuts (changed (whole now.bank) (alive_in now) s.channels s.waits s.used p m.kept (shut m.kept.channel) st.holds there)) st.registered
+            (subst (λ (f : Channels). From n port_count lane2 s.channels f) shuts (from_there n port_count lane2 s.channels p m.kept.channel (shut m.kept.channel) here)) (from_same n port_count lane2 s.registries),
       )

@@ -17,7 +17,7 @@ use Rattle.ca_term.specs.declared.fault.Fault.TheVariants.{NotAPort}
 use Rattle.ca_commit.specs.Agents.{TaskAgent, advances_of, alts_at, gives_of, place_of}
 use Rattle.ca_commit.specs.Asks.{TakeAsks}
 use Rattle.ca_commit.specs.ChannelMoves.{MovesDone}
-use Rattle.ca_commit.specs.Contents.{BankView, Content, Held, Kept, LaneView, a_bank, a_lane, alive_in, at_key, channel_of, home}
+use Rattle.ca_commit.specs.Contents.{BankView, Content, PartContents, Kept, LaneView, a_bank, a_lane, alive_in, at_key, channel_of, home}
 use Rattle.ca_commit.specs.Drawing.{given_up, took}
 use Rattle.ca_commit.specs.Gathered.{bank_of, channels_of, lane_of, parts_of, pick, ready_of, registries_of, shard_of, sorted, timers_of}
 use Rattle.ca_commit.specs.Moving.{Moves}
@@ -40,7 +40,7 @@ module _ {A : Type 0} (n w i : ℕ) (lane lane2 bank bank2 : Content A) where
   abbrev two_parts : Content A → Content A → ℕ → Option (Content A)
   two_parts l b j = cond (eqb w j) (Some l) (cond (eqb (n + i) j) (Some b) None)
 
-  same_kind : {X : Type 0} (as_kind : Held A → Option X) → as_kind lane2.held ≡ as_kind lane.held → as_kind bank2.held ≡ as_kind bank.held → (j : ℕ) → sorted as_kind (two_parts lane2 bank2 j) ≡ sorted as_kind (two_parts lane bank j)
+  same_kind : {X : Type 0} (as_kind : PartContents A → Option X) → as_kind lane2.held ≡ as_kind lane.held → as_kind bank2.held ≡ as_kind bank.held → (j : ℕ) → sorted as_kind (two_parts lane2 bank2 j) ≡ sorted as_kind (two_parts lane bank j)
   same_kind as_kind e f j = by (eqb w j) (eqb (n + i) j) where
     by : (a c : Bool) → sorted as_kind (cond a (Some lane2) (cond c (Some bank2) None)) ≡ sorted as_kind (cond a (Some lane) (cond c (Some bank) None))
     by true c = e
@@ -48,13 +48,13 @@ module _ {A : Type 0} (n w i : ℕ) (lane lane2 bank bank2 : Content A) where
     by false false = refl
 
   -- elsewhere is no part, or one of another kind
-  same_else : {X : Type 0} (as_kind : Held A → Option X) → as_kind bank2.held ≡ as_kind bank.held → (j : ℕ) → (w ≡ j → ⊥) → sorted as_kind (two_parts lane2 bank2 j) ≡ sorted as_kind (two_parts lane bank j)
+  same_else : {X : Type 0} (as_kind : PartContents A → Option X) → as_kind bank2.held ≡ as_kind bank.held → (j : ℕ) → (w ≡ j → ⊥) → sorted as_kind (two_parts lane2 bank2 j) ≡ sorted as_kind (two_parts lane bank j)
   same_else as_kind f j ne = ap (λ c. sorted as_kind (cond c (Some lane2) (cond (eqb (n + i) j) (Some bank2) None))) (ne_eqb w j ne) ∙ by (eqb (n + i) j) ∙ sym (ap (λ c. sorted as_kind (cond c (Some lane) (cond (eqb (n + i) j) (Some bank) None))) (ne_eqb w j ne)) where
     by : (c : Bool) → sorted as_kind (cond c (Some bank2) None) ≡ sorted as_kind (cond c (Some bank) None)
     by true = f
     by false = refl
 
-  same_apart : {X : Type 0} (as_kind : Held A → Option X) → as_kind lane2.held ≡ as_kind lane.held → (j : ℕ) → (n + i ≡ j → ⊥) → sorted as_kind (two_parts lane2 bank2 j) ≡ sorted as_kind (two_parts lane bank j)
+  same_apart : {X : Type 0} (as_kind : PartContents A → Option X) → as_kind lane2.held ≡ as_kind lane.held → (j : ℕ) → (n + i ≡ j → ⊥) → sorted as_kind (two_parts lane2 bank2 j) ≡ sorted as_kind (two_parts lane bank j)
   same_apart as_kind e j ne = ap (λ c. sorted as_kind (cond (eqb w j) (Some lane2) (cond c (Some bank2) None))) (ne_eqb (n + i) j ne) ∙ by (eqb w j) ∙ sym (ap (λ c. sorted as_kind (cond (eqb w j) (Some lane) (cond c (Some bank) None))) (ne_eqb (n + i) j ne)) where
     by : (c : Bool) → sorted as_kind (cond c (Some lane2) None) ≡ sorted as_kind (cond c (Some lane) None)
     by true = e

@@ -6,7 +6,7 @@ use Rattle.ca_value.specs.declared.value.PortId.{PortId}
 use Rattle.ca_timers.specs.Timers.{AreOrdered}
 use Rattle.ca_timers.proofs.Order.{none_leaves, pop_leaves}
 use Rattle.ca_term.specs.Event.{port_number}
-use Rattle.ca_bank.specs.Kept.{Kept, closed}
+use Rattle.ca_bank.specs.Kept.{Kept, closed_channel}
 use Rattle.ca_commit.specs.Listing.{changed_at}
 use Rattle.ca_commit.specs.Ticking.{closed_all}
 use Rattle.ca_commit.proofs.Laid.{same_map}
@@ -34,8 +34,8 @@ pub due_end : (ports : List PortId) (all : List ℕ) → slice_get all (length p
 due_end ports all is h = sym (append-nil (map port_number ports)) ∙ ap (λ (z : List ℕ). map port_number ports ++ z) (sym (drop_none all (length ports) is)) ∙ h
 
 -- one channel more is closed
-pub closed_step : (p : ℕ) (ps all : List ℕ) (m new : ℕ → Option (ℕ → Option Kept)) → all ≡ p ∷ ps → ((i : ℕ) → new i ≡ changed_at p (option_map closed) m i) → (i : ℕ) → closed_all ps new i ≡ closed_all all m i
-closed_step p ps all m new is e i = ap (λ f. closed_all ps f i) (same_map new (changed_at p (option_map closed) m) e) ∙ ap (λ z. closed_all z m i) (sym is)
+pub closed_step : (p : ℕ) (ps all : List ℕ) (m new : ℕ → Option (ℕ → Option Kept)) → all ≡ p ∷ ps → ((i : ℕ) → new i ≡ changed_at p (option_map closed_channel) m i) → (i : ℕ) → closed_all ps new i ≡ closed_all all m i
+closed_step p ps all m new is e i = ap (λ f. closed_all ps f i) (same_map new (changed_at p (option_map closed_channel) m) e) ∙ ap (λ z. closed_all z m i) (sym is)
 
 length_zero : {X : Type 0} (xs : List X) → length xs ≡ 0 → slice_get xs 0 ≡ None
 length_zero [] e = refl

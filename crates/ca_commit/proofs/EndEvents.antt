@@ -14,10 +14,10 @@ use Rattle.ca_meaning.specs.Refusal.{fault_at}
 use Rattle.ca_meaning.specs.TaskSteps.{FaultStep}
 use Rattle.ca_meaning.specs.State.{State, Task, Channels, over as is_over, shut_at, shut_result}
 use Rattle.ca_commit.specs.Contents.{Kept, LaneView, Parts, TimersPart, alive_in, at_key, channel_of, home, main_over, whole}
-use Rattle.ca_commit.specs.Holds.{Holds, shut_kept}
+use Rattle.ca_commit.specs.Holds.{KeepsChannels, shut_kept}
 use Rattle.ca_commit.specs.Moves.{Alters, Stood}
 use Rattle.ca_commit.specs.Running.{or_was}
-use Rattle.ca_commit.specs.Stands.{Stands, ports_of, tasks_of}
+use Rattle.ca_commit.specs.Stands.{Stands, port_count, task_count}
 use Rattle.ca_commit.specs.TaskMoves.{Halts, MarksEnd, MovesEnd, MovesFault, ShutsAt, with_mark}
 use Rattle.ca_commit.proofs.AgentLaws.{GoesOn, TellsResult}
 use Rattle.ca_commit.proofs.Fitting.{crowd_refuses, refuses}
@@ -30,9 +30,9 @@ use Rattle.ca_commit.proofs.Shown.{none_ready, shown_by, shows, some_crowded}
 use Rattle.ca_commit.proofs.Steps.{stood}
 use Rattle.ca_commit.proofs.TaskEvents.{Leads}
 
-shut_there : {A : Type 0} (n : ℕ) (lane : ℕ → Option (LaneView A)) (s : State) (p : ℕ) (o : Option Channel) → s.channels p ≡ o → From n ports_of lane s.channels (shut_at p s.channels)
-shut_there {A} n lane s p (Some c) e = subst (λ (o : Option Channel). From n ports_of lane s.channels (update eqb s.channels p (option_map shut o))) (sym e) (from_there n ports_of lane s.channels p c (shut c) e)
-shut_there {A} n lane s p None e = subst (λ (f : Channels). From n ports_of lane s.channels f) (sym (ap (λ (o : Option Channel). update eqb s.channels p (option_map shut o)) e ∙ none_put s.channels p e)) (from_same n ports_of lane s.channels)
+shut_there : {A : Type 0} (n : ℕ) (lane : ℕ → Option (LaneView A)) (s : State) (p : ℕ) (o : Option Channel) → s.channels p ≡ o → From n port_count lane s.channels (shut_at p s.channels)
+shut_there {A} n lane s p (Some c) e = subst (λ (o : Option Channel). From n port_count lane s.channels (update eqb s.channels p (option_map shut o))) (sym e) (from_there n port_count lane s.channels p c (shut c) e)
+shut_there {A} n lane s p None e = subst (λ (f : Channels). From n port_count lane s.channels f) (sym (ap (λ (o : Option Channel). update eqb s.channels p (option_map shut o)) e ∙ none_put s.channels p e)) (from_same n port_count lane s.channels)
 
 module _ {A : Type 0} (place : A → At) (stands : ProgramView → A → Option ℕ → TaskBody → Type 0) (program : ProgramView) (n : ℕ) where
   -- the marks of a run are no part of its state
@@ -45,17 +45,17 @@ module _ {A : Type 0} (place : A → At) (stands : ProgramView → A → Option 
   held_same : {w : Option Kept} {new : ℕ → Option (ℕ → Option Kept)} (now old : Parts A) (p : ℕ) → Alters old.bank new p w → IsPart old now → whole old.bank p ≡ whole now.bank p
   held_same now old p a part = ap (λ (o : Option (ℕ → Option Kept)). at_key o p) (a.was ∙ sym (part.banks (home p) a.from a.was))
 
-  shut_one : (now : Parts A) (s : State) (p : ℕ) (o : Option Kept) → whole now.bank p ≡ o → Stands place stands program n now s → Holds (update eqb (whole now.bank) p (option_map shut_kept (whole now.bank p))) (alive_in now) (shut_at p s.channels) s.waits s.used
-  shut_one now s p (Some k) e st = subst (λ (o : Option Kept). Holds (update eqb (whole now.bank) p (option_map shut_kept o)) (alive_in now) (shut_at p s.channels) s.waits s.used) (sym e)
-      (subst (λ (o : Option Channel). Holds (update eqb (whole now.bank) p (Some (shut_kept k))) (alive_in now) (update eqb s.channels p (option_map shut o)) s.waits s.used) (sym (st.holds.channels_are p ∙ ap channel_of e))
+  shut_one : (now : Parts A) (s : State) (p : ℕ) (o : Option Kept) → whole now.bank p ≡ o → Stands place stands program n now s → KeepsChannels (update eqb (whole now.bank) p (option_map shut_kept (whole now.bank p))) (alive_in now) (shut_at p s.channels) s.waits s.used
+  shut_one now s p (Some k) e st = subst (λ (o : Option Kept). KeepsChannels (update eqb (whole now.bank) p (option_map shut_kept o)) (alive_in now) (shut_at p s.channels) s.waits s.used) (sym e)
+      (subst (λ (o : Option Channel). KeepsChannels (update eqb (whole now.bank) p (Some (shut_kept k))) (alive_in now) (update eqb s.channels p (option_map shut o)) s.waits s.used) (sym (st.holds.channels_are p ∙ ap channel_of e))
       (changed (whole now.bank) (alive_in now) s.channels s.waits s.used p k (shut k.channel) st.holds e))
   shut_one now s p None e st = let none : s.channels p ≡ None = st.holds.channels_are p ∙ ap channel_of e in
-      subst (λ (f : ℕ → Option Kept). Holds f (alive_in now) (shut_at p s.channels) s.waits s.used) (sym (ap (λ (o : Option Kept). update eqb (whole now.bank) p (option_map shut_kept o)) e ∙ none_put (whole now.bank) p e))
-      (subst (λ (f : Channels). Holds (whole now.bank) (alive_in now) f s.waits s.used) (sym (ap (λ (o : Option Channel). update eqb s.channels p (option_map shut o)) none ∙ none_put s.channels p none)) st.holds)
+      subst (λ (f : ℕ → Option Kept). KeepsChannels f (alive_in now) (shut_at p s.channels) s.waits s.used) (sym (ap (λ (o : Option Kept). update eqb (whole now.bank) p (option_map shut_kept o)) e ∙ none_put (whole now.bank) p e))
+      (subst (λ (f : Channels). KeepsChannels (whole now.bank) (alive_in now) f s.waits s.used) (sym (ap (λ (o : Option Channel). update eqb s.channels p (option_map shut o)) none ∙ none_put s.channels p none)) st.holds)
 
   fault_banks : (now old new : Parts A) (s : State) (lane2 : ℕ → Option (LaneView A)) → Stands place stands program n now s → IsPart old now → (r : Option ℕ) → ShutsAt r old.bank new.bank
-      → (ports : ℕ → Option Kept) × (whole (laid now.bank new.bank) ≡ ports) × Holds ports (alive_in now) (shut_result r s.channels) s.waits s.used × From n ports_of lane2 s.channels (shut_result r s.channels)
-  fault_banks now old new s lane2 st part None h = (whole now.bank, unaltered now.bank old.bank new.bank part.banks h, st.holds, from_same n ports_of lane2 s.channels)
+      → (ports : ℕ → Option Kept) × (whole (laid now.bank new.bank) ≡ ports) × KeepsChannels ports (alive_in now) (shut_result r s.channels) s.waits s.used × From n port_count lane2 s.channels (shut_result r s.channels)
+  fault_banks now old new s lane2 st part None h = (whole now.bank, unaltered now.bank old.bank new.bank part.banks h, st.holds, from_same n port_count lane2 s.channels)
   fault_banks now old new s lane2 st part (Some p) h = (
     update eqb (whole now.bank) p (option_map shut_kept (whole now.bank p)),
     altered now.bank old.bank new.bank p (option_map shut_kept (whole old.bank p)) part.banks h ∙ ap (λ (o : Option Kept). update eqb (whole now.bank) p (option_map shut_kept o)) (held_same now old p h part),
@@ -71,7 +71,7 @@ module _ {A : Type 0} (place : A → At) (stands : ProgramView → A → Option 
         b.1 (unaltered now.registry old.registry new.registry part.registries m.registries) (unaltered now.shard old.shard new.shard part.shards m.shards) (untouched now.ready old.ready new.ready part.readys m.readys) refl
         b.2 st.registered (leaves place (stands program) now.lane now.ready (whole now.shard) s.tasks s.waits w t a.lane a.lane2 a.agent y st.seated at_lane a.task m.empty refl)
         (marked_clock now old new s (eqb t 0) st part m.timers)
-        (numbered_more n now.lane lane2 s s3 st.numbered (same_grow now.lane w a.lane a.lane2 at_lane m.counts) (from_there n tasks_of lane2 s.tasks t x y is) b.3 (from_same n ports_of lane2 s.registries) (used_same n lane2 s.used))) where
+        (numbered_more n now.lane lane2 s s3 st.numbered (same_grow now.lane w a.lane a.lane2 at_lane m.counts) (from_there n task_count lane2 s.tasks t x y is) b.3 (from_same n port_count lane2 s.registries) (used_same n lane2 s.used))) where
           a : Stood place advances w t at old new
           a = m.stands
 
@@ -87,7 +87,7 @@ module _ {A : Type 0} (place : A → At) (stands : ProgramView → A → Option 
           lane2 : ℕ → Option (LaneView A)
           lane2 = update eqb now.lane w (Some a.lane2)
 
-          b : (ports : ℕ → Option Kept) × (whole (laid now.bank new.bank) ≡ ports) × Holds ports (alive_in now) (shut_result r s.channels) s.waits s.used × From n ports_of lane2 s.channels (shut_result r s.channels)
+          b : (ports : ℕ → Option Kept) × (whole (laid now.bank new.bank) ≡ ports) × KeepsChannels ports (alive_in now) (shut_result r s.channels) s.waits s.used × From n port_count lane2 s.channels (shut_result r s.channels)
           b = fault_banks now old new s lane2 st part r banks
 
     pub end_steps : (now old new : Parts A) (s : State) (w t : ℕ) → Stands place stands program n now s → IsPart old now → MovesEnd place advances w t old new → Leads place stands program n (laid_parts now new) s (over t Ended)

@@ -4,14 +4,14 @@ use Rattle.ca_value.specs.Tree.{Tree, Trees}
 use Rattle.ca_term.specs.declared.fault.Fault.{Fault}
 use Rattle.ca_term.specs.declared.head.RegisterName.{RegisterName}
 use Rattle.ca_meaning.specs.Registry.{Registered, Registry, answers, refuses}
-use Rattle.ca_registry.specs.Registries.{answered, refused}
+use Rattle.ca_registry.specs.Registries.{answered, refused_with}
 use Rattle.ca_commit.specs.Contents.{whole}
 use Rattle.ca_commit.specs.Entering.{HasMembersRoom, answer_of}
 use Rattle.ca_commit.specs.declared.held.HeldBank.{HeldBank}
 use Rattle.ca_commit.specs.declared.listing.Listing.{Listing}
 use Rattle.ca_commit.proofs.Laid.{same_map}
 
-pub unanswered : (r : Registered) (f : Fault) → refused r ≡ Some f → answered r ≡ None
+pub unanswered : (r : Registered) (f : Fault) → refused_with r ≡ Some f → answered r ≡ None
 unanswered (answers v r) f e = absurd (let k : None ≡ Some f = e in cc)
 unanswered (refuses g) f e = refl
 

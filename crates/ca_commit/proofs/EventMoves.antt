@@ -8,14 +8,14 @@ use Rattle.ca_meaning.specs.Body.{At, at_op, ended, faulted, local, nowhere}
 use Rattle.ca_meaning.specs.Channel.{channel_made}
 use Rattle.ca_meaning.specs.Operands.{rest_of}
 use Rattle.ca_meaning.specs.Registry.{Registered, Registry, answers, registry_made}
-use Rattle.ca_bank.specs.Kept.{closed, pruned, unattended}
+use Rattle.ca_bank.specs.Kept.{closed_channel, pruned, unattended}
 use Rattle.ca_registry.specs.Registries.{answered, left_by}
-use Rattle.ca_registry.specs.Registry.{registered}
+use Rattle.ca_registry.specs.Registry.{registry_after}
 use Rattle.ca_commit.specs.Agents.{advances_of, alts_at, gives_of, place_of, starts_of}
 use Rattle.ca_commit.specs.ChannelMoves.{Joins, MovesClose, MovesPost}
 use Rattle.ca_commit.specs.Contents.{Kept, LaneView, Parked, Parts, TimersPart, at_key, home, nobody, on, owner, put_on, whole}
 use Rattle.ca_commit.specs.Entering.{answer_of, registry_of}
-use Rattle.ca_commit.specs.EventMoves.{AllStay, CloseMoves, DefaultMoves, Goes, MakeMoves, ParkMoves, PostMoves, PrintMoves, PruneMoves, RegisterMoves, ResultCloses, SpawnMoves, TickMoves, TimesMade, one_port_more, one_task_more, one_wait_more}
+use Rattle.ca_commit.specs.EventMoves.{AllStay, CloseMoves, DefaultMoves, TaskAnswers, MakeMoves, ParkMoves, PostMoves, PrintMoves, PruneMoves, RegisterMoves, ResultCloses, SpawnMoves, TickMoves, TimesMade, one_port_more, one_task_more, one_wait_more}
 use Rattle.ca_commit.specs.Listing.{changed_at}
 use Rattle.ca_commit.specs.Moves.{Alters, Becomes, FewIn, NoneReadyIn, Stays}
 use Rattle.ca_commit.specs.NewPort.{Times, moment_for}
@@ -92,7 +92,7 @@ module _ {A : Type 0} (place : A → At) (advances : ProgramView → A → A →
 
   pub result_closes : ResultCloses place advances
   result_closes old new None held banks = banks
-  result_closes old new (Some p) held banks = let h = held p refl in subst (λ (o : Option Kept). Alters old.bank new.bank p (option_map closed o)) (sym (ap (λ (o : Option (ℕ → Option Kept)). at_key o p) h.1)) (alters_held old.bank new.bank p (option_map closed) h.0 h.1 banks)
+  result_closes old new (Some p) held banks = let h = held p refl in subst (λ (o : Option Kept). Alters old.bank new.bank p (option_map closed_channel o)) (sym (ap (λ (o : Option (ℕ → Option Kept)). at_key o p) h.1)) (alters_held old.bank new.bank p (option_map closed_channel) h.0 h.1 banks)
 
 module _ {A : Type 0} (place : A → At) (advances : ProgramView → A → A → Type 0) (gives : A → Tree → A → Type 0) where
   pub post_moves : PostMoves place advances gives
@@ -102,7 +102,7 @@ module _ {A : Type 0} (place : A → At) (advances : ProgramView → A → A →
         joins = joins_in old new w n wait (put_of tells.4.0 tells.4.1 ∷ []) nobody acts.stands.lane acts.stands.lane2 from next counts (subst (NoneReadyIn old) (tells.1 ∙ tells.4.3) tells.3.unready) (subst (FewIn old) (tells.1 ∙ tells.4.3) tells.3.few) placed banks registries there shards readys timers;
       })) where
         Rest : OpView → List BranchView → Type 0
-        Rest o z = (acts : Goes place advances gives w t o (bool true) old new) → wait ≡ 1 + w + n * acts.stands.lane.counts.waits → acts.stands.lane2.counts ≡ one_wait_more acts.stands.lane.counts
+        Rest o z = (acts : TaskAnswers place advances gives w t o (bool true) old new) → wait ≡ 1 + w + n * acts.stands.lane.counts.waits → acts.stands.lane2.counts ≡ one_wait_more acts.stands.lane.counts
             → ((i : ℕ) → new.bank i ≡ queued_from wait 0 z old.bank i) → Stays old.registry new.registry
             → old.shard (home wait) ≡ Some from → ((i : ℕ) → new.shard i ≡ changed_at wait (λ o. Some nobody) old.shard i)
             → Stays old.ready new.ready → new.timers ≡ old.timers
@@ -128,15 +128,15 @@ module _ {A : Type 0} (place : A → At) (advances : ProgramView → A → A →
     counts = counts;
     kept = tells.2.0;
     there = tells.2.1;
-    banks = alters old.bank new.bank p (option_map closed) tells.2.0 tells.2.1 banks;
+    banks = alters old.bank new.bank p (option_map closed_channel) tells.2.0 tells.2.1 banks;
     registries = registries;
     shards = shards;
     readys = readys;
     timers = timers;
   }) where
     Rest : OpView → Type 0
-    Rest o = (acts : Goes place advances gives w t o nil old new) → acts.stands.lane2.counts ≡ acts.stands.lane.counts
-        → ((i : ℕ) → new.bank i ≡ changed_at p (option_map closed) old.bank i) → Stays old.registry new.registry → Stays old.shard new.shard → Stays old.ready new.ready → new.timers ≡ old.timers
+    Rest o = (acts : TaskAnswers place advances gives w t o nil old new) → acts.stands.lane2.counts ≡ acts.stands.lane.counts
+        → ((i : ℕ) → new.bank i ≡ changed_at p (option_map closed_channel) old.bank i) → Stays old.registry new.registry → Stays old.shard new.shard → Stays old.ready new.ready → new.timers ≡ old.timers
         → MovesClose (place_of place) (advances_of advances) (gives_of place gives) w t p old new
 
   pub print_moves : PrintMoves place advances gives
@@ -150,7 +150,7 @@ module _ {A : Type 0} (place : A → At) (advances : ProgramView → A → A →
     timers = stay.4;
   }) where
     Rest : OpView → Type 0
-    Rest o = (acts : Goes place advances gives w t o nil old new) → acts.stands.lane2.counts ≡ acts.stands.lane.counts → AllStay old new
+    Rest o = (acts : TaskAnswers place advances gives w t o nil old new) → acts.stands.lane2.counts ≡ acts.stands.lane.counts → AllStay old new
         → MovesPrint (place_of place) (advances_of advances) (gives_of place gives) w t line old new
 
   pub make_moves : MakeMoves place advances gives
@@ -165,7 +165,7 @@ module _ {A : Type 0} (place : A → At) (advances : ProgramView → A → A →
     timers = times_made p m what old.timers new.timers timers;
   }) where
     Rest : OpView → Type 0
-    Rest o = (acts : Goes place advances gives w t o (port p) old new) → p ≡ 1 + w + n * acts.stands.lane.counts.ports → acts.stands.lane2.counts ≡ one_port_more acts.stands.lane.counts
+    Rest o = (acts : TaskAnswers place advances gives w t o (port p) old new) → p ≡ 1 + w + n * acts.stands.lane.counts.ports → acts.stands.lane2.counts ≡ one_port_more acts.stands.lane.counts
         → old.bank (home p) ≡ Some ports → ports p ≡ None → ((i : ℕ) → new.bank i ≡ changed_at p (or_was (option_map unattended (channel_made what))) old.bank i)
         → old.registry (home p) ≡ Some members → members p ≡ None → ((i : ℕ) → new.registry i ≡ changed_at p (or_was (registry_made what)) old.registry i)
         → Stays old.shard new.shard → Stays old.ready new.ready → TimesMade p what m old.timers new.timers
@@ -189,7 +189,7 @@ module _ {A : Type 0} (place : A → At) (advances : ProgramView → A → A →
     timers = timers;
   }) where
     Rest : OpView → Type 0
-    Rest o = (acts : Goes place advances gives w t o nil old new) → u ≡ 1 + w + n * acts.stands.lane.counts.tasks → acts.stands.lane2.counts ≡ one_task_more acts.stands.lane.counts
+    Rest o = (acts : TaskAnswers place advances gives w t o nil old new) → u ≡ 1 + w + n * acts.stands.lane.counts.tasks → acts.stands.lane2.counts ≡ one_task_more acts.stands.lane.counts
         → ((seed : SeedView) → o ≡ spawning seed → starts_of starts acts.stands.lane.program seed a)
         → Becomes old.ready new.ready w q (q ++ (u, a) ∷ []) → Stays old.bank new.bank → Stays old.registry new.registry → Stays old.shard new.shard → new.timers ≡ old.timers
         → MovesSpawn (place_of place) (advances_of advances) (gives_of place gives) (starts_of starts) w n t u kind r old new
@@ -201,7 +201,7 @@ module _ {A : Type 0} (place : A → At) (advances : ProgramView → A → A →
     registry = tells.2.after;
     by_table = λ s shows. tells.2.by_table s shows ∙ ap (λ (z : Tree). answers z tells.2.after) (sym answer_is);
     banks = banks;
-    registries = subst (λ (z : Registry). Alters old.registry new.registry (registry_of args) (Some z)) (ap (λ (z : Registered). left_by z tells.2.old) tells.2.by_bank) (alters old.registry new.registry (registry_of args) (option_map (registered name (rest_of args))) tells.2.old tells.2.there registries);
+    registries = subst (λ (z : Registry). Alters old.registry new.registry (registry_of args) (Some z)) (ap (λ (z : Registered). left_by z tells.2.old) tells.2.by_bank) (alters old.registry new.registry (registry_of args) (option_map (registry_after name (rest_of args))) tells.2.old tells.2.there registries);
     shards = shards;
     readys = readys;
     timers = timers;
@@ -213,8 +213,8 @@ module _ {A : Type 0} (place : A → At) (advances : ProgramView → A → A →
     answer_is = ap (λ (o : Option Registry). answer_of o name (rest_of args)) tells.2.there ∙ ap (λ (z : Registered). or_nil (answered z)) tells.2.by_bank
 
     Rest : OpView → Type 0
-    Rest o = (acts : Goes place advances gives w t o value old new) → acts.stands.lane2.counts ≡ acts.stands.lane.counts
-        → Stays old.bank new.bank → ((i : ℕ) → new.registry i ≡ changed_at (registry_of args) (option_map (registered name (rest_of args))) old.registry i)
+    Rest o = (acts : TaskAnswers place advances gives w t o value old new) → acts.stands.lane2.counts ≡ acts.stands.lane.counts
+        → Stays old.bank new.bank → ((i : ℕ) → new.registry i ≡ changed_at (registry_of args) (option_map (registry_after name (rest_of args))) old.registry i)
         → Stays old.shard new.shard → Stays old.ready new.ready → new.timers ≡ old.timers
         → MovesRegister (place_of place) (advances_of advances) (gives_of place gives) w t name args value old new
 

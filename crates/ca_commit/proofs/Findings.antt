@@ -9,9 +9,9 @@ use Rattle.ca_meaning.specs.Channel.{Channel, giving, has_room, is_promise, keep
 use Rattle.ca_meaning.specs.ChannelSteps.{other_side}
 use Rattle.ca_meaning.specs.Row.{Row, completes, meets, not_ready, put_alone, put_open, take_of_held}
 use Rattle.ca_meaning.specs.Wait.{Handler, head, side_of}
-use Rattle.ca_commit.specs.Asks.{AskedAfter, Asks, Known, PutAsks, TakeAsks, row_raw}
+use Rattle.ca_commit.specs.Asks.{AskedAfter, Asks, IsAskedLive, PutAsks, TakeAsks, row_raw}
 use Rattle.ca_commit.specs.Contents.{Kept, on}
-use Rattle.ca_commit.specs.Finding.{Finding, Glance, alone, asking, find_at, find_put, find_rival, find_take, find_taker, gone, here, partner, stale, unheld, unready, unseen}
+use Rattle.ca_commit.specs.Finding.{Finding, Glance, alone, found_by_asking, find_at, find_put, find_rival, find_take, find_taker, gone, here, partner, stale, unheld, unready, unseen}
 
 abbrev pub is_here : Glance → Bool
 is_here here = true
@@ -31,19 +31,19 @@ module _ (see : ℕ → Glance) where
   lives w = is_here (see w)
 
   -- a handler is asked
-  asks_one : (h : Handler) (side : Side) (next : Finding) (asked : Type 0) (r : Row) (front : Option Handler) → (lives h.wait ≡ true → Says lives next asked r front) → (asked → lives h.wait ≡ true) → Says lives (asking (see h.wait) side h.wait next) asked r front
+  asks_one : (h : Handler) (side : Side) (next : Finding) (asked : Type 0) (r : Row) (front : Option Handler) → (lives h.wait ≡ true → Says lives next asked r front) → (asked → lives h.wait ≡ true) → Says lives (found_by_asking (see h.wait) side h.wait next) asked r front
   asks_one h side next asked r front f g = by (see h.wait) refl where
-    by : (z : Glance) → see h.wait ≡ z → Says lives (asking z side h.wait next) asked r front
+    by : (z : Glance) → see h.wait ≡ z → Says lives (found_by_asking z side h.wait next) asked r front
     by here e = f (ap is_here e)
     by gone e = λ a. absurd (let k : true ≡ false = sym (g a) ∙ ap is_here e in cc)
     by unseen e = λ a. absurd (let k : true ≡ false = sym (g a) ∙ ap is_here e in cc)
 
-  found_put_open : (c : Channel) (v : Tree) (ts ps : Option Handler) → Says lives (find_taker see (has_room c) ts ps) (Known lives ts × AskedAfter lives ts (has_room c) ps) (put_open c ts ps v) ts
-  found_put_open c v (Some h) ps = asks_one h Take (partner h.wait h.branch) (Known lives (Some h) × AskedAfter lives (Some h) (has_room c) ps) (meets h v) (Some h) (λ e. ((e, tt), (h, v, refl, refl, refl, refl, e))) (λ a. a.0)
+  found_put_open : (c : Channel) (v : Tree) (ts ps : Option Handler) → Says lives (find_taker see (has_room c) ts ps) (IsAskedLive lives ts × AskedAfter lives ts (has_room c) ps) (put_open c ts ps v) ts
+  found_put_open c v (Some h) ps = asks_one h Take (partner h.wait h.branch) (IsAskedLive lives (Some h) × AskedAfter lives (Some h) (has_room c) ps) (meets h v) (Some h) (λ e. ((e, tt), (h, v, refl, refl, refl, refl, e))) (λ a. a.0)
   found_put_open c v None ps = by (has_room c) ps where
-    by : (r : Bool) (ps : Option Handler) → Says lives (cond r (find_rival see ps) unready) (Known lives None × AskedAfter lives None r ps) (put_alone c r ps v) None
+    by : (r : Bool) (ps : Option Handler) → Says lives (cond r (find_rival see ps) unready) (IsAskedLive lives None × AskedAfter lives None r ps) (put_alone c r ps v) None
     by true None = ((tt, tt), (bool true, keeping c v, refl))
-    by true (Some h) = asks_one h Put unready (Known lives None × AskedAfter lives None true (Some h)) not_ready None (λ e. ((tt, e), refl)) (λ a. a.1)
+    by true (Some h) = asks_one h Put unready (IsAskedLive lives None × AskedAfter lives None true (Some h)) not_ready None (λ e. ((tt, e), refl)) (λ a. a.1)
     by false ps = ((tt, tt), refl)
 
   found_put : (c : Channel) (v : Tree) (closed promise : Bool) (ts ps : Option Handler)
@@ -54,7 +54,7 @@ module _ (see : ℕ → Glance) where
 
   found_take : (c : Channel) (vs : List Tree) (ps : Option Handler) → Says lives (find_take see (is_some (head vs)) c.closed ps) (TakeAsks lives vs ps) (take_of_held c vs ps) ps
   found_take c (v ∷ vs) ps = (tt, (v, giving c, refl))
-  found_take c [] (Some h) = asks_one h Put (partner h.wait h.branch) (Known lives (Some h)) (meets h h.value) (Some h) (λ e. (e, (h, h.value, refl, refl, refl, refl, e))) (λ a. a)
+  found_take c [] (Some h) = asks_one h Put (partner h.wait h.branch) (IsAskedLive lives (Some h)) (meets h h.value) (Some h) (λ e. (e, (h, h.value, refl, refl, refl, refl, e))) (λ a. a)
   found_take c [] None = by c.closed where
     by : (b : Bool) → Says lives (cond b alone unready) (Unit {0}) (cond b (completes nil c) not_ready) None
     by true = (tt, (nil, c, refl))

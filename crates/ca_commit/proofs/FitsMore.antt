@@ -6,7 +6,7 @@ use Rattle.ca_term.specs.declared.fault.Fault.TheVariants.{NotAPort, TooManyPort
 use Rattle.ca_term.specs.declared.head.RegisterName.{RegisterName}
 use Rattle.ca_term.specs.declared.head.RegisterName.TheVariants.{Tap, Untap, UntapAll, Taps, Admix, Unmix, UnmixAll, Toggle, SoloMode, Modes, Find, Place, Drop, Clear, Topics}
 use Rattle.ca_term.specs.Operation.{OpView, SeedView, choosing, closing, go, making, posting, printing, putting, registering, spawning, system, taking}
-use Rattle.ca_meaning.specs.Operands.{count_of, first_of, is_pair, or_else, port_number, rest_of, second_of}
+use Rattle.ca_meaning.specs.Operands.{count_of, first_of, is_pair, or_else, port_of_value, rest_of, second_of}
 use Rattle.ca_meaning.specs.Registry.{Registry, all_channels, pairs_in}
 use Rattle.ca_meaning.specs.State.{State}
 use Rattle.ca_meaning.specs.Refusal.{Need, a_channel, anything, bad_choice, bad_port, bad_ports, bad_seed, fault_of_registered, is_channel, is_needed_port, is_port_to, is_the_mix, is_the_mult, is_the_publication, meets_need, needs_of_system, needs_to_make, needs_to_register, nil_put, not_a_channel, not_needed, operands_to_make, registered_at, registering_gives, the_mix, the_mult, the_publication, unfit, unmet}
@@ -146,14 +146,14 @@ module _ {A : Type 0} (h : Parts A) (s : State) (shows : Shows h s) where
 
   -- an operation on a registry comes to the same
   pub register_more : (name : RegisterName) (args : Trees) → fault_of_registered (registering_gives held name args) ≡ None → registering_gives s name args ≡ registering_gives held name args
-  register_more name args = by (whole h.registry (port_number (first_of args))) refl where
-    right : (r : Registry) → whole h.registry (port_number (first_of args)) ≡ Some r → (b : Bool) → keys_pass held name (rest_of args) ≡ b → fault_of_registered (registered_at held (Some r) name (rest_of args)) ≡ None
-        → registered_at s (s.registries (port_number (first_of args))) name (rest_of args) ≡ registered_at held (Some r) name (rest_of args)
-    right r e true k f = ap (λ o. registered_at s o name (rest_of args)) (registry_more (port_number (first_of args)) r e) ∙ same_table s (Some r) name (rest_of args) (pass_more name (rest_of args) k) ∙ sym (same_table held (Some r) name (rest_of args) k)
+  register_more name args = by (whole h.registry (port_of_value (first_of args))) refl where
+    right : (r : Registry) → whole h.registry (port_of_value (first_of args)) ≡ Some r → (b : Bool) → keys_pass held name (rest_of args) ≡ b → fault_of_registered (registered_at held (Some r) name (rest_of args)) ≡ None
+        → registered_at s (s.registries (port_of_value (first_of args))) name (rest_of args) ≡ registered_at held (Some r) name (rest_of args)
+    right r e true k f = ap (λ o. registered_at s o name (rest_of args)) (registry_more (port_of_value (first_of args)) r e) ∙ same_table s (Some r) name (rest_of args) (pass_more name (rest_of args) k) ∙ sym (same_table held (Some r) name (rest_of args) k)
     right r e false k f = absurd (let c : Some NotAPort ≡ None = sym (ap fault_of_registered (refused_keys held (Some r) name (rest_of args) k)) ∙ f in cc)
 
-    by : (o : Option Registry) → whole h.registry (port_number (first_of args)) ≡ o → fault_of_registered (registered_at held o name (rest_of args)) ≡ None
-        → registered_at s (s.registries (port_number (first_of args))) name (rest_of args) ≡ registered_at held o name (rest_of args)
+    by : (o : Option Registry) → whole h.registry (port_of_value (first_of args)) ≡ o → fault_of_registered (registered_at held o name (rest_of args)) ≡ None
+        → registered_at s (s.registries (port_of_value (first_of args))) name (rest_of args) ≡ registered_at held o name (rest_of args)
     by None e f = absurd cc
     by (Some r) e f = right r e (keys_pass held name (rest_of args)) refl f
 

@@ -2,9 +2,9 @@
 -- the others, is all that there is afterwards.
 use Rattle.std.proofs.Common.{◌≡◌, ℕ, ◌<◌, ◌+◌, List, [], ◌∷◌, refl, sym, ap, ◌∙◌, subst, Bool, true, false, cond, Option, Some, None, eqb, eqb-true, is_some}
 use Rattle.ca_meaning.specs.Registry.{Registry}
-use Rattle.ca_commit.specs.Contents.{BankView, Content, Held, Kept, a_bank, a_lane, a_ready, a_shard, away, the_timers}
+use Rattle.ca_commit.specs.Contents.{BankView, Content, PartContents, Kept, a_bank, a_lane, a_ready, a_shard, away, the_timers}
 use Rattle.ca_commit.specs.Gathered.{Alike, AllAlike, away_kind, bank_kind, bank_of, channels_of, kind_at, kind_of_part, lane_kind, lane_of, parts_of, pick, ready_kind, ready_of, registries_of, shard_kind, shard_of, sorted, timers_kind, timers_of}
-use Rattle.ca_commit.specs.Running.{AreAt, or_was, written}
+use Rattle.ca_commit.specs.Running.{AreAt, or_was, contents_written}
 use Rattle.ca_commit.proofs.Laid.{IsPart, Within, laid, laid_parts, same_map}
 
 module _ {C : Type 0} where
@@ -27,7 +27,7 @@ module _ {A : Type 0} where
     by true same ih e = (b, ap now (sym (eqb-true j i same)) ∙ r.0, subst (λ (c : Content A). Alike n b c) (let k : d ≡ c = cc in k) a.0)
     by false same ih e = ih e
 
-  has_lane : (y : Held A) → kind_of_part y ≡ lane_kind → lane_of y ≡ None → ⊥
+  has_lane : (y : PartContents A) → kind_of_part y ≡ lane_kind → lane_of y ≡ None → ⊥
   has_lane (a_lane l) e f = let z : Some l ≡ None = f in absurd cc
   has_lane (a_bank b) e f = let z : bank_kind ≡ lane_kind = e in absurd cc
   has_lane (a_shard g) e f = let z : shard_kind ≡ lane_kind = e in absurd cc
@@ -35,7 +35,7 @@ module _ {A : Type 0} where
   has_lane (a_ready q) e f = let z : ready_kind ≡ lane_kind = e in absurd cc
   has_lane away e f = let z : away_kind ≡ lane_kind = e in absurd cc
 
-  no_lane : (x y : Held A) → kind_of_part y ≡ kind_of_part x → lane_of y ≡ None → lane_of x ≡ None
+  no_lane : (x y : PartContents A) → kind_of_part y ≡ kind_of_part x → lane_of y ≡ None → lane_of x ≡ None
   no_lane (a_lane l) y e f = absurd (has_lane y e f)
   no_lane (a_bank b) y e f = refl
   no_lane (a_shard g) y e f = refl
@@ -43,7 +43,7 @@ module _ {A : Type 0} where
   no_lane (a_ready q) y e f = refl
   no_lane away y e f = refl
 
-  has_bank : (y : Held A) → kind_of_part y ≡ bank_kind → bank_of y ≡ None → ⊥
+  has_bank : (y : PartContents A) → kind_of_part y ≡ bank_kind → bank_of y ≡ None → ⊥
   has_bank (a_lane l) e f = let z : lane_kind ≡ bank_kind = e in absurd cc
   has_bank (a_bank b) e f = let z : Some b ≡ None = f in absurd cc
   has_bank (a_shard g) e f = let z : shard_kind ≡ bank_kind = e in absurd cc
@@ -51,7 +51,7 @@ module _ {A : Type 0} where
   has_bank (a_ready q) e f = let z : ready_kind ≡ bank_kind = e in absurd cc
   has_bank away e f = let z : away_kind ≡ bank_kind = e in absurd cc
 
-  no_bank : (x y : Held A) → kind_of_part y ≡ kind_of_part x → bank_of y ≡ None → bank_of x ≡ None
+  no_bank : (x y : PartContents A) → kind_of_part y ≡ kind_of_part x → bank_of y ≡ None → bank_of x ≡ None
   no_bank (a_lane l) y e f = refl
   no_bank (a_bank b) y e f = absurd (has_bank y e f)
   no_bank (a_shard g) y e f = refl
@@ -59,7 +59,7 @@ module _ {A : Type 0} where
   no_bank (a_ready q) y e f = refl
   no_bank away y e f = refl
 
-  has_shard : (y : Held A) → kind_of_part y ≡ shard_kind → shard_of y ≡ None → ⊥
+  has_shard : (y : PartContents A) → kind_of_part y ≡ shard_kind → shard_of y ≡ None → ⊥
   has_shard (a_lane l) e f = let z : lane_kind ≡ shard_kind = e in absurd cc
   has_shard (a_bank b) e f = let z : bank_kind ≡ shard_kind = e in absurd cc
   has_shard (a_shard g) e f = let z : Some g ≡ None = f in absurd cc
@@ -67,7 +67,7 @@ module _ {A : Type 0} where
   has_shard (a_ready q) e f = let z : ready_kind ≡ shard_kind = e in absurd cc
   has_shard away e f = let z : away_kind ≡ shard_kind = e in absurd cc
 
-  no_shard : (x y : Held A) → kind_of_part y ≡ kind_of_part x → shard_of y ≡ None → shard_of x ≡ None
+  no_shard : (x y : PartContents A) → kind_of_part y ≡ kind_of_part x → shard_of y ≡ None → shard_of x ≡ None
   no_shard (a_lane l) y e f = refl
   no_shard (a_bank b) y e f = refl
   no_shard (a_shard g) y e f = absurd (has_shard y e f)
@@ -75,7 +75,7 @@ module _ {A : Type 0} where
   no_shard (a_ready q) y e f = refl
   no_shard away y e f = refl
 
-  has_timers : (y : Held A) → kind_of_part y ≡ timers_kind → timers_of y ≡ None → ⊥
+  has_timers : (y : PartContents A) → kind_of_part y ≡ timers_kind → timers_of y ≡ None → ⊥
   has_timers (a_lane l) e f = let z : lane_kind ≡ timers_kind = e in absurd cc
   has_timers (a_bank b) e f = let z : bank_kind ≡ timers_kind = e in absurd cc
   has_timers (a_shard g) e f = let z : shard_kind ≡ timers_kind = e in absurd cc
@@ -83,7 +83,7 @@ module _ {A : Type 0} where
   has_timers (a_ready q) e f = let z : ready_kind ≡ timers_kind = e in absurd cc
   has_timers away e f = let z : away_kind ≡ timers_kind = e in absurd cc
 
-  no_timers : (x y : Held A) → kind_of_part y ≡ kind_of_part x → timers_of y ≡ None → timers_of x ≡ None
+  no_timers : (x y : PartContents A) → kind_of_part y ≡ kind_of_part x → timers_of y ≡ None → timers_of x ≡ None
   no_timers (a_lane l) y e f = refl
   no_timers (a_bank b) y e f = refl
   no_timers (a_shard g) y e f = refl
@@ -91,7 +91,7 @@ module _ {A : Type 0} where
   no_timers (a_ready q) y e f = refl
   no_timers away y e f = refl
 
-  has_ready : (y : Held A) → kind_of_part y ≡ ready_kind → ready_of y ≡ None → ⊥
+  has_ready : (y : PartContents A) → kind_of_part y ≡ ready_kind → ready_of y ≡ None → ⊥
   has_ready (a_lane l) e f = let z : lane_kind ≡ ready_kind = e in absurd cc
   has_ready (a_bank b) e f = let z : bank_kind ≡ ready_kind = e in absurd cc
   has_ready (a_shard g) e f = let z : shard_kind ≡ ready_kind = e in absurd cc
@@ -99,7 +99,7 @@ module _ {A : Type 0} where
   has_ready (a_ready q) e f = let z : Some q ≡ None = f in absurd cc
   has_ready away e f = let z : away_kind ≡ ready_kind = e in absurd cc
 
-  no_ready : (x y : Held A) → kind_of_part y ≡ kind_of_part x → ready_of y ≡ None → ready_of x ≡ None
+  no_ready : (x y : PartContents A) → kind_of_part y ≡ kind_of_part x → ready_of y ≡ None → ready_of x ≡ None
   no_ready (a_lane l) y e f = refl
   no_ready (a_bank b) y e f = refl
   no_ready (a_shard g) y e f = refl
@@ -110,14 +110,14 @@ module _ {A : Type 0} where
   abbrev AtKind : Option (Content A) → Option (Content A) → Type 0
   AtKind o h = (c : Content A) → h ≡ Some c → (b : Content A) × (o ≡ Some b) × (kind_of_part c.held ≡ kind_of_part b.held)
 
-  sorted_or : {X : Type 0} (as_kind : Held A → Option X) → ((x y : Held A) → kind_of_part y ≡ kind_of_part x → as_kind y ≡ None → as_kind x ≡ None) → (o h : Option (Content A)) → AtKind o h → sorted as_kind (or_was h o) ≡ or_was (sorted as_kind h) (sorted as_kind o)
+  sorted_or : {X : Type 0} (as_kind : PartContents A → Option X) → ((x y : PartContents A) → kind_of_part y ≡ kind_of_part x → as_kind y ≡ None → as_kind x ≡ None) → (o h : Option (Content A)) → AtKind o h → sorted as_kind (or_was h o) ≡ or_was (sorted as_kind h) (sorted as_kind o)
   sorted_or as_kind same o None k = refl
   sorted_or {X} as_kind same o (Some c) k = by (as_kind c.held) refl where
     by : (x : Option X) → as_kind c.held ≡ x → x ≡ or_was x (sorted as_kind o)
     by (Some y) e = refl
     by None e = let b = k c refl in sym (ap (sorted as_kind) b.1 ∙ same b.0.held c.held b.2 e)
 
-  sorted_in : {X : Type 0} (as_kind : Held A → Option X) (o p : Option (Content A)) (x : X) → ((c : Content A) → o ≡ Some c → p ≡ Some c) → sorted as_kind o ≡ Some x → sorted as_kind p ≡ Some x
+  sorted_in : {X : Type 0} (as_kind : PartContents A → Option X) (o p : Option (Content A)) (x : X) → ((c : Content A) → o ≡ Some c → p ≡ Some c) → sorted as_kind o ≡ Some x → sorted as_kind p ≡ Some x
   sorted_in as_kind None p x f e = absurd (let k : None ≡ Some x = e in cc)
   sorted_in as_kind (Some c) p x f e = ap (sorted as_kind) (f c refl) ∙ e
 
@@ -140,7 +140,7 @@ registries_in (Some x) b f h e = ap registries_of (h x refl) ∙ e
 module _ {A : Type 0} where
   -- the parts after an event are those that it left, laid over the others
   pub parts_laid : (n : ℕ) (now : ℕ → Option (Content A)) (is : List ℕ) (before after : List (Content A)) → AreAt now is before → AllAlike n before after
-      → parts_of n (written now is after) ≡ laid_parts (parts_of n now) (parts_of n (pick is after))
+      → parts_of n (contents_written now is after) ≡ laid_parts (parts_of n now) (parts_of n (pick is after))
   parts_laid n now is before after r a = λ i. record {
     lane = lanes i;
     bank = banks i;
@@ -189,20 +189,20 @@ module _ {A : Type 0} where
 
   -- each part stays where it belongs
   pub kinds_stay : (n : ℕ) (now : ℕ → Option (Content A)) (is : List ℕ) (before after : List (Content A)) → AreAt now is before → AllAlike n before after → ((i : ℕ) (c : Content A) → now i ≡ Some c → (c.workers ≡ n) × (kind_of_part c.held ≡ kind_at n i))
-      → (i : ℕ) (c : Content A) → written now is after i ≡ Some c → (c.workers ≡ n) × (kind_of_part c.held ≡ kind_at n i)
+      → (i : ℕ) (c : Content A) → contents_written now is after i ≡ Some c → (c.workers ≡ n) × (kind_of_part c.held ≡ kind_at n i)
   kinds_stay n now is before after r a h i c e = by (pick is after i) refl e where
     by : (o : Option (Content A)) → pick is after i ≡ o → or_was o (now i) ≡ Some c → (c.workers ≡ n) × (kind_of_part c.held ≡ kind_at n i)
     by None p e = h i c e
     by (Some d) p e = let k : d ≡ c = cc in let b = alike_at n now is before after r a i c (p ∙ ap (λ (z : Content A). Some z) k) in (b.2.1, b.2.2 ∙ (h i b.0 b.1).1)
 
-  pub stay_there : (now : ℕ → Option (Content A)) (is : List ℕ) (after : List (Content A)) (i : ℕ) → is_some (now i) ≡ true → is_some (written now is after i) ≡ true
+  pub stay_there : (now : ℕ → Option (Content A)) (is : List ℕ) (after : List (Content A)) (i : ℕ) → is_some (now i) ≡ true → is_some (contents_written now is after i) ≡ true
   stay_there now is after i e = by (pick is after i) where
     by : (o : Option (Content A)) → is_some (or_was o (now i)) ≡ true
     by None = e
     by (Some c) = refl
 
   pub none_more : (n k : ℕ) (now : ℕ → Option (Content A)) (is : List ℕ) (before after : List (Content A)) → AreAt now is before → AllAlike n before after → ((i : ℕ) (c : Content A) → now i ≡ Some c → i < k + 33 + k)
-      → (i : ℕ) (c : Content A) → written now is after i ≡ Some c → i < k + 33 + k
+      → (i : ℕ) (c : Content A) → contents_written now is after i ≡ Some c → i < k + 33 + k
   none_more n k now is before after r a h i c e = by (pick is after i) refl e where
     by : (o : Option (Content A)) → pick is after i ≡ o → or_was o (now i) ≡ Some c → i < k + 33 + k
     by None p e = h i c e

@@ -6,9 +6,9 @@ use Rattle.ca_term.specs.declared.event.Side.TheVariants.{Take, Put}
 use Rattle.ca_term.specs.Event.{BranchView, put_of, take_of}
 use Rattle.ca_meaning.specs.Channel.{Channel, has_room, is_fixed, is_promise}
 use Rattle.ca_meaning.specs.Wait.{Handler, head}
-use Rattle.ca_commit.specs.Asks.{AskedAfter, Asks, AsksSettle, Known, PutAsks, SettleAsks, TakeAsks, TakerAsks}
+use Rattle.ca_commit.specs.Asks.{AskedAfter, Asks, AsksSettle, IsAskedLive, PutAsks, SettleAsks, TakeAsks, TakerAsks}
 use Rattle.ca_commit.specs.Contents.{Kept}
-use Rattle.ca_commit.specs.Finding.{Finding, Glance, Serving, asking, find_at, find_put, find_take, find_taker, gone, here, partner, rests_on_stale, rests_on_unheld, serve, serve_taker, serving, settle_at, stale, unheld, unready, unseen}
+use Rattle.ca_commit.specs.Finding.{Finding, Glance, Serving, found_by_asking, find_at, find_put, find_take, find_taker, gone, here, partner, rests_on_stale, rests_on_unheld, serve, serve_taker, serving, settle_at, stale, unheld, unready, unseen}
 
 abbrev pub front_of : Side → Option Handler → Option Handler → Option Handler
 front_of Take takes puts = takes
@@ -32,16 +32,16 @@ module _ (see : ℕ → Glance) where
   Halts asks takes puts other = Unit {0}
 
   one_asked : (asks : (ℕ → Bool) → Type 0) (takes puts : Option Handler) (g : Handler) (side : Side) (live : Finding) → front_of side takes puts ≡ Some g → ((alive : ℕ → Bool) → asks alive → alive g.wait ≡ true) → Halts asks takes puts live
-      → Halts asks takes puts (asking (see g.wait) side g.wait live)
+      → Halts asks takes puts (found_by_asking (see g.wait) side g.wait live)
   one_asked asks takes puts g side live front asked next = by (see g.wait) refl where
-    by : (z : Glance) → see g.wait ≡ z → Halts asks takes puts (asking z side g.wait live)
+    by : (z : Glance) → see g.wait ≡ z → Halts asks takes puts (found_by_asking z side g.wait live)
     by here e = next
     by gone e = record { handler = g; front = front; seen = e; asked = asked }
     by unseen e = (side, record { handler = g; front = front; seen = e; asked = asked }, refl)
 
-  taker_halts : (room : Bool) (takes puts : Option Handler) → Halts (λ alive. Known alive takes × AskedAfter alive takes room puts) takes puts (find_taker see room takes puts)
-  taker_halts room (Some g) puts = one_asked (λ alive. Known alive (Some g) × AskedAfter alive (Some g) room puts) (Some g) puts g Take (partner g.wait g.branch) refl (λ alive a. a.0) tt
-  taker_halts true None (Some g) = one_asked (λ alive. Known alive None × AskedAfter alive None true (Some g)) None (Some g) g Put unready refl (λ alive a. a.1) tt
+  taker_halts : (room : Bool) (takes puts : Option Handler) → Halts (λ alive. IsAskedLive alive takes × AskedAfter alive takes room puts) takes puts (find_taker see room takes puts)
+  taker_halts room (Some g) puts = one_asked (λ alive. IsAskedLive alive (Some g) × AskedAfter alive (Some g) room puts) (Some g) puts g Take (partner g.wait g.branch) refl (λ alive a. a.0) tt
+  taker_halts true None (Some g) = one_asked (λ alive. IsAskedLive alive None × AskedAfter alive None true (Some g)) None (Some g) g Put unready refl (λ alive a. a.1) tt
   taker_halts true None None = tt
   taker_halts false None puts = tt
 

@@ -7,10 +7,10 @@ use Rattle.ca_meaning.specs.Wait.{is_among}
 use Rattle.ca_commit.specs.Contents.{Content, home}
 use Rattle.ca_commit.specs.Gathered.{HoldsNamed, bank_of, channels_of, gather, lane_of, parts_of, pick, ready_of, registries_of, shard_of, sorted, timers_of}
 use Rattle.ca_commit.specs.Running.{AreAt}
-use Rattle.ca_commit.specs.Touched.{Drawn, Named, event_names, homes, one_if, ready_at, shown, touched, touches, turn_touches, wanted}
+use Rattle.ca_commit.specs.Touched.{Drawn, NamedParts, event_names, homes, listed_if, ready_at, shown, touched, touches, turn_touches, wanted}
 use Rattle.ca_commit.proofs.Among.{among_first, among_left, among_map, among_right, among_wanted, pick_all}
 
-one_among : (b : Bool) (i : ℕ) → b ≡ true → is_among i (one_if b i) ≡ true
+one_among : (b : Bool) (i : ℕ) → b ≡ true → is_among i (listed_if b i) ≡ true
 one_among true i e = among_first i [] i refl
 one_among false i e = absurd (let z : false ≡ true = e in cc)
 
@@ -24,7 +24,7 @@ home_below n = let z : n % 16 < 16 = mod-lt n (let y : 0 < 16 = omega arith in y
 home_among : (base p : ℕ) (ns : List ℕ) → is_among p ns ≡ true → is_among (base + home p) (wanted (homes ns) base 0 16) ≡ true
 home_among base p ns e = among_wanted (homes ns) base 0 16 (home p) (omega arith) (home_below p) (among_map home p ns e)
 
-module _ {A : Type 0} (w n : ℕ) (ports looked : List ℕ) (x : Named) (now : ℕ → Option (Content A)) (before : List (Content A)) (at : AreAt now (touched w n ports looked x) before) where
+module _ {A : Type 0} (w n : ℕ) (ports looked : List ℕ) (x : NamedParts) (now : ℕ → Option (Content A)) (before : List (Content A)) (at : AreAt now (touched w n ports looked x) before) where
   abbrev is : List ℕ
   is = touched w n ports looked x
 
@@ -37,11 +37,11 @@ module _ {A : Type 0} (w n : ℕ) (ports looked : List ℕ) (x : Named) (now : �
     banks = λ p e. let k = held_at (n + home p) (among_right (n + home p) lanes rest1 (among_left (n + home p) banks rest2 (home_among n p (x.ports ++ ports) e))) in
         (ap (λ o. channels_of (sorted bank_of o)) k, ap (λ o. registries_of (sorted bank_of o)) k);
     shards = λ v e. ap (sorted shard_of) (held_at (n + 16 + home v) (among_right (n + 16 + home v) lanes rest1 (among_right (n + 16 + home v) banks rest2 (among_left (n + 16 + home v) shards rest3 (home_among (n + 16) v (x.waits ++ looked) e)))));
-    timers = λ e. ap (sorted timers_of) (held_at (n + 32) (among_right (n + 32) lanes rest1 (among_right (n + 32) banks rest2 (among_right (n + 32) shards rest3 (among_left (n + 32) (one_if x.timers (n + 32)) (ready_at n x.ready) (one_among x.timers (n + 32) e))))));
-    ready = λ r e. ap (sorted ready_of) (held_at (n + 33 + r) (among_right (n + 33 + r) lanes rest1 (among_right (n + 33 + r) banks rest2 (among_right (n + 33 + r) shards rest3 (among_right (n + 33 + r) (one_if x.timers (n + 32)) (ready_at n x.ready) (ready_among n r x.ready e))))));
+    timers = λ e. ap (sorted timers_of) (held_at (n + 32) (among_right (n + 32) lanes rest1 (among_right (n + 32) banks rest2 (among_right (n + 32) shards rest3 (among_left (n + 32) (listed_if x.timers (n + 32)) (ready_at n x.ready) (one_among x.timers (n + 32) e))))));
+    ready = λ r e. ap (sorted ready_of) (held_at (n + 33 + r) (among_right (n + 33 + r) lanes rest1 (among_right (n + 33 + r) banks rest2 (among_right (n + 33 + r) shards rest3 (among_right (n + 33 + r) (listed_if x.timers (n + 32)) (ready_at n x.ready) (ready_among n r x.ready e))))));
   } where
     lanes : List ℕ
-    lanes = one_if x.lane w
+    lanes = listed_if x.lane w
 
     banks : List ℕ
     banks = wanted (homes (x.ports ++ ports)) n 0 16
@@ -50,7 +50,7 @@ module _ {A : Type 0} (w n : ℕ) (ports looked : List ℕ) (x : Named) (now : �
     shards = wanted (homes (x.waits ++ looked)) (n + 16) 0 16
 
     rest3 : List ℕ
-    rest3 = one_if x.timers (n + 32) ++ ready_at n x.ready
+    rest3 = listed_if x.timers (n + 32) ++ ready_at n x.ready
 
     rest2 : List ℕ
     rest2 = shards ++ rest3
@@ -60,7 +60,7 @@ module _ {A : Type 0} (w n : ℕ) (ports looked : List ℕ) (x : Named) (now : �
 
 pub named_held : {A : Type 0} (d : Drawn) (e : EventView) (now : ℕ → Option (Content A)) (before : List (Content A)) → d.worker < d.workers → d.what ≡ shown e → AreAt now (touches d) before → HoldsNamed d.worker d.ports d.looked (event_names d.worker e) (gather d before) (parts_of d.workers now)
 named_held {A} d e now before lt is at = subst (λ ts. HoldsNamed d.worker d.ports d.looked x (parts_of d.workers (pick ts before)) (parts_of d.workers now)) (sym all) (holds_named d.worker d.workers d.ports d.looked x now before (subst (λ ts. AreAt now ts before) all at)) where
-  x : Named
+  x : NamedParts
   x = event_names d.worker e
 
   all : touches d ≡ touched d.worker d.workers d.ports d.looked x

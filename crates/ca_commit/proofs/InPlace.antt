@@ -22,7 +22,7 @@ use Rattle.ca_commit.specs.Contents.{Kept, Parked}
 use Rattle.ca_commit.specs.Finding.{Glance, alone, find_at, find_put, front_at, here, put_at}
 use Rattle.ca_commit.specs.Replies.{HasDoneRoom}
 use Rattle.ca_commit.specs.Standing.{nth_branch}
-use Rattle.ca_commit.specs.Waking.{IsMadeFor, WakesBy, Woke, passing}
+use Rattle.ca_commit.specs.Waking.{IsMadeForWaiter, WakesBy, Woke, passing}
 use Rattle.ca_commit.proofs.BranchLaws.{branches_are, count_is}
 use Rattle.ca_commit.proofs.SettleMade.{room_buffers}
 use Rattle.ca_commit.proofs.Woken.{wakes_by}
@@ -31,7 +31,7 @@ module _ {A : Type 0} (place : A → At) (gives : A → Tree → A → Type 0) (
   -- whoever waited goes on with what the branch passes, where c is the branch as it was read, and so p, s, v and t are
   pub wakes_met : (b c : BranchView) (p : ℕ) (s s2 : Side) (v t : Tree) (parked q : Option (Parked (TaskAgent A))) (made : Option Value) (old old2 new : Option (List (ℕ × TaskAgent A)))
       → c ≡ b → p ≡ port_of c → s ≡ side_of c → s2 ≡ other_side s → v ≡ passing (m (port_of c)) c → t ≡ told s2 v
-      → IsMadeFor place parked p t made → q ≡ parked → old2 ≡ old → Woke gives q made old2 new
+      → IsMadeForWaiter place parked p t made → q ≡ parked → old2 ≡ old → Woke gives q made old2 new
       → WakesBy place gives parked (port_of b) (told (other_side (side_of b)) (passing (m (port_of b)) b)) old new
   wakes_met b c p s s2 v t parked q made old old2 new ce pe se s2e ve te for qe oe woke =
       let p2 : p ≡ port_of b = pe ∙ ap port_of ce in
@@ -44,7 +44,7 @@ module _ {A : Type 0} (place : A → At) (gives : A → Tree → A → Type 0) (
 
   -- the same of a channel that settles
   pub wakes_served : (s : Side) (p : ℕ) (v t x : Tree) (parked q : Option (Parked (TaskAgent A))) (made : Option Value) (old old2 new : Option (List (ℕ × TaskAgent A)))
-      → v ≡ x → t ≡ told s v → IsMadeFor place parked p t made → q ≡ parked → old2 ≡ old → Woke gives q made old2 new → WakesBy place gives parked p (told s x) old new
+      → v ≡ x → t ≡ told s v → IsMadeForWaiter place parked p t made → q ≡ parked → old2 ≡ old → Woke gives q made old2 new → WakesBy place gives parked p (told s x) old new
   wakes_served s p v t x parked q made old old2 new ve te for qe oe woke =
       subst (λ (z : Tree). WakesBy place gives parked p z old new) (te ∙ ap (told s) ve)
       (wakes_by place gives parked p t made old new for (subst (λ (z : Option (Parked (TaskAgent A))). Woke gives z made old new) qe (subst (λ (z : Option (List (ℕ × TaskAgent A))). Woke gives q made z new) oe woke)))

@@ -13,9 +13,9 @@ use Rattle.ca_meaning.specs.Refusal.{crowded}
 use Rattle.ca_meaning.specs.State.{State, Task, waiting, runs}
 use Rattle.ca_commit.specs.ChannelMoves.{Joins, MovesPark, MovesPost}
 use Rattle.ca_commit.specs.Contents.{LaneView, Parked, Parts, alive, alive_in, nobody, owner, whole}
-use Rattle.ca_commit.specs.Holds.{Holds, join_all}
+use Rattle.ca_commit.specs.Holds.{KeepsChannels, join_all}
 use Rattle.ca_commit.specs.Moves.{Unready}
-use Rattle.ca_commit.specs.Stands.{NumbersGiven, Stands, ports_of, tasks_of, waits_of}
+use Rattle.ca_commit.specs.Stands.{NumbersGiven, Stands, port_count, task_count, wait_count}
 use Rattle.ca_commit.proofs.AgentLaws.{GoesOn, StaysPaused, TakesAnswers}
 use Rattle.ca_commit.proofs.Answering.{stands_at}
 use Rattle.ca_commit.proofs.Fitting.{few_fits, fits}
@@ -34,7 +34,7 @@ module _ {A : Type 0} (place : A → At) (stands : ProgramView → A → Option 
   is_fresh now s w wait l st at next = by (is_among wait s.used) refl where
     by : (b : Bool) → is_among wait s.used ≡ b → is_among wait s.used ≡ false
     by false e = e
-    by true e = absurd (not_given n waits_of now.lane w l wait (st.lanes w l at).1 at next (st.numbered.waits wait e))
+    by true e = absurd (not_given n wait_count now.lane w l wait (st.lanes w l at).1 at next (st.numbered.waits wait e))
 
   not_live_yet : (now : Parts A) (s : State) (wait : ℕ) → Stands place stands program n now s → is_among wait s.used ≡ false → is_live wait s.waits ≡ false
   not_live_yet now s wait st fresh = by (is_live wait s.waits) refl where
@@ -44,11 +44,11 @@ module _ {A : Type 0} (place : A → At) (stands : ProgramView → A → Option 
 
   -- what a new wait does to banks and shards
   joined_holds : (now old new : Parts A) (s : State) (w : ℕ) (bs : List BranchView) (y : Parked A) (x : Wait) (l l2 : LaneView A) → Stands place stands program n now s → IsPart old now → is_among x.number s.used ≡ false → x.branches ≡ bs → Joins w n x.number bs y l l2 old new
-      → (whole (laid now.bank new.bank) ≡ join_all x.number x.branches (whole now.bank)) × Holds (join_all x.number x.branches (whole now.bank)) (alive (update eqb (whole now.shard) x.number (Some y))) s.channels (s.waits ++ x ∷ []) (x.number ∷ s.used)
+      → (whole (laid now.bank new.bank) ≡ join_all x.number x.branches (whole now.bank)) × KeepsChannels (join_all x.number x.branches (whole now.bank)) (alive (update eqb (whole now.shard) x.number (Some y))) s.channels (s.waits ++ x ∷ []) (x.number ∷ s.used)
   joined_holds now old new s w bs y x l l2 st part fresh same m = (
     same_map (whole (laid now.bank new.bank)) (join_all x.number x.branches (whole now.bank))
         (laid_joined now.bank old.bank new.bank x.number x.branches part.banks (λ i. m.banks i ∙ ap (λ (z : List BranchView). option_map (join_all x.number z) (old.bank i)) (sym same)) (λ j b e. let u = there j b e in (u.0, u.1))),
-    subst (λ (f : ℕ → Bool). Holds (join_all x.number x.branches (whole now.bank)) f s.channels (s.waits ++ x ∷ []) (x.number ∷ s.used)) (sym (alive_and (whole now.shard) x.number y))
+    subst (λ (f : ℕ → Bool). KeepsChannels (join_all x.number x.branches (whole now.bank)) f s.channels (s.waits ++ x ∷ []) (x.number ∷ s.used)) (sym (alive_and (whole now.shard) x.number y))
         (joins_in (whole now.bank) (alive_in now) s.channels s.waits s.used x st.holds fresh
         (λ side p none. absent side p x.number 0 x.branches (λ j b e is. let u = there j b e in let k : None ≡ Some u.0 = sym none ∙ ap (whole now.bank) (sym is) ∙ seen now.bank old.bank part.banks (port_of b) u.0 u.1 in cc))),
   ) where
@@ -60,11 +60,11 @@ module _ {A : Type 0} (place : A → At) (stands : ProgramView → A → Option 
       → l2.counts ≡ record { tasks = l.counts.tasks; ports = l.counts.ports; waits = l.counts.waits + 1 } → s.tasks t ≡ Some x → s2.tasks ≡ update eqb s.tasks t (Some y) → s2.channels ≡ s.channels → s2.registries ≡ s.registries → s2.used ≡ wait ∷ s.used
       → NumbersGiven n (update eqb now.lane w (Some l2)) s2
   counted_on now s s2 w wait t l l2 x y st at next counts is tasks chans regs used = numbered_more n now.lane lane2 s s2 st.numbered
-      (all_grow now.lane w l l2 at (equal_le l.counts.tasks l2.counts.tasks (ap tasks_of counts)) (equal_le l.counts.ports l2.counts.ports (ap ports_of counts)) (one_more_le l.counts.waits l2.counts.waits (ap waits_of counts)))
-      (subst (λ f. From n tasks_of lane2 s.tasks f) (sym tasks) (from_there n tasks_of lane2 s.tasks t x y is))
-      (subst (λ f. From n ports_of lane2 s.channels f) (sym chans) (from_same n ports_of lane2 s.channels))
-      (subst (λ f. From n ports_of lane2 s.registries f) (sym regs) (from_same n ports_of lane2 s.registries))
-      (subst (λ f. UsedFrom n lane2 s.used f) (sym used) (used_next n lane2 s.used wait (given_next n waits_of now.lane w l l2 wait (st.lanes w l at).1 next (ap waits_of counts)))) where
+      (all_grow now.lane w l l2 at (equal_le l.counts.tasks l2.counts.tasks (ap task_count counts)) (equal_le l.counts.ports l2.counts.ports (ap port_count counts)) (one_more_le l.counts.waits l2.counts.waits (ap wait_count counts)))
+      (subst (λ f. From n task_count lane2 s.tasks f) (sym tasks) (from_there n task_count lane2 s.tasks t x y is))
+      (subst (λ f. From n port_count lane2 s.channels f) (sym chans) (from_same n port_count lane2 s.channels))
+      (subst (λ f. From n port_count lane2 s.registries f) (sym regs) (from_same n port_count lane2 s.registries))
+      (subst (λ f. UsedFrom n lane2 s.used f) (sym used) (used_next n lane2 s.used wait (given_next n wait_count now.lane w l l2 wait (st.lanes w l at).1 next (ap wait_count counts)))) where
         lane2 : ℕ → Option (LaneView A)
         lane2 = update eqb now.lane w (Some l2)
 

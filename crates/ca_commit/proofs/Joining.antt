@@ -9,7 +9,7 @@ use Rattle.ca_term.specs.declared.event.Side.TheVariants.{Take, Put}
 use Rattle.ca_term.specs.Event.{BranchView, take_of, put_of}
 use Rattle.ca_meaning.specs.Wait.{handlers, is_on, port_of, brought}
 use Rattle.ca_commit.specs.Contents.{Kept, Parked, Parts, alive, alive_in, at_key, home, whole}
-use Rattle.ca_commit.specs.Holds.{join_all, joined}
+use Rattle.ca_commit.specs.Holds.{join_all, joined_queues}
 use Rattle.ca_commit.specs.Moves.{NoneReadyIn, Unready}
 use Rattle.ca_commit.specs.Running.{or_was}
 use Rattle.ca_commit.proofs.Holding.{and_wait, but_wait}
@@ -27,7 +27,7 @@ absent side q w k [] gone = refl
 absent side q w k (b ∷ bs) gone = ap (λ c. cond c (record { wait = w; branch = k; value = brought b } ∷ handlers side q w (suc k) bs) (handlers side q w (suc k) bs)) (not_on side q b (gone 0 b refl))
     ∙ absent side q w (suc k) bs (λ j c e. gone (suc j) c e)
 
-joined_none : (w : ℕ) (bs : List BranchView) (q : ℕ) (o : Option Kept) → ((side : Side) → handlers side q w 0 bs ≡ []) → o ≡ option_map (joined w bs q) o
+joined_none : (w : ℕ) (bs : List BranchView) (q : ℕ) (o : Option Kept) → ((side : Side) → handlers side q w 0 bs ≡ []) → o ≡ option_map (joined_queues w bs q) o
 joined_none w bs q None gone = refl
 joined_none w bs q (Some k) gone = λ i. Some (record { channel = k.channel; takes = (sym (append-nil k.takes) ∙ ap (λ l. k.takes ++ l) (sym (gone Take))) i; puts = (sym (append-nil k.puts) ∙ ap (λ l. k.puts ++ l) (sym (gone Put))) i })
 
@@ -39,13 +39,13 @@ laid_joined now old new w bs in' is there q = by (old (home q)) refl where
   gone e j b at same = let t = there j b at in let k : None ≡ Some t.0 = sym (ap (λ o. at_key o q) e) ∙ ap (whole old) (sym same) ∙ t.1 in cc
 
   by : (o : Option (ℕ → Option Kept)) → old (home q) ≡ o → whole (laid now new) q ≡ join_all w bs (whole now) q
-  by (Some f) e = ap (λ (o : Option (ℕ → Option Kept)). at_key (or_was o (now (home q))) q) (is (home q) ∙ ap (option_map (join_all w bs)) e) ∙ ap (λ (o : Option (ℕ → Option Kept)). option_map (joined w bs q) (at_key o q)) (sym (in' (home q) f e))
+  by (Some f) e = ap (λ (o : Option (ℕ → Option Kept)). at_key (or_was o (now (home q))) q) (is (home q) ∙ ap (option_map (join_all w bs)) e) ∙ ap (λ (o : Option (ℕ → Option Kept)). option_map (joined_queues w bs q) (at_key o q)) (sym (in' (home q) f e))
   by None e = ap (λ (o : Option (ℕ → Option Kept)). at_key (or_was o (now (home q))) q) (is (home q) ∙ ap (option_map (join_all w bs)) e)
       ∙ joined_none w bs q (whole now q) (λ side. absent side q w 0 bs (gone e))
 
 pub joined_there : (w : ℕ) (bs : List BranchView) (ports : ℕ → Option Kept) (p : ℕ) (k : Kept) → join_all w bs ports p ≡ Some k → (j : Kept) × (ports p ≡ Some j)
 joined_there w bs ports p k e = by (ports p) refl e where
-  by : (o : Option Kept) → ports p ≡ o → option_map (joined w bs p) o ≡ Some k → (j : Kept) × (ports p ≡ Some j)
+  by : (o : Option Kept) → ports p ≡ o → option_map (joined_queues w bs p) o ≡ Some k → (j : Kept) × (ports p ≡ Some j)
   by None is e = absurd (let z : None ≡ Some k = e in cc)
   by (Some j) is e = (j, is)
 

@@ -8,10 +8,10 @@ use Rattle.ca_meaning.specs.Wait.{Handler, port_of, side_of}
 use Rattle.ca_bank.specs.Kept.{is_closed_at, queue_at, takes_one_more}
 use Rattle.ca_commit.specs.Contents.{Kept, Parts, home, whole}
 use Rattle.ca_commit.specs.Finding.{Glance, find_at, find_put, front_at, gone, is_promise_at, unready}
-use Rattle.ca_commit.specs.InPlace.{IsPlain}
+use Rattle.ca_commit.specs.InPlace.{IsPlainOperation}
 use Rattle.ca_commit.specs.Just.{crowd_at, crowds, rival_at, rival_by, rivals}
 use Rattle.ca_commit.specs.JustPlain.{PlainJust}
-use Rattle.ca_commit.specs.Naming.{named_ports, port_in}
+use Rattle.ca_commit.specs.Naming.{named_ports, listed_port}
 use Rattle.ca_commit.specs.Standing.{nth_branch}
 use Rattle.ca_commit.specs.Touched.{Drawn, homes}
 
@@ -22,18 +22,18 @@ twice n i = by (eqb i (home n)) where
   by false = refl
 
 -- a plain operation names its channel alone
-names_one : (kept : ℕ → Option Kept) (op : OpView) → IsPlain kept op → named_ports op ≡ port_of (nth_branch (branches_of op) 0) ∷ []
-names_one kept (taking c) plain = ap port_in plain.0
-names_one kept (putting c v) plain = ap port_in plain.0.0
+names_one : (kept : ℕ → Option Kept) (op : OpView) → IsPlainOperation kept op → named_ports op ≡ port_of (nth_branch (branches_of op) 0) ∷ []
+names_one kept (taking c) plain = ap listed_port plain.0
+names_one kept (putting c v) plain = ap listed_port plain.0.0
 names_one kept (choosing ports priority default) plain = absurd plain
-names_one kept (posting c v) plain = ap port_in plain.0.0
+names_one kept (posting c v) plain = ap listed_port plain.0.0
 names_one kept (making what) plain = absurd plain
 names_one kept (spawning seed) plain = absurd plain
 names_one kept (closing c) plain = absurd plain
 names_one kept (registering name args) plain = absurd plain
 names_one kept (printing line) plain = absurd plain
 
-touches_one : (kept : ℕ → Option Kept) (op : OpView) → IsPlain kept op → (i : ℕ) → homes ((port_of (nth_branch (branches_of op) 0) ∷ []) ++ []) i ≡ homes ((port_of (nth_branch (branches_of op) 0) ∷ []) ++ named_ports op) i
+touches_one : (kept : ℕ → Option Kept) (op : OpView) → IsPlainOperation kept op → (i : ℕ) → homes ((port_of (nth_branch (branches_of op) 0) ∷ []) ++ []) i ≡ homes ((port_of (nth_branch (branches_of op) 0) ∷ []) ++ named_ports op) i
 touches_one kept op plain i = twice (port_of (nth_branch (branches_of op) 0)) i ∙ ap (λ ns. homes (port_of (nth_branch (branches_of op) 0) ∷ ns) i) (sym (names_one kept op plain))
 
 -- a put that isn't ready though nobody was asked has no rival
@@ -53,7 +53,7 @@ no_rival o (put_of p v) f = no_rival_by (is_closed_at o) (is_promise_at o) (take
 no_crowd : (o : Option Kept) (b : BranchView) → nat_lt (length (queue_at (side_of b) o)) 1024 ≡ true → crowd_at o b ≡ []
 no_crowd o b e = ap (λ c. cond c [] (map (λ h. h.wait) (queue_at (side_of b) o))) e
 
-one_only : (kept : ℕ → Option Kept) (op : OpView) → IsPlain kept op → branches_of op ≡ nth_branch (branches_of op) 0 ∷ []
+one_only : (kept : ℕ → Option Kept) (op : OpView) → IsPlainOperation kept op → branches_of op ≡ nth_branch (branches_of op) 0 ∷ []
 one_only kept (taking c) plain = refl
 one_only kept (putting c v) plain = refl
 one_only kept (choosing ports priority default) plain = absurd plain
@@ -70,7 +70,7 @@ asked_first true = refl
 asked_first false = refl
 
 -- where it waits no other wait is asked
-none_asked : {A : Type 0} (d : Drawn) (old : Parts A) (kept : ℕ → Option Kept) (op : OpView) → d.looked ≡ [] → IsPlain kept op → whole old.bank (port_of (nth_branch (branches_of op) 0)) ≡ kept (port_of (nth_branch (branches_of op) 0))
+none_asked : {A : Type 0} (d : Drawn) (old : Parts A) (kept : ℕ → Option Kept) (op : OpView) → d.looked ≡ [] → IsPlainOperation kept op → whole old.bank (port_of (nth_branch (branches_of op) 0)) ≡ kept (port_of (nth_branch (branches_of op) 0))
     → ((see : ℕ → Glance) → unready ≡ find_at see (kept (port_of (nth_branch (branches_of op) 0))) (nth_branch (branches_of op) 0))
     → nat_lt (length (queue_at (side_of (nth_branch (branches_of op) 0)) (kept (port_of (nth_branch (branches_of op) 0))))) 1024 ≡ true
     → d.looked ≡ rivals (whole old.bank) (branches_of op) ++ crowds (whole old.bank) (branches_of op)

@@ -7,7 +7,7 @@ use Rattle.ca_meaning.specs.Registry.{Registry}
 use Rattle.ca_meaning.specs.Task.{TaskBody}
 use Rattle.ca_meaning.specs.State.{State}
 use Rattle.ca_commit.specs.Contents.{Kept, LaneView, Parked, Parts, TimersPart, alive, whole}
-use Rattle.ca_commit.specs.Holds.{Holds}
+use Rattle.ca_commit.specs.Holds.{KeepsChannels}
 use Rattle.ca_commit.specs.Moves.{Alters, Becomes, Stays}
 use Rattle.ca_commit.specs.Running.{or_was}
 use Rattle.ca_commit.specs.Seated.{Seated}
@@ -48,7 +48,7 @@ module _ {A : Type 0} (place : A → At) (stands : ProgramView → A → Option 
   pub lands : (now old new : Parts A) (s s2 : State) (w : ℕ) (l l2 : LaneView A) (ports : ℕ → Option Kept) (registries : ℕ → Option Registry) (parked : ℕ → Option (Parked A)) (ready : ℕ → Option (List (ℕ × A))) (timers : Option TimersPart)
       → Stands place stands program n now s → IsPart old now → Becomes old.lane new.lane w l l2 → l2.program ≡ l.program
       → whole (laid now.bank new.bank) ≡ ports → whole (laid now.registry new.registry) ≡ registries → whole (laid now.shard new.shard) ≡ parked → laid now.ready new.ready ≡ ready → or_was new.timers now.timers ≡ timers
-      → Holds ports (alive parked) s2.channels s2.waits s2.used → ((p : ℕ) → s2.registries p ≡ registries p) → Seated place (stands program) (update eqb now.lane w (Some l2)) ready parked s2.tasks s2.waits → Clocked timers s2 → NumbersGiven n (update eqb now.lane w (Some l2)) s2
+      → KeepsChannels ports (alive parked) s2.channels s2.waits s2.used → ((p : ℕ) → s2.registries p ≡ registries p) → Seated place (stands program) (update eqb now.lane w (Some l2)) ready parked s2.tasks s2.waits → Clocked timers s2 → NumbersGiven n (update eqb now.lane w (Some l2)) s2
       → Stands place stands program n (laid_parts now new) s2
   lands now old new s s2 w l l2 ports registries parked ready timers st part lanes keeps banks regs shards readys clock holds registered seated clocked numbered =
       subst (λ (x : Whole A). WholeStands place stands program n x s2) (sym (whole_is now new all (laid_becomes now.lane old.lane new.lane w l l2 part.lanes lanes) banks regs shards readys clock)) (record {
@@ -66,7 +66,7 @@ module _ {A : Type 0} (place : A → At) (stands : ProgramView → A → Option 
   pub lands_still : (now old new : Parts A) (s s2 : State) (ports : ℕ → Option Kept) (parked : ℕ → Option (Parked A)) (ready : ℕ → Option (List (ℕ × A))) (timers : Option TimersPart)
       → Stands place stands program n now s → IsPart old now → Stays old.lane new.lane → Stays old.registry new.registry → s2.registries ≡ s.registries
       → whole (laid now.bank new.bank) ≡ ports → whole (laid now.shard new.shard) ≡ parked → laid now.ready new.ready ≡ ready → or_was new.timers now.timers ≡ timers
-      → Holds ports (alive parked) s2.channels s2.waits s2.used → Seated place (stands program) now.lane ready parked s2.tasks s2.waits → Clocked timers s2 → NumbersGiven n now.lane s2
+      → KeepsChannels ports (alive parked) s2.channels s2.waits s2.used → Seated place (stands program) now.lane ready parked s2.tasks s2.waits → Clocked timers s2 → NumbersGiven n now.lane s2
       → Stands place stands program n (laid_parts now new) s2
   lands_still now old new s s2 ports parked ready timers st part lanes regs same banks shards readys clock holds seated clocked numbered =
       subst (λ (x : Whole A). WholeStands place stands program n x s2) (sym (whole_is now new all (untouched now.lane old.lane new.lane part.lanes lanes) banks (unaltered now.registry old.registry new.registry part.registries regs) shards readys clock)) (record {

@@ -17,7 +17,7 @@ use Rattle.ca_commit.specs.Contents.{Content, Parts, at_key, home}
 use Rattle.ca_commit.specs.Gathered.{AllAlike, kind_at, kind_of_part, parts_of, pick}
 use Rattle.ca_commit.specs.Moves.{Stood}
 use Rattle.ca_commit.specs.Moving.{Moves, MovesShown, MovesTurn, visible}
-use Rattle.ca_commit.specs.Running.{AllPlaced, AreAt, RunStands, written}
+use Rattle.ca_commit.specs.Running.{AllPlaced, AreAt, RunStands, contents_written}
 use Rattle.ca_commit.specs.SilentMoves.{MovesStall}
 use Rattle.ca_commit.specs.Stands.{Stands}
 use Rattle.ca_commit.specs.Touched.{Drawn, Turn, asks_clock, fails, halts, picks, prunes, shown, stalls, stops, touches, turn_touches, wanted, yields}
@@ -103,7 +103,7 @@ module _ {A : Type 0} (place : A → At) (stands : ProgramView → A → TaskBod
 
   module _ (advance_law : Advanced stands place advances) (answer_law : Answered stands place gives) (start_law : Started stands place starts) where
     leads_on : (program : ProgramView) (n w : ℕ) (what : Turn) (now : ℕ → Option (Content (TaskAgent A))) (is : List ℕ) (before after : List (Content (TaskAgent A))) (s : State) → RunStands place stands program n now s → AreAt now is before
-        → AllAlike n before after → MovesTurn place advances gives starts w n what (parts_of n (pick is before)) (parts_of n (pick is after)) → (s2 : State) × Steps program s (visible what) s2 × RunStands place stands program n (written now is after) s2
+        → AllAlike n before after → MovesTurn place advances gives starts w n what (parts_of n (pick is before)) (parts_of n (pick is after)) → (s2 : State) × Steps program s (visible what) s2 × RunStands place stands program n (contents_written now is after) s2
     leads_on program n w what now is before after s run at alike m =
         let k = turn_leads place stands advances gives starts advance_law answer_law start_law program n (parts_of n now) (parts_of n (pick is before)) (parts_of n (pick is after)) s w what run.stand (parts_in n (pick is before) now (picks_within now is before at)) m in (
           k.0,
@@ -119,6 +119,6 @@ module _ {A : Type 0} (place : A → At) (stands : ProgramView → A → TaskBod
         )
 
     pub locality : (program : ProgramView) (n : ℕ) (d : Drawn) (now : ℕ → Option (Content (TaskAgent A))) (before after : List (Content (TaskAgent A))) (s : State) → RunStands place stands program n now s → AreAt now (touches d) before → Moves place advances gives starts d before after
-        → (s2 : State) × Steps program s (visible d.what) s2 × RunStands place stands program n (written now (touches d) after) s2
+        → (s2 : State) × Steps program s (visible d.what) s2 × RunStands place stands program n (contents_written now (touches d) after) s2
     locality program n d now before after s run at m = let is = touches d in let e = tied n d.workers d.worker d.what now is before after run.kinds (stall_touches d m.0) at m.1 m.2 in
         leads_on program n d.worker d.what now is before after s run at (subst (λ k. AllAlike k before after) e m.1) (subst (λ k. MovesTurn place advances gives starts d.worker k d.what (parts_of k (pick is before)) (parts_of k (pick is after))) e m.2)

@@ -13,9 +13,9 @@ use Rattle.ca_meaning.specs.TaskSteps.{IsMoment, with_deadline}
 use Rattle.ca_meaning.specs.Wait.{Wait, is_among}
 use Rattle.ca_meaning.specs.State.{State, Channels, Deadline, runs, due, open_after, shut_all}
 use Rattle.ca_commit.specs.Contents.{Kept, LaneView, Parts, TimersPart, alive, alive_in, channel_of, whole}
-use Rattle.ca_commit.specs.Holds.{Holds, empty_kept, shut_in}
+use Rattle.ca_commit.specs.Holds.{KeepsChannels, empty_kept, shut_in}
 use Rattle.ca_commit.specs.Running.{or_was}
-use Rattle.ca_commit.specs.Stands.{Given, Stands, ports_of, tasks_of, waits_of}
+use Rattle.ca_commit.specs.Stands.{GivenByWorker, Stands, port_count, task_count, wait_count}
 use Rattle.ca_commit.specs.TaskMoves.{MakesTimed, MovesMake, MovesTick}
 use Rattle.ca_commit.proofs.AgentLaws.{GoesOn, TakesAnswers}
 use Rattle.ca_commit.proofs.Answering.{stands_at}
@@ -52,10 +52,10 @@ plain_deadlines p m (mix out changes) ds e = refl
 plain_deadlines p m (publication source) ds e = refl
 
 -- a port is new, with a channel or without one
-new_port : (ports : ℕ → Option Kept) (alive : ℕ → Bool) (channels : Channels) (waits : List Wait) (used : List ℕ) (p : ℕ) (o : Option Channel) → Holds ports alive channels waits used → ports p ≡ None → channels p ≡ None
-    → Holds (update eqb ports p (option_map empty_kept o)) alive (update eqb channels p o) waits used
+new_port : (ports : ℕ → Option Kept) (alive : ℕ → Bool) (channels : Channels) (waits : List Wait) (used : List ℕ) (p : ℕ) (o : Option Channel) → KeepsChannels ports alive channels waits used → ports p ≡ None → channels p ≡ None
+    → KeepsChannels (update eqb ports p (option_map empty_kept o)) alive (update eqb channels p o) waits used
 new_port ports alive channels waits used p (Some c) h a b = made_holds ports alive channels waits used p c h a
-new_port ports alive channels waits used p None h a b = subst (λ f. Holds f alive (update eqb channels p None) waits used) (sym (none_put ports p a)) (subst (λ f. Holds ports alive f waits used) (sym (none_put channels p b)) h)
+new_port ports alive channels waits used p None h a b = subst (λ f. KeepsChannels f alive (update eqb channels p None) waits used) (sym (none_put ports p a)) (subst (λ f. KeepsChannels ports alive f waits used) (sym (none_put channels p b)) h)
 
 channel_gone : (o : Option Kept) → channel_of o ≡ None → o ≡ None
 channel_gone None e = refl
@@ -81,10 +81,10 @@ module _ {A : Type 0} (place : A → At) (stands : ProgramView → A → Option 
     make_steps now old new s w t p what moment st part m = let a = m.answers in let op = making what in let g = went place stands program n advances goes_on_law gives answers_law now old new s w t op (port p) st part a in
         let x = g.0 in let tasks = update eqb s.tasks t (Some (runs x.result g.4.0)) in let l = a.stands.lane in let l2 = a.stands.lane2 in let lane2 = update eqb now.lane w (Some l2) in
         let at_lane = part.lanes w l a.stands.lanes.was in let clock = made_clock now old new s p what moment st part m.timers in
-        let fresh : Given n ports_of now.lane p → ⊥ = not_given n ports_of now.lane w l p (st.lanes w l at_lane).1 at_lane m.next in
+        let fresh : GivenByWorker n port_count now.lane p → ⊥ = not_given n port_count now.lane w l p (st.lanes w l at_lane).1 at_lane m.next in
         let no_channel : s.channels p ≡ None = is_none (s.channels p) (λ c e. fresh (st.numbered.ports p c e)) in
         let no_registry : s.registries p ≡ None = is_none (s.registries p) (λ r e. fresh (st.numbered.registries p r e)) in
-        let here = given_next n ports_of now.lane w l l2 p (st.lanes w l at_lane).1 m.next (ap ports_of m.counts) in
+        let here = given_next n port_count now.lane w l l2 p (st.lanes w l at_lane).1 m.next (ap port_count m.counts) in
         let s2 : State = record s { tasks = tasks; channels = update eqb s.channels p (channel_made what); registries = update eqb s.registries p (registry_made what); deadlines = with_deadline p what (unwrap_or moment s.now) s.deadlines; now = unwrap_or moment s.now } in (
           s2,
           (x, tasks, stands_at place stands program n advances goes_on_law gives answers_law now old new s w t op (port p) st part a g refl, no_channel, no_registry, clock.0, (g.4.0, g.4.1, refl), refl),
@@ -95,13 +95,13 @@ module _ {A : Type 0} (place : A → At) (stands : ProgramView → A → Option 
               (λ q. ap (λ o. cond (eqb p q) (registry_made what) o) (st.registered q))
               (seated_on place stands program n advances goes_on_law gives answers_law now old new s w t op (port p) st part a g) clock.1
               (numbered_more n now.lane lane2 s s2 st.numbered
-              (all_grow now.lane w l l2 at_lane (equal_le l.counts.tasks l2.counts.tasks (ap tasks_of m.counts)) (one_more_le l.counts.ports l2.counts.ports (ap ports_of m.counts)) (equal_le l.counts.waits l2.counts.waits (ap waits_of m.counts)))
-              (from_there n tasks_of lane2 s.tasks t x (runs x.result g.4.0) g.1) (from_new n ports_of lane2 s.channels p (channel_made what) here) (from_new n ports_of lane2 s.registries p (registry_made what) here) (used_same n lane2 s.used)),
+              (all_grow now.lane w l l2 at_lane (equal_le l.counts.tasks l2.counts.tasks (ap task_count m.counts)) (one_more_le l.counts.ports l2.counts.ports (ap port_count m.counts)) (equal_le l.counts.waits l2.counts.waits (ap wait_count m.counts)))
+              (from_there n task_count lane2 s.tasks t x (runs x.result g.4.0) g.1) (from_new n port_count lane2 s.channels p (channel_made what) here) (from_new n port_count lane2 s.registries p (registry_made what) here) (used_same n lane2 s.used)),
         )
 
-  shut_from_there : (lane : ℕ → Option (LaneView A)) (ps : List ℕ) (ch : Channels) → From n ports_of lane ch (shut_all ps ch)
+  shut_from_there : (lane : ℕ → Option (LaneView A)) (ps : List ℕ) (ch : Channels) → From n port_count lane ch (shut_all ps ch)
   shut_from_there lane ps ch q c e = by (is_among q ps) (ch q) refl (sym (shut_all_is ps ch q) ∙ e) where
-    by : (b : Bool) (o : Option Channel) → ch q ≡ o → cond b (option_map shut o) o ≡ Some c → ((d : Channel) × (ch q ≡ Some d)) ⊎ Given n ports_of lane q
+    by : (b : Bool) (o : Option Channel) → ch q ≡ o → cond b (option_map shut o) o ≡ Some c → ((d : Channel) × (ch q ≡ Some d)) ⊎ GivenByWorker n port_count lane q
     by true None is e = absurd (let z : None ≡ Some c = e in cc)
     by false None is e = absurd (let z : None ≡ Some c = e in cc)
     by true (Some d) is e = inl (d, is)
@@ -117,5 +117,5 @@ module _ {A : Type 0} (place : A → At) (stands : ProgramView → A → Option 
             (shut_holds ports (whole now.bank) (alive_in now) s.channels s.waits s.used st.holds) st.seated
             (λ d e. let same : m.clock2 ≡ d = some_same m.clock2 d (sym (ap (λ (o : Option TimersPart). or_was o now.timers) m.is) ∙ e) in
             subst (λ (z : TimersPart). (z.deadlines ≡ s2.deadlines) × (z.now ≡ s2.now) × (z.now ≤ z.least)) same (m.left ∙ ap (open_after moment) c.0, m.reads.now, equal_le m.clock2.now m.clock2.least (m.reads.least ∙ sym m.reads.now)))
-            (numbered_more n now.lane now.lane s s2 st.numbered (none_grow now.lane) (from_same n tasks_of now.lane s.tasks) (shut_from_there now.lane ports s.channels) (from_same n ports_of now.lane s.registries) (used_same n now.lane s.used)),
+            (numbered_more n now.lane now.lane s s2 st.numbered (none_grow now.lane) (from_same n task_count now.lane s.tasks) (shut_from_there now.lane ports s.channels) (from_same n port_count now.lane s.registries) (used_same n now.lane s.used)),
       )

@@ -6,15 +6,15 @@ use Rattle.ca_term.specs.declared.fault.Fault.TheVariants.{NotAPort, TooManyPort
 use Rattle.ca_term.specs.declared.head.RegisterName.{RegisterName}
 use Rattle.ca_term.specs.declared.head.RegisterName.TheVariants.{Tap, Untap, UntapAll, Taps, Admix, Unmix, UnmixAll, Toggle, SoloMode, Modes, Find, Place, Drop, Clear, Topics}
 use Rattle.ca_term.specs.Operation.{OpView, SeedView, choosing, closing, go, making, posting, printing, putting, registering, spawning, system, taking}
-use Rattle.ca_meaning.specs.Operands.{count_of, first_of, is_pair, or_else, port_number, rest_of, second_of}
+use Rattle.ca_meaning.specs.Operands.{count_of, first_of, is_pair, or_else, port_of_value, rest_of, second_of}
 use Rattle.ca_meaning.specs.Refusal.{Need, a_channel, anything, bad_choice, bad_port, bad_ports, bad_seed, fault_of_registered, is_channel, is_needed_port, is_port_to, is_the_mix, is_the_mult, is_the_publication, meets_need, needs_of_system, needs_to_make, needs_to_register, nil_put, not_a_channel, not_needed, operands_to_make, registered_at, registering_gives, the_mix, the_mult, the_publication, unfit, unmet}
 use Rattle.ca_meaning.specs.Registry.{Registry, all_channels, pairs_in}
 use Rattle.ca_meaning.specs.State.{State}
 use Rattle.ca_meaning.specs.Wait.{is_among}
 use Rattle.ca_commit.specs.Contents.{Kept, Parts, at_key, channel_of, whole}
-use Rattle.ca_commit.specs.Deciding.{IsRefused}
+use Rattle.ca_commit.specs.Deciding.{AreOperandsRefused}
 use Rattle.ca_commit.specs.Moves.{UnfitIn}
-use Rattle.ca_commit.specs.Naming.{NamesHeld, named_ports, port_in, port_keys, port_of_item, ports_among, ports_of_items, ports_of_seed, ports_toggled}
+use Rattle.ca_commit.specs.Naming.{NamesHeld, named_ports, listed_port, port_keys, port_of_item, ports_among, ports_of_items, ports_of_seed, ports_toggled}
 use Rattle.ca_commit.specs.Planning.{state_of}
 use Rattle.ca_commit.specs.Registering.{keys_pass}
 use Rattle.ca_commit.proofs.Among.{among_first, among_left, among_right}
@@ -42,7 +42,7 @@ module _ (s t : State) where
   port_same the_publication n e = ap is_the_publication e.1
   port_same anything n e = refl
 
-  needed_same : (need : Need) (v : Tree) → Same (port_in v) → is_needed_port s need v ≡ is_needed_port t need v
+  needed_same : (need : Need) (v : Tree) → Same (listed_port v) → is_needed_port s need v ≡ is_needed_port t need v
   needed_same need (port n) same = port_same need n (same n (among_first n [] n refl))
   needed_same need nil same = refl
   needed_same need (bool b) same = refl
@@ -52,25 +52,25 @@ module _ (s t : State) where
   needed_same need (vector vs) same = refl
   needed_same need (map ps) same = refl
 
-  meets_same : (need : Need) (v : Tree) → Same (port_in v) → meets_need s need v ≡ meets_need t need v
+  meets_same : (need : Need) (v : Tree) → Same (listed_port v) → meets_need s need v ≡ meets_need t need v
   meets_same anything v same = refl
   meets_same a_channel v same = needed_same a_channel v same
   meets_same the_mult v same = needed_same the_mult v same
   meets_same the_mix v same = needed_same the_mix v same
   meets_same the_publication v same = needed_same the_publication v same
 
-  not_needed_same : (need : Need) (v : Tree) → Same (port_in v) → not_needed s need v ≡ not_needed t need v
+  not_needed_same : (need : Need) (v : Tree) → Same (listed_port v) → not_needed s need v ≡ not_needed t need v
   not_needed_same need v same = ap (λ b. cond b None (Some NotAPort)) (meets_same need v same)
 
   unmet_same : (needs : List Need) (vs : Trees) → Same (ports_among vs) → unmet s needs vs ≡ unmet t needs vs
   unmet_same [] vs same = refl
   unmet_same (n ∷ ns) none same = ap₂ (λ x y. or_else x y) (not_needed_same n nil same) (unmet_same ns none same)
-  unmet_same (n ∷ ns) (item v vs) same = ap₂ (λ x y. or_else x y) (not_needed_same n v (left (port_in v) (ports_among vs) same)) (unmet_same ns vs (right (port_in v) (ports_among vs) same))
+  unmet_same (n ∷ ns) (item v vs) same = ap₂ (λ x y. or_else x y) (not_needed_same n v (left (listed_port v) (ports_among vs) same)) (unmet_same ns vs (right (listed_port v) (ports_among vs) same))
 
-  channel_same : (v : Tree) → Same (port_in v) → not_a_channel s v ≡ not_a_channel t v
+  channel_same : (v : Tree) → Same (listed_port v) → not_a_channel s v ≡ not_a_channel t v
   channel_same v same = ap (λ b. cond b None (Some NotAPort)) (needed_same a_channel v same)
 
-  put_same : (c v : Tree) → Same (port_in c) → or_else (not_a_channel s c) (nil_put v) ≡ or_else (not_a_channel t c) (nil_put v)
+  put_same : (c v : Tree) → Same (listed_port c) → or_else (not_a_channel s c) (nil_put v) ≡ or_else (not_a_channel t c) (nil_put v)
   put_same c v same = ap (λ x. or_else x (nil_put v)) (channel_same c same)
 
   item_same : (v : Tree) → Same (port_of_item v) → bad_port s v ≡ bad_port t v
@@ -97,7 +97,7 @@ module _ (s t : State) where
 
   keys_same : (ps : TreePairs) → Same (port_keys ps) → all_channels (is_channel s) ps ≡ all_channels (is_channel t) ps
   keys_same empty same = refl
-  keys_same (pair k v ps) same = ap₂ (λ a b. a && b) (needed_same a_channel k (left (port_in k) (port_keys ps) same)) (keys_same ps (right (port_in k) (port_keys ps) same))
+  keys_same (pair k v ps) same = ap₂ (λ a b. a && b) (needed_same a_channel k (left (listed_port k) (port_keys ps) same)) (keys_same ps (right (listed_port k) (port_keys ps) same))
 
   pass_same : (name : RegisterName) (args : Trees) → Same (ports_toggled name args) → keys_pass s name (rest_of args) ≡ keys_pass t name (rest_of args)
   pass_same Toggle args same = keys_same (pairs_in (second_of args)) same
@@ -122,11 +122,11 @@ module _ (s t : State) where
     by true e = same_table s o name args (same ∙ e) ∙ sym (same_table t o name args e)
     by false e = refused_keys s o name args (same ∙ e) ∙ sym (refused_keys t o name args e)
 
-  first_same : (vs : Trees) → Same (ports_among vs) → Same (port_in (first_of vs))
+  first_same : (vs : Trees) → Same (ports_among vs) → Same (listed_port (first_of vs))
   first_same none same = same
-  first_same (item v vs) same = left (port_in v) (ports_among vs) same
+  first_same (item v vs) same = left (listed_port v) (ports_among vs) same
 
-  port_needed : (need : Need) (v : Tree) → cond (is_needed_port t need v) None (Some NotAPort) ≡ None → Same (port_in v) → s.registries (port_number v) ≡ t.registries (port_number v)
+  port_needed : (need : Need) (v : Tree) → cond (is_needed_port t need v) None (Some NotAPort) ≡ None → Same (listed_port v) → s.registries (port_of_value v) ≡ t.registries (port_of_value v)
   port_needed need (port n) e same = (same n (among_first n [] n refl)).1
   port_needed need nil e same = absurd cc
   port_needed need (bool b) e same = absurd cc
@@ -137,10 +137,10 @@ module _ (s t : State) where
   port_needed need (map ps) e same = absurd cc
 
   -- the first argument, where it is the registry that is needed
-  registry_needed : (need : Need) (needs : List Need) (args : Trees) → or_else (cond (is_needed_port t need (first_of args)) None (Some NotAPort)) (unmet t needs (rest_of args)) ≡ None → Same (ports_among args) → s.registries (port_number (first_of args)) ≡ t.registries (port_number (first_of args))
+  registry_needed : (need : Need) (needs : List Need) (args : Trees) → or_else (cond (is_needed_port t need (first_of args)) None (Some NotAPort)) (unmet t needs (rest_of args)) ≡ None → Same (ports_among args) → s.registries (port_of_value (first_of args)) ≡ t.registries (port_of_value (first_of args))
   registry_needed need needs args e same = port_needed need (first_of args) (first_none (cond (is_needed_port t need (first_of args)) None (Some NotAPort)) (unmet t needs (rest_of args)) e) (first_same args same)
 
-  registry_same : (name : RegisterName) (args : Trees) → unmet t (needs_to_register name) args ≡ None → Same (ports_among args) → s.registries (port_number (first_of args)) ≡ t.registries (port_number (first_of args))
+  registry_same : (name : RegisterName) (args : Trees) → unmet t (needs_to_register name) args ≡ None → Same (ports_among args) → s.registries (port_of_value (first_of args)) ≡ t.registries (port_of_value (first_of args))
   registry_same Tap args e same = registry_needed the_mult (a_channel ∷ []) args e same
   registry_same Untap args e same = registry_needed the_mult (a_channel ∷ []) args e same
   registry_same UntapAll args e same = registry_needed the_mult [] args e same
@@ -164,7 +164,7 @@ module _ (s t : State) where
 
     gives : unmet t (needs_to_register name) args ≡ None → registering_gives s name args ≡ registering_gives t name args
     gives e = ap (λ o. registered_at s o name (rest_of args)) (registry_same name args e (left (ports_among args) (ports_toggled name args) same))
-        ∙ table_same (t.registries (port_number (first_of args))) name (rest_of args) (pass_same name args (right (ports_among args) (ports_toggled name args) same))
+        ∙ table_same (t.registries (port_of_value (first_of args))) name (rest_of args) (pass_same name args (right (ports_among args) (ports_toggled name args) same))
 
     by : (o : Option Fault) → unmet t (needs_to_register name) args ≡ o
         → or_else (unmet s (needs_to_register name) args) (fault_of_registered (registering_gives s name args)) ≡ or_else (unmet t (needs_to_register name) args) (fault_of_registered (registering_gives t name args))
@@ -183,6 +183,6 @@ module _ (s t : State) where
   unfit_same (printing line) same = refl
 
 -- what is refused in the held banks is refused whatever is in the other banks
-pub names_told : {A : Type 0} (h : Parts A) (op : OpView) (f : Fault) → NamesHeld h op → IsRefused h op f → UnfitIn h op f
+pub names_told : {A : Type 0} (h : Parts A) (op : OpView) (f : Fault) → NamesHeld h op → AreOperandsRefused h op f → UnfitIn h op f
 names_told h op f held e = λ s shows. unfit_same s (state_of (whole h.bank) (whole h.registry)) op (λ n among. let b = held n among in
     (shows.channels n b.0 b.2 ∙ sym (ap (λ (o : Option (ℕ → Option Kept)). channel_of (at_key o n)) b.2), shows.registries n b.1 b.3 ∙ sym (ap (λ (o : Option (ℕ → Option Registry)). at_key o n) b.3))) ∙ e

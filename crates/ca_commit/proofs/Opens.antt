@@ -11,7 +11,7 @@ use Rattle.ca_meaning.specs.State.{Task, Tasks, runs, opening_state}
 use Rattle.ca_commit.specs.Agents.{TaskAgent, place_of, stands_of}
 use Rattle.ca_commit.specs.Contents.{Content, Kept, LaneView, Parked, TimersPart, at_key, home, owner, whole}
 use Rattle.ca_commit.specs.Gathered.{Kind, away_kind, bank_kind, bank_of, channels_of, kind_at, kind_of_part, lane_kind, lane_of, parts_of, ready_kind, ready_of, registries_of, shard_kind, shard_of, sorted, timers_kind, timers_of}
-use Rattle.ca_commit.specs.Opening.{main_agent, opened, opening_parts}
+use Rattle.ca_commit.specs.Opening.{main_agent, part_opened, opening_parts}
 use Rattle.ca_commit.specs.Running.{RunStands}
 use Rattle.ca_commit.specs.Seated.{EachSeated, Seated, StandsAs, in_ready}
 use Rattle.ca_commit.specs.Stands.{Whole, WholeStands, whole_of}
@@ -40,9 +40,9 @@ at_place n r e = omega (arith, e)
 
 module _ {A : Type 0} (n : ℕ) (program : ProgramView) (main : A) (clock : TimersPart) where
   abbrev there : Bool → ℕ → Kind → Option (Content (TaskAgent A))
-  there b i k = cond b (Some (record { workers = n; held = opened n program main clock i k })) None
+  there b i k = cond b (Some (record { workers = n; held = part_opened n program main clock i k })) None
 
-  kind_is : (i : ℕ) (k : Kind) → kind_of_part (opened n program main clock i k) ≡ k
+  kind_is : (i : ℕ) (k : Kind) → kind_of_part (part_opened n program main clock i k) ≡ k
   kind_is i lane_kind = refl
   kind_is i bank_kind = refl
   kind_is i shard_kind = refl
@@ -195,7 +195,7 @@ module _ {A : Type 0} (place : A → At) (stands : ProgramView → A → TaskBod
 
     kind_there : (c : Bool) (i : ℕ) (x : Content (TaskAgent A)) → there n program main clock c i (kind_at n i) ≡ Some x → (x.workers ≡ n) × (kind_of_part x.held ≡ kind_at n i)
     kind_there false i x e = absurd (let z : None ≡ Some x = e in cc)
-    kind_there true i x e = let same = some_same (record { workers = n; held = opened n program main clock i (kind_at n i) }) x e in
+    kind_there true i x e = let same = some_same (record { workers = n; held = part_opened n program main clock i (kind_at n i) }) x e in
         (sym (ap (λ (z : Content (TaskAgent A)). z.workers) same), sym (ap (λ (z : Content (TaskAgent A)). kind_of_part z.held) same) ∙ kind_is n program main clock i (kind_at n i))
 
     all : Whole (TaskAgent A)

@@ -15,7 +15,7 @@ use Rattle.ca_commit.specs.Listing.{changed_at}
 use Rattle.ca_commit.specs.Moves.{Becomes, Stays}
 use Rattle.ca_commit.specs.PlacesSettled.{PruneApplies, SettleApplies, StaleServed}
 use Rattle.ca_commit.specs.ServesSeen.{front_with}
-use Rattle.ca_commit.specs.Settling.{settle_change, settling}
+use Rattle.ca_commit.specs.Settling.{settle_change, value_settled}
 use Rattle.ca_commit.specs.Showing.{waits_of}
 use Rattle.ca_commit.specs.SilentMoves.{MovesPrune}
 use Rattle.ca_commit.specs.Tasks.{tasks_in}
@@ -38,14 +38,14 @@ settle_applies {A} place advances gives old new w p side q bank bank2 shard shar
     let shown : whole old.bank p ≡ kept_at bank p = shows_at old.bank p (kept_at bank) banked.was in
     let asked : here ≡ glance old.shard q.wait.n = glanced old q.wait.n (waits_of shard) here sharded.was (lives_here (waits_of shard q.wait.n) lives) in
     let serves_it : settle_at (glance old.shard) (whole old.bank p) ≡ serves side q.wait.n q.branch = ap (settle_at (glance old.shard)) shown ∙ sym (served (glance old.shard)) ∙ ap (front_with side q) (sym asked) in
-    let banks : (i : ℕ) → new.bank i ≡ changed_at p (option_map (settle_change side (settling side (whole old.bank p)))) old.bank i =
-    subst (λ (z : Option Kept). (i : ℕ) → new.bank i ≡ changed_at p (option_map (settle_change side (settling side z))) old.bank i) (sym shown) (turned old.bank new.bank p (kept_at bank) (kept_at bank2) (option_map (settle_change side (settling side (kept_at bank p)))) banked turns.0) in
-    let woken : WakesBy place gives (whole old.shard q.wait.n) p (told side (settling side (whole old.bank p))) (old.ready w) (new.ready w) =
-    subst (λ (z : Option (List (ℕ × TaskAgent A))). WakesBy place gives (whole old.shard q.wait.n) p (told side (settling side (whole old.bank p))) z (new.ready w)) (sym readied.was)
-    (subst (λ (z : Option (List (ℕ × TaskAgent A))). WakesBy place gives (whole old.shard q.wait.n) p (told side (settling side (whole old.bank p))) (Some (tasks_in ready)) z) (sym readied.is)
-    (subst (λ (z : Option Kept). WakesBy place gives (whole old.shard q.wait.n) p (told side (settling side z)) (Some (tasks_in ready)) (Some (tasks_in ready2))) (sym shown)
-    (subst (λ (z : Option (Parked (TaskAgent A))). WakesBy place gives z p (told side (settling side (kept_at bank p))) (Some (tasks_in ready)) (Some (tasks_in ready2))) (sym (shows_at old.shard q.wait.n (waits_of shard) sharded.was)) wakes))) in
-    subst (λ (z : Option Kept). MovesSettle (place_of place) (wakes_of gives) w q.wait.n q.branch side p (settling side z) old new) shown
+    let banks : (i : ℕ) → new.bank i ≡ changed_at p (option_map (settle_change side (value_settled side (whole old.bank p)))) old.bank i =
+    subst (λ (z : Option Kept). (i : ℕ) → new.bank i ≡ changed_at p (option_map (settle_change side (value_settled side z))) old.bank i) (sym shown) (turned old.bank new.bank p (kept_at bank) (kept_at bank2) (option_map (settle_change side (value_settled side (kept_at bank p)))) banked turns.0) in
+    let woken : WakesBy place gives (whole old.shard q.wait.n) p (told side (value_settled side (whole old.bank p))) (old.ready w) (new.ready w) =
+    subst (λ (z : Option (List (ℕ × TaskAgent A))). WakesBy place gives (whole old.shard q.wait.n) p (told side (value_settled side (whole old.bank p))) z (new.ready w)) (sym readied.was)
+    (subst (λ (z : Option (List (ℕ × TaskAgent A))). WakesBy place gives (whole old.shard q.wait.n) p (told side (value_settled side (whole old.bank p))) (Some (tasks_in ready)) z) (sym readied.is)
+    (subst (λ (z : Option Kept). WakesBy place gives (whole old.shard q.wait.n) p (told side (value_settled side z)) (Some (tasks_in ready)) (Some (tasks_in ready2))) (sym shown)
+    (subst (λ (z : Option (Parked (TaskAgent A))). WakesBy place gives z p (told side (value_settled side (kept_at bank p))) (Some (tasks_in ready)) (Some (tasks_in ready2))) (sym (shows_at old.shard q.wait.n (waits_of shard) sharded.was)) wakes))) in
+    subst (λ (z : Option Kept). MovesSettle (place_of place) (wakes_of gives) w q.wait.n q.branch side p (value_settled side z) old new) shown
     (settle_moves place advances gives old new w q.wait.n q.branch p side (tasks_in ready) serves_it banks registries (turned old.shard new.shard q.wait.n (waits_of shard) (waits_of shard2) (λ z. None) sharded sets.0)
     readied.was readied.others (all_stay old.ready new.ready w (tasks_in ready) (tasks_in ready2) readied) woken lanes timers)
 

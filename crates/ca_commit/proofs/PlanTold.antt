@@ -9,7 +9,7 @@ use Rattle.ca_term.specs.Operation.{OpView, choosing, closing, making, posting, 
 use Rattle.ca_term.specs.Event.{BranchView}
 use Rattle.ca_meaning.specs.ChannelSteps.{other_side}
 use Rattle.ca_meaning.specs.Choice.{branch_of, branches_of, default_of, parks}
-use Rattle.ca_meaning.specs.Operands.{count_of, first_of, is_pair, or_else, port_number, rest_of, second_of, values_in}
+use Rattle.ca_meaning.specs.Operands.{count_of, first_of, is_pair, or_else, port_of_value, rest_of, second_of, values_in}
 use Rattle.ca_meaning.specs.Refusal.{bad_choice, bad_port, bad_ports, crowd_of, fault_of_registered, has_no_default, is_channel, needs_to_register, nil_put, not_a_channel, registered_at, registering_gives, unfit, unmet}
 use Rattle.ca_meaning.specs.Registry.{Registered, Registry, answers, refuses}
 use Rattle.ca_meaning.specs.State.{State}
@@ -18,11 +18,11 @@ use Rattle.ca_bank.specs.Kept.{queue_at}
 use Rattle.ca_registry.specs.Registry.{comes_to}
 use Rattle.ca_commit.specs.Asks.{Asks, row_raw}
 use Rattle.ca_commit.specs.Contents.{Kept, Parked, Parts, alive_in, at_key, channel_of, home, on, whole}
-use Rattle.ca_commit.specs.Deciding.{HangsOn, HangsOnStale, HangsOnUnseen, HasPartner, IsAlone, IsAnswered, IsPost, PlanTells, seen_in}
+use Rattle.ca_commit.specs.Deciding.{HangsOn, HangsOnStale, HangsOnUnseen, HasPartner, IsAlone, IsRegistryAnswered, IsPost, PlanTells, seen_in}
 use Rattle.ca_commit.specs.Finding.{Finding, alone, find_at, glance, glance_at, glance_in, partner, stale, unheld, unready}
 use Rattle.ca_commit.specs.Holds.{groups, live_of}
 use Rattle.ca_commit.specs.Moves.{AllSeen, CrowdedIn, FewIn, FewOn, FitIn, NoneReadyIn, PicksIn, Unready}
-use Rattle.ca_commit.specs.Planning.{Planned, Seen, all_asked, all_counted, asked, counted, chosen, decided, fitting, found_of, is_alts, otherwise, planned, starting, state_of, to_close, to_default, to_do, to_make, to_meet, to_park, to_post, to_print, to_register, to_spawn, unless_refused, to_look, to_prune, to_refuse}
+use Rattle.ca_commit.specs.Planning.{Planned, Seen, all_asked, all_counted, handler_asked, queue_counted, chosen, decided, fitting, found_of, is_alts, otherwise, planned, starting, state_of, to_close, to_default, to_do, to_make, to_meet, to_park, to_post, to_print, to_register, to_spawn, unless_refused, to_look, to_prune, to_refuse}
 use Rattle.ca_commit.proofs.Findings.{Says, found, is_here, lives}
 use Rattle.ca_commit.specs.Registering.{keys_pass}
 use Rattle.ca_commit.proofs.FitsMore.{first_none, fits_in, passes, register_more, second_none}
@@ -107,13 +107,13 @@ module _ {A : Type 0} (h : Parts A) where
     unseen_here : h.shard (home g.wait) ≡ None → HangsOnUnseen h op g.wait
     unseen_here e = (p, side, place, record { kept = k; there = there; handler = g; at_place = here; unheld = e }, refl, hangs place g.wait)
 
-    inner : (f : ℕ → Option (Parked A)) (o : Option (Parked A)) → h.shard (home g.wait) ≡ Some f → f g.wait ≡ o → AllTold op q rest (all_asked x p side (place + 1) q rest) → AllTold op (g ∷ q) rest (asked (glance_in o) p side place g.wait (all_asked x p side (place + 1) q rest))
+    inner : (f : ℕ → Option (Parked A)) (o : Option (Parked A)) → h.shard (home g.wait) ≡ Some f → f g.wait ≡ o → AllTold op q rest (all_asked x p side (place + 1) q rest) → AllTold op (g ∷ q) rest (handler_asked (glance_in o) p side place g.wait (all_asked x p side (place + 1) q rest))
     inner f None e u t = inr (gone_here f e u)
     inner f (Some a) e u t = ⊎_elim (λ k. inl (live_here f a e u k)) (λ k. inr k) t
 
-    outer : (o : Option (ℕ → Option (Parked A))) → h.shard (home g.wait) ≡ o → AllTold op q rest (all_asked x p side (place + 1) q rest) → AllTold op (g ∷ q) rest (asked (glance_at (h.shard (home g.wait)) g.wait) p side place g.wait (all_asked x p side (place + 1) q rest))
-    outer None e t = subst (λ (z : Option (ℕ → Option (Parked A))). AllTold op (g ∷ q) rest (asked (glance_at z g.wait) p side place g.wait (all_asked x p side (place + 1) q rest))) (sym e) (inr (unseen_here e))
-    outer (Some f) e t = subst (λ (z : Option (ℕ → Option (Parked A))). AllTold op (g ∷ q) rest (asked (glance_at z g.wait) p side place g.wait (all_asked x p side (place + 1) q rest))) (sym e) (inner f (f g.wait) e refl t)
+    outer : (o : Option (ℕ → Option (Parked A))) → h.shard (home g.wait) ≡ o → AllTold op q rest (all_asked x p side (place + 1) q rest) → AllTold op (g ∷ q) rest (handler_asked (glance_at (h.shard (home g.wait)) g.wait) p side place g.wait (all_asked x p side (place + 1) q rest))
+    outer None e t = subst (λ (z : Option (ℕ → Option (Parked A))). AllTold op (g ∷ q) rest (handler_asked (glance_at z g.wait) p side place g.wait (all_asked x p side (place + 1) q rest))) (sym e) (inr (unseen_here e))
+    outer (Some f) e t = subst (λ (z : Option (ℕ → Option (Parked A))). AllTold op (g ∷ q) rest (handler_asked (glance_at z g.wait) p side place g.wait (all_asked x p side (place + 1) q rest))) (sym e) (inner f (f g.wait) e refl t)
 
   abbrev IsFull : List Handler → Type 0
   IsFull q = AllSeen h q × (1024 ≤ groups (live_of (alive_in h) q))
@@ -123,7 +123,7 @@ module _ {A : Type 0} (h : Parts A) where
   QueueTold op side q rest r = (FewOn h q × (r ≡ rest)) ⊎ ((IsFull q × (r ≡ to_refuse (crowd_of side))) ⊎ Stops op r)
 
   -- a queue has a place for one more wait, or none, or it can't be told, where the plan hangs on those of a long queue
-  queue_tells : (op : OpView) (side : Side) (p : ℕ) (k : Kept) (rest : Planned) → whole h.bank p ≡ Some k → (1024 ≤ length (on side k) → (place w : ℕ) → HangsOn h op p k side place w) → QueueTold op side (on side k) rest (counted x side p (on side k) rest)
+  queue_tells : (op : OpView) (side : Side) (p : ℕ) (k : Kept) (rest : Planned) → whole h.bank p ≡ Some k → (1024 ≤ length (on side k) → (place w : ℕ) → HangsOn h op p k side place w) → QueueTold op side (on side k) rest (queue_counted x side p (on side k) rest)
   queue_tells op side p k rest there hangs = short (nat_lt (length (on side k)) 1024) refl where
     after : Planned
     after = cond (nat_lt (groups (on side k)) 1024) rest (to_refuse (crowd_of side))
@@ -162,10 +162,10 @@ module _ {A : Type 0} (h : Parts A) where
   queues_tell op waits idle [] i rest a at few = inl (tt, refl)
   queues_tell op waits idle (b ∷ bs) i rest a at few = subst (QueuesTold op (b ∷ bs) rest) (sym here) (⊎_elim (goes_on (queues_tell op waits idle bs (suc i) rest a.1 later)) stops (queue_tells op (side_of b) (port_of b) a.0.0 (all_counted x bs rest) a.0.1 hangs)) where
     after : Planned
-    after = counted x (side_of b) (port_of b) (on (side_of b) a.0.0) (all_counted x bs rest)
+    after = queue_counted x (side_of b) (port_of b) (on (side_of b) a.0.0) (all_counted x bs rest)
 
     here : all_counted x (b ∷ bs) rest ≡ after
-    here = ap (λ o. counted x (side_of b) (port_of b) (queue_at (side_of b) o) (all_counted x bs rest)) a.0.1
+    here = ap (λ o. queue_counted x (side_of b) (port_of b) (queue_at (side_of b) o) (all_counted x bs rest)) a.0.1
 
     number : slice_get (branches_of op) i ≡ Some b
     number = ap (slice_get (branches_of op)) (let e : i ≡ i + 0 = omega arith in e) ∙ sym (at 0)
@@ -196,7 +196,7 @@ module _ {A : Type 0} (h : Parts A) where
   held = state_of (whole h.bank) (whole h.registry)
 
   -- operands that are right name held channels
-  value_held : (v : Tree) → not_a_channel held v ≡ None → (k : Kept) × (whole h.bank (port_number v) ≡ Some k)
+  value_held : (v : Tree) → not_a_channel held v ≡ None → (k : Kept) × (whole h.bank (port_of_value v) ≡ Some k)
   value_held (port n) e = by (whole h.bank n) refl where
     by : (o : Option Kept) → whole h.bank n ≡ o → (k : Kept) × (whole h.bank n ≡ Some k)
     by None u = absurd (let t : false ≡ true = sym (ap (λ (o : Option Kept). is_some (channel_of o)) u) ∙ passes (is_channel held (port n)) NotAPort e in cc)
@@ -209,7 +209,7 @@ module _ {A : Type 0} (h : Parts A) where
   value_held (vector vs) e = absurd cc
   value_held (a_map ps) e = absurd cc
 
-  pair_held : (vs : Trees) (b : Bool) → cond b (or_else (not_a_channel held (first_of vs)) (nil_put (second_of vs))) (Some NotAPort) ≡ None → (k : Kept) × (whole h.bank (port_number (first_of vs)) ≡ Some k)
+  pair_held : (vs : Trees) (b : Bool) → cond b (or_else (not_a_channel held (first_of vs)) (nil_put (second_of vs))) (Some NotAPort) ≡ None → (k : Kept) × (whole h.bank (port_of_value (first_of vs)) ≡ Some k)
   pair_held vs true e = value_held (first_of vs) (first_none (not_a_channel held (first_of vs)) (nil_put (second_of vs)) e)
   pair_held vs false e = absurd cc
 
@@ -318,7 +318,7 @@ module _ {A : Type 0} (h : Parts A) where
   post_is (vector vs) v e = absurd cc
   post_is (a_map ps) v e = absurd cc
 
-  close_tells : (c : Tree) → FitIn h (closing c) → not_a_channel held c ≡ None → PlanTells h (closing c) (to_close (port_number c))
+  close_tells : (c : Tree) → FitIn h (closing c) → not_a_channel held c ≡ None → PlanTells h (closing c) (to_close (port_of_value c))
   close_tells (port n) fit e = (fit, refl, value_held (port n) e)
   close_tells nil fit e = absurd cc
   close_tells (bool b) fit e = absurd cc
@@ -328,9 +328,9 @@ module _ {A : Type 0} (h : Parts A) where
   close_tells (vector vs) fit e = absurd cc
   close_tells (a_map ps) fit e = absurd cc
 
-  register_tells : (name : RegisterName) (args : Trees) → fault_of_registered (registering_gives held name args) ≡ None → IsAnswered h name args
-  register_tells name args table = by (whole h.registry (port_number (first_of args))) refl table where
-    right : (r : Registry) → whole h.registry (port_number (first_of args)) ≡ Some r → (b : Bool) → keys_pass held name (rest_of args) ≡ b → (z : Registered) → comes_to (Some r) name (rest_of args) ≡ z → fault_of_registered (registered_at held (Some r) name (rest_of args)) ≡ None → IsAnswered h name args
+  register_tells : (name : RegisterName) (args : Trees) → fault_of_registered (registering_gives held name args) ≡ None → IsRegistryAnswered h name args
+  register_tells name args table = by (whole h.registry (port_of_value (first_of args))) refl table where
+    right : (r : Registry) → whole h.registry (port_of_value (first_of args)) ≡ Some r → (b : Bool) → keys_pass held name (rest_of args) ≡ b → (z : Registered) → comes_to (Some r) name (rest_of args) ≡ z → fault_of_registered (registered_at held (Some r) name (rest_of args)) ≡ None → IsRegistryAnswered h name args
     right r e false k z is f = absurd (let c : Some NotAPort ≡ None = sym (ap fault_of_registered (refused_keys held (Some r) name (rest_of args) k)) ∙ f in cc)
     right r e true k (refuses g) is f = absurd (let c : Some g ≡ None = sym (ap fault_of_registered (same_table held (Some r) name (rest_of args) k ∙ is)) ∙ f in cc)
     right r e true k (answers v r2) is f = record {
@@ -342,7 +342,7 @@ module _ {A : Type 0} (h : Parts A) where
       by_bank = is;
     }
 
-    by : (o : Option Registry) → whole h.registry (port_number (first_of args)) ≡ o → fault_of_registered (registered_at held o name (rest_of args)) ≡ None → IsAnswered h name args
+    by : (o : Option Registry) → whole h.registry (port_of_value (first_of args)) ≡ o → fault_of_registered (registered_at held o name (rest_of args)) ≡ None → IsRegistryAnswered h name args
     by None e f = absurd cc
     by (Some r) e f = right r e (keys_pass held name (rest_of args)) refl (comes_to (Some r) name (rest_of args)) refl f
 

@@ -7,7 +7,7 @@ use Rattle.ca_term.specs.declared.event.Side.{Side}
 use Rattle.ca_term.specs.Operation.{OpView, choosing, closing, making, posting, printing, putting, registering, spawning, taking}
 use Rattle.ca_term.specs.Event.{BranchView}
 use Rattle.ca_meaning.specs.Choice.{branches_of, default_of, parks}
-use Rattle.ca_meaning.specs.Operands.{first_of, port_number, rest_of}
+use Rattle.ca_meaning.specs.Operands.{first_of, port_of_value, rest_of}
 use Rattle.ca_meaning.specs.Refusal.{crowd_of, fault_of_registered, needs_to_register, registering_gives, unfit, unmet}
 use Rattle.ca_meaning.specs.State.{State}
 use Rattle.ca_meaning.specs.Wait.{Handler, port_of, side_of}
@@ -15,7 +15,7 @@ use Rattle.ca_bank.specs.Kept.{queue_at}
 use Rattle.ca_commit.specs.Applying.{KeepsApart}
 use Rattle.ca_commit.specs.Finding.{Finding, Glance, alone, gone, here, partner, stale, unheld, unready, unseen}
 use Rattle.ca_commit.specs.Holds.{groups}
-use Rattle.ca_commit.specs.Planning.{Planned, Seen, all_asked, all_counted, asked, chosen, counted, decided, fitting, found_of, in_turn, is_alts, otherwise, planned, starting, state_of, to_park, to_post, to_refuse, unless_refused}
+use Rattle.ca_commit.specs.Planning.{Planned, Seen, all_asked, all_counted, handler_asked, chosen, queue_counted, decided, fitting, found_of, in_turn, is_alts, otherwise, planned, starting, state_of, to_park, to_post, to_refuse, unless_refused}
 use Rattle.ca_commit.specs.Registering.{AreApart, keys_pass}
 use Rattle.ca_commit.proofs.FitsMore.{second_none}
 use Rattle.ca_registry.proofs.KeyLaws.{apart_by, refused_keys}
@@ -31,7 +31,7 @@ by_finding (partner w o) alts k b rest r = tt
 by_finding (stale side) alts k b rest r = tt
 by_finding (unheld w) alts k b rest r = tt
 
-by_glance : (g : Glance) (p : ℕ) (side : Side) (place w : ℕ) (rest : Planned) → KeepsApart rest → KeepsApart (asked g p side place w rest)
+by_glance : (g : Glance) (p : ℕ) (side : Side) (place w : ℕ) (rest : Planned) → KeepsApart rest → KeepsApart (handler_asked g p side place w rest)
 by_glance here p side place w rest r = r
 by_glance gone p side place w rest r = tt
 by_glance unseen p side place w rest r = tt
@@ -48,7 +48,7 @@ module _ (x : Seen) where
   asking_keeps p side place [] rest r = r
   asking_keeps p side place (h ∷ q) rest r = by_glance (x.see h.wait) p side place h.wait (all_asked x p side (place + 1) q rest) (asking_keeps p side (place + 1) q rest r)
 
-  counting_keeps : (side : Side) (p : ℕ) (q : List Handler) (rest : Planned) → KeepsApart rest → KeepsApart (counted x side p q rest)
+  counting_keeps : (side : Side) (p : ℕ) (q : List Handler) (rest : Planned) → KeepsApart rest → KeepsApart (queue_counted x side p q rest)
   counting_keeps side p q rest r = one_of (nat_lt (length q) 1024) rest (all_asked x p side 0 q (cond (nat_lt (groups q) 1024) rest (to_refuse (crowd_of side)))) r
       (asking_keeps p side 0 q (cond (nat_lt (groups q) 1024) rest (to_refuse (crowd_of side))) (one_of (nat_lt (groups q) 1024) rest (to_refuse (crowd_of side)) r tt))
 
@@ -80,7 +80,7 @@ module _ (x : Seen) where
 
     by : (b : Bool) → keys_pass held name (rest_of args) ≡ b → KeepsApart (fitting x (registering name args) start)
     by true k = (apart_by held name (rest_of args) k apart.0, apart.1)
-    by false k = absurd (let c : Some NotAPort ≡ None = sym (ap fault_of_registered (refused_keys held (held.registries (port_number (first_of args))) name (rest_of args) k)) ∙ answered in cc)
+    by false k = absurd (let c : Some NotAPort ≡ None = sym (ap fault_of_registered (refused_keys held (held.registries (port_of_value (first_of args))) name (rest_of args) k)) ∙ answered in cc)
 
   pub plans_apart : (op : OpView) (start : ℕ) → AreApart held op → KeepsApart (planned x op start)
   plans_apart op start apart = by (unfit held op) refl where

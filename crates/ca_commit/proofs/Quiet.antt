@@ -12,7 +12,7 @@ use Rattle.ca_meaning.specs.Task.{TaskBody}
 use Rattle.ca_meaning.specs.Wait.{Handler, head, front, is_among}
 use Rattle.ca_meaning.specs.State.{State}
 use Rattle.ca_commit.specs.Agents.{TaskAgent, place_of, stands_of}
-use Rattle.ca_commit.specs.Contents.{Content, Held, Kept, Parked, Parts, TimersPart, a_bank, a_lane, a_ready, a_shard, alive, alive_in, away, channel_of, on, the_timers, whole}
+use Rattle.ca_commit.specs.Contents.{Content, PartContents, Kept, Parked, Parts, TimersPart, a_bank, a_lane, a_ready, a_shard, alive, alive_in, away, channel_of, on, the_timers, whole}
 use Rattle.ca_commit.specs.Gathered.{away_kind, bank_kind, kind_at, kind_of_part, lane_kind, parts_of, pick, ready_kind, shard_kind, sorted, timers_kind, timers_of}
 use Rattle.ca_commit.specs.Holds.{live_of}
 use Rattle.ca_commit.specs.Running.{AreAt, RunStands}
@@ -71,7 +71,7 @@ module _ {A : Type 0} where
         ∙ ap (λ b. cond b shard_kind (cond (nat_lt (n + 32) (n + 33)) timers_kind ready_kind)) (le-ltb (n + 32) (n + 32) (omega arith))
         ∙ ap (λ b. cond b timers_kind ready_kind) (lt-ltb (n + 32) (n + 33) (omega arith))
 
-    of_kind : (h : Held A) → kind_of_part h ≡ timers_kind → (c : TimersPart) × (timers_of h ≡ Some c)
+    of_kind : (h : PartContents A) → kind_of_part h ≡ timers_kind → (c : TimersPart) × (timers_of h ≡ Some c)
     of_kind (the_timers t) e = (t, refl)
     of_kind (a_lane l) e = absurd (let z : lane_kind ≡ timers_kind = e in cc)
     of_kind (a_bank b) e = absurd (let z : bank_kind ≡ timers_kind = e in cc)

@@ -1,7 +1,7 @@
 -- What is done at once, and what passes, by the row.
 use Rattle.std.proofs.Common.{◌≡◌, ℕ, suc, ◌+◌, arith, List, [], ◌∷◌, refl, sym, ap, ◌∙◌, Bool, true, false, not, cond, Option, Some, None}
 use Rattle.ca_value.specs.Tree.{Tree, bool, nil}
-use Rattle.ca_value.specs.Buffer.{Policy, dropping_buffer, fixed_buffer, give, no_buffer, promise_buffer, sliding_buffer}
+use Rattle.ca_value.specs.Buffer.{Policy, dropping_buffer, fixed_buffer, give_first, no_buffer, promise_buffer, sliding_buffer}
 use Rattle.ca_term.specs.Operation.{OpView, choosing, closing, making, posting, printing, putting, registering, spawning, taking}
 use Rattle.ca_term.specs.Event.{BranchView, put_of, take_of}
 use Rattle.ca_meaning.specs.Channel.{Channel, giving, has_room, is_promise, keeping}
@@ -14,9 +14,9 @@ use Rattle.ca_commit.specs.Asks.{row_raw}
 use Rattle.ca_commit.specs.Contents.{Kept, with_channel}
 use Rattle.ca_commit.specs.Planning.{is_alts}
 use Rattle.ca_commit.specs.Replies.{counted_alts, done_answer, done_change, or_nil, reply_by}
-use Rattle.ca_commit.specs.Waking.{passing, value_in}
+use Rattle.ca_commit.specs.Waking.{passing, handler_value}
 
-give_none : (p : Policy) → give p [] ≡ []
+give_none : (p : Policy) → give_first p [] ≡ []
 give_none no_buffer = refl
 give_none fixed_buffer = refl
 give_none dropping_buffer = refl
@@ -27,7 +27,7 @@ take_done : (c : Channel) (vs : List Tree) (closed : Bool) (ps : Option Handler)
 take_done c (u ∷ vs) closed ps v after h b f = (let x : u ≡ v = cc in x, let x : giving c ≡ after = cc in x)
 take_done c [] closed (Some g) v after h b f = absurd cc
 take_done c [] true None v after h b f = let g : completes nil c ≡ completes v after = ap (λ z. cond z (completes nil c) not_ready) (sym b) ∙ f in
-    (let x : nil ≡ v = cc in x, ap (λ vs. record { policy = c.policy; capacity = c.capacity; held = vs; closed = c.closed }) (ap (give c.policy) h ∙ give_none c.policy ∙ sym h) ∙ (let x : c ≡ after = cc in x))
+    (let x : nil ≡ v = cc in x, ap (λ vs. record { policy = c.policy; capacity = c.capacity; held = vs; closed = c.closed }) (ap (give_first c.policy) h ∙ give_none c.policy ∙ sym h) ∙ (let x : c ≡ after = cc in x))
 take_done c [] false None v after h b f = absurd (let g : not_ready ≡ completes v after = ap (λ z. cond z (completes nil c) not_ready) (sym b) ∙ f in cc)
 
 alone_done : (c : Channel) (room : Bool) (ps : Option Handler) (u v : Tree) (after : Channel) → put_alone c room ps u ≡ completes v after → (bool true ≡ v) × (keeping c u ≡ after)
@@ -54,7 +54,7 @@ pub row_done : (k : Kept) (b : BranchView) (v : Tree) (after : Channel) → row_
 row_done k (take_of p) v after f = let d = take_done k.channel k.channel.held k.channel.closed (head k.puts) v after refl refl f in (d.0, ap (λ c. with_channel c k) d.1)
 row_done k (put_of p u) v after f = let d = put_done k.channel k.channel.closed (is_promise k.channel.policy) (head k.takes) (head k.puts) u v after f in (d.0, put_change k u k.channel.closed ∙ ap (λ c. with_channel c k) d.1)
 
-take_meets : (c : Channel) (vs : List Tree) (closed : Bool) (ps : Option Handler) (h : Handler) (v : Tree) → c.closed ≡ closed → take_of_held c vs ps ≡ meets h v → value_in ps ≡ v
+take_meets : (c : Channel) (vs : List Tree) (closed : Bool) (ps : Option Handler) (h : Handler) (v : Tree) → c.closed ≡ closed → take_of_held c vs ps ≡ meets h v → handler_value ps ≡ v
 take_meets c (u ∷ vs) closed ps h v b f = absurd cc
 take_meets c [] closed (Some g) h v b f = let x : g.value ≡ v = cc in x
 take_meets c [] true None h v b f = absurd (let g : completes nil c ≡ meets h v = ap (λ z. cond z (completes nil c) not_ready) (sym b) ∙ f in cc)

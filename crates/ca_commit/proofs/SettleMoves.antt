@@ -1,7 +1,7 @@
 -- What the calls of a channel that settles promise is how it moves the parts.
 use Rattle.std.proofs.Common.{◌≡◌, ℕ, List, [], ◌∷◌, refl, sym, ap, ◌∙◌, subst, Bool, true, false, ◌&&◌, cond, Option, Some, None, option_map, is_some, remove}
 use Rattle.ca_value.specs.Tree.{Tree, nil}
-use Rattle.ca_value.specs.Buffer.{Policy, dropping_buffer, fixed_buffer, give, no_buffer, promise_buffer, sliding_buffer}
+use Rattle.ca_value.specs.Buffer.{Policy, dropping_buffer, fixed_buffer, give_first, no_buffer, promise_buffer, sliding_buffer}
 use Rattle.ca_term.specs.declared.event.Side.{Side}
 use Rattle.ca_term.specs.declared.event.Side.TheVariants.{Put, Take}
 use Rattle.ca_term.specs.Program.{ProgramView}
@@ -17,7 +17,7 @@ use Rattle.ca_commit.specs.EventMoves.{SettleMoves}
 use Rattle.ca_commit.specs.Finding.{Glance, glance, gone, here, serve, serve_taker, serves, serving, settle_at, unseen}
 use Rattle.ca_commit.specs.Moves.{Alters}
 use Rattle.ca_commit.specs.Replies.{or_nil}
-use Rattle.ca_commit.specs.Settling.{settle_change, settling}
+use Rattle.ca_commit.specs.Settling.{settle_change, value_settled}
 use Rattle.ca_commit.specs.Waking.{WakesBy}
 use Rattle.ca_commit.proofs.Altered.{alters}
 use Rattle.ca_commit.proofs.Findings.{is_here, lives}
@@ -34,10 +34,10 @@ record Served (see : ℕ → Glance) (k : Kept) (side : Side) (w o : ℕ) : Type
   branch_is : h.branch ≡ o
   seen : see h.wait ≡ here
   asks : AsksSettle (lives see) k
-  by_row : settle_row k.channel (head k.takes) (head k.puts) ≡ settles side h (settling side (Some k)) after
-  change : settle_change side (settling side (Some k)) k ≡ with_channel after (put_on side rest k)
+  by_row : settle_row k.channel (head k.takes) (head k.puts) ≡ settles side h (value_settled side (Some k)) after
+  change : settle_change side (value_settled side (Some k)) k ≡ with_channel after (put_on side rest k)
 
-give_none : (p : Policy) → give p [] ≡ []
+give_none : (p : Policy) → give_first p [] ≡ []
 give_none no_buffer = refl
 give_none fixed_buffer = refl
 give_none dropping_buffer = refl
@@ -69,7 +69,7 @@ module _ (see : ℕ → Glance) where
   taken c [] true [] side w o e d s = absurd cc
   taken c [] true (g ∷ q) side w o e d s = by (see g.wait) refl s where
     stays : giving c ≡ c
-    stays = ap (λ vs. record { policy = c.policy; capacity = c.capacity; held = vs; closed = c.closed }) (ap (give c.policy) e ∙ give_none c.policy ∙ sym e)
+    stays = ap (λ vs. record { policy = c.policy; capacity = c.capacity; held = vs; closed = c.closed }) (ap (give_first c.policy) e ∙ give_none c.policy ∙ sym e)
 
     by : (z : Glance) → see g.wait ≡ z → serving z Take g ≡ serves side w o → Taken c [] true (g ∷ q) side w o
     by here f s = record { h = g; rest = q; after = c; side_is = let k : side ≡ Take = cc in k; in_front = refl; wait_is = let k : g.wait ≡ w = cc in k; branch_is = let k : g.branch ≡ o = cc in k; seen = f; asks = ap is_here f; by_row = ap (λ b. cond b (settles Take g nil c) unsettled) d; left = stays }
@@ -122,12 +122,12 @@ module _ {A : Type 0} (place : A → At) (advances : ProgramView → A → A →
   pub settle_moves : SettleMoves place gives
   settle_moves old new w wait o p side q serves_it banks registries shards there others stays wakes lanes timers = by (whole old.bank p) refl where
     v : Tree
-    v = settling side (whole old.bank p)
+    v = value_settled side (whole old.bank p)
 
     by : (z : Option Kept) → whole old.bank p ≡ z → MovesSettle (place_of place) (wakes_of gives) w wait o side p v old new
     by None at = absurd (let k : settle_at (glance old.shard) None ≡ serves side wait o = ap (settle_at (glance old.shard)) (sym at) ∙ serves_it in cc)
     by (Some k) at = let s = served_at (glance old.shard) k side wait o (ap (settle_at (glance old.shard)) (sym at) ∙ serves_it) in
-        let value : settling side (Some k) ≡ v = ap (settling side) (sym at) in
+        let value : value_settled side (Some k) ≡ v = ap (value_settled side) (sym at) in
         let alive : alive_in old wait ≡ true = sym (ap (λ (f : ℕ → Bool). f wait) (lives_same old)) ∙ ap (λ (n : ℕ). lives (glance old.shard) n) (sym s.wait_is) ∙ ap is_here s.seen in
         let x = there_is (whole old.shard wait) alive in record {
           h = s.h;

@@ -13,7 +13,7 @@ use Rattle.ca_meaning.specs.Choice.{row, is_ready, any_ready, NoneReady, Picks}
 use Rattle.ca_meaning.specs.Refusal.{crowded}
 use Rattle.ca_commit.specs.Asks.{Asks, row_raw}
 use Rattle.ca_commit.specs.Contents.{Kept, Parts, alive_in, at_key, channel_of, home, on, whole}
-use Rattle.ca_commit.specs.Holds.{Holds, groups, live_of}
+use Rattle.ca_commit.specs.Holds.{KeepsChannels, groups, live_of}
 use Rattle.ca_commit.specs.Moves.{AllSeen, CrowdedIn, FewIn, FewOn, NoneReadyIn, PicksIn, Shows, Unready}
 use Rattle.ca_commit.specs.Stands.{Stands}
 use Rattle.ca_commit.proofs.Counts.{groups_are, live_seen}
@@ -24,7 +24,7 @@ use Rattle.ca_commit.proofs.Laid.{IsPart, seen}
 
 -- the banks and the shards hold the state's channels, waits and registries
 pub record Shown {A : Type 0} (now : Parts A) (s : State) : Type 0 where
-  pub holds : Holds (whole now.bank) (alive_in now) s.channels s.waits s.used
+  pub holds : KeepsChannels (whole now.bank) (alive_in now) s.channels s.waits s.used
   pub registered : (p : ℕ) → s.registries p ≡ whole now.registry p
 
 -- so they do where the parts of a run stand for it

@@ -11,7 +11,7 @@ use Rattle.ca_commit.specs.Moves.{Becomes}
 use Rattle.ca_commit.specs.Running.{or_was}
 use Rattle.ca_commit.specs.Seated.{Seated}
 use Rattle.ca_commit.specs.SilentMoves.{MovesPick, MovesPrune, MovesStall, MovesTimers, MovesYield, SameLane, StayPut}
-use Rattle.ca_commit.specs.Stands.{Stands, ports_of, tasks_of}
+use Rattle.ca_commit.specs.Stands.{Stands, port_count, task_count}
 use Rattle.ca_commit.proofs.Holding.{pruned_at}
 use Rattle.ca_commit.proofs.Laid.{IsPart, laid_becomes, laid_parts, seen, untouched}
 use Rattle.ca_commit.proofs.Landing.{altered, lands, lands_still, timers_as_before, unaltered}
@@ -26,7 +26,7 @@ module _ {A : Type 0} (place : A → At) (stands : ProgramView → A → Option 
   moves_over now old new s w r l l2 q q2 st part lanes same readys others seated = lands place stands program n now old new s s w l l2 (whole now.bank) (whole now.registry) (whole now.shard) (update eqb now.ready r (Some q2)) now.timers st part lanes same.0
       (unaltered now.bank old.bank new.bank part.banks others.banks) (unaltered now.registry old.registry new.registry part.registries others.registries) (unaltered now.shard old.shard new.shard part.shards others.shards)
       (laid_becomes now.ready old.ready new.ready r q q2 part.readys readys) (timers_as_before now old new part others.timers) st.holds st.registered seated st.clocked
-      (numbered_more n now.lane lane2 s s st.numbered (same_grow now.lane w l l2 (part.lanes w l lanes.was) same.1) (from_same n tasks_of lane2 s.tasks) (from_same n ports_of lane2 s.channels) (from_same n ports_of lane2 s.registries) (used_same n lane2 s.used)) where
+      (numbered_more n now.lane lane2 s s st.numbered (same_grow now.lane w l l2 (part.lanes w l lanes.was) same.1) (from_same n task_count lane2 s.tasks) (from_same n port_count lane2 s.channels) (from_same n port_count lane2 s.registries) (used_same n lane2 s.used)) where
         lane2 : ℕ → Option (LaneView A)
         lane2 = update eqb now.lane w (Some l2)
 

@@ -16,7 +16,7 @@ use Rattle.ca_meaning.specs.Wait.{Wait}
 use Rattle.ca_meaning.specs.State.{State, Task, Tasks, runs}
 use Rattle.ca_commit.specs.Contents.{LaneView, Parked, Parts, whole}
 use Rattle.ca_commit.specs.Seated.{Apart, EachSeated, Seat, Seated, SitsAt, in_lane, in_ready}
-use Rattle.ca_commit.specs.Stands.{Stands, ports_of, tasks_of, waits_of}
+use Rattle.ca_commit.specs.Stands.{Stands, port_count, task_count, wait_count}
 use Rattle.ca_commit.specs.TaskMoves.{MovesSpawn}
 use Rattle.ca_commit.proofs.AgentLaws.{Begins, GoesOn, TakesAnswers}
 use Rattle.ca_commit.proofs.Answering.{stands_at}
@@ -86,9 +86,9 @@ module _ {A : Type 0} (place : A → At) (stands : ProgramView → A → Option 
       let at_lane = part.lanes w l a.stands.lanes.was in let mine = st.lanes w l at_lane in
       let b = begins_law program m.seed m.agent (subst (λ p. starts p m.seed m.agent) mine.0 m.started) in
       let stands_so = subst (λ r. stands program m.agent r b.0) m.result_is b.2 in
-      let fresh : s.tasks u ≡ None = is_none (s.tasks u) (λ z e. ⊎_elim (λ f. no_first w (n * l.counts.tasks) u m.next f) (λ f. not_given n tasks_of now.lane w l u mine.1 at_lane m.next f) (st.numbered.tasks u z e)) in
+      let fresh : s.tasks u ≡ None = is_none (s.tasks u) (λ z e. ⊎_elim (λ f. no_first w (n * l.counts.tasks) u m.next f) (λ f. not_given n task_count now.lane w l u mine.1 at_lane m.next f) (st.numbered.tasks u z e)) in
       let free : tasks u ≡ None = update_apart s.tasks t (Some y) u (λ e. there_not (s.tasks u) x fresh (ap s.tasks e ∙ g.1)) ∙ fresh in
-      let here = given_next n tasks_of now.lane w l l2 u mine.1 m.next (ap tasks_of m.counts) in
+      let here = given_next n task_count now.lane w l l2 u mine.1 m.next (ap task_count m.counts) in
       let s2 : State = record s { tasks = update eqb tasks u (Some (runs result b.0)) } in (
         s2,
         (x, m.seed, tasks, b.0, stands_at place stands program n advances goes_on_law gives answers_law now old new s w t op nil st part a g refl, fresh, m.kind_is, m.result_is, (g.4.0, g.4.1, refl), b.1, refl),
@@ -98,7 +98,7 @@ module _ {A : Type 0} (place : A → At) (stands : ProgramView → A → Option 
             (comes place (stands program) lane2 now.ready (whole now.shard) tasks s.waits w u m.agent result b.0 m.queue (seated_on place stands program n advances goes_on_law gives answers_law now old new s w t op nil st part a g) free (part.readys w m.queue m.readys.was) stands_so)
             st.clocked
             (numbered_more n now.lane lane2 s s2 st.numbered
-            (all_grow now.lane w l l2 at_lane (one_more_le l.counts.tasks l2.counts.tasks (ap tasks_of m.counts)) (equal_le l.counts.ports l2.counts.ports (ap ports_of m.counts)) (equal_le l.counts.waits l2.counts.waits (ap waits_of m.counts)))
-            (from_both n tasks_of lane2 s.tasks tasks (update eqb tasks u (Some (runs result b.0))) (from_there n tasks_of lane2 s.tasks t x y g.1) (from_new n tasks_of lane2 tasks u (Some (runs result b.0)) here))
-            (from_same n ports_of lane2 s.channels) (from_same n ports_of lane2 s.registries) (used_same n lane2 s.used)),
+            (all_grow now.lane w l l2 at_lane (one_more_le l.counts.tasks l2.counts.tasks (ap task_count m.counts)) (equal_le l.counts.ports l2.counts.ports (ap port_count m.counts)) (equal_le l.counts.waits l2.counts.waits (ap wait_count m.counts)))
+            (from_both n task_count lane2 s.tasks tasks (update eqb tasks u (Some (runs result b.0))) (from_there n task_count lane2 s.tasks t x y g.1) (from_new n task_count lane2 tasks u (Some (runs result b.0)) here))
+            (from_same n port_count lane2 s.channels) (from_same n port_count lane2 s.registries) (used_same n lane2 s.used)),
       )

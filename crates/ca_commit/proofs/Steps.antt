@@ -7,13 +7,13 @@ use Rattle.ca_term.specs.Program.{ProgramView}
 use Rattle.ca_term.specs.Operation.{OpView}
 use Rattle.ca_meaning.specs.Body.{At, at_op}
 use Rattle.ca_meaning.specs.Wait.{owner_of, without}
-use Rattle.ca_meaning.specs.Task.{TaskBody, body_at, body_fill, BodyRest, reply, reply_at, reply_to}
+use Rattle.ca_meaning.specs.Task.{TaskBody, body_at, body_fill, BodyRest, body_reply, reply_at, reply_to}
 use Rattle.ca_meaning.specs.State.{State, Task, Tasks, running, runs}
 use Rattle.ca_meaning.specs.Going.{Wakes}
 use Rattle.ca_commit.specs.Contents.{LaneView, Parked, Parts, nobody, owner, whole}
 use Rattle.ca_commit.specs.Moves.{Answers, Stood, WakesIn}
 use Rattle.ca_commit.specs.Seated.{Seated}
-use Rattle.ca_commit.specs.Stands.{Stands, tasks_of}
+use Rattle.ca_commit.specs.Stands.{Stands, task_count}
 use Rattle.ca_commit.proofs.AgentLaws.{GoesOn, TakesAnswers}
 use Rattle.ca_commit.proofs.Laid.{IsPart, laid, laid_becomes, untouched}
 use Rattle.ca_commit.proofs.Numbers.{From, from_same, from_there}
@@ -60,21 +60,21 @@ module _ {A : Type 0} (place : A → At) (stands : ProgramView → A → Option 
     -- whoever waited goes on, its task being another one's than before
     pub wakes_up : (n2 : ℕ) (lane2 : ℕ → Option (LaneView A)) (now old new : Parts A) (s : State) (r wait p : ℕ) (v : Tree) (tasks : Tasks) → IsPart old now → (y : Parked A) → whole now.shard wait ≡ Some y → (x : WakesIn place wakes old new r p y v)
         → Seated place (stands program) lane2 now.ready (whole now.shard) tasks s.waits
-        → (after : Tasks) × Wakes program (owner_of wait s.waits) tasks wait p v after × Seated place (stands program) lane2 (ready_after now old new r p y v x) (update eqb (whole now.shard) wait None) after (without wait s.waits) × From n2 tasks_of lane2 tasks after
+        → (after : Tasks) × Wakes program (owner_of wait s.waits) tasks wait p v after × Seated place (stands program) lane2 (ready_after now old new r p y v x) (update eqb (whole now.shard) wait None) after (without wait s.waits) × From n2 task_count lane2 tasks after
     wakes_up n2 lane2 now old new s r wait p v tasks part nobody is x h = (
       tasks,
       subst (λ (o : Option ℕ). Wakes program o tasks wait p v tasks) (sym (h.nobodies wait is)) refl,
       unowned place (stands program) lane2 now.ready (whole now.shard) tasks s.waits wait h,
-      from_same n2 tasks_of lane2 tasks,
+      from_same n2 task_count lane2 tasks,
     )
     wakes_up n2 lane2 now old new s r wait p v tasks part (owner u a) is x h = let o = h.owners wait u a is in let y = o.1.0 in let ps = o.1.3 in
         let g = wakes_law program a x.0 y.result y.body ps.0 (reply_at (place a) p v) o.1.2 (ps.1 ∙ sym ps.2) ps.1 x.2 in let after : Tasks = update eqb tasks u (Some (runs y.result g.0)) in (
           after,
           subst (λ (o : Option ℕ). Wakes program o tasks wait p v after) (sym o.0) (y, o.1.1.0, o.1.1.1, (g.0, subst (λ (z : At). BodyRest program (body_fill (reply_at z p v) y.body) g.0) (ps.1 ∙ sym ps.2) g.1, refl)),
           woken place (stands program) lane2 now.ready (whole now.shard) tasks s.waits wait r u a x.0 y.result g.0 x.1 h is (part.readys r x.1 x.3.was) g.2,
-          from_there n2 tasks_of lane2 tasks u y (runs y.result g.0) o.1.1.0,
+          from_there n2 task_count lane2 tasks u y (runs y.result g.0) o.1.1.0,
         )
 
 -- the answer, as the step says it
-pub replied : (program : ProgramView) (x : Task) (op : OpView) (at : Place) (p : ℕ) (a : Tree) (d : TaskBody) → body_at x.body ≡ at_op (record { op = op; place = at }) → BodyRest program (body_fill (reply_to op p a) x.body) d → BodyRest program (body_fill (reply x.body p a) x.body) d
+pub replied : (program : ProgramView) (x : Task) (op : OpView) (at : Place) (p : ℕ) (a : Tree) (d : TaskBody) → body_at x.body ≡ at_op (record { op = op; place = at }) → BodyRest program (body_fill (reply_to op p a) x.body) d → BodyRest program (body_fill (body_reply x.body p a) x.body) d
 replied program x op at p a d e r = subst (λ (v : Tree). BodyRest program (body_fill v x.body) d) (sym (ap (λ z. reply_at z p a) e)) r

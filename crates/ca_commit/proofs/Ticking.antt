@@ -9,7 +9,7 @@ use Rattle.ca_meaning.specs.Channel.{Channel, shut}
 use Rattle.ca_meaning.specs.Wait.{Wait, is_among}
 use Rattle.ca_meaning.specs.State.{Channels, shut_at, shut_all}
 use Rattle.ca_commit.specs.Contents.{Kept, alive, at_key, channel_of, home, on, whole}
-use Rattle.ca_commit.specs.Holds.{EachNamed, Holds, live_of, shut_in, shut_kept}
+use Rattle.ca_commit.specs.Holds.{EachNamed, KeepsChannels, live_of, shut_in, shut_kept}
 use Rattle.ca_commit.specs.Running.{or_was}
 use Rattle.ca_commit.proofs.Laid.{Within, laid}
 
@@ -51,7 +51,7 @@ shut_none ps ports q e = by (is_among q ps) (ports q) e where
   by true (Some j) e = absurd (let z : Some (shut_kept j) ≡ None = e in cc)
   by false o e = e
 
-pub shut_holds : (ps : List ℕ) (ports : ℕ → Option Kept) (alive : ℕ → Bool) (ch : Channels) (waits : List Wait) (used : List ℕ) → Holds ports alive ch waits used → Holds (shut_in ps ports) alive (shut_all ps ch) waits used
+pub shut_holds : (ps : List ℕ) (ports : ℕ → Option Kept) (alive : ℕ → Bool) (ch : Channels) (waits : List Wait) (used : List ℕ) → KeepsChannels ports alive ch waits used → KeepsChannels (shut_in ps ports) alive (shut_all ps ch) waits used
 shut_holds ps ports alive ch waits used h = record {
   channels_are = λ q. shut_all_is ps ch q ∙ by (is_among q ps) (ch q) (ports q) (h.channels_are q);
   queues = λ side q k e. let f = shut_from ps ports q k e in ap (live_of alive) (f.2 side) ∙ h.queues side q f.0 f.1;

@@ -1,7 +1,7 @@
 -- One entry of one held part is changed twice.
 use Rattle.std.proofs.Common.{◌≡◌, ℕ, refl, ap, ◌∙◌, Bool, true, false, cond, Option, Some, None, option_map, eqb, eq-eqb}
 use Rattle.std.specs.Map.{update}
-use Rattle.ca_bank.specs.Kept.{at}
+use Rattle.ca_bank.specs.Kept.{entry_changed}
 use Rattle.ca_commit.specs.Contents.{home}
 use Rattle.ca_commit.specs.Listing.{changed_at}
 
@@ -22,5 +22,5 @@ module _ {X : Type 0} where
     by true (Some g) = ap Some (λ k q. once_more n f h g q k)
 
   -- the same, of a map by itself
-  pub turned_twice : (n : ℕ) (f h : X → X) (old mid new : ℕ → Option X) → ((q : ℕ) → mid q ≡ at old n f q) → ((q : ℕ) → new q ≡ at mid n h q) → (q : ℕ) → new q ≡ at old n (λ x. h (f x)) q
-  turned_twice n f h old mid new a b q = b q ∙ ap (λ (m : ℕ → Option X). at m n h q) (λ j r. a r j) ∙ once_more n f h old q
+  pub turned_twice : (n : ℕ) (f h : X → X) (old mid new : ℕ → Option X) → ((q : ℕ) → mid q ≡ entry_changed old n f q) → ((q : ℕ) → new q ≡ entry_changed mid n h q) → (q : ℕ) → new q ≡ entry_changed old n (λ x. h (f x)) q
+  turned_twice n f h old mid new a b q = b q ∙ ap (λ (m : ℕ → Option X). entry_changed m n h q) (λ j r. a r j) ∙ once_more n f h old q

@@ -16,8 +16,8 @@ use Rattle.ca_meaning.specs.ChannelSteps.{other_side}
 use Rattle.ca_meaning.specs.State.{State, runs}
 use Rattle.ca_commit.specs.ChannelMoves.{MovesMeet, MovesSettle}
 use Rattle.ca_commit.specs.Contents.{Kept, Parts, alive, alive_in, channel_of, on, put_on, whole, with_channel}
-use Rattle.ca_commit.specs.Holds.{Holds}
-use Rattle.ca_commit.specs.Stands.{Stands, ports_of, tasks_of}
+use Rattle.ca_commit.specs.Holds.{KeepsChannels}
+use Rattle.ca_commit.specs.Stands.{Stands, port_count, task_count}
 use Rattle.ca_commit.proofs.AgentLaws.{GoesOn, TakesAnswers}
 use Rattle.ca_commit.proofs.Answering.{stands_at}
 use Rattle.ca_commit.proofs.Fitting.{ready_fits, some_ready}
@@ -33,8 +33,8 @@ use Rattle.ca_commit.proofs.TaskEvents.{Leads}
 module _ {A : Type 0} (place : A → At) (stands : ProgramView → A → Option ℕ → TaskBody → Type 0) (program : ProgramView) (n : ℕ) where
   -- a wait's handler was served: both are gone
   served : (now : Parts A) (s : State) (side : Side) (q wait : ℕ) (kept : Kept) (h : Handler) (rest : List Handler) → Stands place stands program n now s → whole now.bank q ≡ Some kept → on side kept ≡ h ∷ rest → h.wait ≡ wait
-      → Holds (update eqb (whole now.bank) q (Some (put_on side rest kept))) (alive (update eqb (whole now.shard) wait None)) s.channels (without wait s.waits) s.used
-  served now s side q wait kept h rest st there front is = subst (λ (f : ℕ → Bool). Holds (update eqb (whole now.bank) q (Some (put_on side rest kept))) f s.channels (without wait s.waits) s.used) (sym (alive_but (whole now.shard) wait))
+      → KeepsChannels (update eqb (whole now.bank) q (Some (put_on side rest kept))) (alive (update eqb (whole now.shard) wait None)) s.channels (without wait s.waits) s.used
+  served now s side q wait kept h rest st there front is = subst (λ (f : ℕ → Bool). KeepsChannels (update eqb (whole now.bank) q (Some (put_on side rest kept))) f s.channels (without wait s.waits) s.used) (sym (alive_but (whole now.shard) wait))
       (pruned (whole now.bank) (but_wait (alive_in now) wait) s.channels (without wait s.waits) s.used q kept side h rest (taken_out (whole now.bank) (alive_in now) s.channels s.waits s.used wait st.holds) there front (is_dead (alive_in now) wait h.wait (sym is)))
 
   module _ (wakes : A → Tree → A → Type 0) (wakes_law : TakesAnswers stands place wakes) where
@@ -49,8 +49,8 @@ module _ {A : Type 0} (place : A → At) (stands : ProgramView → A → Option 
           (m.kept.channel, m.after, m.h, wk.0, here, right, m.wait_is, m.branch_is, wk.1, refl),
           lands_still place stands program n now old new s s2 (update eqb (whole now.bank) p (Some kept2)) parked2 (ready_after place stands program n wakes wakes_law now old new w p m.parked (told side v) m.wakes_up) now.timers st part m.lanes m.registries refl
               (altered now.bank old.bank new.bank p (Some kept2) part.banks m.banks) (altered now.shard old.shard new.shard wait None part.shards m.shards) (ready_is place stands program n wakes wakes_law now old new w p m.parked (told side v) part m.wakes_up) (timers_as_before now old new part m.timers)
-              (subst (λ (f : ℕ → Option Kept). Holds f (alive parked2) s2.channels s2.waits s.used) (twice (whole now.bank) p (Some kept1) (Some kept2)) holds2) wk.2 st.clocked
-              (numbered_more n now.lane now.lane s s2 st.numbered (none_grow now.lane) wk.3 (from_there n ports_of now.lane s.channels p m.kept.channel m.after here) (from_same n ports_of now.lane s.registries) (used_same n now.lane s.used)),
+              (subst (λ (f : ℕ → Option Kept). KeepsChannels f (alive parked2) s2.channels s2.waits s.used) (twice (whole now.bank) p (Some kept1) (Some kept2)) holds2) wk.2 st.clocked
+              (numbered_more n now.lane now.lane s s2 st.numbered (none_grow now.lane) wk.3 (from_there n port_count now.lane s.channels p m.kept.channel m.after here) (from_same n port_count now.lane s.registries) (used_same n now.lane s.used)),
         )
 
     module _ (advances : ProgramView → A → A → Type 0) (goes_on_law : GoesOn stands place advances) (gives : A → Tree → A → Type 0) (answers_law : TakesAnswers stands place gives) where
@@ -86,6 +86,6 @@ module _ {A : Type 0} (place : A → At) (stands : ProgramView → A → Option 
                 (altered now.bank old.bank new.bank q (Some kept2) part.banks m.banks) (unaltered now.registry old.registry new.registry part.registries m.registries) (altered now.shard old.shard new.shard wait None part.shards m.shards)
                 (ready_is place stands program n wakes wakes_law now old new w p m.parked (told opp v) part m.wakes_up) (timers_as_before now old new part m.timers)
                 (served now s opp q wait m.kept m.h m.rest st there m.in_front m.wait_is) st.registered wk.2 st.clocked
-                (numbered_more n now.lane lane2 s s2 st.numbered (same_grow now.lane w l l2 at_lane m.counts) (from_both n tasks_of lane2 s.tasks tasks wk.0 (from_there n tasks_of lane2 s.tasks t x (runs x.result g.4.0) g.1) wk.3)
-                (from_same n ports_of lane2 s.channels) (from_same n ports_of lane2 s.registries) (used_same n lane2 s.used)),
+                (numbered_more n now.lane lane2 s s2 st.numbered (same_grow now.lane w l l2 at_lane m.counts) (from_both n task_count lane2 s.tasks tasks wk.0 (from_there n task_count lane2 s.tasks t x (runs x.result g.4.0) g.1) wk.3)
+                (from_same n port_count lane2 s.channels) (from_same n port_count lane2 s.registries) (used_same n lane2 s.used)),
           )

@@ -11,10 +11,10 @@ use Rattle.ca_meaning.specs.ChannelSteps.{other_side, with_default}
 use Rattle.ca_meaning.specs.Operands.{rest_of}
 use Rattle.ca_meaning.specs.Registry.{Registry, registry_made}
 use Rattle.ca_meaning.specs.Wait.{port_of, side_of, told}
-use Rattle.ca_bank.specs.Kept.{closed, pruned, unattended}
+use Rattle.ca_bank.specs.Kept.{closed_channel, pruned, unattended}
 use Rattle.ca_registry.specs.Mixes.{TogglesApart}
 use Rattle.ca_registry.specs.Publications.{PlacesItself}
-use Rattle.ca_registry.specs.Registry.{registered}
+use Rattle.ca_registry.specs.Registry.{registry_after}
 use Rattle.ca_commit.specs.Agents.{TaskAgent}
 use Rattle.ca_commit.specs.Contents.{Kept, Parked, home, whole}
 use Rattle.ca_commit.specs.Entering.{IsMadeToRegister, answer_of, registry_of}
@@ -33,15 +33,15 @@ use Rattle.ca_commit.specs.declared.planned.Plan.{Plan}
 use Rattle.ca_commit.specs.declared.planned.Plan.TheVariants as P
 use Rattle.ca_commit.specs.declared.task.Task.{Task}
 
-abbrev pub Channels : Type 0
-Channels = ℕ → Option (ℕ → Option Kept)
+abbrev pub BankChannels : Type 0
+BankChannels = ℕ → Option (ℕ → Option Kept)
 
 abbrev pub Members : Type 0
 Members = ℕ → Option (ℕ → Option Registry)
 
 -- what the event of a plan tells, of task t, over held channels and registries; u, p and w are the numbers of the new
 -- task, port and wait, and m the clock's answer
-abbrev pub event_of : Channels → Members → (t u p w m : ℕ) → Planned → EventView
+abbrev pub event_of : BankChannels → Members → (t u p w m : ℕ) → Planned → EventView
 event_of cs rs t u p w m (to_do k b alts) = done t k b (done_answer (whole cs (port_of b)) b)
 event_of cs rs t u p w m (to_meet k b alts v o) = met t k (side_of b) (port_of b) (passing (whole cs (port_of b)) b) v o
 event_of cs rs t u p w m (to_park bs) = parked t w bs
@@ -57,13 +57,13 @@ event_of cs rs t u p w m (to_prune q side place) = printed t []
 event_of cs rs t u p w m (to_refuse f) = printed t []
 
 -- the channels and the registries of the held banks after it; new is the number of the new port or wait
-abbrev pub channels_by : (port wait : ℕ) → Planned → Channels → Channels
+abbrev pub channels_by : (port wait : ℕ) → Planned → BankChannels → BankChannels
 channels_by p w (to_do k b alts) m = changed_at (port_of b) (option_map (done_change b)) m
 channels_by p w (to_meet k b alts v o) m = changed_at (port_of b) (option_map (pruned (other_side (side_of b)) 0)) m
 channels_by p w (to_park bs) m = queued_from w 0 bs m
 channels_by p w (to_post bs) m = queued_from w 0 bs m
 channels_by p w (to_make what) m = changed_at p (or_was (option_map unattended (channel_made what))) m
-channels_by p w (to_close q) m = changed_at q (option_map closed) m
+channels_by p w (to_close q) m = changed_at q (option_map closed_channel) m
 channels_by p w (to_default v) m = m
 channels_by p w (to_spawn kind r) m = m
 channels_by p w (to_register name args) m = m
@@ -74,7 +74,7 @@ channels_by p w (to_refuse f) m = m
 
 abbrev pub registries_by : (port : ℕ) → Planned → Members → Members
 registries_by p (to_make what) m = changed_at p (or_was (registry_made what)) m
-registries_by p (to_register name args) m = changed_at (registry_of args) (option_map (registered name (rest_of args))) m
+registries_by p (to_register name args) m = changed_at (registry_of args) (option_map (registry_after name (rest_of args))) m
 registries_by p (to_do k b alts) m = m
 registries_by p (to_meet k b alts w o) m = m
 registries_by p (to_park bs) m = m
@@ -120,7 +120,7 @@ times_by p m (to_prune q side place) c = c
 times_by p m (to_refuse f) c = c
 
 -- the answer that the task gets, and whether it is that of an alts
-abbrev pub answer_by : Channels → Members → (port : ℕ) → Planned → Tree
+abbrev pub answer_by : BankChannels → Members → (port : ℕ) → Planned → Tree
 answer_by cs rs p (to_do k b alts) = reply_by alts (port_of b) (done_answer (whole cs (port_of b)) b)
 answer_by cs rs p (to_meet k b alts w o) = reply_by alts (port_of b) (told (side_of b) (passing (whole cs (port_of b)) b))
 answer_by cs rs p (to_park bs) = nil

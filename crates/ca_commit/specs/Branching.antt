@@ -34,5 +34,5 @@ HaveCopies None = Unit {0}
 HaveCopies (Some p) = HasCopies p
 
 -- what the one branch of an operation decides, or a new wait
-abbrev pub single : Seen → Bool → BranchView → Planned
-single x parks b = decided (found_of x b) false 0 b (counted_for x b (cond parks (to_park (b ∷ [])) (to_post (b ∷ []))))
+abbrev pub single_branch : Seen → Bool → BranchView → Planned
+single_branch x parks b = decided (found_of x b) false 0 b (counted_for x b (cond parks (to_park (b ∷ [])) (to_post (b ∷ []))))

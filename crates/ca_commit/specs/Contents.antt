@@ -31,12 +31,12 @@ pub data Parked (A : Type 0) : Type 0 where
   nobody : Parked A
 
 -- why the workers stop before all is done
-pub data Mark : Type 0 where
-  unmarked : Mark
+pub data StopMark : Type 0 where
+  unmarked : StopMark
   -- the main text has ended or faulted
-  main_over : Mark
-  clock_failed : Mark
-  stopped : Mark
+  main_over : StopMark
+  clock_failed : StopMark
+  stopped : StopMark
 
 -- the open deadlines and the moment, the clock, and the mark
 pub record TimersPart : Type 0 where
@@ -47,21 +47,21 @@ pub record TimersPart : Type 0 where
   pub faults : ℕ
   -- the clock's answers so far, where it tells them
   pub readings : Option (List ℕ)
-  pub mark : Mark
+  pub mark : StopMark
 
 -- what is in a part; away stands where a worker has moved the part out
-pub data Held (A : Type 0) : Type 0 where
-  a_lane : LaneView A → Held A
-  a_bank : BankView → Held A
-  a_shard : (ℕ → Option (Parked A)) → Held A
-  the_timers : TimersPart → Held A
-  a_ready : List (ℕ × A) → Held A
-  away : Held A
+pub data PartContents (A : Type 0) : Type 0 where
+  a_lane : LaneView A → PartContents A
+  a_bank : BankView → PartContents A
+  a_shard : (ℕ → Option (Parked A)) → PartContents A
+  the_timers : TimersPart → PartContents A
+  a_ready : List (ℕ × A) → PartContents A
+  away : PartContents A
 
 -- a part, which tells how many workers there are
 pub record Content (A : Type 0) : Type 0 where
   pub workers : ℕ
-  pub held : Held A
+  pub held : PartContents A
 
 -- The parts of a run, sorted. One that isn't there is None: what an event touches is the same with fewer parts.
 pub record Parts (A : Type 0) : Type 0 where

@@ -9,7 +9,7 @@ use Rattle.ca_term.specs.Event.{BranchView, put_of}
 use Rattle.ca_meaning.specs.Channel.{Channel}
 use Rattle.ca_meaning.specs.ChannelSteps.{other_side}
 use Rattle.ca_meaning.specs.Choice.{branches_of, default_of, parks}
-use Rattle.ca_meaning.specs.Operands.{first_of, port_number, rest_of}
+use Rattle.ca_meaning.specs.Operands.{first_of, port_of_value, rest_of}
 use Rattle.ca_meaning.specs.Refusal.{has_no_default, registering_gives, unfit}
 use Rattle.ca_meaning.specs.Registry.{Registry, answers}
 use Rattle.ca_meaning.specs.Row.{completes, meets}
@@ -61,12 +61,12 @@ module _ {A : Type 0} (h : Parts A) where
     pub few : FewIn h (branches_of op)
 
   -- the operation on the registry has an answer, by the table
-  pub record IsAnswered (name : RegisterName) (args : Trees) : Type 0 where
+  pub record IsRegistryAnswered (name : RegisterName) (args : Trees) : Type 0 where
     pub answer : Tree
     pub after : Registry
     pub by_table : (s : State) → Shows h s → registering_gives s name args ≡ answers answer after
     pub old : Registry
-    pub there : whole h.registry (port_number (first_of args)) ≡ Some old
+    pub there : whole h.registry (port_of_value (first_of args)) ≡ Some old
     pub by_bank : comes_to (Some old) name (rest_of args) ≡ answers answer after
 
   -- the handler at that place of the queue, whose wait is gone from its shard
@@ -120,8 +120,8 @@ module _ {A : Type 0} (h : Parts A) where
   IsPost op bs = (p : ℕ) × (v : Tree) × (op ≡ posting (port p) v) × (bs ≡ put_of p v ∷ [])
 
   -- the operands are refused, as far as the held banks tell
-  abbrev pub IsRefused : OpView → Fault → Type 0
-  IsRefused op f = unfit (state_of (whole h.bank) (whole h.registry)) op ≡ Some f
+  abbrev pub AreOperandsRefused : OpView → Fault → Type 0
+  AreOperandsRefused op f = unfit (state_of (whole h.bank) (whole h.registry)) op ≡ Some f
 
   -- or they are right, and a wait would be one too many
   abbrev pub IsCrowded : OpView → Fault → Type 0
@@ -137,8 +137,8 @@ module _ {A : Type 0} (h : Parts A) where
   PlanTells op (to_make what) = FitIn h op × (op ≡ making what)
   PlanTells op (to_spawn kind r) = FitIn h op × ((seed : SeedView) × (op ≡ spawning seed) × (kind_of seed ≡ kind) × (result_of seed ≡ r))
   PlanTells op (to_close p) = FitIn h op × (op ≡ closing (port p)) × ((k : Kept) × (whole h.bank p ≡ Some k))
-  PlanTells op (to_register name args) = FitIn h op × (op ≡ registering name args) × IsAnswered name args
+  PlanTells op (to_register name args) = FitIn h op × (op ≡ registering name args) × IsRegistryAnswered name args
   PlanTells op (to_print line) = FitIn h op × (op ≡ printing line)
   PlanTells op (to_prune p side place) = FitIn h op × HangsOnStale op p side place
   PlanTells op (to_look w) = FitIn h op × HangsOnUnseen op w
-  PlanTells op (to_refuse f) = IsRefused op f ⊎ IsCrowded op f
+  PlanTells op (to_refuse f) = AreOperandsRefused op f ⊎ IsCrowded op f

@@ -3,7 +3,7 @@ use Rattle.std.specs.Prelude.{◌≡◌, ℕ, ◌≤◌, Option, Some, option_ma
 use Rattle.ca_value.specs.Tree.{Tree, Trees}
 use Rattle.ca_value.specs.View.{view}
 use Rattle.ca_term.specs.declared.head.RegisterName.{RegisterName}
-use Rattle.ca_meaning.specs.Operands.{first_of, port_number, rest_of}
+use Rattle.ca_meaning.specs.Operands.{first_of, port_of_value, rest_of}
 use Rattle.ca_meaning.specs.Registry.{Registry}
 use Rattle.ca_bank.specs.Bank.{members_spare_at}
 use Rattle.ca_registry.specs.Registries.{answered, members_added}
@@ -28,7 +28,7 @@ HasMembersRoom b p name rest = (x : HeldBank) × (listed number_of_bank (parts b
 
 -- the registry that the arguments name, and what the operation answers
 abbrev pub registry_of : Trees → ℕ
-registry_of args = port_number (first_of args)
+registry_of args = port_of_value (first_of args)
 
 abbrev pub answers_in : {A : Type 0} → Held A → RegisterName → Trees → Tree
 answers_in h name args = answer_of (whole (registries_held h.banks) (registry_of args)) name (rest_of args)

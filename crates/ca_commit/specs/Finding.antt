@@ -58,26 +58,26 @@ pub data Finding : Type 0 where
   unheld : ℕ → Finding
 
 -- what is found where this wait, in front of that side, is asked; live is what is found where it lives
-abbrev pub asking : Glance → Side → ℕ → Finding → Finding
-asking here side w live = live
-asking gone side w live = stale side
-asking unseen side w live = unheld w
+abbrev pub found_by_asking : Glance → Side → ℕ → Finding → Finding
+found_by_asking here side w live = live
+found_by_asking gone side w live = stale side
+found_by_asking unseen side w live = unheld w
 
 module _ (see : ℕ → Glance) where
   -- a put that has room is done, unless a put waits
   abbrev pub find_rival : Option Handler → Finding
   find_rival None = alone
-  find_rival (Some h) = asking (see h.wait) Put h.wait unready
+  find_rival (Some h) = found_by_asking (see h.wait) Put h.wait unready
 
   abbrev pub find_taker : Bool → Option Handler → Option Handler → Finding
-  find_taker room (Some h) putter = asking (see h.wait) Take h.wait (partner h.wait h.branch)
+  find_taker room (Some h) putter = found_by_asking (see h.wait) Take h.wait (partner h.wait h.branch)
   find_taker room None putter = cond room (find_rival putter) unready
 
   abbrev pub find_put : Bool → Bool → Bool → Option Handler → Option Handler → Finding
   find_put closed promise room taker putter = cond closed alone (cond promise alone (find_taker room taker putter))
 
   abbrev pub find_putter : Bool → Option Handler → Finding
-  find_putter closed (Some h) = asking (see h.wait) Put h.wait (partner h.wait h.branch)
+  find_putter closed (Some h) = found_by_asking (see h.wait) Put h.wait (partner h.wait h.branch)
   find_putter closed None = cond closed alone unready
 
   abbrev pub find_take : Bool → Bool → Option Handler → Finding

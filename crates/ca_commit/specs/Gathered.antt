@@ -2,8 +2,8 @@
 use Rattle.std.specs.Prelude.{◌≡◌, ℕ, ◌+◌, List, [], ◌∷◌, ◌++◌, Option, Some, None, true, cond, eqb, nat_lt}
 use Rattle.ca_meaning.specs.Registry.{Registry}
 use Rattle.ca_meaning.specs.Wait.{is_among}
-use Rattle.ca_commit.specs.Contents.{BankView, Content, Held, Kept, LaneView, Parked, Parts, TimersPart, a_bank, a_lane, a_ready, a_shard, away, home, the_timers}
-use Rattle.ca_commit.specs.Touched.{Drawn, Named, touches}
+use Rattle.ca_commit.specs.Contents.{BankView, Content, PartContents, Kept, LaneView, Parked, Parts, TimersPart, a_bank, a_lane, a_ready, a_shard, away, home, the_timers}
+use Rattle.ca_commit.specs.Touched.{Drawn, NamedParts, touches}
 
 -- what the list has for the part of that number
 abbrev pub pick : {C : Type 0} → List ℕ → List C → ℕ → Option C
@@ -20,7 +20,7 @@ pub data Kind : Type 0 where
   away_kind : Kind
 
 module _ {A : Type 0} where
-  abbrev pub lane_of : Held A → Option (LaneView A)
+  abbrev pub lane_of : PartContents A → Option (LaneView A)
   lane_of (a_lane l) = Some l
   lane_of (a_bank b) = None
   lane_of (a_shard f) = None
@@ -28,7 +28,7 @@ module _ {A : Type 0} where
   lane_of (a_ready q) = None
   lane_of away = None
 
-  abbrev pub bank_of : Held A → Option BankView
+  abbrev pub bank_of : PartContents A → Option BankView
   bank_of (a_bank b) = Some b
   bank_of (a_lane l) = None
   bank_of (a_shard f) = None
@@ -36,7 +36,7 @@ module _ {A : Type 0} where
   bank_of (a_ready q) = None
   bank_of away = None
 
-  abbrev pub shard_of : Held A → Option (ℕ → Option (Parked A))
+  abbrev pub shard_of : PartContents A → Option (ℕ → Option (Parked A))
   shard_of (a_shard f) = Some f
   shard_of (a_lane l) = None
   shard_of (a_bank b) = None
@@ -44,7 +44,7 @@ module _ {A : Type 0} where
   shard_of (a_ready q) = None
   shard_of away = None
 
-  abbrev pub timers_of : Held A → Option TimersPart
+  abbrev pub timers_of : PartContents A → Option TimersPart
   timers_of (the_timers t) = Some t
   timers_of (a_lane l) = None
   timers_of (a_bank b) = None
@@ -52,7 +52,7 @@ module _ {A : Type 0} where
   timers_of (a_ready q) = None
   timers_of away = None
 
-  abbrev pub ready_of : Held A → Option (List (ℕ × A))
+  abbrev pub ready_of : PartContents A → Option (List (ℕ × A))
   ready_of (a_ready q) = Some q
   ready_of (a_lane l) = None
   ready_of (a_bank b) = None
@@ -60,7 +60,7 @@ module _ {A : Type 0} where
   ready_of (the_timers t) = None
   ready_of away = None
 
-  abbrev pub kind_of_part : Held A → Kind
+  abbrev pub kind_of_part : PartContents A → Kind
   kind_of_part (a_lane l) = lane_kind
   kind_of_part (a_bank b) = bank_kind
   kind_of_part (a_shard f) = shard_kind
@@ -69,7 +69,7 @@ module _ {A : Type 0} where
   kind_of_part away = away_kind
 
   -- a part of that kind, if it is there
-  abbrev pub sorted : {X : Type 0} → (Held A → Option X) → Option (Content A) → Option X
+  abbrev pub sorted : {X : Type 0} → (PartContents A → Option X) → Option (Content A) → Option X
   sorted as_kind None = None
   sorted as_kind (Some c) = as_kind c.held
 
@@ -112,7 +112,7 @@ module _ {A : Type 0} where
   AllAlike n (x ∷ xs) (y ∷ ys) = Alike n x y × AllAlike n xs ys
 
 -- the held parts have all that the event of worker w names, and what stands beside it
-pub record HoldsNamed {A : Type 0} (w : ℕ) (ports looked : List ℕ) (x : Named) (held all : Parts A) : Type 0 where
+pub record HoldsNamed {A : Type 0} (w : ℕ) (ports looked : List ℕ) (x : NamedParts) (held all : Parts A) : Type 0 where
   pub lane : x.lane ≡ true → held.lane w ≡ all.lane w
   pub banks : (p : ℕ) → is_among p (x.ports ++ ports) ≡ true → (held.bank (home p) ≡ all.bank (home p)) × (held.registry (home p) ≡ all.registry (home p))
   pub shards : (v : ℕ) → is_among v (x.waits ++ looked) ≡ true → held.shard (home v) ≡ all.shard (home v)

@@ -8,7 +8,7 @@ use Rattle.ca_meaning.specs.Body.{At}
 use Rattle.ca_commit.specs.Agents.{TaskAgent}
 use Rattle.ca_commit.specs.Contents.{Content}
 use Rattle.ca_commit.specs.Moving.{Moves, visible}
-use Rattle.ca_commit.specs.Running.{AreAt, written}
+use Rattle.ca_commit.specs.Running.{AreAt, contents_written}
 use Rattle.ca_commit.specs.Touched.{Drawn, touches}
 
 -- a drawn event with the contents of what it touches, before and after
@@ -23,6 +23,6 @@ journal [] = []
 journal (e ∷ es) = visible e.drawn.what ++ journal es
 
 -- each event moves the contents that the ones before it left
-abbrev pub Follow : {A : Type 0} → (A → At) → (ProgramView → A → A → Type 0) → (A → Tree → A → Type 0) → (ProgramView → SeedView → A → Type 0) → (ℕ → Option (Content (TaskAgent A))) → List (Entry A) → (ℕ → Option (Content (TaskAgent A))) → Type 0
-Follow place advances gives starts now [] last = last ≡ now
-Follow place advances gives starts now (e ∷ es) last = AreAt now (touches e.drawn) e.before × Moves place advances gives starts e.drawn e.before e.after × Follow place advances gives starts (written now (touches e.drawn) e.after) es last
+abbrev pub EntriesFollow : {A : Type 0} → (A → At) → (ProgramView → A → A → Type 0) → (A → Tree → A → Type 0) → (ProgramView → SeedView → A → Type 0) → (ℕ → Option (Content (TaskAgent A))) → List (Entry A) → (ℕ → Option (Content (TaskAgent A))) → Type 0
+EntriesFollow place advances gives starts now [] last = last ≡ now
+EntriesFollow place advances gives starts now (e ∷ es) last = AreAt now (touches e.drawn) e.before × Moves place advances gives starts e.drawn e.before e.after × EntriesFollow place advances gives starts (contents_written now (touches e.drawn) e.after) es last

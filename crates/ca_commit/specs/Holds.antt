@@ -5,7 +5,7 @@ use Rattle.ca_meaning.specs.Wait.{is_among}
 use Rattle.ca_bank.specs.Kept.{Kept}
 use Rattle.ca_bank.specs.Holds.{with_channel}
 pub use Rattle.ca_bank.specs.Kept.{unattended as empty_kept}
-pub use Rattle.ca_bank.specs.Holds.{live_of, EachNamed, Differ, changes_at, groups, Holds, joined, join_all}
+pub use Rattle.ca_bank.specs.Holds.{live_of, EachNamed, WaitsDiffer, changes_at, groups, KeepsChannels, joined_queues, join_all}
 
 abbrev pub shut_kept : Kept → Kept
 shut_kept k = with_channel (shut k.channel) k

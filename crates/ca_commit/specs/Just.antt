@@ -37,15 +37,15 @@ module _ (ports : ℕ → Option Kept) where
   crowds (b ∷ bs) = crowd_at (ports (port_of b)) b ++ crowds bs
 
   -- the waits that an event of this operation asks, beside the one of its line
-  abbrev pub asked_by : OpView → EventView → List ℕ
-  asked_by op (done t k b v) = cond (has_priority op) (rivals (take k (branches_of op))) []
-  asked_by op (met t k side p v wait o) = cond (has_priority op) (rivals (take k (branches_of op))) []
-  asked_by op (parked t wait bs) = rivals (branches_of op) ++ crowds (branches_of op)
-  asked_by op (posted t wait p v) = rivals (branches_of op) ++ crowds (branches_of op)
-  asked_by op (defaulted t v) = rivals (branches_of op)
-  asked_by op (over t (Faulted TooManyPuts at r)) = rivals (branches_of op) ++ crowds (branches_of op)
-  asked_by op (over t (Faulted TooManyTakes at r)) = rivals (branches_of op) ++ crowds (branches_of op)
-  asked_by op e = []
+  abbrev pub waits_asked : OpView → EventView → List ℕ
+  waits_asked op (done t k b v) = cond (has_priority op) (rivals (take k (branches_of op))) []
+  waits_asked op (met t k side p v wait o) = cond (has_priority op) (rivals (take k (branches_of op))) []
+  waits_asked op (parked t wait bs) = rivals (branches_of op) ++ crowds (branches_of op)
+  waits_asked op (posted t wait p v) = rivals (branches_of op) ++ crowds (branches_of op)
+  waits_asked op (defaulted t v) = rivals (branches_of op)
+  waits_asked op (over t (Faulted TooManyPuts at r)) = rivals (branches_of op) ++ crowds (branches_of op)
+  waits_asked op (over t (Faulted TooManyTakes at r)) = rivals (branches_of op) ++ crowds (branches_of op)
+  waits_asked op e = []
 
 -- Event e of an operation is drawn with just the banks of the ports that it names, and just the shards of the waits that
 -- it asks.
@@ -53,4 +53,4 @@ abbrev pub TouchesJust : {A : Type 0} → Drawn → OpView → EventView → Par
 TouchesJust d op e old =
     let x = event_names d.worker e in
     ((i : ℕ) → homes (x.ports ++ d.ports) i ≡ homes (x.ports ++ named_ports op) i)
-    × ((i : ℕ) → homes (x.waits ++ d.looked) i ≡ homes (x.waits ++ asked_by (whole old.bank) op e) i)
+    × ((i : ℕ) → homes (x.waits ++ d.looked) i ≡ homes (x.waits ++ waits_asked (whole old.bank) op e) i)

@@ -9,14 +9,14 @@ use Rattle.ca_meaning.specs.Wait.{port_of, side_of}
 use Rattle.ca_bank.specs.Kept.{queue_at}
 use Rattle.ca_commit.specs.Contents.{Kept, Parts, whole}
 use Rattle.ca_commit.specs.Finding.{Glance, find_at, unready}
-use Rattle.ca_commit.specs.InPlace.{IsPlain}
+use Rattle.ca_commit.specs.InPlace.{IsPlainOperation}
 use Rattle.ca_commit.specs.Just.{TouchesJust}
 use Rattle.ca_commit.specs.Standing.{nth_branch}
 use Rattle.ca_commit.specs.Touched.{Drawn}
 
 -- by what was seen of its channel, where the queue that it joins is short and its channel has no room behind which it waits
 abbrev pub PlainJust : Type 0 → Type 0
-PlainJust A = (d : Drawn) (old : Parts A) (kept : ℕ → Option Kept) (op : OpView) → d.ports ≡ [] → d.looked ≡ [] → IsPlain kept op
+PlainJust A = (d : Drawn) (old : Parts A) (kept : ℕ → Option Kept) (op : OpView) → d.ports ≡ [] → d.looked ≡ [] → IsPlainOperation kept op
     → whole old.bank (port_of (nth_branch (branches_of op) 0)) ≡ kept (port_of (nth_branch (branches_of op) 0))
     → ((t : ℕ) (v : Tree) → TouchesJust d op (done t 0 (nth_branch (branches_of op) 0) v) old)
     × ((t wait o : ℕ) (side : Side) (v : Tree) → TouchesJust d op (met t 0 side (port_of (nth_branch (branches_of op) 0)) v wait o) old)

@@ -7,5 +7,5 @@ abbrev pub parts : {T : Type 0} → Listing T → List T
 parts l = l.items.items
 
 -- how many more parts fit with no growth
-abbrev pub spare : {T : Type 0} → Listing T → ℕ
-spare l = vec_capacity l.items - vec_len l.items
+abbrev pub spare_parts : {T : Type 0} → Listing T → ℕ
+spare_parts l = vec_capacity l.items - vec_len l.items

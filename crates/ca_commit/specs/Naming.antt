@@ -11,19 +11,19 @@ use Rattle.ca_meaning.specs.Wait.{is_among}
 use Rattle.ca_commit.specs.Contents.{Kept, Parts, home}
 
 -- a value, where it is a port
-abbrev pub port_in : Tree → List ℕ
-port_in (port n) = n ∷ []
-port_in v = []
+abbrev pub listed_port : Tree → List ℕ
+listed_port (port n) = n ∷ []
+listed_port v = []
 
 -- the ports among values
 abbrev pub ports_among : Trees → List ℕ
 ports_among none = []
-ports_among (item v vs) = port_in v ++ ports_among vs
+ports_among (item v vs) = listed_port v ++ ports_among vs
 
 -- an item of an alts is a port, or a pair that begins with one
 abbrev pub port_of_item : Tree → List ℕ
-port_of_item (vector vs) = port_in (first_of vs)
-port_of_item v = port_in v
+port_of_item (vector vs) = listed_port (first_of vs)
+port_of_item v = listed_port v
 
 abbrev pub ports_of_items : Trees → List ℕ
 ports_of_items none = []
@@ -31,7 +31,7 @@ ports_of_items (item v vs) = port_of_item v ++ ports_of_items vs
 
 abbrev pub port_keys : TreePairs → List ℕ
 port_keys empty = []
-port_keys (pair k v ps) = port_in k ++ port_keys ps
+port_keys (pair k v ps) = listed_port k ++ port_keys ps
 
 -- the keys of a toggle's map
 abbrev pub ports_toggled : RegisterName → Trees → List ℕ
@@ -44,13 +44,13 @@ ports_of_seed (go n values result place) = result ∷ []
 ports_of_seed (system kind values place) = ports_among values
 
 abbrev pub named_ports : OpView → List ℕ
-named_ports (taking c) = port_in c
-named_ports (putting c v) = port_in c
-named_ports (posting c v) = port_in c
+named_ports (taking c) = listed_port c
+named_ports (putting c v) = listed_port c
+named_ports (posting c v) = listed_port c
 named_ports (choosing ports priority default) = ports_of_items ports
 named_ports (making what) = ports_among (operands_to_make what)
 named_ports (spawning seed) = ports_of_seed seed
-named_ports (closing c) = port_in c
+named_ports (closing c) = listed_port c
 named_ports (registering name args) = ports_among args ++ ports_toggled name args
 named_ports (printing line) = []
 

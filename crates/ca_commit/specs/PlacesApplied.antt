@@ -15,7 +15,7 @@ use Rattle.ca_commit.specs.Agents.{TaskAgent, advances_of, place_of}
 use Rattle.ca_commit.specs.Contents.{Parts, home, nobody, owner}
 use Rattle.ca_commit.specs.Deciding.{seen_in}
 use Rattle.ca_commit.specs.EventMoves.{one_wait_more}
-use Rattle.ca_commit.specs.InPlace.{Answers, Goes, IsDone, Sets, Turns, Wakes}
+use Rattle.ca_commit.specs.InPlace.{GoesOnAnswered, GoesWithAnswer, IsBranchDone, Sets, Turns, BranchWakes}
 use Rattle.ca_commit.specs.Moves.{Becomes, Stays, Stood}
 use Rattle.ca_commit.specs.Parking.{waiting_as}
 use Rattle.ca_commit.specs.PlanMoves.{IsApplied, next_port, next_wait}
@@ -54,7 +54,7 @@ module _ {A : Type 0} (place : A → At) (advances : ProgramView → A → A →
       (s : StandsIn place advances w n p v task old new) → s.stood.lane2.counts ≡ s.stood.lane.counts → s.stood.lane2.task ≡ Some (task_view task2)
       → IsPlanned place advances old task start (to_do k b (is_alts_at (place task.agent)))
       → Becomes old.bank new.bank (home (port_of b)) (kept_at bank) (kept_at bank2) → Stays old.shard new.shard → Stays old.ready new.ready
-      → IsDone place gives k bank bank2 task task2
+      → IsBranchDone place gives k bank bank2 task task2
       → IsApplied place advances gives starts w n task.number u p v m (to_do k b (is_alts_at (place task.agent))) old new
 
   -- it meets a wait of a shard that lies among them
@@ -67,8 +67,8 @@ module _ {A : Type 0} (place : A → At) (advances : ProgramView → A → A →
       → Becomes old.shard new.shard (home wait) (waits_of shard) (waits_of shard2)
       → Becomes old.ready new.ready w (tasks_in ready) (tasks_in ready2)
       → Turns (port_of b) (pruned (other_side (side_of b)) 0) bank bank2 → Sets wait None shard shard2
-      → Wakes place gives b wait bank shard ready ready2
-      → Answers place gives (port_of b) (told (side_of b) (passing (kept_at bank (port_of b)) b)) task task2
+      → BranchWakes place gives b wait bank shard ready ready2
+      → GoesOnAnswered place gives (port_of b) (told (side_of b) (passing (kept_at bank (port_of b)) b)) task task2
       → IsApplied place advances gives starts w n task.number u p v m (to_meet k b (is_alts_at (place task.agent)) wait o) old new
 
   -- it waits by its one branch
@@ -92,5 +92,5 @@ module _ {A : Type 0} (place : A → At) (advances : ProgramView → A → A →
       → Becomes old.bank new.bank (home (port_of b)) (kept_at bank) (kept_at bank2)
       → Becomes old.shard new.shard (home v) (waits_of shard) (waits_of shard2) → Stays old.ready new.ready
       → Turns (port_of b) (enqueued (side_of b) (record { wait = v; branch = 0; value = brought b })) bank bank2
-      → Sets v (Some nobody) shard shard2 → Goes gives (bool true) task task2
+      → Sets v (Some nobody) shard shard2 → GoesWithAnswer gives (bool true) task task2
       → IsApplied place advances gives starts w n task.number u p v m (to_post (b ∷ [])) old new

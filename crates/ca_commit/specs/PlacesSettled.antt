@@ -15,8 +15,8 @@ use Rattle.ca_commit.specs.Deciding.{IsStale}
 use Rattle.ca_commit.specs.Finding.{Glance, settle_at}
 use Rattle.ca_commit.specs.InPlace.{Sets, Turns}
 use Rattle.ca_commit.specs.Moves.{Becomes, Stays}
-use Rattle.ca_commit.specs.ServesSeen.{served_by}
-use Rattle.ca_commit.specs.Settling.{settle_change, settling}
+use Rattle.ca_commit.specs.ServesSeen.{serving_seen}
+use Rattle.ca_commit.specs.Settling.{settle_change, value_settled}
 use Rattle.ca_commit.specs.Showing.{waits_of}
 use Rattle.ca_commit.specs.SilentMoves.{MovesPrune}
 use Rattle.ca_commit.specs.Tasks.{tasks_in}
@@ -28,7 +28,7 @@ use Rattle.ca_commit.specs.declared.task.Task.{Task}
 
 -- the bank shows that its channel p serves q, in front of the side, if q's wait lives
 abbrev pub ServesIn : Bank → ℕ → Side → Partner → Type 0
-ServesIn bank p side q = (see : ℕ → Glance) → served_by (Serves.Front side q) see ≡ settle_at see (kept_at bank p)
+ServesIn bank p side q = (see : ℕ → Glance) → serving_seen (Serves.Front side q) see ≡ settle_at see (kept_at bank p)
 
 -- it lives, and is served
 abbrev pub SettleApplies : {A : Type 0} → (A → At) → (A → Tree → A → Type 0) → Type 0
@@ -37,10 +37,10 @@ SettleApplies {A} place gives = (old new : Parts (TaskAgent A)) (w p : ℕ) (sid
     → Becomes old.bank new.bank (home p) (kept_at bank) (kept_at bank2)
     → Becomes old.shard new.shard (home q.wait.n) (waits_of shard) (waits_of shard2)
     → Becomes old.ready new.ready w (tasks_in ready) (tasks_in ready2)
-    → Turns p (settle_change side (settling side (kept_at bank p))) bank bank2 → Sets q.wait.n None shard shard2
-    → WakesBy place gives (waits_of shard q.wait.n) p (told side (settling side (kept_at bank p))) (Some (tasks_in ready)) (Some (tasks_in ready2))
+    → Turns p (settle_change side (value_settled side (kept_at bank p))) bank bank2 → Sets q.wait.n None shard shard2
+    → WakesBy place gives (waits_of shard q.wait.n) p (told side (value_settled side (kept_at bank p))) (Some (tasks_in ready)) (Some (tasks_in ready2))
     → Stays old.lane new.lane → Stays old.registry new.registry → new.timers ≡ old.timers
-    → MovesSettle (place_of place) (wakes_of gives) w q.wait.n q.branch side p (settling side (kept_at bank p)) old new
+    → MovesSettle (place_of place) (wakes_of gives) w q.wait.n q.branch side p (value_settled side (kept_at bank p)) old new
 
 -- it is gone, and so its handler is stale
 abbrev pub StaleServed : Type 0 → Type 0

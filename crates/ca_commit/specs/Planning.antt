@@ -7,7 +7,7 @@ use Rattle.ca_term.specs.declared.head.RegisterName.{RegisterName}
 use Rattle.ca_term.specs.declared.event.TaskKind.{TaskKind}
 use Rattle.ca_term.specs.Operation.{OpView, WhatView, taking, putting, choosing, making, spawning, closing, registering, printing, posting}
 use Rattle.ca_term.specs.Event.{BranchView}
-use Rattle.ca_meaning.specs.Operands.{port_number}
+use Rattle.ca_meaning.specs.Operands.{port_of_value}
 use Rattle.ca_meaning.specs.Registry.{Registry}
 use Rattle.ca_meaning.specs.Wait.{Handler, side_of, port_of}
 use Rattle.ca_meaning.specs.State.{State}
@@ -62,15 +62,15 @@ is_alts (choosing ports priority default) = true
 is_alts op = false
 
 -- the wait of a handler
-abbrev pub wait_in : Option Handler → Option ℕ
-wait_in None = None
-wait_in (Some h) = Some h.wait
+abbrev pub handler_wait : Option Handler → Option ℕ
+handler_wait None = None
+handler_wait (Some h) = Some h.wait
 
 -- a handler at a place of a queue is asked; rest is where it is live
-abbrev pub asked : Glance → ℕ → Side → ℕ → ℕ → Planned → Planned
-asked here p side place w rest = rest
-asked gone p side place w rest = to_prune p side place
-asked unseen p side place w rest = to_look w
+abbrev pub handler_asked : Glance → ℕ → Side → ℕ → ℕ → Planned → Planned
+handler_asked here p side place w rest = rest
+handler_asked gone p side place w rest = to_prune p side place
+handler_asked unseen p side place w rest = to_look w
 
 abbrev pub found_of : Seen → BranchView → Finding
 found_of x b = find_at x.see (x.ports (port_of b)) b
@@ -88,15 +88,15 @@ module _ (x : Seen) where
   -- the handlers of a queue from a place on are asked in turn; rest is where all are live
   abbrev pub all_asked : ℕ → Side → ℕ → List Handler → Planned → Planned
   all_asked p side place [] rest = rest
-  all_asked p side place (h ∷ q) rest = asked (x.see h.wait) p side place h.wait (all_asked p side (place + 1) q rest)
+  all_asked p side place (h ∷ q) rest = handler_asked (x.see h.wait) p side place h.wait (all_asked p side (place + 1) q rest)
 
   -- a long queue is counted by its waits, all of which are live then
-  abbrev pub counted : Side → ℕ → List Handler → Planned → Planned
-  counted side p q rest = cond (nat_lt (length q) 1024) rest (all_asked p side 0 q (cond (nat_lt (groups q) 1024) rest (to_refuse (crowd_of side))))
+  abbrev pub queue_counted : Side → ℕ → List Handler → Planned → Planned
+  queue_counted side p q rest = cond (nat_lt (length q) 1024) rest (all_asked p side 0 q (cond (nat_lt (groups q) 1024) rest (to_refuse (crowd_of side))))
 
   -- the queue that a branch would join
   abbrev pub counted_for : BranchView → Planned → Planned
-  counted_for b rest = counted (side_of b) (port_of b) (queue_at (side_of b) (x.ports (port_of b))) rest
+  counted_for b rest = queue_counted (side_of b) (port_of b) (queue_at (side_of b) (x.ports (port_of b))) rest
 
   -- each queue that a new wait would join, in order; rest is where each has a place for it
   abbrev pub all_counted : List BranchView → Planned → Planned
@@ -123,7 +123,7 @@ module _ (x : Seen) where
   fitting (choosing ports priority default) start = chosen (choosing ports priority default) start
   fitting (making what) start = to_make what
   fitting (spawning seed) start = to_spawn (kind_of seed) (result_of seed)
-  fitting (closing c) start = to_close (port_number c)
+  fitting (closing c) start = to_close (port_of_value c)
   fitting (registering name args) start = to_register name args
   fitting (printing line) start = to_print line
 

@@ -21,8 +21,8 @@ or_was (Some x) o = Some x
 or_was None o = o
 
 -- these parts have the new contents, the others are as they were
-abbrev pub written : {C : Type 0} → (ℕ → Option C) → List ℕ → List C → ℕ → Option C
-written now is cs n = or_was (pick is cs n) (now n)
+abbrev pub contents_written : {C : Type 0} → (ℕ → Option C) → List ℕ → List C → ℕ → Option C
+contents_written now is cs n = or_was (pick is cs n) (now n)
 
 -- a number is in its own bank or shard alone
 abbrev pub Placed : {X : Type 0} → (ℕ → Option (ℕ → Option X)) → Type 0

@@ -14,9 +14,9 @@ front_with side q gone = rests_on_stale side
 front_with side q unseen = rests_on_unheld q.wait.n
 
 -- what the channel settles, where `see` tells of the wait in front
-abbrev pub served_by : Serves → (ℕ → Glance) → Serving
-served_by Serves.Nothing see = rests
-served_by (Serves.Front side q) see = front_with side q (see q.wait.n)
+abbrev pub serving_seen : Serves → (ℕ → Glance) → Serving
+serving_seen Serves.Nothing see = rests
+serving_seen (Serves.Front side q) see = front_with side q (see q.wait.n)
 
 -- it is of this side, if it is anything
 abbrev pub IsOf : Side → Serves → Type 0

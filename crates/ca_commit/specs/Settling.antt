@@ -14,24 +14,24 @@ use Rattle.ca_commit.specs.Replies.{or_nil}
 use Rattle.ca_term.specs.declared.event.Event.{Event}
 use Rattle.ca_commit.specs.Listing.{changed_at}
 use Rattle.ca_commit.specs.Showing.{channels_held, registries_held, spares_held, waits_held}
-use Rattle.ca_commit.specs.Waking.{HasReadyRoom, IsMadeFor, KeepsNumbers, WakesBy, ready_in, value_in}
+use Rattle.ca_commit.specs.Waking.{HasReadyRoom, IsMadeForWaiter, KeepsNumbers, WakesBy, ready_in, handler_value}
 use Rattle.ca_commit.specs.declared.held.Held.{Held}
 use Rattle.ca_commit.specs.declared.settling.SettleNext.{SettleNext}
 use Rattle.ca_commit.specs.declared.settling.SettleNext.TheVariants as S
 
 -- the value that moves in, or that a taker gets
-abbrev pub settling : Side → Option Kept → Tree
-settling Put o = value_in (front_at Put o)
-settling Take o = or_nil (head (held_at o))
+abbrev pub value_settled : Side → Option Kept → Tree
+value_settled Put o = handler_value (front_at Put o)
+value_settled Take o = or_nil (head (held_at o))
 
 -- a put's value moves in, a taker's leaves
-abbrev pub filled : Side → Tree → Kept → Kept
-filled Put v k = added v k
-filled Take v k = removed k
+abbrev pub channel_filled : Side → Tree → Kept → Kept
+channel_filled Put v k = added v k
+channel_filled Take v k = removed k
 
 -- and the handler in front leaves its queue
 abbrev pub settle_change : Side → Tree → Kept → Kept
-settle_change side v k = pruned side 0 (filled side v k)
+settle_change side v k = pruned side 0 (channel_filled side v k)
 
 -- a fixed buffer serves a put only where it has room
 abbrev pub HasRoomToServe : Option Kept → Side → Type 0
@@ -45,9 +45,9 @@ module _ {A : Type 0} (place : A → At) where
   -- what serving needs: the value for the event, and for the buffer; the answer of whoever waits; and room
   abbrev pub IsMadeToServe : Held A → ℕ → Side → ℕ → Type 0
   IsMadeToServe h p side w =
-      (option_map view h.spare.value ≡ Some (settling side (whole (channels_held h.banks) p)))
-      × (option_map view h.spare.answer ≡ Some (settling side (whole (channels_held h.banks) p)))
-      × IsMadeFor place (whole (waits_held h.shards) w) p (told side (settling side (whole (channels_held h.banks) p))) h.spare.partner
+      (option_map view h.spare.value ≡ Some (value_settled side (whole (channels_held h.banks) p)))
+      × (option_map view h.spare.answer ≡ Some (value_settled side (whole (channels_held h.banks) p)))
+      × IsMadeForWaiter place (whole (waits_held h.shards) w) p (told side (value_settled side (whole (channels_held h.banks) p))) h.spare.partner
       × HasReadyRoom h.ready
 
   abbrev pub IsMadeToSettle : Held A → ℕ → Serving → Type 0
@@ -56,11 +56,11 @@ module _ {A : Type 0} (place : A → At) where
 
   -- the event, and how it leaves the parts
   pub record IsSettled (gives : A → Tree → A → Type 0) (old new : Held A) (p : ℕ) (side : Side) (w o : ℕ) (e : Event) : Type 0 where
-    pub event : event_view e ≡ settled w o side p (settling side (whole (channels_held old.banks) p))
-    pub channels : (i : ℕ) → channels_held new.banks i ≡ changed_at p (option_map (settle_change side (settling side (whole (channels_held old.banks) p)))) (channels_held old.banks) i
+    pub event : event_view e ≡ settled w o side p (value_settled side (whole (channels_held old.banks) p))
+    pub channels : (i : ℕ) → channels_held new.banks i ≡ changed_at p (option_map (settle_change side (value_settled side (whole (channels_held old.banks) p)))) (channels_held old.banks) i
     pub registries : (i : ℕ) → registries_held new.banks i ≡ registries_held old.banks i
     pub waits : (i : ℕ) → waits_held new.shards i ≡ changed_at w (λ z. None) (waits_held old.shards) i
-    pub wakes : WakesBy place gives (whole (waits_held old.shards) w) p (told side (settling side (whole (channels_held old.banks) p))) (ready_in old.ready) (ready_in new.ready)
+    pub wakes : WakesBy place gives (whole (waits_held old.shards) w) p (told side (value_settled side (whole (channels_held old.banks) p))) (ready_in old.ready) (ready_in new.ready)
     pub numbers : KeepsNumbers old new
 
   -- what settling comes to

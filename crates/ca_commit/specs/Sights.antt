@@ -2,7 +2,7 @@
 use Rattle.std.specs.Prelude.{◌≡◌, ℕ, List, length, nat_lt, true}
 use Rattle.ca_term.specs.declared.event.Side.TheVariants.{Put}
 use Rattle.ca_meaning.specs.Wait.{Handler}
-use Rattle.ca_commit.specs.Finding.{Finding, Glance, alone, asking, partner, unready}
+use Rattle.ca_commit.specs.Finding.{Finding, Glance, alone, found_by_asking, partner, unready}
 use Rattle.ca_commit.specs.declared.sight.Sight.{Sight}
 
 -- the wait that decides, where one does
@@ -18,8 +18,8 @@ abbrev pub found_with : Sight → Glance → Finding
 found_with Sight.Unready g = unready
 found_with Sight.Crowded g = unready
 found_with Sight.Alone g = alone
-found_with (Sight.Meets side q) g = asking g side q.wait.n (partner q.wait.n q.branch)
-found_with (Sight.Rivals w) g = asking g Put w.n unready
+found_with (Sight.Meets side q) g = found_by_asking g side q.wait.n (partner q.wait.n q.branch)
+found_with (Sight.Rivals w) g = found_by_asking g Put w.n unready
 
 abbrev pub found_by : Sight → (ℕ → Glance) → Finding
 found_by s see = found_with s (see (asked_of s))

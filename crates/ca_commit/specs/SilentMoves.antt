@@ -7,7 +7,7 @@ use Rattle.ca_timers.specs.Causes.{Rose}
 use Rattle.ca_commit.specs.Contents.{Kept, LaneView, Parked, Parts, TimersPart, alive_in, clock_failed, home, on, put_on, stopped, unmarked, whole}
 use Rattle.ca_commit.specs.Holds.{live_of}
 use Rattle.ca_commit.specs.Moves.{Alters, Becomes, Stays}
-use Rattle.ca_commit.specs.TaskMoves.{GoOnBy, marked, with_mark}
+use Rattle.ca_commit.specs.TaskMoves.{GoOnBy, stop_marked, with_mark}
 
 -- a task's program and counts stay
 abbrev pub SameLane : {A : Type 0} → LaneView A → LaneView A → Type 0
@@ -81,7 +81,7 @@ abbrev pub Asked : TimersPart → TimersPart → Type 0
 Asked c c2 = (c2.faults ≡ c.faults) × GoOnBy c2.least c.readings c2.readings × (c2.mark ≡ c.mark)
 
 abbrev pub Failed : TimersPart → TimersPart → Type 0
-Failed c c2 = StayTold c.readings c2.readings × HasFault c.faults c2.faults × (c2.mark ≡ marked c.mark clock_failed)
+Failed c c2 = StayTold c.readings c2.readings × HasFault c.faults c2.faults × (c2.mark ≡ stop_marked c.mark clock_failed)
 
 -- the timers alone are touched; deadlines and the moment of the run stay, and the clock never falls
 pub record MovesTimers {A : Type 0} (How : TimersPart → TimersPart → Type 0) (old new : Parts A) : Type 0 where

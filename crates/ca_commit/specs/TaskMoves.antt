@@ -11,13 +11,13 @@ use Rattle.ca_term.specs.Operation.{OpView, WhatView, SeedView, making, spawning
 use Rattle.ca_meaning.specs.Body.{At, at_op, ended, faulted}
 use Rattle.ca_meaning.specs.Channel.{channel_made}
 use Rattle.ca_meaning.specs.Registry.{Registry, registry_made, answers}
-use Rattle.ca_meaning.specs.Operands.{port_number, first_of}
+use Rattle.ca_meaning.specs.Operands.{port_of_value, first_of}
 use Rattle.ca_meaning.specs.Wait.{is_among}
 use Rattle.ca_meaning.specs.State.{State, due, open_after}
 use Rattle.ca_meaning.specs.TaskSteps.{moments, IsMoment, with_deadline, kind_of, result_of}
 use Rattle.ca_meaning.specs.Choice.{branches_of}
 use Rattle.ca_meaning.specs.Refusal.{has_no_default, registering_gives}
-use Rattle.ca_commit.specs.Contents.{Kept, LaneView, Mark, Parts, TimersPart, clock_failed, home, main_over, stopped, unmarked, whole}
+use Rattle.ca_commit.specs.Contents.{Kept, LaneView, StopMark, Parts, TimersPart, clock_failed, home, main_over, stopped, unmarked, whole}
 use Rattle.ca_commit.specs.Holds.{empty_kept, shut_in, shut_kept}
 use Rattle.ca_commit.specs.Moves.{Alters, Answers, Becomes, CrowdedIn, FitIn, NoneReadyIn, Shows, Stays, Stood, UnfitIn}
 
@@ -27,7 +27,7 @@ GoOnBy m None new = Unit {0}
 GoOnBy m (Some told) new = new ≡ Some (told ++ m ∷ [])
 
 -- the clock answered the moment m, which is now
-pub record Reads (m : ℕ) (c c2 : TimersPart) : Type 0 where
+pub record ReadsClock (m : ℕ) (c c2 : TimersPart) : Type 0 where
   pub now : c2.now ≡ m
   -- no answer lies below an earlier one
   pub later : c.least ≤ m
@@ -39,17 +39,17 @@ pub record Reads (m : ℕ) (c c2 : TimersPart) : Type 0 where
 -- the clock is read where a timeout is made, and its deadline opened
 abbrev pub MakesTimed : ℕ → WhatView → Option ℕ → Option TimersPart → Option TimersPart → Type 0
 MakesTimed p what None old new = IsMoment 0 what None × (new ≡ old)
-MakesTimed p what (Some m) old new = (c c2 : TimersPart) × (old ≡ Some c) × (new ≡ Some c2) × IsMoment c.now what (Some m) × Reads m c c2 × (c2.deadlines ≡ with_deadline p what m c.deadlines)
+MakesTimed p what (Some m) old new = (c c2 : TimersPart) × (old ≡ Some c) × (new ≡ Some c2) × IsMoment c.now what (Some m) × ReadsClock m c c2 × (c2.deadlines ≡ with_deadline p what m c.deadlines)
 
-abbrev pub marked : Mark → Mark → Mark
-marked unmarked m = m
-marked main_over m = main_over
-marked clock_failed m = clock_failed
-marked stopped m = stopped
+abbrev pub stop_marked : StopMark → StopMark → StopMark
+stop_marked unmarked m = m
+stop_marked main_over m = main_over
+stop_marked clock_failed m = clock_failed
+stop_marked stopped m = stopped
 
 -- a mark is set once
-abbrev pub with_mark : Mark → TimersPart → TimersPart
-with_mark m c = record { deadlines = c.deadlines; now = c.now; least = c.least; faults = c.faults; readings = c.readings; mark = marked c.mark m }
+abbrev pub with_mark : StopMark → TimersPart → TimersPart
+with_mark m c = record { deadlines = c.deadlines; now = c.now; least = c.least; faults = c.faults; readings = c.readings; mark = stop_marked c.mark m }
 
 -- the end of the main text marks the run; that of another task doesn't touch the timers
 abbrev pub MarksEnd : Bool → Option TimersPart → Option TimersPart → Type 0
@@ -97,7 +97,7 @@ module _ {A : Type 0} (place : A → At) (advances : ProgramView → A → A →
     pub registry : Registry
     pub by_table : (s : State) → Shows old s → registering_gives s name args ≡ answers v registry
     pub banks : Stays old.bank new.bank
-    pub registries : Alters old.registry new.registry (port_number (first_of args)) (Some registry)
+    pub registries : Alters old.registry new.registry (port_of_value (first_of args)) (Some registry)
     pub shards : Stays old.shard new.shard
     pub readys : Stays old.ready new.ready
     pub timers : new.timers ≡ old.timers
@@ -129,8 +129,8 @@ module _ {A : Type 0} (place : A → At) (advances : ProgramView → A → A →
     pub banks : Stays old.bank new.bank
 
   -- at an operation whose operands are refused
-  abbrev pub Refused : ℕ → ℕ → Fault → Place → Parts A → Parts A → Type 0
-  Refused w t fault at old new = (op : OpView) × (Halts w t (at_op (record { op = op; place = at })) old new) × UnfitIn old op fault
+  abbrev pub IsAtRefused : ℕ → ℕ → Fault → Place → Parts A → Parts A → Type 0
+  IsAtRefused w t fault at old new = (op : OpView) × (Halts w t (at_op (record { op = op; place = at })) old new) × UnfitIn old op fault
 
   -- or at one whose wait would be one too many
   abbrev pub Crowded : ℕ → ℕ → Fault → Place → Parts A → Parts A → Type 0
@@ -139,7 +139,7 @@ module _ {A : Type 0} (place : A → At) (advances : ProgramView → A → A →
 
   -- by a fault: the task's result port, if it has one, is closed
   pub record MovesFault (result : A → Option ℕ) (w t : ℕ) (fault : Fault) (at : Place) (r : Option ℕ) (old new : Parts A) : Type 0 where
-    pub halts : Halts w t (faulted fault at) old new ⊎ (Refused w t fault at old new ⊎ Crowded w t fault at old new)
+    pub halts : Halts w t (faulted fault at) old new ⊎ (IsAtRefused w t fault at old new ⊎ Crowded w t fault at old new)
     pub result_is : (l : LaneView A) (a : A) → old.lane w ≡ Some l → l.task ≡ Some (t, a) → result a ≡ r
     pub banks : ShutsAt r old.bank new.bank
 
@@ -154,7 +154,7 @@ pub record MovesTick {A : Type 0} (m : ℕ) (ports : List ℕ) (old new : Parts 
   pub due_are : due m clock.deadlines ≡ ports
   pub some : ports ≢ []
   pub left : clock2.deadlines ≡ open_after m clock.deadlines
-  pub reads : Reads m clock clock2
+  pub reads : ReadsClock m clock clock2
   pub there : (p : ℕ) → is_among p ports ≡ true → (f : ℕ → Option Kept) × (old.bank (home p) ≡ Some f)
   pub banks : (i : ℕ) → new.bank i ≡ option_map (shut_in ports) (old.bank i)
   pub registries : Stays old.registry new.registry

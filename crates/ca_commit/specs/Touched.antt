@@ -4,7 +4,7 @@ use Rattle.std.specs.Prelude.{◌≢◌, ℕ, zero, suc, ◌+◌, ◌≤◌, Lis
 use Rattle.ca_term.specs.declared.event.Side.{Side}
 use Rattle.ca_term.specs.declared.event.Ending.TheVariants.{Ended, Faulted}
 use Rattle.ca_term.specs.Event.{EventView, made, spawned, done, met, parked, posted, settled, defaulted, closed, registered, printed, ticked, over, port_number as result_number}
-use Rattle.ca_meaning.specs.Operands.{port_number, first_of}
+use Rattle.ca_meaning.specs.Operands.{port_of_value, first_of}
 use Rattle.ca_meaning.specs.Wait.{port_of, is_among}
 use Rattle.ca_commit.specs.Contents.{home}
 
@@ -37,17 +37,17 @@ pub record Drawn : Type 0 where
   pub looked : List ℕ
 
 -- what an event names by itself
-pub record Named : Type 0 where
+pub record NamedParts : Type 0 where
   pub lane : Bool
   pub ports : List ℕ
   pub waits : List ℕ
   pub timers : Bool
   pub ready : Option ℕ
 
-abbrev pub of_task : List ℕ → List ℕ → Named
+abbrev pub of_task : List ℕ → List ℕ → NamedParts
 of_task ports waits = record { lane = true; ports = ports; waits = waits; timers = false; ready = None }
 
-abbrev pub event_names : ℕ → EventView → Named
+abbrev pub event_names : ℕ → EventView → NamedParts
 event_names w (made t p what None) = of_task (p ∷ []) []
 event_names w (made t p what (Some m)) = record { lane = true; ports = p ∷ []; waits = []; timers = true; ready = None }
 event_names w (spawned t u kind r) = record { lane = true; ports = []; waits = []; timers = false; ready = Some w }
@@ -58,14 +58,14 @@ event_names w (posted t wait p v) = of_task (p ∷ []) (wait ∷ [])
 event_names w (settled wait k side p v) = record { lane = false; ports = p ∷ []; waits = wait ∷ []; timers = false; ready = Some w }
 event_names w (defaulted t v) = of_task [] []
 event_names w (closed t p) = of_task (p ∷ []) []
-event_names w (registered t name args v) = of_task (port_number (first_of args) ∷ []) []
+event_names w (registered t name args v) = of_task (port_of_value (first_of args) ∷ []) []
 event_names w (printed t line) = of_task [] []
 event_names w (ticked m ps) = record { lane = false; ports = ps; waits = []; timers = true; ready = None }
 event_names w (over t Ended) = record { lane = true; ports = []; waits = []; timers = eqb t 0; ready = None }
 event_names w (over t (Faulted f at None)) = record { lane = true; ports = []; waits = []; timers = eqb t 0; ready = None }
 event_names w (over t (Faulted f at (Some p))) = record { lane = true; ports = result_number p ∷ []; waits = []; timers = eqb t 0; ready = None }
 
-abbrev pub only_timers : Named
+abbrev pub only_timers : NamedParts
 only_timers = record { lane = false; ports = []; waits = []; timers = true; ready = None }
 
 -- of the parts from number i on, as many as said, those that t wants
@@ -77,18 +77,18 @@ wanted t base i (suc c) = cond (t i) ((base + i) ∷ wanted t base (suc i) c) (w
 abbrev pub homes : List ℕ → ℕ → Bool
 homes ns i = is_among i (map home ns)
 
-abbrev pub one_if : Bool → ℕ → List ℕ
-one_if true i = i ∷ []
-one_if false i = []
+abbrev pub listed_if : Bool → ℕ → List ℕ
+listed_if true i = i ∷ []
+listed_if false i = []
 
 -- where the ready part r of n stands, if one is named
 abbrev pub ready_at : ℕ → Option ℕ → List ℕ
 ready_at n None = []
 ready_at n (Some r) = (n + 33 + r) ∷ []
 
-abbrev pub touched : ℕ → ℕ → List ℕ → List ℕ → Named → List ℕ
+abbrev pub touched : ℕ → ℕ → List ℕ → List ℕ → NamedParts → List ℕ
 touched w n ports looked x =
-    one_if x.lane w ++ (wanted (homes (x.ports ++ ports)) n 0 16 ++ (wanted (homes (x.waits ++ looked)) (n + 16) 0 16 ++ (one_if x.timers (n + 32) ++ ready_at n x.ready)))
+    listed_if x.lane w ++ (wanted (homes (x.ports ++ ports)) n 0 16 ++ (wanted (homes (x.waits ++ looked)) (n + 16) 0 16 ++ (listed_if x.timers (n + 32) ++ ready_at n x.ready)))
 
 -- Halting where nothing can go on looks at all parts; no other event does.
 abbrev pub turn_touches : ℕ → ℕ → List ℕ → List ℕ → Turn → List ℕ
@@ -107,14 +107,14 @@ abbrev pub touches : Drawn → List ℕ
 touches d = cond (nat_lt d.worker d.workers) (turn_touches d.worker d.workers d.ports d.looked d.what) []
 
 -- all have the property
-abbrev pub AllIn : (ℕ → Type 0) → List ℕ → Type 0
-AllIn P [] = Unit {0}
-AllIn P (x ∷ xs) = P x × AllIn P xs
+abbrev pub AllHave : (ℕ → Type 0) → List ℕ → Type 0
+AllHave P [] = Unit {0}
+AllHave P (x ∷ xs) = P x × AllHave P xs
 
 -- no number stands twice
-abbrev pub IsDistinct : List ℕ → Type 0
-IsDistinct [] = Unit {0}
-IsDistinct (i ∷ is) = AllIn (λ j. i ≢ j) is × IsDistinct is
+abbrev pub NoneTwice : List ℕ → Type 0
+NoneTwice [] = Unit {0}
+NoneTwice (i ∷ is) = AllHave (λ j. i ≢ j) is × NoneTwice is
 
 -- ascending, from lo on
 abbrev pub Rises : ℕ → List ℕ → Type 0

@@ -58,18 +58,18 @@ Woke gives (Some (owner u a)) None v new = ⊥
 Woke {A} gives (Some (owner u a)) (Some v) old new = (c : TaskAgent A) × (c.result ≡ a.result) × (c.alts ≡ a.alts) × gives a.agent (view v) c.agent × (new ≡ option_map (λ q. q ++ (u, c) ∷ []) old)
 
 -- the answer that was made for whoever waits, where v passes on channel p
-abbrev pub IsMadeFor : {A : Type 0} → (A → At) → Option (Parked (TaskAgent A)) → ℕ → Tree → Option Value → Type 0
-IsMadeFor place None p v made = Unit {0}
-IsMadeFor place (Some nobody) p v made = Unit {0}
-IsMadeFor place (Some (owner u a)) p v made = option_map view made ≡ Some (reply_at (place a.agent) p v)
+abbrev pub IsMadeForWaiter : {A : Type 0} → (A → At) → Option (Parked (TaskAgent A)) → ℕ → Tree → Option Value → Type 0
+IsMadeForWaiter place None p v made = Unit {0}
+IsMadeForWaiter place (Some nobody) p v made = Unit {0}
+IsMadeForWaiter place (Some (owner u a)) p v made = option_map view made ≡ Some (reply_at (place a.agent) p v)
 
-abbrev pub value_in : Option Handler → Tree
-value_in None = nil
-value_in (Some h) = h.value
+abbrev pub handler_value : Option Handler → Tree
+handler_value None = nil
+handler_value (Some h) = h.value
 
 -- the value that passes where the branch meets a wait
 abbrev pub passing : Option Kept → BranchView → Tree
-passing o (take_of p) = value_in (front_at Put o)
+passing o (take_of p) = handler_value (front_at Put o)
 passing o (put_of p v) = v
 
 -- whoever waited goes on with v, which passed on channel p, last in the ready part
@@ -84,7 +84,7 @@ module _ {A : Type 0} (place : A → At) where
   IsMadeForMeeting h alts w b =
       (option_map view h.spare.value ≡ Some (passing (whole (channels_held h.banks) (port_of b)) b))
       × (option_map view h.spare.answer ≡ Some (reply_by alts (port_of b) (told (side_of b) (passing (whole (channels_held h.banks) (port_of b)) b))))
-      × IsMadeFor place (whole (waits_held h.shards) w) (port_of b) (told (other_side (side_of b)) (passing (whole (channels_held h.banks) (port_of b)) b)) h.spare.partner
+      × IsMadeForWaiter place (whole (waits_held h.shards) w) (port_of b) (told (other_side (side_of b)) (passing (whole (channels_held h.banks) (port_of b)) b)) h.spare.partner
       × HasReadyRoom h.ready
 
 -- the timers and the numbers stay

@@ -4,7 +4,7 @@ ghost use Rattle.ca_value.specs.Seq.{list};
 ghost use Rattle.ca_value.specs.Tree.{nil as nil_tree};
 ghost use Rattle.ca_value.specs.View.{view, trees};
 ghost use Rattle.ca_term.specs.Event.{branch_view, put_of};
-ghost use Rattle.ca_meaning.specs.Operands.{port_number, first_of, second_of};
+ghost use Rattle.ca_meaning.specs.Operands.{port_of_value, first_of, second_of};
 ghost use Rattle.ca_meaning.specs.Wait.{brought};
 ghost use Rattle.ca_meaning.specs.Choice.{branch_of};
 ghost use Rattle.ca_commit.specs.Found.{finding_view};
@@ -38,7 +38,7 @@ pub(crate) fn parts_of<'a>(port: &'a Value, nil: &'a Value) -> (PortId, Option<&
 
 fn pair_of<'a>(items: &'a [Value], nil: &'a Value) -> (PortId, Option<&'a Value>)
     requires { view nil.now ≡ nil_tree }
-    ensures { branch_by result.0.n (option_map (λ v. view v.now) result.1) ≡ put_of (port_number (first_of (trees items.now))) (second_of (trees items.now)) }
+    ensures { branch_by result.0.n (option_map (λ v. view v.now) result.1) ≡ put_of (port_of_value (first_of (trees items.now))) (second_of (trees items.now)) }
 {
     let value = match items.get(1) {
         Some(value) => value,

@@ -3,10 +3,10 @@ ghost use Rattle.std.specs.Prelude.{◌≡◌, ◌<◌, ℕ, is_some, option_map
 ghost use Rattle.ca_value.specs.Seq.{list};
 ghost use Rattle.ca_value.specs.View.{trees, view};
 ghost use Rattle.ca_term.specs.declared.event.Side.TheVariants.{Put};
-ghost use Rattle.ca_bank.specs.Bank.{kept_made, registry_made};
-ghost use Rattle.ca_bank.specs.Kept.{buffer_spare, closed, enqueued, one_less, pruned, queue_spare};
+ghost use Rattle.ca_bank.specs.Bank.{kept_made, new_registry};
+ghost use Rattle.ca_bank.specs.Kept.{buffer_spare, closed_channel, enqueued, one_less, pruned, queue_spare};
 ghost use Rattle.ca_registry.specs.Mixes.{TogglesApart};
-ghost use Rattle.ca_registry.specs.Registry.{registered};
+ghost use Rattle.ca_registry.specs.Registry.{registry_after};
 ghost use Rattle.ca_bank.specs.Room.{handler_view};
 ghost use Rattle.ca_commit.specs.Branching.{branch_by};
 ghost use Rattle.ca_commit.specs.Contents.{whole};
@@ -30,7 +30,7 @@ use std::alloc::Global;
 
 // The channel is closed.
 pub(crate) fn close(banks: &mut Banks, port: PortId)
-    ensures channels { (i : ℕ) → channels_held banks.new i ≡ changed_at port.n (option_map closed) (channels_held banks.old) i }
+    ensures channels { (i : ℕ) → channels_held banks.new i ≡ changed_at port.n (option_map closed_channel) (channels_held banks.old) i }
     ensures registries { (i : ℕ) → registries_held banks.new i ≡ registries_held banks.old i }
 {
     if let Some(place) = banks.place(port.n % 16) {
@@ -91,7 +91,7 @@ pub(crate) fn enqueue(banks: &mut Banks, port: PortId, side: Side, handler: Hand
 pub(crate) fn make(alloc: Global, banks: &mut Banks, port: PortId, made: Made)
     requires { HasPortRoom banks.old port.n }
     ensures channels { (i : ℕ) → channels_held banks.new i ≡ changed_at port.n (or_was (kept_made made)) (channels_held banks.old) i }
-    ensures registries { (i : ℕ) → registries_held banks.new i ≡ changed_at port.n (or_was (registry_made made)) (registries_held banks.old) i }
+    ensures registries { (i : ℕ) → registries_held banks.new i ≡ changed_at port.n (or_was (new_registry made)) (registries_held banks.old) i }
 {
     match banks.place(port.n % 16) {
         Some(place) => banks.items[place].bank.make(alloc, port, made),
@@ -105,7 +105,7 @@ pub(crate) fn register(banks: &mut Banks, port: PortId, name: RegisterName, rest
     requires room { HasMembersRoom banks.old port.n name (trees (list rest)) }
     requires apart { TogglesApart name (trees (list rest)) }
     ensures channels { (i : ℕ) → channels_held banks.new i ≡ channels_held banks.old i }
-    ensures registries { (i : ℕ) → registries_held banks.new i ≡ changed_at port.n (option_map (registered name (trees (list rest)))) (registries_held banks.old) i }
+    ensures registries { (i : ℕ) → registries_held banks.new i ≡ changed_at port.n (option_map (registry_after name (trees (list rest)))) (registries_held banks.old) i }
 {
     match banks.place(port.n % 16) {
         Some(place) => banks.items[place].bank.register(port, name, rest),

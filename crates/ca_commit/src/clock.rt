@@ -7,7 +7,7 @@ ghost use Rattle.ca_term.specs.Event.{event_view, port_number, ticked};
 ghost use Rattle.ca_commit.specs.Making.{KeepsOthers};
 ghost use Rattle.ca_commit.specs.NewPort.{KeepsCounts, times_in};
 ghost use Rattle.ca_commit.specs.Showing.{channels_held, registries_held};
-ghost use Rattle.ca_commit.specs.Ticking.{IsLater, IsMadeToTick, closed_all, due_in, ports_in, ticked_at};
+ghost use Rattle.ca_commit.specs.Ticking.{IsLater, IsMadeToTick, closed_all, due_in, numbers_of_ports, ticked_at};
 
 use crate::changing::close;
 use crate::held::{Banks, Held};
@@ -20,7 +20,7 @@ use std::alloc::Global;
 
 // The ports that are due, in their order.
 fn due_ports(alloc: Global, timers: &Timers, now: u64) -> Result<Seq<PortId>, OutOfMemory>
-    ensures { IfOk result (λ s. ports_in s ≡ due now timers.now.deadlines) }
+    ensures { IfOk result (λ s. numbers_of_ports s ≡ due now timers.now.deadlines) }
 {
     let mut ports = Seq::new(alloc);
     while let Some(port) = timers.due(now, ports.len()) {
@@ -31,7 +31,7 @@ fn due_ports(alloc: Global, timers: &Timers, now: u64) -> Result<Seq<PortId>, Ou
 }
 
 fn due_of(alloc: Global, timers: &Option<Timers>, now: u64) -> Result<Seq<PortId>, OutOfMemory>
-    ensures { IfOk result (λ s. ports_in s ≡ due_in timers.now now) }
+    ensures { IfOk result (λ s. numbers_of_ports s ≡ due_in timers.now now) }
 {
     match timers {
         Some(timers) => due_ports(alloc, timers, now),

@@ -7,7 +7,7 @@ ghost use Rattle.ca_commit.specs.Contents.{whole};
 ghost use Rattle.ca_commit.specs.Holds.{groups, changes_at};
 ghost use Rattle.ca_commit.specs.Finding.{glance};
 ghost use Rattle.ca_commit.specs.Showing.{channels_held, waits_held, seen};
-ghost use Rattle.ca_commit.specs.Planning.{Planned, asked, all_asked, counted, wait_in};
+ghost use Rattle.ca_commit.specs.Planning.{Planned, handler_asked, all_asked, queue_counted, handler_wait};
 ghost use Rattle.ca_commit.specs.Branching.{plan_or, HaveCopies};
 
 use crate::finding::{Glance, glance_of};
@@ -24,7 +24,7 @@ pub(crate) const MOST_WAITS: u64 = 1024;
 // The wait of the handler at that place of the queue.
 fn wait_at(bank: &Bank, port: PortId, side: Side, place: u64) -> WaitId
     requires { place < length (queue_at side (kept_at bank.now port.n)) }
-    ensures { wait_in (slice_get (queue_at side (kept_at bank.now port.n)) place) ≡ Some result.n }
+    ensures { handler_wait (slice_get (queue_at side (kept_at bank.now port.n)) place) ≡ Some result.n }
 {
     match bank.handler(port, side, place) {
         Some(handler) => handler.wait,
@@ -40,7 +40,7 @@ fn ask<A: Drop>(
     place: u64,
     wait: WaitId,
 ) -> Option<Plan>
-    ensures plan { (rest : Planned) → plan_or result rest ≡ asked (glance (waits_held shards.now) wait.n) port.n side place wait.n rest }
+    ensures plan { (rest : Planned) → plan_or result rest ≡ handler_asked (glance (waits_held shards.now) wait.n) port.n side place wait.n rest }
     ensures copies { HaveCopies result }
 {
     match glance_of(shards, wait) {
@@ -114,7 +114,7 @@ fn count_in<A: Drop>(
     port: PortId,
     side: Side,
 ) -> Option<Plan>
-    ensures plan { (rest : Planned) → plan_or result rest ≡ counted (seen banks.now shards.now) side port.n (queue_at side (kept_at bank.now port.n)) rest }
+    ensures plan { (rest : Planned) → plan_or result rest ≡ queue_counted (seen banks.now shards.now) side port.n (queue_at side (kept_at bank.now port.n)) rest }
     ensures copies { HaveCopies result }
 {
     if bank.waiting(port, side) < MOST_WAITS {
@@ -140,7 +140,7 @@ pub(crate) fn count<A: Drop>(
     port: PortId,
     side: Side,
 ) -> Option<Plan>
-    ensures plan { (rest : Planned) → plan_or result rest ≡ counted (seen banks.now shards.now) side port.n (queue_at side (whole (channels_held banks.now) port.n)) rest }
+    ensures plan { (rest : Planned) → plan_or result rest ≡ queue_counted (seen banks.now shards.now) side port.n (queue_at side (whole (channels_held banks.now) port.n)) rest }
     ensures copies { HaveCopies result }
 {
     match banks.get(port.n % 16) {

@@ -3,7 +3,7 @@ ghost use Rattle.ca_term.specs.declared.event.Side.{Side};
 ghost use Rattle.ca_term.specs.declared.fault.Fault.{Fault};
 ghost use Rattle.ca_term.specs.Operation.{OpView};
 ghost use Rattle.ca_commit.specs.Contents.{Parts, whole};
-ghost use Rattle.ca_commit.specs.Deciding.{IsRefused, PlanTells, RestsOnStale, RestsOnUnseen, seen_in};
+ghost use Rattle.ca_commit.specs.Deciding.{AreOperandsRefused, PlanTells, RestsOnStale, RestsOnUnseen, seen_in};
 ghost use Rattle.ca_commit.specs.Moves.{UnfitIn};
 ghost use Rattle.ca_commit.specs.Finding.{glance, rests_on_stale, rests_on_unheld, settle_at};
 ghost use Rattle.ca_commit.specs.Applying.{KeepsApart};
@@ -112,7 +112,7 @@ pub fn plain_touch_just<A>()
 /// Where the banks of all ports that an operation names are held, and refuse its operands, these are refused whatever is
 /// in the other banks.
 pub fn names_decide<A>()
-    ensures { (h : Parts A) (op : OpView) (f : Fault) → NamesHeld h op → IsRefused h op f → UnfitIn h op f }
+    ensures { (h : Parts A) (op : OpView) (f : Fault) → NamesHeld h op → AreOperandsRefused h op f → UnfitIn h op f }
 {}
 
 /// What the end of a task promises, by a value, by a fault of its own, or at an operation that is refused, is how its

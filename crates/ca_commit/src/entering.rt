@@ -9,7 +9,7 @@ ghost use Rattle.ca_meaning.specs.Operands.{rest_of};
 ghost use Rattle.ca_bank.specs.Bank.{registry_at};
 ghost use Rattle.ca_registry.specs.Mixes.{TogglesApart};
 ghost use Rattle.ca_registry.specs.Publications.{PlacesItself};
-ghost use Rattle.ca_registry.specs.Registry.{registered};
+ghost use Rattle.ca_registry.specs.Registry.{registry_after};
 ghost use Rattle.ca_commit.specs.Contents.{whole};
 ghost use Rattle.ca_commit.specs.Entering.{IsMadeToRegister, answer_of, answers_in, registry_of};
 ghost use Rattle.ca_commit.specs.Listing.{changed_at};
@@ -140,7 +140,7 @@ pub fn apply_register<A: Agent>(
     requires made { IsMadeToRegister held.old name (trees (list args)) }
     ensures event { event_view result.event ≡ registered_event task.number name (trees (list args)) (answers_in held.old name (trees (list args))) }
     ensures channels { (i : ℕ) → channels_held held.new.banks i ≡ channels_held held.old.banks i }
-    ensures registries { (i : ℕ) → registries_held held.new.banks i ≡ changed_at (registry_of (trees (list args))) (option_map (registered name (rest_of (trees (list args))))) (registries_held held.old.banks) i }
+    ensures registries { (i : ℕ) → registries_held held.new.banks i ≡ changed_at (registry_of (trees (list args))) (option_map (registry_after name (rest_of (trees (list args))))) (registries_held held.old.banks) i }
     ensures others { KeepsOthers held.old held.new }
     ensures running { IfSome result.running (λ c. (c.number ≡ task.number) × GoesOn A.gives false (agent_of task) (answers_in held.old name (trees (list args))) (agent_of c)) }
     ensures runs { IsSome result.running }

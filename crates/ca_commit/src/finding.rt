@@ -4,7 +4,7 @@ ghost use Rattle.ca_bank.specs.Bank.{kept_at};
 ghost use Rattle.ca_bank.specs.Kept.{is_closed_at, takes_one_more};
 ghost use Rattle.ca_bank.specs.Room.{handler_view, kept_view};
 ghost use Rattle.ca_commit.specs.Contents.{whole};
-ghost use Rattle.ca_commit.specs.Finding.{glance, is_promise_at, holds_one, front_at, asking, put_at, take_at};
+ghost use Rattle.ca_commit.specs.Finding.{glance, is_promise_at, holds_one, front_at, found_by_asking, put_at, take_at};
 ghost use Rattle.ca_commit.specs.Found.{glance_view, finding_view};
 ghost use Rattle.ca_commit.specs.Showing.{channels_held, waits_held};
 ghost use Rattle.ca_commit.specs.Sights.{found_by};
@@ -55,7 +55,7 @@ pub fn glance_of<A: Drop>(shards: &Shards<A>, wait: WaitId) -> Glance
 
 // What is found where the wait, in front of that side, is asked; live is what is found where it lives.
 fn asking<A: Drop>(shards: &Shards<A>, side: Side, wait: WaitId, live: Finding) -> Finding
-    ensures { finding_view result ≡ asking (glance (waits_held shards.now) wait.n) side wait.n (finding_view live) }
+    ensures { finding_view result ≡ found_by_asking (glance (waits_held shards.now) wait.n) side wait.n (finding_view live) }
 {
     match glance_of(shards, wait) {
         Glance::Here => live,

@@ -1,6 +1,6 @@
 // What stands at ports, as far as the held banks tell. How operands are judged by it is `ca_registry`'s.
 ghost use Rattle.std.specs.Prelude.{◌≡◌, ◌%◌, is_some};
-ghost use Rattle.ca_registry.specs.Kind.{kind_of};
+ghost use Rattle.ca_registry.specs.Kind.{kind_of_registry};
 ghost use Rattle.ca_commit.specs.Contents.{whole};
 ghost use Rattle.ca_commit.specs.Showing.{channels_held, registries_held};
 
@@ -24,7 +24,7 @@ fn has_channel(banks: &Banks, port: PortId) -> bool
 
 // What the registry is that the port names in a held bank, if it names one.
 fn registry_kind(banks: &Banks, port: PortId) -> Option<PortKind>
-    ensures { result ≡ kind_of (whole (registries_held banks.now) port.n) }
+    ensures { result ≡ kind_of_registry (whole (registries_held banks.now) port.n) }
 {
     match banks.get(port.n % 16) {
         Some(held) => held.bank.registry_kind(port),

@@ -7,7 +7,7 @@ ghost use Rattle.ca_value.specs.View.{view};
 ghost use Rattle.ca_term.specs.Event.{closed as closed_event, defaulted, event_view, port_number, printed, spawned as spawned_event};
 ghost use Rattle.ca_meaning.specs.BodyViews.{is_at_op};
 ghost use Rattle.ca_meaning.specs.ChannelSteps.{with_default};
-ghost use Rattle.ca_bank.specs.Kept.{closed};
+ghost use Rattle.ca_bank.specs.Kept.{closed_channel};
 ghost use Rattle.ca_commit.specs.Listing.{changed_at};
 ghost use Rattle.ca_commit.specs.Making.{KeepsOthers};
 ghost use Rattle.ca_commit.specs.Replies.{GoesOn};
@@ -33,7 +33,7 @@ pub fn apply_close<A: Agent>(held: &mut Held<A>, port: PortId, task: Task<A>) ->
     requires at { is_at_op (A.place task.agent) ≡ true }
     requires count { task.alts + 1 < 2 ^ 64 }
     ensures event { event_view result.event ≡ closed_event task.number port.n }
-    ensures channels { (i : ℕ) → channels_held held.new.banks i ≡ changed_at port.n (option_map closed) (channels_held held.old.banks) i }
+    ensures channels { (i : ℕ) → channels_held held.new.banks i ≡ changed_at port.n (option_map closed_channel) (channels_held held.old.banks) i }
     ensures registries { (i : ℕ) → registries_held held.new.banks i ≡ registries_held held.old.banks i }
     ensures others { KeepsOthers held.old held.new }
     ensures running { IfSome result.running (λ c. (c.number ≡ task.number) × GoesOn A.gives false (agent_of task) nil (agent_of c)) }

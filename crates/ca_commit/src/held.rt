@@ -140,12 +140,12 @@ pub struct Applied<A> {
 const MOST_HELD: u64 = 16;
 
 impl<A: Drop> Held<A> {
-    ghost use Rattle.ca_commit.specs.Listings.{parts, spare};
+    ghost use Rattle.ca_commit.specs.Listings.{parts, spare_parts};
 
     /// Nothing is held, with room for 16 banks and 16 shards.
     pub fn new(alloc: Global) -> Result<Held<A>, OutOfMemory>
-        ensures banks { IfOk result (λ h. (parts h.banks ≡ []) × (16 ≤ spare h.banks)) }
-        ensures shards { IfOk result (λ h. (parts h.shards ≡ []) × (16 ≤ spare h.shards)) }
+        ensures banks { IfOk result (λ h. (parts h.banks ≡ []) × (16 ≤ spare_parts h.banks)) }
+        ensures shards { IfOk result (λ h. (parts h.shards ≡ []) × (16 ≤ spare_parts h.shards)) }
         ensures timers { IfOk result (λ h. h.timers ≡ None) }
         ensures ready { IfOk result (λ h. h.ready ≡ None) }
     {

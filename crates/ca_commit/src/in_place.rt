@@ -13,7 +13,7 @@ ghost use Rattle.ca_bank.specs.Shard.{belongs, shard_count, shard_number, shard_
 ghost use Rattle.ca_commit.specs.Branching.{branch_by};
 ghost use Rattle.ca_commit.specs.Contents.{home, nobody, owner};
 ghost use Rattle.ca_commit.specs.Finding.{Glance, alone, find_at, held_at};
-ghost use Rattle.ca_commit.specs.InPlace.{Answers, CanCount, Goes, IsDone, IsTaskAtOne, Rests, RestsIn, Sets, Turns, Wakes, branch_in};
+ghost use Rattle.ca_commit.specs.InPlace.{GoesOnAnswered, CanCountAlts, GoesWithAnswer, IsBranchDone, IsTaskAtOne, BankRests, RestsIn, Sets, Turns, BranchWakes, task_branch};
 ghost use Rattle.ca_commit.specs.Parking.{waiting_as};
 ghost use Rattle.ca_commit.specs.Replies.{HasDoneRoom, done_answer, done_change, or_nil};
 ghost use Rattle.ca_commit.specs.Showing.{bank_in, shard_in, waits_of};
@@ -48,12 +48,12 @@ pub fn do_branch<A: Agent>(
     number: u64,
 ) -> Result<(Branch, Value), OutOfMemory>
     requires at { IsAtBranch (A.place task.old.agent) number }
-    requires count { CanCount A.place task.old }
+    requires count { CanCountAlts A.place task.old }
     requires alone { let b = branch_no (A.place task.old.agent) number in (see : ℕ → Glance) → alone ≡ find_at see (bank_in held.old (port_of b)) b }
     ensures branch { IfOk result (λ r. branch_view r.0 ≡ branch_no (A.place task.old.agent) number) }
     ensures answer { let b = branch_no (A.place task.old.agent) number in IfOk result (λ r. view r.1 ≡ done_answer (bank_in held.old (port_of b)) b) }
-    ensures done { OnOk result (IsDone A.place A.gives number held.old.bank.value held.new.bank.value task.old task.new) }
-    ensures refused { OnErr result (Rests held.old.bank.value held.new.bank.value × (task.new ≡ task.old)) }
+    ensures done { OnOk result (IsBranchDone A.place A.gives number held.old.bank.value held.new.bank.value task.old task.new) }
+    ensures refused { OnErr result (BankRests held.old.bank.value held.new.bank.value × (task.new ≡ task.old)) }
     ensures same { held.new.number ≡ held.old.number }
 {
     do_in_bank(alloc, &mut held.bank, task, number)
@@ -71,13 +71,13 @@ pub fn meet<A: Agent>(
     partner: Partner,
 ) -> Result<Value, OutOfMemory>
     requires at { IsAtBranch (A.place task.old.agent) number }
-    requires count { CanCount A.place task.old }
+    requires count { CanCountAlts A.place task.old }
     requires paused { IsPaused A.place (shard_in waits.old partner.wait.n) }
     ensures value { let b = branch_no (A.place task.old.agent) number in IfOk result (λ v. view v ≡ passing (bank_in held.old (port_of b)) b) }
     ensures channel { let b = branch_no (A.place task.old.agent) number in OnOk result (Turns (port_of b) (pruned (other_side (side_of b)) 0) held.old.bank.value held.new.bank.value) }
     ensures wait { OnOk result (Sets partner.wait.n None waits.old.shard.value waits.new.shard.value) }
-    ensures wakes { let b = branch_no (A.place task.old.agent) number in OnOk result (Wakes A.place A.gives b partner.wait.n held.old.bank.value waits.old.shard.value ready.old ready.new) }
-    ensures task { let b = branch_no (A.place task.old.agent) number in OnOk result (Answers A.place A.gives (port_of b) (told (side_of b) (passing (bank_in held.old (port_of b)) b)) task.old task.new) }
+    ensures wakes { let b = branch_no (A.place task.old.agent) number in OnOk result (BranchWakes A.place A.gives b partner.wait.n held.old.bank.value waits.old.shard.value ready.old ready.new) }
+    ensures task { let b = branch_no (A.place task.old.agent) number in OnOk result (GoesOnAnswered A.place A.gives (port_of b) (told (side_of b) (passing (bank_in held.old (port_of b)) b)) task.old task.new) }
     ensures refused { OnErr result ((held.new.bank.value ≡ held.old.bank.value) × (waits.new.shard.value ≡ waits.old.shard.value) × (tasks_in ready.new ≡ tasks_in ready.old) × (task.new ≡ task.old)) }
     ensures same { (held.new.number ≡ held.old.number) × (waits.new.number ≡ waits.old.number) }
 {
@@ -102,13 +102,13 @@ pub fn park<A: Agent>(
     wait: WaitId,
 ) -> Result<Branch, OutOfMemory>
     requires at { IsTaskAtOne A.place slot.old }
-    requires channel { is_some (bank_in held.old (port_of (branch_in A.place slot.old))) ≡ true }
+    requires channel { is_some (bank_in held.old (port_of (task_branch A.place slot.old))) ≡ true }
     requires home { waits.old.number ≡ home wait.n }
-    ensures branch { IfOk result (λ b. branch_view b ≡ branch_in A.place slot.old) }
-    ensures channel { let b = branch_in A.place slot.old in OnOk result (Turns (port_of b) (enqueued (side_of b) (record { wait = wait.n; branch = 0; value = brought b })) held.old.bank.value held.new.bank.value) }
+    ensures branch { IfOk result (λ b. branch_view b ≡ task_branch A.place slot.old) }
+    ensures channel { let b = task_branch A.place slot.old in OnOk result (Turns (port_of b) (enqueued (side_of b) (record { wait = wait.n; branch = 0; value = brought b })) held.old.bank.value held.new.bank.value) }
     ensures wait { OnOk result (Sets wait.n (option_map (λ t. owner t.number (waiting_as A.place (agent_of t))) slot.old) waits.old.shard.value waits.new.shard.value) }
     ensures task { OnOk result (slot.new ≡ None) }
-    ensures refused { OnErr result (Rests held.old.bank.value held.new.bank.value × RestsIn waits.old.shard.value waits.new.shard.value × (slot.new ≡ slot.old)) }
+    ensures refused { OnErr result (BankRests held.old.bank.value held.new.bank.value × RestsIn waits.old.shard.value waits.new.shard.value × (slot.new ≡ slot.old)) }
     ensures same { (held.new.number ≡ held.old.number) × (waits.new.number ≡ waits.old.number) }
 {
     park_in(alloc, &mut held.bank, &mut waits.shard, slot, wait)
@@ -129,8 +129,8 @@ pub fn post<A: Agent>(
     ensures branch { IfOk result (λ b. branch_view b ≡ branch_no (A.place task.old.agent) 0) }
     ensures channel { let b = branch_no (A.place task.old.agent) 0 in OnOk result (Turns (port_of b) (enqueued (side_of b) (record { wait = wait.n; branch = 0; value = brought b })) held.old.bank.value held.new.bank.value) }
     ensures wait { OnOk result (Sets wait.n (Some nobody) waits.old.shard.value waits.new.shard.value) }
-    ensures task { OnOk result (Goes A.gives (bool true) task.old task.new) }
-    ensures refused { OnErr result (Rests held.old.bank.value held.new.bank.value × RestsIn waits.old.shard.value waits.new.shard.value × (task.new ≡ task.old)) }
+    ensures task { OnOk result (GoesWithAnswer A.gives (bool true) task.old task.new) }
+    ensures refused { OnErr result (BankRests held.old.bank.value held.new.bank.value × RestsIn waits.old.shard.value waits.new.shard.value × (task.new ≡ task.old)) }
     ensures same { (held.new.number ≡ held.old.number) × (waits.new.number ≡ waits.old.number) }
 {
     post_in(alloc, &mut held.bank, &mut waits.shard, task, wait)
@@ -182,7 +182,7 @@ fn bring(alloc: Global, bank: &mut Bank, branch: &Branch) -> Result<Option<Value
     requires { let b = branch_view branch.now in (see : ℕ → Glance) → alone ≡ find_at see (kept_at bank.old (port_of b)) b }
     ensures again { IfOk result (λ o. branch_by (port_of (branch_view branch.now)) (option_map view o) ≡ branch_view branch.now) }
     ensures room { let b = branch_view branch.now in OnOk result (HasDoneRoom (kept_at bank.new (port_of b)) (spares_at bank.new (port_of b)) b) }
-    ensures rests { Rests bank.old bank.new }
+    ensures rests { BankRests bank.old bank.new }
 {
     match branch {
         Branch::Take(_) => Ok(None),
@@ -202,12 +202,12 @@ fn do_in_bank<A: Agent>(
     number: u64,
 ) -> Result<(Branch, Value), OutOfMemory>
     requires at { IsAtBranch (A.place task.old.agent) number }
-    requires count { CanCount A.place task.old }
+    requires count { CanCountAlts A.place task.old }
     requires alone { let b = branch_no (A.place task.old.agent) number in (see : ℕ → Glance) → alone ≡ find_at see (kept_at bank.old (port_of b)) b }
     ensures branch { IfOk result (λ r. branch_view r.0 ≡ branch_no (A.place task.old.agent) number) }
     ensures answer { let b = branch_no (A.place task.old.agent) number in IfOk result (λ r. view r.1 ≡ done_answer (kept_at bank.old (port_of b)) b) }
-    ensures done { OnOk result (IsDone A.place A.gives number bank.old bank.new task.old task.new) }
-    ensures refused { OnErr result (Rests bank.old bank.new × (task.new ≡ task.old)) }
+    ensures done { OnOk result (IsBranchDone A.place A.gives number bank.old bank.new task.old task.new) }
+    ensures refused { OnErr result (BankRests bank.old bank.new × (task.new ≡ task.old)) }
 {
     let branch = branch_of(alloc, &task.agent, number)?;
     let of_alts = is_alts(&task.agent);
@@ -241,13 +241,13 @@ fn meet_in<A: Agent>(
     partner: Partner,
 ) -> Result<Value, OutOfMemory>
     requires at { IsAtBranch (A.place task.old.agent) number }
-    requires count { CanCount A.place task.old }
+    requires count { CanCountAlts A.place task.old }
     requires paused { IsPaused A.place (waits_of shard.old partner.wait.n) }
     ensures value { let b = branch_no (A.place task.old.agent) number in IfOk result (λ v. view v ≡ passing (kept_at bank.old (port_of b)) b) }
     ensures channel { let b = branch_no (A.place task.old.agent) number in OnOk result (Turns (port_of b) (pruned (other_side (side_of b)) 0) bank.old bank.new) }
     ensures wait { OnOk result (Sets partner.wait.n None shard.old shard.new) }
-    ensures wakes { let b = branch_no (A.place task.old.agent) number in OnOk result (Wakes A.place A.gives b partner.wait.n bank.old shard.old ready.old ready.new) }
-    ensures task { let b = branch_no (A.place task.old.agent) number in OnOk result (Answers A.place A.gives (port_of b) (told (side_of b) (passing (kept_at bank.old (port_of b)) b)) task.old task.new) }
+    ensures wakes { let b = branch_no (A.place task.old.agent) number in OnOk result (BranchWakes A.place A.gives b partner.wait.n bank.old shard.old ready.old ready.new) }
+    ensures task { let b = branch_no (A.place task.old.agent) number in OnOk result (GoesOnAnswered A.place A.gives (port_of b) (told (side_of b) (passing (kept_at bank.old (port_of b)) b)) task.old task.new) }
     ensures refused { OnErr result ((bank.new ≡ bank.old) × (shard.new ≡ shard.old) × (tasks_in ready.new ≡ tasks_in ready.old) × (task.new ≡ task.old)) }
 {
     let branch = branch_of(alloc, &task.agent, number)?;
@@ -290,7 +290,7 @@ fn join_in<A: Agent>(
     ensures channel { let b = branch_no (A.place agent.now) 0 in OnOk result (Turns (port_of b) (enqueued (side_of b) (record { wait = wait.n; branch = 0; value = brought b })) bank.old bank.new) }
     ensures room { OnOk result (0 < shard_spare shard.new) }
     ensures rests { RestsIn shard.old shard.new }
-    ensures refused { OnErr result (Rests bank.old bank.new) }
+    ensures refused { OnErr result (BankRests bank.old bank.new) }
 {
     let branch = branch_of(alloc, agent, 0)?;
     let queued = copy_of(alloc, &branch)?;
@@ -309,13 +309,13 @@ fn park_in<A: Agent>(
     wait: WaitId,
 ) -> Result<Branch, OutOfMemory>
     requires at { IsTaskAtOne A.place slot.old }
-    requires channel { is_some (kept_at bank.old (port_of (branch_in A.place slot.old))) ≡ true }
+    requires channel { is_some (kept_at bank.old (port_of (task_branch A.place slot.old))) ≡ true }
     requires belongs { belongs (shard_number shard.old) (shard_count shard.old) wait.n ≡ true }
-    ensures branch { IfOk result (λ b. branch_view b ≡ branch_in A.place slot.old) }
-    ensures channel { let b = branch_in A.place slot.old in OnOk result (Turns (port_of b) (enqueued (side_of b) (record { wait = wait.n; branch = 0; value = brought b })) bank.old bank.new) }
+    ensures branch { IfOk result (λ b. branch_view b ≡ task_branch A.place slot.old) }
+    ensures channel { let b = task_branch A.place slot.old in OnOk result (Turns (port_of b) (enqueued (side_of b) (record { wait = wait.n; branch = 0; value = brought b })) bank.old bank.new) }
     ensures wait { OnOk result (Sets wait.n (option_map (λ t. owner t.number (waiting_as A.place (agent_of t))) slot.old) shard.old shard.new) }
     ensures task { OnOk result (slot.new ≡ None) }
-    ensures refused { OnErr result (Rests bank.old bank.new × RestsIn shard.old shard.new × (slot.new ≡ slot.old)) }
+    ensures refused { OnErr result (BankRests bank.old bank.new × RestsIn shard.old shard.new × (slot.new ≡ slot.old)) }
 {
     let branch = match slot {
         Some(task) => join_in(alloc, bank, shard, &task.agent, wait)?,
@@ -342,8 +342,8 @@ fn post_in<A: Agent>(
     ensures branch { IfOk result (λ b. branch_view b ≡ branch_no (A.place task.old.agent) 0) }
     ensures channel { let b = branch_no (A.place task.old.agent) 0 in OnOk result (Turns (port_of b) (enqueued (side_of b) (record { wait = wait.n; branch = 0; value = brought b })) bank.old bank.new) }
     ensures wait { OnOk result (Sets wait.n (Some nobody) shard.old shard.new) }
-    ensures task { OnOk result (Goes A.gives (bool true) task.old task.new) }
-    ensures refused { OnErr result (Rests bank.old bank.new × RestsIn shard.old shard.new × (task.new ≡ task.old)) }
+    ensures task { OnOk result (GoesWithAnswer A.gives (bool true) task.old task.new) }
+    ensures refused { OnErr result (BankRests bank.old bank.new × RestsIn shard.old shard.new × (task.new ≡ task.old)) }
 {
     let branch = join_in(alloc, bank, shard, &task.agent, wait)?;
     put_wait(shard, wait, Parked::Nobody);

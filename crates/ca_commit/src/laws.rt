@@ -16,11 +16,11 @@ ghost use Rattle.ca_meaning.specs.Steps.{Steps};
 ghost use Rattle.ca_commit.specs.Agents.{TaskAgent};
 ghost use Rattle.ca_commit.specs.Contents.{BankView, Content, Kept, LaneView, a_bank, a_lane};
 ghost use Rattle.ca_commit.specs.Drawing.{given_up, took};
-ghost use Rattle.ca_commit.specs.Touched.{Drawn, IsDistinct, Rises, event_names, shown, stalls, touches};
+ghost use Rattle.ca_commit.specs.Touched.{Drawn, NoneTwice, Rises, event_names, shown, stalls, touches};
 ghost use Rattle.ca_commit.specs.Gathered.{HoldsNamed, gather, parts_of};
 ghost use Rattle.ca_commit.specs.Moving.{Moves, visible};
-ghost use Rattle.ca_commit.specs.Running.{AreAt, RunStands, written};
-ghost use Rattle.ca_commit.specs.Histories.{Entry, Follow, journal};
+ghost use Rattle.ca_commit.specs.Running.{AreAt, RunStands, contents_written};
+ghost use Rattle.ca_commit.specs.Histories.{Entry, EntriesFollow, journal};
 ghost use Rattle.ca_commit.specs.Opening.{opening_parts, unasked};
 
 use ca_agent::agent::Agent;
@@ -28,7 +28,7 @@ use ca_agent::agent::Agent;
 /// No drawn event touches a part twice, and their numbers ascend.
 pub fn touches_are_distinct()
     ensures ascend { (d : Drawn) → Rises 0 (touches d) }
-    ensures distinct { (d : Drawn) → IsDistinct (touches d) }
+    ensures distinct { (d : Drawn) → NoneTwice (touches d) }
 {}
 
 /// What an event of the journal names, and what stands beside it, is among the parts that it touches: these have each
@@ -53,7 +53,7 @@ pub fn takes_are_drawn<A: Agent>()
 /// touches, whatever is in the others, it is a step of the state, and the parts stand for the next one; a silent
 /// event leaves the state as it is.
 pub fn events_are_local<A: Agent>()
-    ensures { (program : ProgramView) (n : ℕ) (d : Drawn) (now : ℕ → Option (Content (TaskAgent A))) (before after : List (Content (TaskAgent A))) (s : State) → RunStands A.place A.stands program n now s → AreAt now (touches d) before → Moves A.place A.advances A.gives A.starts d before after → (s2 : State) × Steps program s (visible d.what) s2 × RunStands A.place A.stands program n (written now (touches d) after) s2 }
+    ensures { (program : ProgramView) (n : ℕ) (d : Drawn) (now : ℕ → Option (Content (TaskAgent A))) (before after : List (Content (TaskAgent A))) (s : State) → RunStands A.place A.stands program n now s → AreAt now (touches d) before → Moves A.place A.advances A.gives A.starts d before after → (s2 : State) × Steps program s (visible d.what) s2 × RunStands A.place A.stands program n (contents_written now (touches d) after) s2 }
 {}
 
 /// A worker leaves a run because nothing can go on only where that is so: no task runs, no channel settles and
@@ -65,5 +65,5 @@ pub fn stalled_runs_are_quiet<A: Agent>()
 /// Whatever any number of workers draw, in whatever order, from the opening parts of a program is a run of it: the
 /// events that stand in a journal lead from the program's opening to the state that the parts then stand for.
 pub fn histories_are_runs<A: Agent>()
-    ensures { (program : ProgramView) (n : ℕ) (main : A) (body : TaskBody) (least faults : ℕ) (readings : Option (List ℕ)) (entries : List (Entry A)) (last : ℕ → Option (Content (TaskAgent A))) → 0 < n → BodyRest program (script (new_body program.main)) body → A.stands program main body → Follow A.place A.advances A.gives A.starts (opening_parts n program main (unasked least faults readings)) entries last → (s : State) × Reaches program (journal entries) s × RunStands A.place A.stands program n last s }
+    ensures { (program : ProgramView) (n : ℕ) (main : A) (body : TaskBody) (least faults : ℕ) (readings : Option (List ℕ)) (entries : List (Entry A)) (last : ℕ → Option (Content (TaskAgent A))) → 0 < n → BodyRest program (script (new_body program.main)) body → A.stands program main body → EntriesFollow A.place A.advances A.gives A.starts (opening_parts n program main (unasked least faults readings)) entries last → (s : State) × Reaches program (journal entries) s × RunStands A.place A.stands program n last s }
 {}

@@ -21,13 +21,13 @@ pub struct Listing<T> {
 
 impl<T: Numbered> Listing<T> {
     ghost use Rattle.std.specs.Vec.{vec_len, vec_capacity};
-    ghost use Rattle.ca_commit.specs.Listings.{parts, spare};
+    ghost use Rattle.ca_commit.specs.Listings.{parts, spare_parts};
 
     /// No part, with room for so many.
     pub fn with_room(alloc: Global, count: u64) -> Result<Listing<T>, OutOfMemory>
         requires { count ≤ 16 }
         ensures parts { IfOk result (λ l. parts l ≡ []) }
-        ensures room { IfOk result (λ l. count ≤ spare l) }
+        ensures room { IfOk result (λ l. count ≤ spare_parts l) }
     {
         Ok(Listing {
             items: Vec::with_capacity(alloc, count as usize)?,
@@ -38,7 +38,7 @@ impl<T: Numbered> Listing<T> {
     pub fn reserve(&mut self, count: u64) -> Result<(), OutOfMemory>
         requires { count ≤ 16 }
         ensures parts { parts self.new ≡ parts self.old }
-        ensures room { OnOk result (count ≤ spare self.new) }
+        ensures room { OnOk result (count ≤ spare_parts self.new) }
     {
         self.items.reserve(count as usize)?;
         Ok(())
@@ -46,9 +46,9 @@ impl<T: Numbered> Listing<T> {
 
     /// Adds the part last. It takes no memory.
     pub fn push(&mut self, part: T)
-        requires { 0 < spare self.old }
+        requires { 0 < spare_parts self.old }
         ensures parts { parts self.new ≡ parts self.old ++ part ∷ [] }
-        ensures spare { spare self.old ≤ spare self.new + 1 }
+        ensures spare { spare_parts self.old ≤ spare_parts self.new + 1 }
     {
         self.items.push_reserved(part);
     }
@@ -57,8 +57,8 @@ impl<T: Numbered> Listing<T> {
     pub fn pop(&mut self) -> Option<T>
         ensures some { IfSome result (λ x. parts self.old ≡ parts self.new ++ x ∷ []) }
         ensures none { IfNone result ((parts self.old ≡ []) × (parts self.new ≡ [])) }
-        ensures spare { spare self.old ≤ spare self.new }
-        ensures room { IfSome result (λ x. spare self.old + 1 ≤ spare self.new) }
+        ensures spare { spare_parts self.old ≤ spare_parts self.new }
+        ensures room { IfSome result (λ x. spare_parts self.old + 1 ≤ spare_parts self.new) }
     {
         self.items.pop()
     }

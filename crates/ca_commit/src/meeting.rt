@@ -16,7 +16,7 @@ ghost use Rattle.ca_commit.specs.Listing.{changed_at};
 ghost use Rattle.ca_commit.specs.Replies.{GoesOn, reply_by};
 ghost use Rattle.ca_commit.specs.Showing.{channels_held, registries_held, waits_held, waits_of};
 ghost use Rattle.ca_commit.specs.Tasks.{agent_of};
-ghost use Rattle.ca_commit.specs.Waking.{HasReadyRoom, IsMadeFor, IsMadeForMeeting, IsPaused, KeepsNumbers, WakesBy, passing, ready_in, value_in};
+ghost use Rattle.ca_commit.specs.Waking.{HasReadyRoom, IsMadeForWaiter, IsMadeForMeeting, IsPaused, KeepsNumbers, WakesBy, passing, ready_in, handler_value};
 
 use crate::changing::prune;
 use crate::doing::port_in;
@@ -36,7 +36,7 @@ use std::alloc::Global;
 
 // A copy of the value that the handler in front of the queue of puts brings, or nil.
 pub(crate) fn front_value(alloc: Global, bank: &Bank, port: PortId) -> Result<Value, OutOfMemory>
-    ensures { IfOk result (λ v. view v ≡ value_in (front_at Put (kept_at bank.now port.n))) }
+    ensures { IfOk result (λ v. view v ≡ handler_value (front_at Put (kept_at bank.now port.n))) }
 {
     match bank.handler(port, Side::Put, 0) {
         Some(handler) => match &handler.value {
@@ -48,7 +48,7 @@ pub(crate) fn front_value(alloc: Global, bank: &Bank, port: PortId) -> Result<Va
 }
 
 pub(crate) fn offered(alloc: Global, banks: &Banks, port: PortId) -> Result<Value, OutOfMemory>
-    ensures { IfOk result (λ v. view v ≡ value_in (front_at Put (whole (channels_held banks.now) port.n))) }
+    ensures { IfOk result (λ v. view v ≡ handler_value (front_at Put (whole (channels_held banks.now) port.n))) }
 {
     match banks.get(port.n % 16) {
         Some(held) => front_value(alloc, &held.bank, port),
@@ -102,7 +102,7 @@ pub(crate) fn partner_in<A: Agent>(
     value: &Value,
 ) -> Result<Option<Value>, OutOfMemory>
     requires { IsPaused A.place (waits_of shard.now wait.n) }
-    ensures { IfOk result (λ o. IsMadeFor A.place (waits_of shard.now wait.n) port.n (view value.now) o) }
+    ensures { IfOk result (λ o. IsMadeForWaiter A.place (waits_of shard.now wait.n) port.n (view value.now) o) }
 {
     match shard.parked(wait) {
         Some(Parked::Owner(task)) => Ok(Some(answer_of(alloc, &task.agent, port, value)?)),
@@ -121,7 +121,7 @@ pub(crate) fn partner<A: Agent>(
     value: &Value,
 ) -> Result<Option<Value>, OutOfMemory>
     requires { IsPaused A.place (whole (waits_held shards.now) wait.n) }
-    ensures { IfOk result (λ o. IsMadeFor A.place (whole (waits_held shards.now) wait.n) port.n (view value.now) o) }
+    ensures { IfOk result (λ o. IsMadeForWaiter A.place (whole (waits_held shards.now) wait.n) port.n (view value.now) o) }
 {
     match shards.get(wait.n % 16) {
         Some(held) => partner_in(alloc, &held.shard, wait, port, value),

@@ -7,7 +7,7 @@ ghost use Rattle.ca_term.specs.Operation.{what_view};
 ghost use Rattle.ca_meaning.specs.BodyViews.{is_at_op};
 ghost use Rattle.ca_meaning.specs.Channel.{channel_made};
 ghost use Rattle.ca_meaning.specs.Registry.{registry_made as registry_there};
-ghost use Rattle.ca_bank.specs.Bank.{kept_made, registry_made};
+ghost use Rattle.ca_bank.specs.Bank.{kept_made, new_registry};
 ghost use Rattle.ca_bank.specs.Kept.{unattended};
 ghost use Rattle.ca_bank.specs.Room.{channel_with};
 ghost use Rattle.ca_commit.specs.Contents.{home};
@@ -45,7 +45,7 @@ const LAST_MOMENT: u64 = 0x3fff_ffff_ffff_ffff;
 #[tactic(auto, using(crate::proofs::NewPorts::with_some))]
 fn made(alloc: Global, what: &What) -> Made
     ensures channel { kept_made result ≡ option_map unattended (channel_made (what_view what.now)) }
-    ensures registry { registry_made result ≡ registry_there (what_view what.now) }
+    ensures registry { new_registry result ≡ registry_there (what_view what.now) }
 {
     match what {
         What::Fixed(n) if *n > 0 => { Made::Channel(Some(AnyBuffer::Fixed(Fixed::new(alloc, *n)))) }

@@ -10,7 +10,7 @@ ghost use Rattle.ca_meaning.specs.Wait.{brought, port_of, side_of};
 ghost use Rattle.ca_bank.specs.Kept.{enqueued, one_less, queue_spare};
 ghost use Rattle.ca_bank.specs.Room.{handler_view};
 ghost use Rattle.ca_commit.specs.Contents.{home, nobody, owner, whole};
-ghost use Rattle.ca_commit.specs.InPlace.{CanCount};
+ghost use Rattle.ca_commit.specs.InPlace.{CanCountAlts};
 ghost use Rattle.ca_commit.specs.Listing.{changed_at};
 ghost use Rattle.ca_commit.specs.Parking.{AreChannels, IsMadeToWait, QueuesTake, front_port, front_value, queued_from, waiting_as};
 ghost use Rattle.ca_commit.specs.Plans.{AreTwice, handled};
@@ -112,7 +112,7 @@ fn queue_all(banks: &mut Banks, wait: WaitId, handlers: Handlers)
 #[inline(always)]
 pub(crate) fn waiting<A: Agent>(task: Task<A>) -> Task<A>
     requires at { is_at_op (A.place task.agent) ≡ true }
-    requires count { CanCount A.place task }
+    requires count { CanCountAlts A.place task }
     ensures number { result.number ≡ task.number }
     ensures agent { agent_of result ≡ waiting_as A.place (agent_of task) }
 {

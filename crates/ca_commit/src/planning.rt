@@ -9,7 +9,7 @@ ghost use Rattle.ca_commit.specs.Showing.{state_held, seen, seen_by};
 ghost use Rattle.ca_commit.specs.Registering.{RegistersApart, AreApart};
 ghost use Rattle.ca_commit.specs.Planning.{Planned, Seen, planned, in_turn, all_counted, otherwise, chosen, first_from, to_park};
 ghost use Rattle.ca_commit.specs.Plans.{plan_view, HasCopies, AreTwice};
-ghost use Rattle.ca_commit.specs.Branching.{branches_in, branch_by, plan_or, put_as, HaveCopies, single};
+ghost use Rattle.ca_commit.specs.Branching.{branches_in, branch_by, plan_or, put_as, HaveCopies, single_branch};
 
 use crate::branching::{branch, branches, count_for, look_at, parts_of};
 use crate::held::{Banks, Held, Shards};
@@ -97,7 +97,7 @@ fn one_branch<A: Drop>(
     value: Option<&Value>,
     parks: bool,
 ) -> Result<Plan, OutOfMemory>
-    ensures plan { IfOk result (λ p. plan_view p ≡ single (seen banks.now shards.now) parks (branch_by port.n (option_map (λ v. view v.now) value.entry))) }
+    ensures plan { IfOk result (λ p. plan_view p ≡ single_branch (seen banks.now shards.now) parks (branch_by port.n (option_map (λ v. view v.now) value.entry))) }
     ensures copies { IfOk result HasCopies }
 {
     if let Some(plan) = look_at(alloc, banks, shards, 0, port, value, false)? {

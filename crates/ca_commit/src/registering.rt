@@ -1,7 +1,7 @@
 // Whether an operation on a registry is refused.
 ghost use Rattle.std.specs.Prelude.{◌≡◌, IfOk, true};
 ghost use Rattle.ca_value.specs.View.{trees};
-ghost use Rattle.ca_meaning.specs.Operands.{or_else, first_of, rest_of, port_number};
+ghost use Rattle.ca_meaning.specs.Operands.{or_else, first_of, rest_of, port_of_value};
 ghost use Rattle.ca_meaning.specs.Refusal.{fault_of_registered, is_channel, needs_to_register, registered_at, registering_gives, unmet};
 ghost use Rattle.ca_meaning.specs.Registry.{all_channels, pairs_in};
 ghost use Rattle.ca_commit.specs.Showing.{registries_held, state_held};

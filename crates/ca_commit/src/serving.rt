@@ -8,7 +8,7 @@ ghost use Rattle.ca_bank.specs.Room.{kept_view};
 ghost use Rattle.ca_commit.specs.Contents.{whole};
 ghost use Rattle.ca_commit.specs.Finding.{Glance as PureGlance, front_at, glance, holds_one, is_fixed_at, serve_front, serve_taker, settle_at};
 ghost use Rattle.ca_commit.specs.Found.{serving_view};
-ghost use Rattle.ca_commit.specs.ServesSeen.{HasRoomFor, IsOf, served_by};
+ghost use Rattle.ca_commit.specs.ServesSeen.{HasRoomFor, IsOf, serving_seen};
 ghost use Rattle.ca_commit.specs.Showing.{bank_in, channels_held, waits_held};
 
 use crate::finding::{Glance, front, glance_of, holds_one};
@@ -52,7 +52,7 @@ fn is_fixed(room: &Room) -> bool
 // The one in front of the side, if there is one.
 #[tactic(auto, using(crate::proofs::ServesLaws::front_serves))]
 fn front_served(room: &Room, side: Side) -> Serves
-    ensures serves { (see : ℕ → PureGlance) → served_by result see ≡ serve_front see side (front_at side (Some (kept_view room.now))) }
+    ensures serves { (see : ℕ → PureGlance) → serving_seen result see ≡ serve_front see side (front_at side (Some (kept_view room.now))) }
     ensures side { IsOf side result }
 {
     match front(room, side) {
@@ -68,7 +68,7 @@ fn front_served(room: &Room, side: Side) -> Serves
 }
 
 fn taker_served(room: &Room) -> Serves
-    ensures serves { (see : ℕ → PureGlance) → served_by result see ≡ serve_taker see (holds_one (Some (kept_view room.now))) (is_closed_at (Some (kept_view room.now))) (front_at Take (Some (kept_view room.now))) }
+    ensures serves { (see : ℕ → PureGlance) → serving_seen result see ≡ serve_taker see (holds_one (Some (kept_view room.now))) (is_closed_at (Some (kept_view room.now))) (front_at Take (Some (kept_view room.now))) }
     ensures side { IsOf Take result }
 {
     if holds_one(room) || room.is_closed() {
@@ -81,7 +81,7 @@ fn taker_served(room: &Room) -> Serves
 // What the channel serves.
 #[tactic(auto, using(crate::proofs::ServesLaws::takers_have, crate::proofs::ServesLaws::putters_have))]
 fn served(room: &Room) -> Serves
-    ensures serves { (see : ℕ → PureGlance) → served_by result see ≡ settle_at see (Some (kept_view room.now)) }
+    ensures serves { (see : ℕ → PureGlance) → serving_seen result see ≡ settle_at see (Some (kept_view room.now)) }
     ensures room { HasRoomFor result (Some (kept_view room.now)) }
 {
     if is_fixed(room) && room.has_room() && front(room, Side::Put).is_some() {
@@ -106,7 +106,7 @@ fn settle_in<A: Drop>(shards: &Shards<A>, room: &Room) -> Serving
 
 /// What the channel serves, before the wait in front is asked; what is no channel of this bank serves nothing.
 pub fn serves_of(held: &HeldBank, port: PortId) -> Serves
-    ensures serves { (see : ℕ → PureGlance) → served_by result see ≡ settle_at see (bank_in held.now port.n) }
+    ensures serves { (see : ℕ → PureGlance) → serving_seen result see ≡ settle_at see (bank_in held.now port.n) }
     ensures room { HasRoomFor result (bank_in held.now port.n) }
 {
     match held.bank.room(port) {

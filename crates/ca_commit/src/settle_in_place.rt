@@ -6,8 +6,8 @@ ghost use Rattle.ca_term.specs.declared.event.Side.TheVariants.{Put};
 ghost use Rattle.ca_meaning.specs.Wait.{Handler, told};
 ghost use Rattle.ca_bank.specs.Bank.{kept_at, spares_at};
 ghost use Rattle.ca_bank.specs.Kept.{buffer_spare, pruned, queue_at};
-ghost use Rattle.ca_commit.specs.InPlace.{Rests, Sets, Turns, WakesOn};
-ghost use Rattle.ca_commit.specs.Settling.{HasRoomToServe, filled, settle_change, settling};
+ghost use Rattle.ca_commit.specs.InPlace.{BankRests, Sets, Turns, WakesOn};
+ghost use Rattle.ca_commit.specs.Settling.{HasRoomToServe, channel_filled, settle_change, value_settled};
 ghost use Rattle.ca_commit.specs.Showing.{bank_in, shard_in, waits_of};
 ghost use Rattle.ca_commit.specs.Tasks.{tasks_in};
 ghost use Rattle.ca_commit.specs.Waking.{IsPaused};
@@ -39,11 +39,11 @@ pub fn settle<A: Agent>(
 ) -> Result<Value, OutOfMemory>
     requires room { HasRoomToServe (bank_in held.old port.n) side }
     requires paused { IsPaused A.place (shard_in waits.old partner.wait.n) }
-    ensures value { IfOk result (λ v. view v ≡ settling side (bank_in held.old port.n)) }
-    ensures channel { OnOk result (Turns port.n (settle_change side (settling side (bank_in held.old port.n))) held.old.bank.value held.new.bank.value) }
+    ensures value { IfOk result (λ v. view v ≡ value_settled side (bank_in held.old port.n)) }
+    ensures channel { OnOk result (Turns port.n (settle_change side (value_settled side (bank_in held.old port.n))) held.old.bank.value held.new.bank.value) }
     ensures wait { OnOk result (Sets partner.wait.n None waits.old.shard.value waits.new.shard.value) }
-    ensures wakes { let v = settling side (bank_in held.old port.n) in OnOk result (WakesOn A.place A.gives partner.wait.n port.n (told side v) waits.old.shard.value ready.old ready.new) }
-    ensures refused { OnErr result (Rests held.old.bank.value held.new.bank.value × (waits.new.shard.value ≡ waits.old.shard.value) × (tasks_in ready.new ≡ tasks_in ready.old)) }
+    ensures wakes { let v = value_settled side (bank_in held.old port.n) in OnOk result (WakesOn A.place A.gives partner.wait.n port.n (told side v) waits.old.shard.value ready.old ready.new) }
+    ensures refused { OnErr result (BankRests held.old.bank.value held.new.bank.value × (waits.new.shard.value ≡ waits.old.shard.value) × (tasks_in ready.new ≡ tasks_in ready.old)) }
     ensures same { (held.new.number ≡ held.old.number) × (waits.new.number ≡ waits.old.number) }
 {
     settle_in_bank(
@@ -84,7 +84,7 @@ pub(crate) fn settling_in(
     side: Side,
     port: PortId,
 ) -> Result<Value, OutOfMemory>
-    ensures { IfOk result (λ v. view v ≡ settling side (kept_at bank.now port.n)) }
+    ensures { IfOk result (λ v. view v ≡ value_settled side (kept_at bank.now port.n)) }
 {
     match side {
         Side::Put => front_value(alloc, bank, port),
@@ -97,7 +97,7 @@ pub(crate) fn settling_in(
 fn reserve_filling(bank: &mut Bank, port: PortId, side: Side) -> Result<(), OutOfMemory>
     requires { HasRoomToServe (kept_at bank.old port.n) side }
     ensures room { OnOk result (side ≡ Put → 0 < buffer_spare (spares_at bank.new port.n)) }
-    ensures rests { Rests bank.old bank.new }
+    ensures rests { BankRests bank.old bank.new }
 {
     match side {
         Side::Put => bank.reserve_buffer(port),
@@ -109,7 +109,7 @@ fn reserve_filling(bank: &mut Bank, port: PortId, side: Side) -> Result<(), OutO
 fn fill(bank: &mut Bank, port: PortId, side: Side, value: Value)
     requires room { HasRoomToServe (kept_at bank.old port.n) side }
     requires spare { side ≡ Put → 0 < buffer_spare (spares_at bank.old port.n) }
-    ensures { Turns port.n (filled side (view value)) bank.old bank.new }
+    ensures { Turns port.n (channel_filled side (view value)) bank.old bank.new }
 {
     match side {
         Side::Put => {
@@ -143,11 +143,11 @@ fn settle_in_bank<A: Agent>(
 ) -> Result<Value, OutOfMemory>
     requires room { HasRoomToServe (kept_at bank.old port.n) side }
     requires paused { IsPaused A.place (waits_of shard.old partner.wait.n) }
-    ensures value { IfOk result (λ v. view v ≡ settling side (kept_at bank.old port.n)) }
-    ensures channel { OnOk result (Turns port.n (settle_change side (settling side (kept_at bank.old port.n))) bank.old bank.new) }
+    ensures value { IfOk result (λ v. view v ≡ value_settled side (kept_at bank.old port.n)) }
+    ensures channel { OnOk result (Turns port.n (settle_change side (value_settled side (kept_at bank.old port.n))) bank.old bank.new) }
     ensures wait { OnOk result (Sets partner.wait.n None shard.old shard.new) }
-    ensures wakes { let v = settling side (kept_at bank.old port.n) in OnOk result (WakesOn A.place A.gives partner.wait.n port.n (told side v) shard.old ready.old ready.new) }
-    ensures refused { OnErr result (Rests bank.old bank.new × (shard.new ≡ shard.old) × (tasks_in ready.new ≡ tasks_in ready.old)) }
+    ensures wakes { let v = value_settled side (kept_at bank.old port.n) in OnOk result (WakesOn A.place A.gives partner.wait.n port.n (told side v) shard.old ready.old ready.new) }
+    ensures refused { OnErr result (BankRests bank.old bank.new × (shard.new ≡ shard.old) × (tasks_in ready.new ≡ tasks_in ready.old)) }
 {
     let value = settling_in(alloc, bank, side, port)?;
     let moved = value.copy(alloc)?;

@@ -8,7 +8,7 @@ ghost use Rattle.ca_meaning.specs.Wait.{told};
 ghost use Rattle.ca_bank.specs.Kept.{buffer_at, buffer_spare};
 ghost use Rattle.ca_commit.specs.Contents.{whole};
 ghost use Rattle.ca_commit.specs.Listing.{changed_at};
-ghost use Rattle.ca_commit.specs.Settling.{HasRoomToServe, IsMadeToServe, IsMadeToSettle, Settles, served_in, settle_change, settling};
+ghost use Rattle.ca_commit.specs.Settling.{HasRoomToServe, IsMadeToServe, IsMadeToSettle, Settles, served_in, settle_change, value_settled};
 ghost use Rattle.ca_commit.specs.Showing.{channels_held, registries_held, spares_held, waits_held};
 ghost use Rattle.ca_commit.specs.Waking.{IsPaused, KeepsNumbers, WakesBy, ready_in};
 
@@ -39,7 +39,7 @@ pub enum SettleNext {
 
 // A copy of the value that moves in, or that a taker gets.
 fn settling(alloc: Global, banks: &Banks, side: Side, port: PortId) -> Result<Value, OutOfMemory>
-    ensures { IfOk result (λ v. view v ≡ settling side (whole (channels_held banks.now) port.n)) }
+    ensures { IfOk result (λ v. view v ≡ value_settled side (whole (channels_held banks.now) port.n)) }
 {
     match side {
         Side::Put => offered(alloc, banks, port),
@@ -91,11 +91,11 @@ pub fn serve<A: Agent>(
     requires made { IsMadeToServe A.place held.old port.n side wait.n }
     requires room { HasRoomToServe (whole (channels_held held.old.banks) port.n) side }
     requires spare { side ≡ Put → 0 < buffer_spare (whole (spares_held held.old.banks) port.n) }
-    ensures event { event_view result ≡ settled wait.n branch side port.n (settling side (whole (channels_held held.old.banks) port.n)) }
-    ensures channels { (i : ℕ) → channels_held held.new.banks i ≡ changed_at port.n (option_map (settle_change side (settling side (whole (channels_held held.old.banks) port.n)))) (channels_held held.old.banks) i }
+    ensures event { event_view result ≡ settled wait.n branch side port.n (value_settled side (whole (channels_held held.old.banks) port.n)) }
+    ensures channels { (i : ℕ) → channels_held held.new.banks i ≡ changed_at port.n (option_map (settle_change side (value_settled side (whole (channels_held held.old.banks) port.n)))) (channels_held held.old.banks) i }
     ensures registries { (i : ℕ) → registries_held held.new.banks i ≡ registries_held held.old.banks i }
     ensures waits { (i : ℕ) → waits_held held.new.shards i ≡ changed_at wait.n (λ o. None) (waits_held held.old.shards) i }
-    ensures wakes { WakesBy A.place A.gives (whole (waits_held held.old.shards) wait.n) port.n (told side (settling side (whole (channels_held held.old.banks) port.n))) (ready_in held.old.ready) (ready_in held.new.ready) }
+    ensures wakes { WakesBy A.place A.gives (whole (waits_held held.old.shards) wait.n) port.n (told side (value_settled side (whole (channels_held held.old.banks) port.n))) (ready_in held.old.ready) (ready_in held.new.ready) }
     ensures numbers { KeepsNumbers held.old held.new }
 {
     let value = taken(&mut held.spare.value);

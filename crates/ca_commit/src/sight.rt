@@ -4,12 +4,12 @@ ghost use Rattle.std.specs.Prelude.{◌≡◌, ℕ, IfSome, Some, false, true};
 ghost use Rattle.ca_value.specs.View.{view};
 ghost use Rattle.ca_term.specs.declared.event.Side.TheVariants.{Put, Take};
 ghost use Rattle.ca_meaning.specs.BodyViews.{is_at_op};
-ghost use Rattle.ca_meaning.specs.Operands.{is_nil, port_number};
+ghost use Rattle.ca_meaning.specs.Operands.{is_nil, port_of_value};
 ghost use Rattle.ca_meaning.specs.Wait.{port_of, side_of};
 ghost use Rattle.ca_bank.specs.Kept.{on, queue_at};
 ghost use Rattle.ca_bank.specs.Room.{kept_view};
 ghost use Rattle.ca_commit.specs.Finding.{Glance, find_at, put_at, take_at, unready};
-ghost use Rattle.ca_commit.specs.InPlace.{IsPlain, IsThere};
+ghost use Rattle.ca_commit.specs.InPlace.{IsPlainOperation, IsChannelThere};
 ghost use Rattle.ca_commit.specs.Showing.{bank_in};
 ghost use Rattle.ca_commit.specs.Sights.{TellsFew, found_by};
 ghost use Rattle.ca_commit.specs.Standing.{IsAtOne, branch_no, op_at};
@@ -114,8 +114,8 @@ pub fn take_sight(room: &Room) -> Sight
 
 // The channel that the operand is; None where it is none in this bank.
 fn room_of<'a>(held: &'a HeldBank, channel: &Value) -> Option<&'a Room>
-    ensures there { IfSome result (λ r. IsThere (bank_in held.now) (view channel.now)) }
-    ensures room { IfSome result (λ r. bank_in held.now (port_number (view channel.now)) ≡ Some (kept_view r.now)) }
+    ensures there { IfSome result (λ r. IsChannelThere (bank_in held.now) (view channel.now)) }
+    ensures room { IfSome result (λ r. bank_in held.now (port_of_value (view channel.now)) ≡ Some (kept_view r.now)) }
 {
     match channel {
         Value::Port(port) => held.bank.room(*port),
@@ -125,10 +125,10 @@ fn room_of<'a>(held: &'a HeldBank, channel: &Value) -> Option<&'a Room>
 
 // A put of the value into the channel that the operand is.
 fn put_seen(held: &HeldBank, channel: &Value, value: &Value) -> Option<Sight>
-    ensures there { IfSome result (λ s. IsThere (bank_in held.now) (view channel.now)) }
+    ensures there { IfSome result (λ s. IsChannelThere (bank_in held.now) (view channel.now)) }
     ensures value { IfSome result (λ s. is_nil (view value.now) ≡ false) }
-    ensures found { IfSome result (λ s. (see : ℕ → Glance) → found_by s see ≡ put_at see (bank_in held.now (port_number (view channel.now)))) }
-    ensures few { IfSome result (λ s. TellsFew s (queue_at Put (bank_in held.now (port_number (view channel.now))))) }
+    ensures found { IfSome result (λ s. (see : ℕ → Glance) → found_by s see ≡ put_at see (bank_in held.now (port_of_value (view channel.now)))) }
+    ensures few { IfSome result (λ s. TellsFew s (queue_at Put (bank_in held.now (port_of_value (view channel.now))))) }
 {
     match value {
         Value::Nil => None,
@@ -144,7 +144,7 @@ fn put_seen(held: &HeldBank, channel: &Value, value: &Value) -> Option<Sight>
 pub fn sight_of<A: Agent>(held: &HeldBank, agent: &A) -> Option<Sight>
     requires at { is_at_op (A.place agent.now) ≡ true }
     ensures one { IfSome result (λ s. IsAtOne (A.place agent.now)) }
-    ensures plain { IfSome result (λ s. IsPlain (bank_in held.now) (op_at (A.place agent.now))) }
+    ensures plain { IfSome result (λ s. IsPlainOperation (bank_in held.now) (op_at (A.place agent.now))) }
     ensures found { let b = branch_no (A.place agent.now) 0 in IfSome result (λ s. (see : ℕ → Glance) → found_by s see ≡ find_at see (bank_in held.now (port_of b)) b) }
     ensures few { let b = branch_no (A.place agent.now) 0 in IfSome result (λ s. TellsFew s (queue_at (side_of b) (bank_in held.now (port_of b)))) }
 {

@@ -4,7 +4,7 @@ use Rattle.std.proofs.lemmas.List.{take-map, drop-map}
 use Rattle.ca_reader.specs.declared.form.Form.{Form}
 use Rattle.ca_reader.specs.Form.{FormTree}
 use Rattle.ca_reader.specs.View.{form_tree}
-use Rattle.ca_derived.specs.Templates.{last, before}
+use Rattle.ca_derived.specs.Templates.{last, forms_before}
 
 as_long : (fs : List Form) → length (map form_tree fs) ≡ length fs
 as_long [] = refl
@@ -13,7 +13,7 @@ as_long (f ∷ fs) = ap suc (as_long fs)
 pub last_of : (fs : List Form) (n k : ℕ) → k ≡ length fs - n → map form_tree (drop k fs) ≡ last n (map form_tree fs)
 last_of fs n k e = sym (drop-map form_tree k fs) ∙ ap (λ i. drop i (map form_tree fs)) (e ∙ ap (λ i. i - n) (sym (as_long fs)))
 
-pub before_of : (fs : List Form) (n k : ℕ) → k ≡ length fs - n → map form_tree (take k fs) ≡ before n (map form_tree fs)
+pub before_of : (fs : List Form) (n k : ℕ) → k ≡ length fs - n → map form_tree (take k fs) ≡ forms_before n (map form_tree fs)
 before_of fs n k e = sym (take-map form_tree k fs) ∙ ap (λ i. take i (map form_tree fs)) (e ∙ ap (λ i. i - n) (sym (as_long fs)))
 
 pub set_of : (fs : List Form) (n : ℕ) (f : Form) (x : FormTree) → form_tree f ≡ x → map form_tree (slice_set fs n f) ≡ slice_set (map form_tree fs) n x

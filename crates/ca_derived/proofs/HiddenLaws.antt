@@ -8,10 +8,10 @@ use Rattle.ca_term.specs.declared.place.Place.{Place}
 use Rattle.ca_reader.specs.declared.form.Bracket.{Bracket}
 use Rattle.ca_reader.specs.declared.form.Bracket.TheVariants.{Round, Square, Curly}
 use Rattle.ca_reader.specs.Form.{FormTree, FormTrees, form, atom, group, symbol, none, item, nil, bool, int, text, key}
-use Rattle.ca_reader.specs.View.{trees_of}
+use Rattle.ca_reader.specs.View.{form_trees_of}
 use Rattle.ca_derived.specs.Forms.{name}
 use Rattle.ca_derived.proofs.Walked.{Every}
-use Rattle.ca_derived.specs.Hidden.{is_hidden, is_binder, binds, Names, is_bound, with_name, either, IsBound, AllBound, ListBound, PairsBound, ValueBound}
+use Rattle.ca_derived.specs.Hidden.{is_hidden_name, is_binder, is_binding_form, Names, is_bound, with_hidden_name, either, IsBound, AllBound, ListBound, PairsBound, ValueBound}
 
 -- each of the names is bound
 abbrev pub Has : Names → Names → Type 0
@@ -26,7 +26,7 @@ abbrev pub AllOver : Names → FormTrees → Type 0
 AllOver ms fs = Every (Over ms) fs
 
 abbrev pub EachOver : Names → List FormTree → Type 0
-EachOver ms fs = AllOver ms (trees_of fs)
+EachOver ms fs = AllOver ms (form_trees_of fs)
 
 pub has_left : (ms ks ns : Names) → Has ns (ms ++ ks) → Has ns ms
 has_left [] ks ns h = tt
@@ -44,13 +44,13 @@ one_more false true false e = refl
 one_more false false d e = cc
 
 pub still_bound : (m s : List ℕ) (ns : Names) → is_bound ns s ≡ true → is_bound (m ∷ ns) s ≡ true
-still_bound m s ns e = one_more (not (is_hidden s)) (list_any (bytes_eq s) ns) (bytes_eq s m) e
+still_bound m s ns e = one_more (not (is_hidden_name s)) (list_any (bytes_eq s) ns) (bytes_eq s m) e
 
 pub has_more : (m : List ℕ) (ms ns : Names) → Has ns ms → Has (m ∷ ns) ms
 has_more m [] ns h = tt
 has_more m (k ∷ ks) ns h = (still_bound m k ns h.0, has_more m ks ns h.1)
 
-pub has_named : (f : FormTree) (ms ns : Names) → Has ns ms → Has (with_name f ns) ms
+pub has_named : (f : FormTree) (ms ns : Names) → Has ns ms → Has (with_hidden_name f ns) ms
 has_named (form (atom (symbol s)) p) ms ns h = has_more s ms ns h
 has_named (form (atom nil) p) ms ns h = h
 has_named (form (atom (bool b)) p) ms ns h = h
@@ -60,7 +60,7 @@ has_named (form (atom (key s)) p) ms ns h = h
 has_named (form (group b fs) p) ms ns h = h
 
 pub self_bound : (m : List ℕ) (ns : Names) → is_bound (m ∷ ns) m ≡ true
-self_bound m ns = by (not (is_hidden m)) (bytes_eq m m) ((bytes_eq-Decides m m).1 refl) where
+self_bound m ns = by (not (is_hidden_name m)) (bytes_eq m m) ((bytes_eq-Decides m m).1 refl) where
   by : (b c : Bool) → c ≡ true → (b || (c || list_any (bytes_eq m) ns)) ≡ true
   by true c e = refl
   by false true e = refl
@@ -93,9 +93,9 @@ mutual
 
   value_over : (ms : Names) (n : FormTree) (fs body : FormTrees) → AllOver ms fs → AllOver ms body → (ns : Names) → Has ns ms → ValueBound n fs (AllBound body) ns
   value_over ms n none body o q ns h = all_bound ms ns body q h
-  value_over ms n (item e fs) body o q ns h = (o.0.at ns h, pairs_over ms fs body o.1 q (with_name n ns) (has_named n ms ns h))
+  value_over ms n (item e fs) body o q ns h = (o.0.at ns h, pairs_over ms fs body o.1 q (with_hidden_name n ns) (has_named n ms ns h))
 
-pub list_over : (ms : Names) (fs : FormTrees) → binds Round fs ≡ true → AllOver ms fs → (ns : Names) → Has ns ms → ListBound fs ns
+pub list_over : (ms : Names) (fs : FormTrees) → is_binding_form Round fs ≡ true → AllOver ms fs → (ns : Names) → Has ns ms → ListBound fs ns
 list_over ms none e o ns h = tt
 list_over ms (item f none) e o ns h = tt
 list_over ms (item f (item (form (group Square bs) p) fs)) e o ns h = pairs_over ms bs fs (items_over ms bs (λ ks g. o.1.0.at ks g)) o.1.1 ns h
@@ -104,21 +104,21 @@ list_over ms (item f (item (form (group Curly bs) p) fs)) e o ns h = cc
 list_over ms (item f (item (form (atom a) p) fs)) e o ns h = cc
 
 pub group_over : {ms : Names} {p : Place} (b : Bracket) (fs : FormTrees) → AllOver ms fs → Over ms (form (group b fs) p)
-group_over {ms} Round fs o = record { at = λ ns h. by ns h (binds Round fs) refl } where
-  by : (ns : Names) → Has ns ms → (t : Bool) → binds Round fs ≡ t → either t (ListBound fs) (AllBound fs) ns
+group_over {ms} Round fs o = record { at = λ ns h. by ns h (is_binding_form Round fs) refl } where
+  by : (ns : Names) → Has ns ms → (t : Bool) → is_binding_form Round fs ≡ t → either t (ListBound fs) (AllBound fs) ns
   by ns h true e = list_over ms fs e o ns h
   by ns h false e = all_bound ms ns fs o h
 group_over {ms} Square fs o = record { at = λ ns h. all_bound ms ns fs o h }
 group_over {ms} Curly fs o = record { at = λ ns h. all_bound ms ns fs o h }
 
 -- a list that begins with a word
-pub plain_bound : (ns : Names) (s : List ℕ) → is_hidden s ≡ false → is_bound ns s ≡ true
+pub plain_bound : (ns : Names) (s : List ℕ) → is_hidden_name s ≡ false → is_bound ns s ≡ true
 plain_bound ns s e = ap (λ b. not b || list_any (bytes_eq s) ns) e
 
-pub plain_over : {ms : Names} {p : Place} {s : List ℕ} → is_hidden s ≡ false → Over ms (form (atom (symbol s)) p)
+pub plain_over : {ms : Names} {p : Place} {s : List ℕ} → is_hidden_name s ≡ false → Over ms (form (atom (symbol s)) p)
 plain_over {s = s} e = record { at = λ ns h. plain_bound ns s e }
 
-pub call_over : {ms : Names} {p q : Place} {s : List ℕ} {fs : FormTrees} → is_hidden s ≡ false → AllOver ms fs → Over ms (form (group Round (item (form (atom (symbol s)) p) fs)) q)
+pub call_over : {ms : Names} {p q : Place} {s : List ℕ} {fs : FormTrees} → is_hidden_name s ≡ false → AllOver ms fs → Over ms (form (group Round (item (form (atom (symbol s)) p) fs)) q)
 call_over {p = p} {s = s} {fs = fs} e o = group_over Round (item (form (atom (symbol s)) p) fs) (plain_over e, o)
 
 -- names in scope, the innermost first
@@ -146,14 +146,14 @@ abbrev pub Scoped : Names → Named → FormTrees → Type 0
 Scoped ms [] body = AllOver ms body
 Scoped ms (b ∷ bs) body = Over ms b.1 × Scoped (b.0 ∷ ms) bs body
 
-pub scoped_pairs : (ms : Names) (p : Place) (bs : Named) (body : FormTrees) → Scoped ms bs body → (ns : Names) → Has ns ms → PairsBound (trees_of (flat p bs)) (AllBound body) ns
+pub scoped_pairs : (ms : Names) (p : Place) (bs : Named) (body : FormTrees) → Scoped ms bs body → (ns : Names) → Has ns ms → PairsBound (form_trees_of (flat p bs)) (AllBound body) ns
 scoped_pairs ms p [] body o ns h = all_bound ms ns body o h
 scoped_pairs ms p (b ∷ bs) body o ns h = (o.0.at ns h, scoped_pairs (b.0 ∷ ms) p bs body o.1 (b.0 ∷ ns) (self_bound b.0 ns, has_more b.0 ms ns h))
 
 pub let_over : {ms : Names} {p q r : Place} {s : List ℕ} {body : FormTrees} (bs : Named) → is_binder (form (atom (symbol s)) p) ≡ true → Scoped ms bs body
-    → Over ms (form (group Round (item (form (atom (symbol s)) p) (item (form (group Square (trees_of (flat q bs))) q) body))) r)
+    → Over ms (form (group Round (item (form (atom (symbol s)) p) (item (form (group Square (form_trees_of (flat q bs))) q) body))) r)
 let_over {ms} {p} {q} {r} {s} {body} bs e o = record {
   at = λ ns h.
-      let whole : FormTrees = item (form (atom (symbol s)) p) (item (form (group Square (trees_of (flat q bs))) q) body) in
+      let whole : FormTrees = item (form (atom (symbol s)) p) (item (form (group Square (form_trees_of (flat q bs))) q) body) in
       subst (λ t. either t (ListBound whole) (AllBound whole) ns) (sym e) (scoped_pairs ms q bs body o ns h);
 }

@@ -8,10 +8,10 @@ use Rattle.ca_reader.specs.Form.{Atom, FormTree, FormTrees, form, atom, symbol, 
 use Rattle.ca_derived.specs.declared.word.Word.{Word}
 use Rattle.ca_derived.specs.declared.word.Word.TheVariants.{Choose, ChooseBlocking, Reduce, Into, Split, Take}
 use Rattle.ca_derived.specs.Outcome.{made}
-use Rattle.ca_derived.specs.Forms.{name, nothing}
-use Rattle.ca_derived.specs.Rows.{call, number, reducing, reduced, taking, taken, parting, parted, row_reduce, row_into, row_take, row_split}
-use Rattle.ca_derived.specs.Expand.{row, expand}
-use Rattle.ca_derived.specs.Hidden.{is_hidden, AllBound}
+use Rattle.ca_derived.specs.Forms.{name, nil_form}
+use Rattle.ca_derived.specs.Rows.{call, number_form, reducing, reduced, task_of_take, take_form, parting, split_form, row_reduce, row_into, row_of_take, row_split}
+use Rattle.ca_derived.specs.Expand.{word_row, expand}
+use Rattle.ca_derived.specs.Hidden.{is_hidden_name, AllBound}
 use Rattle.ca_reader.specs.Bytes.{is_token_byte}
 use Rattle.ca_reader.specs.Written.{IsWrittenAtom, AreWritten}
 use Rattle.ca_derived.proofs.HiddenLaws.{Over, AllOver, EachOver, fine_over, all_bound, group_over, plain_over, call_over, first, second, third, fourth, let_over}
@@ -33,13 +33,13 @@ reduced_fine p f i c of oi oc = let_over ((codes "#initial", i) ∷ (codes "#cha
     ),
   )
 
-taken_fine : (p : Place) (n c : FormTree) (bs : List FormTree) → Over [] n → Over [] c → EachOver [] bs → Over [] (taken p n c bs)
+taken_fine : (p : Place) (n c : FormTree) (bs : List FormTree) → Over [] n → Over [] c → EachOver [] bs → Over [] (take_form p n c bs)
 taken_fine p n c bs on oc ob =
     let_over ((codes "#bound", n) ∷ (codes "#channel", c) ∷ (codes "#out", call p (codes "chan") bs) ∷ []) refl
     (on, (fine_over oc, (fine_over (call_over refl ob), (taking_over, (first, tt))))) where
-      taking_over : Over (codes "#out" ∷ codes "#channel" ∷ codes "#bound" ∷ []) (taking p)
+      taking_over : Over (codes "#out" ∷ codes "#channel" ∷ codes "#bound" ∷ []) (task_of_take p)
       taking_over = call_over refl (
-        let_over ((codes "#count", number p 0) ∷ []) refl (
+        let_over ((codes "#count", number_form p 0) ∷ []) refl (
           record { at = λ ns h. tt },
           (
             call_over refl (
@@ -58,7 +58,7 @@ taken_fine p n c bs on oc ob =
         (call_over refl (first, tt), tt),
       )
 
-parted_fine : (p : Place) (f c : FormTree) → Over [] f → Over [] c → Over [] (parted p f c)
+parted_fine : (p : Place) (f c : FormTree) → Over [] f → Over [] c → Over [] (split_form p f c)
 parted_fine p f c of oc =
     let_over ((codes "#channel", c) ∷ (codes "#true", call p (codes "chan") []) ∷ (codes "#false", call p (codes "chan") []) ∷ []) refl
     (oc, (call_over refl tt, (call_over refl tt, (parting_over, (group_over Square _ (second, (first, tt)), tt))))) where
@@ -81,7 +81,7 @@ parted_fine p f c of oc =
       )
 
 -- every row
-nothing_fine : (p : Place) → Over [] (nothing p)
+nothing_fine : (p : Place) → Over [] (nil_form p)
 nothing_fine p = record { at = λ ns h. tt }
 
 reduce_fine : (p : Place) (fs : FormTrees) → AllOver [] fs → Over [] (row_reduce p fs)
@@ -97,7 +97,7 @@ into_fine p none o = nothing_fine p
 into_fine p (item e none) o = nothing_fine p
 into_fine p (item e (item c (item d fs))) o = nothing_fine p
 
-take_fine : (p : Place) (fs : FormTrees) → AllOver [] fs → Over [] (row_take p fs)
+take_fine : (p : Place) (fs : FormTrees) → AllOver [] fs → Over [] (row_of_take p fs)
 take_fine p (item n (item c none)) o = taken_fine p n c [] o.0 o.1.0 tt
 take_fine p (item n (item c (item b none))) o = taken_fine p n c (b ∷ []) o.0 o.1.0 (o.1.1.0, tt)
 take_fine p none o = nothing_fine p
@@ -110,7 +110,7 @@ split_fine p none o = nothing_fine p
 split_fine p (item f none) o = nothing_fine p
 split_fine p (item f (item c (item d fs))) o = nothing_fine p
 
-row_fine : (w : Word) (p : Place) (fs : FormTrees) → AllOver [] fs → Over [] (row w p fs)
+row_fine : (w : Word) (p : Place) (fs : FormTrees) → AllOver [] fs → Over [] (word_row w p fs)
 row_fine Choose p fs o = choose_fine p (codes "alts!") fs refl o
 row_fine ChooseBlocking p fs o = choose_fine p (codes "alts!!") fs refl o
 row_fine Reduce p fs o = reduce_fine p fs o
@@ -126,11 +126,11 @@ no_mark b e = by (b == 35) (eqb-true b 35) where
   by false f = refl
   by true f = let k : is_token_byte 35 ≡ true = subst (λ n. is_token_byte n ≡ true) (f refl) e in cc
 
-shown : (s : List ℕ) → list_all is_token_byte s ≡ true → is_hidden s ≡ false
+shown : (s : List ℕ) → list_all is_token_byte s ≡ true → is_hidden_name s ≡ false
 shown [] e = refl
 shown (b ∷ s) e = by (is_token_byte b) refl e (shown s) where
-  by : (t : Bool) → is_token_byte b ≡ t → (t && list_all is_token_byte s) ≡ true → (list_all is_token_byte s ≡ true → is_hidden s ≡ false) → ((b == 35) || is_hidden s) ≡ false
-  by true i e r = ap (λ t. t || is_hidden s) (no_mark b i) ∙ r e
+  by : (t : Bool) → is_token_byte b ≡ t → (t && list_all is_token_byte s) ≡ true → (list_all is_token_byte s ≡ true → is_hidden_name s ≡ false) → ((b == 35) || is_hidden_name s) ≡ false
+  by true i e r = ap (λ t. t || is_hidden_name s) (no_mark b i) ∙ r e
   by false i e r = cc
 
 atom_over : (a : Atom) (p : Place) → IsWrittenAtom a → Over [] (form (atom a) p)

@@ -9,14 +9,14 @@ use Rattle.ca_reader.specs.declared.form.Form.{Form, the_lemmas as form_lemmas}
 use Rattle.ca_reader.specs.declared.form.Shape.{Vector, the_lemmas as shape_lemmas}
 use Rattle.ca_reader.specs.declared.form.Bracket.TheVariants.{Square}
 use Rattle.ca_reader.specs.Form.{FormTrees, form, group, none, item}
-use Rattle.ca_reader.specs.Reads.{count}
+use Rattle.ca_reader.specs.Reads.{form_count}
 use Rattle.ca_reader.specs.View.{form_tree, form_trees, shape_tree}
-use Rattle.ca_derived.specs.Outcome.{Outcome, made, refused, after, Fails}
+use Rattle.ca_derived.specs.Outcome.{ExpansionOutcome, made, refused, after_expansion, ExpansionFails}
 use Rattle.ca_derived.specs.declared.error.FormsError.{FormsError}
 use Rattle.ca_derived.specs.declared.error.FormsError.TheVariants.{Fault, OutOfMemory}
 use Rattle.ca_derived.specs.declared.error.FormsErrorKind.TheVariants.{BadForm, TooMany}
 use Rattle.ca_derived.specs.Choice.{is_put, is_names}
-use Rattle.ca_derived.specs.Shapes.{Tally, counted_more, told, tally, are_operations, untold, choice_fault, tally_fault, is_symbol, is_function, is_operation, unless_right, reduce_fault, into_fault, split_fault, take_fault}
+use Rattle.ca_derived.specs.Shapes.{Tally, counted_more, pair_told, tally, are_operations, untold, choice_fault, tally_fault, is_symbol, is_function, is_operation_form, unless_right, reduce_fault, into_fault, split_fault, take_fault}
 use Rattle.ca_derived.specs.Expand.{expand_form, expand_all}
 
 pub into_is : (fs : List Form) → 0 < length fs → into_fault (form_trees (drop 1 fs)) ≡ unless_right (nat_eq (length fs) 3)
@@ -73,9 +73,9 @@ tree_is f = search (rules, form_lemmas)
 pub tree_vector : (f : Form) (s : Seq Form) → f.shape ≡ Vector s → form_tree f ≡ form (group Square (form_trees (list s))) f.place
 tree_vector f s e = tree_is f ∙ ap (λ sh. form (shape_tree sh) f.place) e ∙ search (rules, shape_lemmas)
 
-pub operation_is : (f : Form) (s : Seq Form) → f.shape ≡ Vector s → nat_eq (length (list s)) 2 ≡ is_operation (form_tree f)
-operation_is f s e = by (list s) ∙ ap is_operation (sym (tree_vector f s e)) where
-  by : (fs : List Form) → nat_eq (length fs) 2 ≡ is_operation (form (group Square (form_trees fs)) f.place)
+pub operation_is : (f : Form) (s : Seq Form) → f.shape ≡ Vector s → nat_eq (length (list s)) 2 ≡ is_operation_form (form_tree f)
+operation_is f s e = by (list s) ∙ ap is_operation_form (sym (tree_vector f s e)) where
+  by : (fs : List Form) → nat_eq (length fs) 2 ≡ is_operation_form (form (group Square (form_trees fs)) f.place)
   by [] = refl
   by (f ∷ []) = refl
   by (f ∷ g ∷ []) = refl
@@ -94,11 +94,11 @@ joined_end : (fs : FormTrees) → joined fs none ≡ fs
 joined_end none = refl
 joined_end (item f fs) = ap (λ gs. item f gs) (joined_end fs)
 
-after_after : {A B C : Type 0} (o : Outcome A) (k : A → Outcome B) (l : B → Outcome C) → after (after o k) l ≡ after o (λ a. after (k a) l)
+after_after : {A B C : Type 0} (o : ExpansionOutcome A) (k : A → ExpansionOutcome B) (l : B → ExpansionOutcome C) → after_expansion (after_expansion o k) l ≡ after_expansion o (λ a. after_expansion (k a) l)
 after_after (made a) k l = refl
 after_after (refused e p) k l = refl
 
-after_same : {A B : Type 0} (o : Outcome A) (k l : A → Outcome B) → ((a : A) → k a ≡ l a) → after o k ≡ after o l
+after_same : {A B : Type 0} (o : ExpansionOutcome A) (k l : A → ExpansionOutcome B) → ((a : A) → k a ≡ l a) → after_expansion o k ≡ after_expansion o l
 after_same (made a) k l e = e a
 after_same (refused x p) k l e = refl
 
@@ -106,29 +106,29 @@ pub cut_at : (fs : List Form) (i : ℕ) (f : Form) → i < length fs → f ≡ g
 cut_at fs i f h g = rw (add-one, drop-cons fs i f h) (ap (λ x. x ∷ drop (suc i) fs) (sym g))
 
 pub all_step : (fs : List Form) (i : ℕ) (f : Form) (gs : List Form) (g : Form) → i < length fs → f ≡ get_or fs i f → expand_form (form_tree f) ≡ made (form_tree g)
-    → after (expand_all (form_trees (drop i fs))) (λ hs. made (joined (form_trees gs) hs)) ≡ after (expand_all (form_trees (drop (i + 1) fs))) (λ hs. made (joined (form_trees (gs ++ g ∷ [])) hs))
+    → after_expansion (expand_all (form_trees (drop i fs))) (λ hs. made (joined (form_trees gs) hs)) ≡ after_expansion (expand_all (form_trees (drop (i + 1) fs))) (λ hs. made (joined (form_trees (gs ++ g ∷ [])) hs))
 all_step fs i f gs g h e w =
     let cut : drop i fs ≡ f ∷ drop (i + 1) fs = cut_at fs i f h e in
     rw (cut, w) (after_after (expand_all (form_trees (drop (i + 1) fs))) _ _ ∙ after_same (expand_all (form_trees (drop (i + 1) fs))) _ _ (λ hs. ap (λ k. made k) (sym (joined_more gs g hs))))
 
-pub all_over : (fs : List Form) (i : ℕ) (gs : List Form) → length fs ≤ i → after (expand_all (form_trees (drop i fs))) (λ hs. made (joined (form_trees gs) hs)) ≡ made (form_trees gs)
+pub all_over : (fs : List Form) (i : ℕ) (gs : List Form) → length fs ≤ i → after_expansion (expand_all (form_trees (drop i fs))) (λ hs. made (joined (form_trees gs) hs)) ≡ made (form_trees gs)
 all_over fs i gs h = rw (drop_of_length-le fs {i = i} h) (ap (λ k. made k) (joined_end (form_trees gs)))
 
-pub all_fails : (x : FormsError) (fs : List Form) (i : ℕ) (f : Form) (gs : List Form) (o : Outcome FormTrees) → o ≡ after (expand_all (form_trees (drop i fs))) (λ hs. made (joined (form_trees gs) hs))
-    → i < length fs → f ≡ get_or fs i f → Fails x (expand_form (form_tree f)) → Fails x o
+pub all_fails : (x : FormsError) (fs : List Form) (i : ℕ) (f : Form) (gs : List Form) (o : ExpansionOutcome FormTrees) → o ≡ after_expansion (expand_all (form_trees (drop i fs))) (λ hs. made (joined (form_trees gs) hs))
+    → i < length fs → f ≡ get_or fs i f → ExpansionFails x (expand_form (form_tree f)) → ExpansionFails x o
 all_fails OutOfMemory fs i f gs o s h e w = tt
 all_fails (Fault m p) fs i f gs o s h e w = s ∙ (let cut : drop i fs ≡ f ∷ drop (i + 1) fs = cut_at fs i f h e in rw (cut, w) refl)
 
-count_is : (fs : List Form) → count (form_trees fs) ≡ length fs
+count_is : (fs : List Form) → form_count (form_trees fs) ≡ length fs
 count_is [] = refl
 count_is (f ∷ fs) = ap suc (count_is fs)
 
-pub many_is : (fs : List Form) (p : Place) (t : Tally) (b : Bool) → are_operations (form_trees fs) ≡ b → (length fs ≡ 0 → ⊥) → told (form (group Square (form_trees fs)) p) t ≡ record (counted_more (length fs) t) { right = cond b t.right false }
+pub many_is : (fs : List Form) (p : Place) (t : Tally) (b : Bool) → are_operations (form_trees fs) ≡ b → (length fs ≡ 0 → ⊥) → pair_told (form (group Square (form_trees fs)) p) t ≡ record (counted_more (length fs) t) { right = cond b t.right false }
 many_is [] p t b e h = absurd (h refl)
 many_is (f ∷ fs) p t b e h = ap (λ n. record (counted_more n t) { right = cond (are_operations (form_trees (f ∷ fs))) t.right false }) (count_is (f ∷ fs)) ∙ ap (λ c. record (counted_more (length (f ∷ fs)) t) { right = cond c t.right false }) e
 
-pub tally_step : (fs : List Form) (j : ℕ) (o : Form) (t : Tally) → j + 1 < length fs → o ≡ get_or fs j o → tally (form_trees (drop j fs)) t ≡ tally (form_trees (drop (suc (suc j)) fs)) (told (form_tree o) t)
-tally_step (f ∷ g ∷ fs) zero o t h e = ap (λ x. tally (form_trees fs) (told (form_tree x) t)) (sym e)
+pub tally_step : (fs : List Form) (j : ℕ) (o : Form) (t : Tally) → j + 1 < length fs → o ≡ get_or fs j o → tally (form_trees (drop j fs)) t ≡ tally (form_trees (drop (suc (suc j)) fs)) (pair_told (form_tree o) t)
+tally_step (f ∷ g ∷ fs) zero o t h e = ap (λ x. tally (form_trees fs) (pair_told (form_tree x) t)) (sym e)
 tally_step (f ∷ []) zero o t h e = absurd (omega (arith, h))
 tally_step (f ∷ fs) (suc j) o t h e = tally_step fs j o t (omega (arith, h)) e
 tally_step [] j o t h e = absurd (omega (arith, h))

@@ -4,8 +4,8 @@ use Rattle.std.specs.Prelude.{codes}
 use Rattle.ca_value.specs.IsValue.{written}
 use Rattle.ca_term.specs.declared.place.Place.{Place}
 use Rattle.ca_reader.specs.declared.form.Bracket.TheVariants.{Round, Square, Curly}
-use Rattle.ca_reader.specs.Form.{FormTree, FormTrees, form, atom, group, none, item, place_of}
-use Rattle.ca_reader.specs.View.{trees_of}
+use Rattle.ca_reader.specs.Form.{FormTree, FormTrees, form, atom, group, none, item, form_place}
+use Rattle.ca_reader.specs.View.{form_trees_of}
 use Rattle.ca_reader.specs.Written.{FormAtoms, AtomHas, HaveScalars}
 use Rattle.ca_derived.specs.declared.word.Word.{Word}
 use Rattle.ca_derived.specs.declared.word.Word.TheVariants.{Choose, ChooseBlocking, Reduce, Into, Split, Take}
@@ -13,16 +13,16 @@ use Rattle.ca_derived.specs.declared.choice.Kind.{Kind}
 use Rattle.ca_derived.specs.declared.choice.Kind.TheVariants.{Default, Priority, Many, Port}
 use Rattle.ca_derived.specs.Outcome.{made}
 use Rattle.ca_derived.specs.Forms.{name}
-use Rattle.ca_derived.specs.Rows.{reduced, taken, parted, row_reduce, row_into, row_take, row_split}
-use Rattle.ca_derived.specs.Choice.{Choice, no_choice, with_take, with_put, with_operation, with_operations, tests, items_of, binds_answer, bound_result, result_of, kind_of, with_kind, with_pair, with_pairs, options_of, row_choose}
-use Rattle.ca_derived.specs.Expand.{row, expand}
+use Rattle.ca_derived.specs.Rows.{reduced, take_form, split_form, row_reduce, row_into, row_of_take, row_split}
+use Rattle.ca_derived.specs.Choice.{Choice, no_choice, with_take, with_put, with_operation, with_operations, tests, form_items, binds_answer, bound_result, clause_result, form_kind, with_kind, with_pair, with_pairs, options_of, row_choose}
+use Rattle.ca_derived.specs.Expand.{word_row, expand}
 use Rattle.ca_derived.proofs.Walked.{Every, expanded_are}
 
 abbrev Has : FormTree → Type 0
 Has f = FormAtoms (AtomHas written) f
 
 abbrev Have : List FormTree → Type 0
-Have fs = HaveScalars written (trees_of fs)
+Have fs = HaveScalars written (form_trees_of fs)
 
 together : (fs gs : List FormTree) → Have fs → Have gs → Have (fs ++ gs)
 together [] gs h k = k
@@ -32,10 +32,10 @@ together (f ∷ fs) gs h k = (h.0, together fs gs h.1 k)
 reduced_has : (p : Place) (f i c : FormTree) → Has f → Has i → Has c → Has (reduced p f i c)
 reduced_has p f i c hf hi hc = (tt, ((tt, (hi, (tt, (hc, tt)))), ((tt, ((tt, (tt, tt)), ((tt, ((tt, ((tt, (tt, tt)), tt)), ((tt, ((tt, (tt, tt)), (tt, ((tt, ((hf, (tt, (tt, tt))), tt)), tt)))), tt))), tt))), tt)))
 
-taken_has : (p : Place) (n c : FormTree) (bs : List FormTree) → Has n → Has c → Have bs → Has (taken p n c bs)
+taken_has : (p : Place) (n c : FormTree) (bs : List FormTree) → Has n → Has c → Have bs → Has (take_form p n c bs)
 taken_has p n c bs hn hc hb = (tt, ((tt, (hn, (tt, (hc, (tt, ((tt, hb), tt)))))), ((tt, ((tt, ((tt, (refl, tt)), ((tt, ((tt, (tt, (tt, tt))), ((tt, ((tt, ((tt, (tt, tt)), tt)), ((tt, ((tt, (tt, (tt, tt))), ((tt, ((tt, (tt, tt)), tt)), tt))), (tt, tt)))), tt))), tt))), ((tt, (tt, tt)), tt))), (tt, tt))))
 
-parted_has : (p : Place) (f c : FormTree) → Has f → Has c → Has (parted p f c)
+parted_has : (p : Place) (f c : FormTree) → Has f → Has c → Has (split_form p f c)
 parted_has p f c hf hc = (tt, ((tt, (hc, (tt, ((tt, tt), (tt, ((tt, tt), tt)))))), ((tt, (tt, ((tt, ((tt, ((tt, (tt, tt)), tt)), ((tt, ((tt, (tt, tt)), ((tt, ((tt, (tt, tt)), ((tt, (tt, tt)), tt))), ((tt, ((tt, ((tt, ((hf, (tt, tt)), (tt, (tt, tt)))), (tt, tt))), ((tt, tt), (tt, tt)))), tt)))), tt))), tt))), ((tt, (tt, tt)), tt))))
 
 -- alt!
@@ -75,15 +75,15 @@ either_has : (b : Bool) (f g : FormTree) → Has f → Has g → Has (cond b f g
 either_has true f g h k = h
 either_has false f g h k = k
 
-bound_has : (f : FormTree) → Has f → Has (bound_result (place_of f) (items_of f))
+bound_has : (f : FormTree) → Has f → Has (bound_result (form_place f) (form_items f))
 bound_has (form (group b (item names es)) p) h = (tt, ((h.0, (tt, tt)), h.1))
 bound_has (form (group b none) p) h = tt
 bound_has (form (atom a) p) h = tt
 
-result_has : (f : FormTree) → Has f → Has (result_of f)
-result_has f h = either_has (binds_answer f) (bound_result (place_of f) (items_of f)) f (bound_has f h) h
+result_has : (f : FormTree) → Has f → Has (clause_result f)
+result_has f h = either_has (binds_answer f) (bound_result (form_place f) (form_items f)) f (bound_has f h) h
 
-items_have : (f : FormTree) → Has f → HaveScalars written (items_of f)
+items_have : (f : FormTree) → Has f → HaveScalars written (form_items f)
 items_have (form (group b fs) p) h = h
 items_have (form (atom a) p) h = tt
 
@@ -91,7 +91,7 @@ kind_kept : (k : Kind) (p : Place) (o r : FormTree) (x : Choice) → Kept x → 
 kind_kept Default p o r x k h i = record { bindings = k.bindings; operations = k.operations; clauses = together x.clauses _ k.clauses ((tt, ((tt, (tt, (refl, tt))), (refl, tt))), (i, tt)) }
 kind_kept Priority p o r x k h i = record { bindings = together x.bindings _ k.bindings (tt, (i, tt)); operations = k.operations; clauses = k.clauses }
 kind_kept Many p o r x k h i =
-    let y = operations_kept p (items_of o) x k (items_have o h) in
+    let y = operations_kept p (form_items o) x k (items_have o h) in
     record { bindings = y.bindings; operations = y.operations; clauses = together _ _ y.clauses ((tt, tests_have p _ _), (result_has r i, tt)) }
 kind_kept Port p o r x k h i =
     let y = take_kept p o x k h in
@@ -100,7 +100,7 @@ kind_kept Port p o r x k h i =
 pairs_kept : (p : Place) (fs : FormTrees) (x : Choice) → Kept x → HaveScalars written fs → Kept (with_pairs p fs x)
 pairs_kept p none x k h = k
 pairs_kept p (item f none) x k h = k
-pairs_kept p (item f (item r fs)) x k h = pairs_kept p fs (with_pair p f r x) (kind_kept (kind_of f) p f r x k h.0 h.1.0) h.1.1
+pairs_kept p (item f (item r fs)) x k h = pairs_kept p fs (with_pair p f r x) (kind_kept (form_kind f) p f r x k h.0 h.1.0) h.1.1
 
 options_have : (p : Place) (b d : Bool) → Have (options_of p b d)
 options_have p true true = (refl, (tt, (refl, (refl, tt))))
@@ -128,7 +128,7 @@ into_has p none h = tt
 into_has p (item e none) h = tt
 into_has p (item e (item c (item d fs))) h = tt
 
-take_has : (p : Place) (fs : FormTrees) → HaveScalars written fs → Has (row_take p fs)
+take_has : (p : Place) (fs : FormTrees) → HaveScalars written fs → Has (row_of_take p fs)
 take_has p (item n (item c none)) h = taken_has p n c [] h.0 h.1.0 tt
 take_has p (item n (item c (item b none))) h = taken_has p n c (b ∷ []) h.0 h.1.0 h.1.1
 take_has p none h = tt
@@ -145,7 +145,7 @@ all_have : (fs : FormTrees) → Every Has fs → HaveScalars written fs
 all_have none h = tt
 all_have (item f fs) h = (h.0, all_have fs h.1)
 
-row_has : (w : Word) (p : Place) (fs : FormTrees) → Every Has fs → Has (row w p fs)
+row_has : (w : Word) (p : Place) (fs : FormTrees) → Every Has fs → Has (word_row w p fs)
 row_has Choose p fs h = choose_has p (codes "alts!") fs (all_have fs h)
 row_has ChooseBlocking p fs h = choose_has p (codes "alts!!") fs (all_have fs h)
 row_has Reduce p fs h = reduce_has p fs (all_have fs h)

@@ -11,26 +11,26 @@ use Rattle.ca_derived.specs.declared.word.Word.TheVariants.{Choose, ChooseBlocki
 use Rattle.ca_derived.specs.declared.error.FormsErrorKind.{FormsErrorKind}
 use Rattle.ca_derived.specs.declared.error.FormsErrorKind.TheVariants.{BadForm}
 use Rattle.ca_derived.specs.Words.{word}
-use Rattle.ca_derived.specs.Outcome.{Outcome, made, refused, after}
-use Rattle.ca_derived.specs.Rows.{row_reduce, row_into, row_take, row_split}
+use Rattle.ca_derived.specs.Outcome.{ExpansionOutcome, made, refused, after_expansion}
+use Rattle.ca_derived.specs.Rows.{row_reduce, row_into, row_of_take, row_split}
 use Rattle.ca_derived.specs.Choice.{row_choose}
 use Rattle.ca_derived.specs.Shapes.{shape_fault}
 
 -- the word's list, of the parts behind it
-abbrev pub row : Word → Place → FormTrees → FormTree
-row Choose p fs = row_choose p (codes "alts!") fs
-row ChooseBlocking p fs = row_choose p (codes "alts!!") fs
-row Reduce p fs = row_reduce p fs
-row Into p fs = row_into p fs
-row Split p fs = row_split p fs
-row Take p fs = row_take p fs
+abbrev pub word_row : Word → Place → FormTrees → FormTree
+word_row Choose p fs = row_choose p (codes "alts!") fs
+word_row ChooseBlocking p fs = row_choose p (codes "alts!!") fs
+word_row Reduce p fs = row_reduce p fs
+word_row Into p fs = row_into p fs
+word_row Split p fs = row_split p fs
+word_row Take p fs = row_of_take p fs
 
 -- a word that heads no list
-abbrev pub expand_symbol : Option Word → List ℕ → Place → Outcome FormTree
+abbrev pub expand_symbol : Option Word → List ℕ → Place → ExpansionOutcome FormTree
 expand_symbol None s p = made (form (atom (symbol s)) p)
 expand_symbol (Some w) s p = refused BadForm p
 
-abbrev pub expand_atom : Atom → Place → Outcome FormTree
+abbrev pub expand_atom : Atom → Place → ExpansionOutcome FormTree
 expand_atom (symbol s) p = expand_symbol (word s) s p
 expand_atom a p = made (form (atom a) p)
 
@@ -39,62 +39,62 @@ abbrev pub word_at : FormTree → Option Word
 word_at (form (atom (symbol s)) p) = word s
 word_at f = None
 
-abbrev pub head_word : FormTrees → Option Word
-head_word none = None
-head_word (item f fs) = word_at f
+abbrev pub leading_word : FormTrees → Option Word
+leading_word none = None
+leading_word (item f fs) = word_at f
 
 abbrev pub tail : FormTrees → FormTrees
 tail none = none
 tail (item f fs) = fs
 
-abbrev pub rewritten : Option FormsErrorKind → Word → Place → Outcome FormTrees → Outcome FormTree
+abbrev pub rewritten : Option FormsErrorKind → Word → Place → ExpansionOutcome FormTrees → ExpansionOutcome FormTree
 rewritten (Some k) w p parts = refused k p
-rewritten None w p parts = after parts (λ fs. made (row w p fs))
+rewritten None w p parts = after_expansion parts (λ fs. made (word_row w p fs))
 
-abbrev pub by_head : Option Word → FormTrees → Place → Outcome FormTrees → Outcome FormTrees → Outcome FormTree
-by_head None fs p all rest = after all (λ gs. made (form (group Round gs) p))
+abbrev pub by_head : Option Word → FormTrees → Place → ExpansionOutcome FormTrees → ExpansionOutcome FormTrees → ExpansionOutcome FormTree
+by_head None fs p all rest = after_expansion all (λ gs. made (form (group Round gs) p))
 by_head (Some w) fs p all rest = rewritten (shape_fault w (tail fs)) w p rest
 
-abbrev pub expand_group : Bracket → FormTrees → Place → Outcome FormTrees → Outcome FormTrees → Outcome FormTree
-expand_group Round fs p all rest = by_head (head_word fs) fs p all rest
-expand_group Square fs p all rest = after all (λ gs. made (form (group Square gs) p))
-expand_group Curly fs p all rest = after all (λ gs. made (form (group Curly gs) p))
+abbrev pub expand_group : Bracket → FormTrees → Place → ExpansionOutcome FormTrees → ExpansionOutcome FormTrees → ExpansionOutcome FormTree
+expand_group Round fs p all rest = by_head (leading_word fs) fs p all rest
+expand_group Square fs p all rest = after_expansion all (λ gs. made (form (group Square gs) p))
+expand_group Curly fs p all rest = after_expansion all (λ gs. made (form (group Curly gs) p))
 
 abbrev mutual
-  pub expand_form : FormTree → Outcome FormTree
+  pub expand_form : FormTree → ExpansionOutcome FormTree
   expand_form (form s p) = expand_shape s p
 
-  pub expand_shape : ShapeTree → Place → Outcome FormTree
+  pub expand_shape : ShapeTree → Place → ExpansionOutcome FormTree
   expand_shape (atom a) p = expand_atom a p
   expand_shape (group b fs) p = expand_group b fs p (expand_all fs) (expand_rest fs)
 
-  pub expand_all : FormTrees → Outcome FormTrees
+  pub expand_all : FormTrees → ExpansionOutcome FormTrees
   expand_all none = made none
-  expand_all (item f fs) = after (expand_form f) (λ g. after (expand_all fs) (λ gs. made (item g gs)))
+  expand_all (item f fs) = after_expansion (expand_form f) (λ g. after_expansion (expand_all fs) (λ gs. made (item g gs)))
 
   -- behind the first
-  pub expand_rest : FormTrees → Outcome FormTrees
+  pub expand_rest : FormTrees → ExpansionOutcome FormTrees
   expand_rest none = made none
   expand_rest (item f fs) = expand_all fs
 
 -- a list of these forms at p
-abbrev pub expand_list : FormTrees → Place → Outcome FormTree
+abbrev pub expand_list : FormTrees → Place → ExpansionOutcome FormTree
 expand_list fs p = expand_group Round fs p (expand_all fs) (expand_rest fs)
 
 -- a list headed by `ns`
-abbrev pub is_namespace : FormTree → Bool
-is_namespace (form (group Round (item (form (atom (symbol s)) q) fs)) p) = bytes_eq s (codes "ns")
-is_namespace f = false
+abbrev pub is_namespace_form : FormTree → Bool
+is_namespace_form (form (group Round (item (form (atom (symbol s)) q) fs)) p) = bytes_eq s (codes "ns")
+is_namespace_form f = false
 
-abbrev pub has_namespace : FormTrees → Bool
-has_namespace none = false
-has_namespace (item f fs) = is_namespace f
+abbrev pub begins_with_namespace : FormTrees → Bool
+begins_with_namespace none = false
+begins_with_namespace (item f fs) = is_namespace_form f
 
 -- the first form as it is, and the others rewritten
-abbrev pub expand_behind : FormTrees → Outcome FormTrees
+abbrev pub expand_behind : FormTrees → ExpansionOutcome FormTrees
 expand_behind none = made none
-expand_behind (item f fs) = after (expand_all fs) (λ gs. made (item f gs))
+expand_behind (item f fs) = after_expansion (expand_all fs) (λ gs. made (item f gs))
 
 -- a first form that is a list headed by `ns` stays as it is
-abbrev pub expand : FormTrees → Outcome FormTrees
-expand fs = cond (has_namespace fs) (expand_behind fs) (expand_all fs)
+abbrev pub expand : FormTrees → ExpansionOutcome FormTrees
+expand fs = cond (begins_with_namespace fs) (expand_behind fs) (expand_all fs)

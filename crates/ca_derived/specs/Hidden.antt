@@ -8,8 +8,8 @@ use Rattle.ca_reader.specs.Bytes.{has_byte}
 use Rattle.ca_reader.specs.Form.{FormTree, FormTrees, ShapeTree, form, atom, group, symbol, none, item}
 
 -- it holds the byte `#`
-abbrev pub is_hidden : List ℕ → Bool
-is_hidden s = has_byte 35 s
+abbrev pub is_hidden_name : List ℕ → Bool
+is_hidden_name s = has_byte 35 s
 
 -- The heads of lists that bind: in the vector behind the head names stand in turn with values, and each is bound in the
 -- values behind it and in the forms behind the vector. (`if-some` binds in the first of these alone; the rows give it nil
@@ -18,13 +18,13 @@ abbrev pub is_binder : FormTree → Bool
 is_binder (form (atom (symbol s)) p) = bytes_eq s (codes "let") || (bytes_eq s (codes "loop") || (bytes_eq s (codes "go-loop") || bytes_eq s (codes "if-some")))
 is_binder f = false
 
-abbrev pub is_vector : FormTree → Bool
-is_vector (form (group Square fs) p) = true
-is_vector f = false
+abbrev pub is_vector_form : FormTree → Bool
+is_vector_form (form (group Square fs) p) = true
+is_vector_form f = false
 
-abbrev pub binds : Bracket → FormTrees → Bool
-binds Round (item h (item v fs)) = is_vector v && is_binder h
-binds b fs = false
+abbrev pub is_binding_form : Bracket → FormTrees → Bool
+is_binding_form Round (item h (item v fs)) = is_vector_form v && is_binder h
+is_binding_form b fs = false
 
 -- hidden names
 abbrev pub Names : Type 0
@@ -32,11 +32,11 @@ Names = List (List ℕ)
 
 -- the name isn't hidden, or is one of these
 abbrev pub is_bound : Names → List ℕ → Bool
-is_bound ns s = not (is_hidden s) || list_any (bytes_eq s) ns
+is_bound ns s = not (is_hidden_name s) || list_any (bytes_eq s) ns
 
-abbrev pub with_name : FormTree → Names → Names
-with_name (form (atom (symbol s)) p) ns = s ∷ ns
-with_name f ns = ns
+abbrev pub with_hidden_name : FormTree → Names → Names
+with_hidden_name (form (atom (symbol s)) p) ns = s ∷ ns
+with_hidden_name f ns = ns
 
 abbrev pub either : Bool → (Names → Type 0) → (Names → Type 0) → Names → Type 0
 either true f g = f
@@ -50,7 +50,7 @@ abbrev mutual
   pub ShapeBound : ShapeTree → Names → Type 0
   ShapeBound (atom (symbol s)) ns = is_bound ns s ≡ true
   ShapeBound (atom a) ns = Unit {0}
-  ShapeBound (group b fs) ns = either (binds b fs) (ListBound fs) (AllBound fs) ns
+  ShapeBound (group b fs) ns = either (is_binding_form b fs) (ListBound fs) (AllBound fs) ns
 
   pub AllBound : FormTrees → Names → Type 0
   AllBound none ns = Unit {0}
@@ -78,4 +78,4 @@ abbrev mutual
 
   pub ValueBound : FormTree → FormTrees → (Names → Type 0) → Names → Type 0
   ValueBound n none body ns = body ns
-  ValueBound n (item e fs) body ns = IsBound e ns × PairsBound fs body (with_name n ns)
+  ValueBound n (item e fs) body ns = IsBound e ns × PairsBound fs body (with_hidden_name n ns)

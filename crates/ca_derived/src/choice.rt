@@ -2,11 +2,11 @@ ghost use Rattle.std.specs.Prelude.{◌≡◌, ◌≤◌, ◌-◌, IfOk, OnOk, [
 ghost use Rattle.ca_value.specs.Seq.{list};
 ghost use Rattle.ca_reader.specs.declared.form.Bracket.TheVariants.{Square};
 ghost use Rattle.ca_reader.specs.Form.{form, group};
-ghost use Rattle.ca_reader.specs.View.{form_tree, form_trees, trees_of};
+ghost use Rattle.ca_reader.specs.View.{form_tree, form_trees, form_trees_of};
 ghost use Rattle.ca_derived.specs.Forms.{lettered, square};
 ghost use Rattle.ca_derived.specs.Rows.{call};
-ghost use Rattle.ca_derived.specs.Templates.{name_of};
-ghost use Rattle.ca_derived.specs.Choice.{no_choice, port_name, value_name, key_at, test, with_take, with_put, with_operation, with_operations, is_put, items_of, is_names, begins_with_names, binds_answer, bound_result, kind_of, with_clause, options_of, tests, result_of, with_many, with_port, with_priority, with_default, with_pair, with_pairs, row_choose};
+ghost use Rattle.ca_derived.specs.Templates.{template_name};
+ghost use Rattle.ca_derived.specs.Choice.{no_choice, port_name, value_name, key_at, test, with_take, with_put, with_operation, with_operations, is_put, form_items, is_names, begins_with_names, binds_answer, bound_result, form_kind, with_clause, options_of, tests, clause_result, with_many, with_port_clause, with_priority, with_default_clause, with_pair, with_pairs, row_choose};
 ghost use Rattle.ca_derived.specs.ChoiceView.{choice_view};
 ghost use Rattle.ca_derived.specs.DraftView.{drafted};
 
@@ -189,7 +189,7 @@ impl Choice {
 
     // A clause of the cond whose result may bind the answer.
     fn clause(&mut self, alloc: Global, test: Form, outcome: Form) -> Result<(), OutOfMemory>
-        ensures { OnOk result (choice_view self.new ≡ with_clause (form_tree test) (result_of (form_tree outcome)) (choice_view self.old)) }
+        ensures { OnOk result (choice_view self.new ≡ with_clause (form_tree test) (clause_result (form_tree outcome)) (choice_view self.old)) }
     {
         let form = result_of(alloc, outcome)?;
         self.clauses.pair(test, form)?;
@@ -203,7 +203,7 @@ impl Choice {
         port: Form,
         outcome: Form,
     ) -> Result<(), OutOfMemory>
-        ensures { OnOk result (choice_view self.new ≡ with_port place (form_tree port) (form_tree outcome) (choice_view self.old)) }
+        ensures { OnOk result (choice_view self.new ≡ with_port_clause place (form_tree port) (form_tree outcome) (choice_view self.old)) }
     {
         let name = port_name(alloc, place, self.operations.len())?;
         self.take(alloc, place, port)?;
@@ -221,7 +221,7 @@ impl Choice {
     }
 
     fn default(&mut self, alloc: Global, place: Place, form: Form) -> Result<(), OutOfMemory>
-        ensures { OnOk result (choice_view self.new ≡ with_default place (form_tree form) (choice_view self.old)) }
+        ensures { OnOk result (choice_view self.new ≡ with_default_clause place (form_tree form) (choice_view self.old)) }
     {
         let key = keyword(alloc, place, b"default")?;
         let test = test(alloc, place, key)?;
@@ -261,7 +261,7 @@ pub enum Kind {
 }
 
 fn kind_of(form: &Form) -> Kind
-    ensures { result ≡ kind_of (form_tree form.now) }
+    ensures { result ≡ form_kind (form_tree form.now) }
 {
     match &form.shape {
         Shape::Key(name) => {
@@ -291,7 +291,7 @@ fn is_put(form: &Form) -> bool
 
 // What stands in the form's brackets.
 fn items_of(alloc: Global, form: Form) -> Forms
-    ensures { form_trees (list result) ≡ items_of (form_tree form) }
+    ensures { form_trees (list result) ≡ form_items (form_tree form) }
 {
     let Form { shape, .. } = form;
     match shape {
@@ -350,7 +350,7 @@ fn bound_result(alloc: Global, place: Place, parts: Forms) -> Result<Form, OutOf
 }
 
 fn result_of(alloc: Global, form: Form) -> Result<Form, OutOfMemory>
-    ensures { IfOk result (λ f. form_tree f ≡ result_of (form_tree form)) }
+    ensures { IfOk result (λ f. form_tree f ≡ clause_result (form_tree form)) }
 {
     if binds_answer(&form) {
         let place = form.place;
@@ -384,7 +384,7 @@ fn choosing(
     priority: bool,
     default: bool,
 ) -> Result<Form, OutOfMemory>
-    ensures { IfOk result (λ f. form_tree f ≡ call place (name_of name) (square place (drafted operations) ∷ options_of place priority default)) }
+    ensures { IfOk result (λ f. form_tree f ≡ call place (template_name name) (square place (drafted operations) ∷ options_of place priority default)) }
 {
     let mut alts = Draft::new(alloc);
     alts.name(alloc, place, name)?;
@@ -405,7 +405,7 @@ fn choosing(
 
 /// The list of an `alt!`, or of an `alt!!` by its name.
 pub fn choose(alloc: Global, name: Name, place: Place, parts: Forms) -> Result<Form, OutOfMemory>
-    ensures { IfOk result (λ f. form_tree f ≡ row_choose place (name_of name) (form_trees (list parts))) }
+    ensures { IfOk result (λ f. form_tree f ≡ row_choose place (template_name name) (form_trees (list parts))) }
 {
     let choice = pairs(alloc, place, parts)?;
     let Choice {
@@ -428,7 +428,7 @@ pub fn choose(alloc: Global, name: Name, place: Place, parts: Forms) -> Result<F
 
 // The vector of the names of a put.
 fn named_pair(alloc: Global, place: Place, number: usize) -> Result<Form, OutOfMemory>
-    ensures { IfOk result (λ f. form_tree f ≡ form (group Square (trees_of (port_name place number ∷ value_name place number ∷ []))) place) }
+    ensures { IfOk result (λ f. form_tree f ≡ form (group Square (form_trees_of (port_name place number ∷ value_name place number ∷ []))) place) }
 {
     let mut draft = Draft::new(alloc);
     let port = port_name(alloc, place, number)?;

@@ -1,5 +1,5 @@
 ghost use Rattle.std.specs.Prelude.{◌≡◌};
-ghost use Rattle.ca_derived.specs.Kind.{kind_name};
+ghost use Rattle.ca_derived.specs.Kind.{forms_error_name};
 
 use ca_term::place::Place;
 use ca_value::memory::OutOfMemory as NoMemory;
@@ -16,7 +16,7 @@ pub enum FormsErrorKind {
 impl FormsErrorKind {
     /// The word that a runner prints for it.
     pub fn name(self) -> &'static str
-        ensures { result.now ≡ kind_name self }
+        ensures { result.now ≡ forms_error_name self }
     {
         match self {
             FormsErrorKind::BadForm => "BadForm",

@@ -4,9 +4,9 @@ ghost use Rattle.ca_term.specs.declared.place.Place.{Place};
 ghost use Rattle.ca_reader.specs.declared.form.Bracket.TheVariants.{Round};
 ghost use Rattle.ca_reader.specs.Form.{group, form};
 ghost use Rattle.ca_reader.specs.View.{form_tree, form_trees};
-ghost use Rattle.ca_derived.specs.Outcome.{made, Fails};
+ghost use Rattle.ca_derived.specs.Outcome.{made, ExpansionFails};
 ghost use Rattle.ca_derived.specs.Words.{word};
-ghost use Rattle.ca_derived.specs.Expand.{row, expand_symbol, head_word, expand_form, expand_list, expand_all, is_namespace, has_namespace, expand_behind, expand};
+ghost use Rattle.ca_derived.specs.Expand.{word_row, expand_symbol, leading_word, expand_form, expand_list, expand_all, is_namespace_form, begins_with_namespace, expand_behind, expand};
 
 use crate::choice::choose;
 use crate::copy::copy_form;
@@ -26,7 +26,7 @@ use std::alloc::Global;
 /// first form that is a list headed by `ns` stays as it is.
 pub fn expand(alloc: Global, forms: &Forms) -> Result<Forms, FormsError>
     ensures made { IfOk result (λ fs. expand (form_trees (list forms.now)) ≡ made (form_trees (list fs))) }
-    ensures refused { IfErr result (λ e. Fails e (expand (form_trees (list forms.now)))) }
+    ensures refused { IfErr result (λ e. ExpansionFails e (expand (form_trees (list forms.now)))) }
 {
     let forms = forms.as_slice();
     if has_namespace(forms) {
@@ -39,7 +39,7 @@ pub fn expand(alloc: Global, forms: &Forms) -> Result<Forms, FormsError>
 // A symbol that heads no list.
 fn symbol_form(alloc: Global, place: Place, name: &Text) -> Result<Form, FormsError>
     ensures ok { IfOk result (λ f. expand_symbol (word (list name.now)) (list name.now) place ≡ made (form_tree f)) }
-    ensures err { IfErr result (λ e. Fails e (expand_symbol (word (list name.now)) (list name.now) place)) }
+    ensures err { IfErr result (λ e. ExpansionFails e (expand_symbol (word (list name.now)) (list name.now) place)) }
 {
     if Word::named(name.as_slice()).is_some() {
         return Err(FormsError::Fault(FormsErrorKind::BadForm, place));
@@ -49,7 +49,7 @@ fn symbol_form(alloc: Global, place: Place, name: &Text) -> Result<Form, FormsEr
 }
 
 fn head_word(parts: &[Form]) -> Option<Word>
-    ensures { result ≡ head_word (form_trees parts.now) }
+    ensures { result ≡ leading_word (form_trees parts.now) }
 {
     if parts.len() == 0 {
         return None;
@@ -63,7 +63,7 @@ fn head_word(parts: &[Form]) -> Option<Word>
 
 // The word's list of these parts.
 fn row(alloc: Global, word: Word, place: Place, parts: Forms) -> Result<Form, OutOfMemory>
-    ensures { IfOk result (λ f. form_tree f ≡ row word place (form_trees (list parts))) }
+    ensures { IfOk result (λ f. form_tree f ≡ word_row word place (form_trees (list parts))) }
 {
     match word {
         Word::Choose => choose(alloc, Name::Alts, place, parts),
@@ -79,7 +79,7 @@ fn row(alloc: Global, word: Word, place: Place, parts: Forms) -> Result<Form, Ou
 #[cycle(expand)]
 fn expand_form(alloc: Global, form: &Form) -> Result<Form, FormsError>
     ensures ok { IfOk result (λ f. expand_form (form_tree form.now) ≡ made (form_tree f)) }
-    ensures err { IfErr result (λ e. Fails e (expand_form (form_tree form.now))) }
+    ensures err { IfErr result (λ e. ExpansionFails e (expand_form (form_tree form.now))) }
 {
     match &form.shape {
         Shape::Nil | Shape::Bool(_) | Shape::Int(_) | Shape::Text(_) | Shape::Key(_) => {
@@ -102,7 +102,7 @@ fn expand_form(alloc: Global, form: &Form) -> Result<Form, FormsError>
 #[cycle(expand)]
 fn expand_list(alloc: Global, place: Place, parts: &[Form]) -> Result<Form, FormsError>
     ensures ok { IfOk result (λ f. expand_list (form_trees parts.now) place ≡ made (form_tree f)) }
-    ensures err { IfErr result (λ e. Fails e (expand_list (form_trees parts.now) place)) }
+    ensures err { IfErr result (λ e. ExpansionFails e (expand_list (form_trees parts.now) place)) }
 {
     match head_word(parts) {
         None => {
@@ -125,7 +125,7 @@ fn expand_list(alloc: Global, place: Place, parts: &[Form]) -> Result<Form, Form
 fn expand_all(alloc: Global, parts: &[Form], from: usize) -> Result<Forms, FormsError>
     requires { from ≤ length parts.now }
     ensures ok { IfOk result (λ fs. expand_all (form_trees (drop from parts.now)) ≡ made (form_trees (list fs))) }
-    ensures err { IfErr result (λ e. Fails e (expand_all (form_trees (drop from parts.now)))) }
+    ensures err { IfErr result (λ e. ExpansionFails e (expand_all (form_trees (drop from parts.now)))) }
 {
     let mut forms = Forms::new(alloc);
     forms.reserve((parts.len() - from) as u64)?;
@@ -138,7 +138,7 @@ fn expand_all(alloc: Global, parts: &[Form], from: usize) -> Result<Forms, Forms
 
 // The word `ns` stands first.
 fn begins_namespace(parts: &[Form]) -> bool
-    ensures { (p : Place) → result ≡ is_namespace (form (group Round (form_trees parts.now)) p) }
+    ensures { (p : Place) → result ≡ is_namespace_form (form (group Round (form_trees parts.now)) p) }
 {
     if parts.len() == 0 {
         return false;
@@ -151,7 +151,7 @@ fn begins_namespace(parts: &[Form]) -> bool
 }
 
 fn is_namespace(form: &Form) -> bool
-    ensures { result ≡ is_namespace (form_tree form.now) }
+    ensures { result ≡ is_namespace_form (form_tree form.now) }
 {
     match &form.shape {
         Shape::List(parts) => begins_namespace(parts.as_slice()),
@@ -162,7 +162,7 @@ fn is_namespace(form: &Form) -> bool
 }
 
 fn has_namespace(forms: &[Form]) -> bool
-    ensures is { result ≡ has_namespace (form_trees forms.now) }
+    ensures is { result ≡ begins_with_namespace (form_trees forms.now) }
     ensures some { IsTrue result → 0 < length forms.now }
 {
     if forms.len() == 0 {
@@ -175,7 +175,7 @@ fn has_namespace(forms: &[Form]) -> bool
 fn expand_behind(alloc: Global, forms: &[Form]) -> Result<Forms, FormsError>
     requires { 0 < length forms.now }
     ensures made { IfOk result (λ fs. expand_behind (form_trees forms.now) ≡ made (form_trees (list fs))) }
-    ensures refused { IfErr result (λ e. Fails e (expand_behind (form_trees forms.now))) }
+    ensures refused { IfErr result (λ e. ExpansionFails e (expand_behind (form_trees forms.now))) }
 {
     let rest = expand_all(alloc, forms, 1)?;
     let first = copy_form(alloc, &forms[0])?;

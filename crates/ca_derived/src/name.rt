@@ -1,5 +1,5 @@
 ghost use Rattle.std.specs.Prelude.{◌≡◌};
-ghost use Rattle.ca_derived.specs.Templates.{name_of};
+ghost use Rattle.ca_derived.specs.Templates.{template_name};
 
 /// The names in the forms that stand for others. Those with a `#` are hidden: no script can name them.
 #[derive(Clone, Copy)]
@@ -43,7 +43,7 @@ pub enum Name {
 impl Name {
     /// How it is written.
     pub fn bytes(self) -> &'static [u8]
-        ensures { result.now ≡ name_of self }
+        ensures { result.now ≡ template_name self }
     {
         match self {
             Name::Let => b"let",

@@ -1,7 +1,7 @@
 ghost use Rattle.std.specs.Prelude.{◌≡◌, IfOk};
 ghost use Rattle.ca_value.specs.Seq.{list};
 ghost use Rattle.ca_reader.specs.View.{form_tree, form_trees};
-ghost use Rattle.ca_derived.specs.Rows.{row_reduce, row_into, row_take, row_split};
+ghost use Rattle.ca_derived.specs.Rows.{row_reduce, row_into, row_of_take, row_split};
 
 use crate::name::Name;
 use crate::template::{Token, behind, fill, headed, nothing, only};
@@ -44,7 +44,7 @@ pub fn split(alloc: Global, place: Place, parts: Forms) -> Result<Form, OutOfMem
 
 /// The list of a `take`, of a number, a channel and, for the channel that it makes, what `chan` is given.
 pub fn take(alloc: Global, place: Place, parts: Forms) -> Result<Form, OutOfMemory>
-    ensures { IfOk result (λ f. form_tree f ≡ row_take place (form_trees (list parts))) }
+    ensures { IfOk result (λ f. form_tree f ≡ row_of_take place (form_trees (list parts))) }
 {
     if parts.len() == 2 || parts.len() == 3 {
         let mut given = parts.into_vec();

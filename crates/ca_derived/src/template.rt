@@ -1,9 +1,9 @@
 ghost use Rattle.std.specs.Prelude.{◌≡◌, IfOk, OnOk, [], ◌∷◌, ◌++◌, length, map, get_or, slice_set};
 ghost use Rattle.ca_value.specs.Seq.{list};
 ghost use Rattle.ca_reader.specs.View.{form_tree};
-ghost use Rattle.ca_derived.specs.Forms.{round, square, name as named, nothing};
-ghost use Rattle.ca_derived.specs.Rows.{call, number};
-ghost use Rattle.ca_derived.specs.Templates.{filled, name_of, before, last, first_of};
+ghost use Rattle.ca_derived.specs.Forms.{round, square, name as named, nil_form};
+ghost use Rattle.ca_derived.specs.Rows.{call, number_form};
+ghost use Rattle.ca_derived.specs.Templates.{filled, template_name, forms_before, last, first_form};
 ghost use Rattle.ca_derived.specs.DraftView.{drafted};
 
 use crate::name::Name;
@@ -43,14 +43,14 @@ pub fn symbol(alloc: Global, place: Place, name: &[u8]) -> Result<Form, OutOfMem
 
 /// Nil, at the place.
 pub fn nothing(place: Place) -> Form
-    ensures { form_tree result ≡ nothing place }
+    ensures { form_tree result ≡ nil_form place }
 {
     Form::new(Shape::Nil, place)
 }
 
 /// The forms behind a name.
 pub fn behind(alloc: Global, place: Place, name: Name, forms: Forms) -> Result<Forms, OutOfMemory>
-    ensures { IfOk result (λ fs. map form_tree (list fs) ≡ named place (name_of name) ∷ map form_tree (list forms)) }
+    ensures { IfOk result (λ fs. map form_tree (list fs) ≡ named place (template_name name) ∷ map form_tree (list forms)) }
 {
     let mut forms = forms.into_vec();
     let head = symbol(alloc, place, name.bytes())?;
@@ -60,7 +60,7 @@ pub fn behind(alloc: Global, place: Place, name: Name, forms: Forms) -> Result<F
 
 /// A list of these forms behind a name.
 pub fn headed(alloc: Global, place: Place, name: Name, forms: Forms) -> Result<Form, OutOfMemory>
-    ensures { IfOk result (λ f. form_tree f ≡ call place (name_of name) (map form_tree (list forms))) }
+    ensures { IfOk result (λ f. form_tree f ≡ call place (template_name name) (map form_tree (list forms))) }
 {
     let forms = behind(alloc, place, name, forms)?;
     Ok(Form::new(Shape::List(forms), place))
@@ -78,7 +78,7 @@ impl Draft {
 
     /// A name behind the others.
     pub fn name(&mut self, alloc: Global, place: Place, name: Name) -> Result<(), OutOfMemory>
-        ensures { OnOk result (drafted self.new ≡ drafted self.old ++ named place (name_of name) ∷ []) }
+        ensures { OnOk result (drafted self.new ≡ drafted self.old ++ named place (template_name name) ∷ []) }
     {
         let form = symbol(alloc, place, name.bytes())?;
         self.add(form)
@@ -111,7 +111,7 @@ impl Draft {
     // The last so many forms, which leave the draft.
     fn cut(&mut self, count: usize) -> Result<Forms, OutOfMemory>
         ensures ok { IfOk result (λ fs. map form_tree (list fs) ≡ last count (drafted self.old)) }
-        ensures rest { OnOk result (drafted self.new ≡ before count (drafted self.old)) }
+        ensures rest { OnOk result (drafted self.new ≡ forms_before count (drafted self.old)) }
     {
         let from = self.forms.len().saturating_sub(count);
         let last = self.forms.split_off(from)?;
@@ -120,7 +120,7 @@ impl Draft {
 
     /// The last so many forms as a list.
     pub fn round(&mut self, place: Place, count: usize) -> Result<(), OutOfMemory>
-        ensures { OnOk result (drafted self.new ≡ before count (drafted self.old) ++ round place (last count (drafted self.old)) ∷ []) }
+        ensures { OnOk result (drafted self.new ≡ forms_before count (drafted self.old) ++ round place (last count (drafted self.old)) ∷ []) }
     {
         let inner = self.cut(count)?;
         self.add(Form::new(Shape::List(inner), place))
@@ -144,7 +144,7 @@ impl Draft {
 
     /// The last so many forms as a vector.
     pub fn square(&mut self, place: Place, count: usize) -> Result<(), OutOfMemory>
-        ensures { OnOk result (drafted self.new ≡ before count (drafted self.old) ++ square place (last count (drafted self.old)) ∷ []) }
+        ensures { OnOk result (drafted self.new ≡ forms_before count (drafted self.old) ++ square place (last count (drafted self.old)) ∷ []) }
     {
         let inner = self.cut(count)?;
         self.add(Form::new(Shape::Vector(inner), place))
@@ -179,8 +179,8 @@ pub fn fill(
 
 /// The form of that number, which leaves its place to nil; nil where there is none.
 pub fn given_form(given: &mut Forms, number: u64, place: Place) -> Form
-    ensures form { form_tree result ≡ get_or (map form_tree (list given.old)) number (nothing place) }
-    ensures rest { map form_tree (list given.new) ≡ slice_set (map form_tree (list given.old)) number (nothing place) }
+    ensures form { form_tree result ≡ get_or (map form_tree (list given.old)) number (nil_form place) }
+    ensures rest { map form_tree (list given.new) ≡ slice_set (map form_tree (list given.old)) number (nil_form place) }
 {
     let nil = nothing(place);
     if number < given.len() {
@@ -192,7 +192,7 @@ pub fn given_form(given: &mut Forms, number: u64, place: Place) -> Form
 
 /// The first form of the draft, or nil.
 pub fn only(draft: Draft, place: Place) -> Form
-    ensures { form_tree result ≡ first_of place (drafted draft) }
+    ensures { form_tree result ≡ first_form place (drafted draft) }
 {
     let Draft { mut forms } = draft;
     if forms.len() == 0 {

@@ -4,20 +4,20 @@ use Rattle.std.specs.Prelude.{codes}
 use Rattle.std.specs.Str.{bytes_eq}
 use Rattle.std.proofs.lemmas.Bool.{lt-ltb, le-ltb}
 use Rattle.ca_forms.specs.Uses.{uses}
-use Rattle.ca_forms.specs.Go.{spawned, unmade}
+use Rattle.ca_forms.specs.Go.{go_spawned, unmade}
 use Rattle.ca_value.specs.Tree.{Tree, port}
 use Rattle.ca_term.specs.Kernel.{const, var, put}
 use Rattle.ca_term.specs.declared.place.Place.{Place}
 use Rattle.ca_forms.specs.Outcome.{Gathered, done}
 use Rattle.ca_forms.specs.Walk.{walk}
-use Rattle.ca_derived.specs.Rows.{taking}
-use Rattle.ca_forms.specs.Meaning.{Env, size, lookup, last_of}
-use Rattle.ca_derived_kernels.specs.Walked.{Bound, text_over, TextsStart, TakesWalked, TakeBinds}
+use Rattle.ca_derived.specs.Rows.{task_of_take}
+use Rattle.ca_forms.specs.Meaning.{Env, size, lookup, last_position}
+use Rattle.ca_derived_kernels.specs.Walked.{TakeNamesBound, take_text_over, TextsStart, TakesWalked, TakeBinds}
 
 -- the innermost name is the last one
-last_more : (x y : List ℕ) (ys : List (List ℕ)) (i : ℕ) (best : Option ℕ) → last_of x (ys ++ y ∷ []) i best ≡ cond (bytes_eq x y) (Some (i + length ys)) (last_of x ys i best)
+last_more : (x y : List ℕ) (ys : List (List ℕ)) (i : ℕ) (best : Option ℕ) → last_position x (ys ++ y ∷ []) i best ≡ cond (bytes_eq x y) (Some (i + length ys)) (last_position x ys i best)
 last_more x y [] i best = ap (λ n. cond (bytes_eq x y) (Some n) best) (let k : i ≡ i + 0 = omega arith in k)
-last_more x y (z ∷ zs) i best = last_more x y zs (suc i) (cond (bytes_eq x z) (Some i) best) ∙ ap (λ n. cond (bytes_eq x y) (Some n) (last_of x zs (suc i) (cond (bytes_eq x z) (Some i) best))) (let k : suc i + length zs ≡ i + suc (length zs) = omega arith in k)
+last_more x y (z ∷ zs) i best = last_more x y zs (suc i) (cond (bytes_eq x z) (Some i) best) ∙ ap (λ n. cond (bytes_eq x y) (Some n) (last_position x zs (suc i) (cond (bytes_eq x z) (Some i) best))) (let k : suc i + length zs ≡ i + suc (length zs) = omega arith in k)
 
 pub another : (x y : List ℕ) (ys : List (List ℕ)) (o : Option ℕ) → bytes_eq x y ≡ false → lookup x ys ≡ o → lookup x (ys ++ y ∷ []) ≡ o
 another x y ys o e h = last_more x y ys 0 None ∙ ap (λ b. cond b (Some (0 + length ys)) (lookup x ys)) e ∙ h
@@ -62,7 +62,7 @@ pub longer : (ys : List (List ℕ)) (y : List ℕ) → length (ys ++ y ∷ []) �
 longer [] y = refl
 longer (z ∷ zs) y = ap suc (longer zs y)
 
-module _ (env : Env) (s : Gathered) (p : Place) (b c o : ℕ) (x : Bound env b c o) where
+module _ (env : Env) (s : Gathered) (p : Place) (b c o : ℕ) (x : TakeNamesBound env b c o) where
   abbrev inner_scope : List (List ℕ)
   inner_scope = env.scope ++ [] ∷ []
 
@@ -109,7 +109,7 @@ module _ (env : Env) (s : Gathered) (p : Place) (b c o : ℕ) (x : Bound env b c
   above n h = le-ltb n (length env.scope) h
 
   module _ (lb : b < length env.scope) (lc : c < length env.scope) (lo : o < length env.scope) (bc : b ≢ c) (bo : b ≢ o) (co : c ≢ o) where
-    uses_are : uses (length env.scope) (text_over (suc (length env.scope)) b c o (length env.scope) p) [] ≡ b ∷ c ∷ o ∷ []
+    uses_are : uses (length env.scope) (take_text_over (suc (length env.scope)) b c o (length env.scope) p) [] ≡ b ∷ c ∷ o ∷ []
     uses_are = rw (
       above (suc (length env.scope)) (omega arith),
       above (suc (suc (length env.scope))) (omega arith),
@@ -126,9 +126,9 @@ module _ (env : Env) (s : Gathered) (p : Place) (b c o : ℕ) (x : Bound env b c
       apart o c (λ e. co (sym e)),
     ) refl
 
-    pub walked : walk (taking p) env s
-        ≡ done (spawned (length s.bodies) (size env) (b ∷ c ∷ o ∷ []) p)
-        (record s { bodies = slice_set (s.bodies ++ unmade ∷ []) (length s.bodies) (record { parameters = b ∷ c ∷ o ∷ size env ∷ []; body = text_over (suc (size env)) b c o (size env) p }) })
+    pub walked : walk (task_of_take p) env s
+        ≡ done (go_spawned (length s.bodies) (size env) (b ∷ c ∷ o ∷ []) p)
+        (record s { bodies = slice_set (s.bodies ++ unmade ∷ []) (length s.bodies) (record { parameters = b ∷ c ∷ o ∷ size env ∷ []; body = take_text_over (suc (size env)) b c o (size env) p }) })
     walked = rw (
       at_loop (codes "<") None refl refl x.less,
       x.less_free,

@@ -9,12 +9,12 @@ use Rattle.ca_term.specs.declared.head.Head.TheVariants.{Builtin, Call}
 use Rattle.ca_term.specs.Kernel.{const, var, put}
 use Rattle.ca_reader.specs.Form.{form, atom, symbol}
 use Rattle.ca_forms.specs.Uses.{uses}
-use Rattle.ca_forms.specs.Go.{spawned, unmade}
+use Rattle.ca_forms.specs.Go.{go_spawned, unmade}
 use Rattle.ca_forms.specs.Outcome.{Gathered, done}
 use Rattle.ca_forms.specs.Walk.{walk}
 use Rattle.ca_forms.specs.Meaning.{Env, size, lookup}
 use Rattle.ca_derived.specs.Rows.{reducing}
-use Rattle.ca_derived_kernels.specs.WalkedReduce.{Names, a_builtin, a_function, BoundReduce, text_over, ReduceStarts, ReduceWalked, behind_let, IsWritten, ReduceBinds}
+use Rattle.ca_derived_kernels.specs.WalkedReduce.{NamesHead, a_builtin, a_function, BoundReduce, reduce_text_over, ReduceStarts, ReduceWalked, behind_reduce_let, IsWritableName, ReduceBinds}
 use Rattle.std.proofs.lemmas.Bool.{lt-ltb, le-ltb}
 use Rattle.ca_derived_kernels.proofs.Walking.{another, newest, same, apart, longer}
 
@@ -78,15 +78,15 @@ module _ (env : Env) (s : List ℕ) (f : Head) (g : Gathered) (p q : Place) (i c
   above n h = le-ltb n (length env.scope) h
 
   module _ (li : i < length env.scope) (lc : c < length env.scope) (ic : i ≢ c) where
-    uses_are : (h : Head) → uses (length env.scope) (text_over h (suc (length env.scope)) i c (length env.scope) p) [] ≡ i ∷ c ∷ []
+    uses_are : (h : Head) → uses (length env.scope) (reduce_text_over h (suc (length env.scope)) i c (length env.scope) p) [] ≡ i ∷ c ∷ []
     uses_are h = rw (above (suc (length env.scope)) (omega arith), above (suc (suc (length env.scope))) (omega arith), above (length env.scope) (omega arith), below i li, below c lc, apart c i (λ e. ic (sym e))) refl
 
     abbrev Walked : Head → Type 0
     Walked h = walk (reducing p (form (atom (symbol s)) q)) env g
-        ≡ done (spawned (length g.bodies) (size env) (i ∷ c ∷ []) p)
-        (record g { bodies = slice_set (g.bodies ++ unmade ∷ []) (length g.bodies) (record { parameters = i ∷ c ∷ size env ∷ []; body = text_over h (suc (size env)) i c (size env) p }) })
+        ≡ done (go_spawned (length g.bodies) (size env) (i ∷ c ∷ []) p)
+        (record g { bodies = slice_set (g.bodies ++ unmade ∷ []) (length g.bodies) (record { parameters = i ∷ c ∷ size env ∷ []; body = reduce_text_over h (suc (size env)) i c (size env) p }) })
 
-    walked : Names env s f → Walked f
+    walked : NamesHead env s f → Walked f
     walked (a_builtin b fb free is two) = subst Walked (sym fb) (rw (
       at_inner (codes "#initial") (Some i) refl x.initial,
       at_loop (codes "#channel") (Some c) refl refl x.channel,
@@ -146,6 +146,6 @@ reduce_binds env s f is_nil is_nil_free plain no_form written outside names = re
   past : (x : List ℕ) → bytes_eq x (codes "#initial") ≡ false → bytes_eq x (codes "#channel") ≡ false → lookup x env.scope ≡ None → lookup x (one ++ codes "#channel" ∷ []) ≡ None
   past x e f h = another x (codes "#channel") one None f (another x (codes "#initial") env.scope None e h)
 
-  by : Names env s f → Names (behind_let env) s f
+  by : NamesHead env s f → NamesHead (behind_reduce_let env) s f
   by (a_builtin b e h j k) = a_builtin b e h j k
   by (a_function n g e h j k) = a_function n g e h j k

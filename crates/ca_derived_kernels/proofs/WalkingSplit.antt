@@ -10,13 +10,13 @@ use Rattle.ca_term.specs.declared.head.Head.{Head}
 use Rattle.ca_term.specs.declared.head.Head.TheVariants.{Builtin, Call}
 use Rattle.ca_reader.specs.Form.{FormTree, form, atom, symbol}
 use Rattle.ca_forms.specs.Uses.{uses}
-use Rattle.ca_forms.specs.Go.{spawned, unmade}
+use Rattle.ca_forms.specs.Go.{go_spawned, unmade}
 use Rattle.ca_forms.specs.Outcome.{Gathered, done}
 use Rattle.ca_forms.specs.Walk.{walk}
 use Rattle.ca_forms.specs.Meaning.{Env, size, lookup}
 use Rattle.ca_derived.specs.Rows.{parting}
-use Rattle.ca_derived_kernels.specs.WalkedReduce.{IsWritten}
-use Rattle.ca_derived_kernels.specs.WalkedSplit.{IsFreeName, Tests, by_builtin, by_function, by_keyword, BoundSplit, text_over, SplitStarts, SplitWalked, behind_let, SplitBinds}
+use Rattle.ca_derived_kernels.specs.WalkedReduce.{IsWritableName}
+use Rattle.ca_derived_kernels.specs.WalkedSplit.{IsFreeName, Tests, by_builtin, by_function, by_keyword, BoundSplit, split_text_over, SplitStarts, SplitWalked, behind_split_let, SplitBinds}
 use Rattle.ca_derived_kernels.proofs.Walking.{another, newest, same, apart, longer, other, first, second, third, fourth}
 
 pub split_starts : SplitStarts
@@ -61,7 +61,7 @@ module _ (env : Env) (q : FormTree) (f : Head) (o : Option Tree) (g : Gathered) 
   above n h = le-ltb n (length env.scope) h
 
   module _ (lc : c < length env.scope) (lt : t < length env.scope) (lu : u < length env.scope) (ct : c ≢ t) (cu : c ≢ u) (tu : t ≢ u) where
-    uses_are : (h : Head) (k : Option Tree) → uses (length env.scope) (text_over h k (suc (length env.scope)) c t u (length env.scope) p) [] ≡ c ∷ t ∷ u ∷ []
+    uses_are : (h : Head) (k : Option Tree) → uses (length env.scope) (split_text_over h k (suc (length env.scope)) c t u (length env.scope) p) [] ≡ c ∷ t ∷ u ∷ []
     uses_are h None = rw (
       above (suc (length env.scope)) (omega arith),
       above (length env.scope) (omega arith),
@@ -95,8 +95,8 @@ module _ (env : Env) (q : FormTree) (f : Head) (o : Option Tree) (g : Gathered) 
 
     abbrev Walked : Head → Option Tree → FormTree → Type 0
     Walked h k z = walk (parting p z) env g
-        ≡ done (spawned (length g.bodies) (size env) (c ∷ t ∷ u ∷ []) p)
-        (record g { bodies = slice_set (g.bodies ++ unmade ∷ []) (length g.bodies) (record { parameters = c ∷ t ∷ u ∷ size env ∷ []; body = text_over h k (suc (size env)) c t u (size env) p }) })
+        ≡ done (go_spawned (length g.bodies) (size env) (c ∷ t ∷ u ∷ []) p)
+        (record g { bodies = slice_set (g.bodies ++ unmade ∷ []) (length g.bodies) (record { parameters = c ∷ t ∷ u ∷ size env ∷ []; body = split_text_over h k (suc (size env)) c t u (size env) p }) })
 
     walked : Tests env q f o → Walked f o q
     walked (by_builtin s z b qs fb oo free none is one) = subst (λ h. Walked h o q) (sym fb) (subst (λ k. Walked (Builtin b) k q) (sym oo) (subst (Walked (Builtin b) None) (sym qs)
@@ -171,10 +171,10 @@ split_binds env q f o is_nil is_nil_free outside tests = record {
   past : (x : List ℕ) → bytes_eq x (codes "#channel") ≡ false → bytes_eq x (codes "#true") ≡ false → bytes_eq x (codes "#false") ≡ false → lookup x env.scope ≡ None → lookup x (two ++ codes "#false" ∷ []) ≡ None
   past x e g h k = another x (codes "#false") two None h (another x (codes "#true") one None g (another x (codes "#channel") env.scope None e k))
 
-  free : (s : List ℕ) → IsWritten s → IsFreeName env s → IsFreeName (behind_let env) s
+  free : (s : List ℕ) → IsWritableName s → IsFreeName env s → IsFreeName (behind_split_let env) s
   free s w n = record { plain = past s (w (codes "channel")) (w (codes "true")) (w (codes "false")) n.plain; no_form = n.no_form; written = n.written; no_value = n.no_value }
 
-  by : Tests env q f o → Tests (behind_let env) q f o
+  by : Tests env q f o → Tests (behind_split_let env) q f o
   by (by_builtin s p b e h i n j k l) = by_builtin s p b e h i (free s (outside s p e) n) j k l
   by (by_function s p m g e h i n j k l) = by_function s p m g e h i (free s (outside s p e) n) j k l
   by (by_keyword s p e h i j) = by_keyword s p e h i j

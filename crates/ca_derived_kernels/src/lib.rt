@@ -3,8 +3,8 @@
 //! uses, is the term that the laws of `ca_derived_laws` speak of.
 //!
 //! It holds in each environment where the hidden names of the row are bound and its builtins are not shadowed
-//! (`Bound` of `specs/Walked.antt` and its like). Stands on `ca_forms`, whose `specs/Walk.antt` says what a form comes
-//! to, and on `ca_derived` and `ca_derived_laws`. Start with `specs/Walked.antt`.
+//! (`TakeNamesBound` of `specs/Walked.antt` and its like). Stands on `ca_forms`, whose `specs/Walk.antt` says what a
+//! form comes to, and on `ca_derived` and `ca_derived_laws`. Start with `specs/Walked.antt`.
 #![tactic(auto)]
 
 pub mod kernels;

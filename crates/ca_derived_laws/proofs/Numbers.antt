@@ -2,7 +2,7 @@
 use Rattle.std.proofs.Common.{◌≡◌, ℕ, suc, ◌+◌, ◌<◌, ◌≤◌, pos, negsuc, refl, ap, ◌∙◌, arith, Bool, true, false, not, cond, Ok, Err, nat_lt, nat_le, ◌&&◌}
 use Rattle.std.proofs.lemmas.Bool.{ltb-true, ltb-false}
 use Rattle.ca_value.specs.Tree.{Tree, nil, int, bool, text, key, vector, map, port, item, none}
-use Rattle.ca_value.specs.Outcome.{judged, number}
+use Rattle.ca_value.specs.Outcome.{judged, number_outcome}
 use Rattle.ca_value.specs.Builtins.{builtin_result}
 use Rattle.ca_value.specs.declared.fault.ValueFault.{ValueFault}
 use Rattle.ca_value.specs.declared.fault.ValueFault.TheVariants.{WrongKind, Overflow}
@@ -41,8 +41,8 @@ pub next_is : (k : ℕ) → Next k
 unfolding builtin_result
 next_is k = by (nat_le (k + 1) 9223372036854775807) refl where
   by : (b : Bool) → nat_le (k + 1) 9223372036854775807 ≡ b → Next k
-  by true e = next (ap (λ c. judged (number (cond c (Ok (pos (k + 1))) (Err Overflow)))) e ∙ ap (λ n. Ok (int (pos n))) (let h : k + 1 ≡ suc k = omega arith in h))
-  by false e = past Overflow (ap (λ c. judged (number (cond c (Ok (pos (k + 1))) (Err Overflow)))) e)
+  by true e = next (ap (λ c. judged (number_outcome (cond c (Ok (pos (k + 1))) (Err Overflow)))) e ∙ ap (λ n. Ok (int (pos n))) (let h : k + 1 ≡ suc k = omega arith in h))
+  by false e = past Overflow (ap (λ c. judged (number_outcome (cond c (Ok (pos (k + 1))) (Err Overflow)))) e)
 
 -- whether a number is less than the bound
 pub data Compared (k : ℕ) (n : Tree) : Type 0 where

@@ -19,8 +19,8 @@ use Rattle.ca_meaning.proofs.RedexFits.{seat}
 use Rattle.ca_meaning.proofs.Contracts.{Judges}
 use Rattle.ca_meaning.proofs.Bodies.{stepped, never_nowhere, taken}
 use Rattle.ca_derived_laws.specs.PlainHeads.{IsPlainFor}
-use Rattle.ca_derived_laws.specs.ReduceTask.{applies}
-use Rattle.ca_derived_laws.specs.SplitTask.{SplitTask, operands, operand_count, tests}
+use Rattle.ca_derived_laws.specs.ReduceTask.{reduce_applies}
+use Rattle.ca_derived_laws.specs.SplitTask.{SplitTask, operands, operand_count, split_tests}
 
 module _ (program : ProgramView) (checked : IsProgram program) where
   abbrev known : Known
@@ -134,11 +134,11 @@ module _ (program : ProgramView) (checked : IsProgram program) where
 
 -- a call of f comes to a value or a fault
 abbrev pub IsPlainCall : ProgramView → Head → Place → Type 0
-IsPlainCall program f p = (w a : Tree) (c : BodyView) → Rest program (new_body (applies f (const w) (const a) p)) c → ((want : WantView) → at c ≢ at_op want) × (at c ≢ nowhere)
+IsPlainCall program f p = (w a : Tree) (c : BodyView) → Rest program (new_body (reduce_applies f (const w) (const a) p)) c → ((want : WantView) → at c ≢ at_op want) × (at c ≢ nowhere)
 
 -- so does a call of the test
 abbrev pub IsPlainTest : ProgramView → SplitTask → Type 0
-IsPlainTest program x = (v : Tree) (c : BodyView) → Rest program (new_body (tests x (const v))) c → ((want : WantView) → at c ≢ at_op want) × (at c ≢ nowhere)
+IsPlainTest program x = (v : Tree) (c : BodyView) → Rest program (new_body (split_tests x (const v))) c → ((want : WantView) → at c ≢ at_op want) × (at c ≢ nowhere)
 
 pub plain_calls : (program : ProgramView) (f : Head) (p : Place) → IsPlainFor program f 2 → IsPlainCall program f p
 plain_calls program f p (checked, suits, plain) w a c r =

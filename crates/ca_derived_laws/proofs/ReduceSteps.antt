@@ -13,11 +13,11 @@ use Rattle.ca_term.specs.Program.{ProgramView}
 use Rattle.ca_meaning.specs.declared.body.FaultAt.{FaultAt}
 use Rattle.ca_meaning.specs.Asking.{too_large}
 use Rattle.ca_meaning.specs.Operands.{is_nil}
-use Rattle.ca_meaning.specs.Body.{BodyView, At, at, local, at_op, ended, faulted, nowhere, value_in, failed, new_body}
+use Rattle.ca_meaning.specs.Body.{BodyView, At, at, local, at_op, ended, faulted, nowhere, value_in, outcome_fault, new_body}
 use Rattle.ca_meaning.specs.Rest.{Rest}
 use Rattle.ca_derived_laws.specs.TakeTask.{does}
 use Rattle.ca_derived_laws.specs.ReduceLaw.{Comes}
-use Rattle.ca_derived_laws.specs.ReduceTask.{ReduceTask, applies, folds, decides, lets, asks, round, closes_result, ends, within, reduce_text}
+use Rattle.ca_derived_laws.specs.ReduceTask.{ReduceTask, reduce_applies, folds, reduce_decides, reduce_lets, reduce_asks, reduce_round, closes_result, reduce_ends, reduce_within, reduce_text}
 use Rattle.ca_derived_laws.proofs.PlainCalling.{IsPlainCall}
 use Rattle.ca_derived_laws.proofs.Resting.{goes, stays}
 use Rattle.ca_derived_laws.proofs.Numbers.{nil_is}
@@ -27,13 +27,13 @@ use Rattle.ca_derived_laws.proofs.Calls.{put_in, carried, behind, lower_rest, is
 use Rattle.ca_derived_laws.proofs.TakeSteps.{same, one_above, asking_stays}
 
 module _ (x : ReduceTask) where
-  put_round : (v : Tree) → put x.first v (round x (var x.first)) ≡ round x (const v)
+  put_round : (v : Tree) → put x.first v (reduce_round x (var x.first)) ≡ reduce_round x (const v)
   put_round v = rw (same x.first, one_above x.first) refl
 
-  put_decides : (k a : Tree) → put (suc x.first) a (decides x (const k) (var (suc x.first))) ≡ decides x (const k) (const a)
+  put_decides : (k a : Tree) → put (suc x.first) a (reduce_decides x (const k) (var (suc x.first))) ≡ reduce_decides x (const k) (const a)
   put_decides k a = rw (same (suc x.first)) refl
 
-  put_ends : (v : Tree) → put x.first v (ends x (var x.first)) ≡ ends x (const v)
+  put_ends : (v : Tree) → put x.first v (reduce_ends x (var x.first)) ≡ reduce_ends x (const v)
   put_ends v = rw (same x.first) refl
 
 abbrev pub deep : Kernel → ℕ → ℕ → BodyView
@@ -41,13 +41,13 @@ deep t n d = record { term = t; turns = n; depth = d; fault = None }
 
 module _ (program : ProgramView) (x : ReduceTask) where
   abbrev text : Kernel
-  text = round x (var x.first)
+  text = reduce_round x (var x.first)
 
   abbrev running : Kernel → Kernel
-  running now = within x (turn (x.first ∷ []) text now)
+  running now = reduce_within x (turn (x.first ∷ []) text now)
 
   abbrev pub asking_at : Tree → ℕ → ℕ → BodyView
-  asking_at v n d = deep (running (lets x (const v) (asks x))) n d
+  asking_at v n d = deep (running (reduce_lets x (const v) (reduce_asks x))) n d
 
   abbrev pub posting_at : Tree → ℕ → ℕ → BodyView
   posting_at v n d = deep (does (apply Post (kernels_of (const (port x.result) ∷ const v ∷ [])) x.place ∷ closes_result x ∷ [])) n d
@@ -55,7 +55,7 @@ module _ (program : ProgramView) (x : ReduceTask) where
   abbrev pub closing_at : ℕ → ℕ → BodyView
   closing_at n d = deep (closes_result x) n d
 
-  round_goes : (v : Tree) (n d : ℕ) (c : BodyView) → Rest program (deep (running (round x (const v))) n d) c → c ≡ asking_at v n d
+  round_goes : (v : Tree) (n d : ℕ) (c : BodyView) → Rest program (deep (running (reduce_round x (const v))) n d) c → c ≡ asking_at v n d
   round_goes v n d c r = stays (λ e. cc) (goes refl r)
 
   -- with the value of its loop
@@ -65,7 +65,7 @@ module _ (program : ProgramView) (x : ReduceTask) where
 
   left : (v : Tree) (n d : ℕ) (c : BodyView) → Rest program (deep (running (const v)) n d) c → Left v c
   left v n d c r = by (is_nil v) refl where
-    named : Rest program (deep (ends x (const v)) n d) c
+    named : Rest program (deep (reduce_ends x (const v)) n d) c
     named = goes refl (subst (λ t. Rest program (deep (bind empty t) n d) c) (put_ends x v) (goes refl (goes refl r)))
 
     tested : Outcome → BodyView
@@ -73,7 +73,7 @@ module _ (program : ProgramView) (x : ReduceTask) where
       term = does (branch (const (value_in o)) (const nil) (apply Post (kernels_of (const (port x.result) ∷ const v ∷ [])) x.place) ∷ closes_result x ∷ []);
       turns = n;
       depth = d;
-      fault = failed x.place o;
+      fault = outcome_fault x.place o;
     }
 
     told : (b : Bool) → is_nil v ≡ b → Rest program (tested (Ok (bool b))) c
@@ -92,7 +92,7 @@ module _ (program : ProgramView) (x : ReduceTask) where
   -- the call stands in a hole
   context : Context (λ t. running (apply Recur (kernels_of (t ∷ [])) x.place))
   context = inside (λ t. running t) (λ t. apply Recur (kernels_of (t ∷ [])) x.place)
-      (inside (λ t. within x t) (λ t. turn (x.first ∷ []) text t) (inside (λ t. t) (λ t. within x t) whole (in_bind x.first empty (ends x (var x.first)))) (in_turn (x.first ∷ []) text))
+      (inside (λ t. reduce_within x t) (λ t. turn (x.first ∷ []) text t) (inside (λ t. t) (λ t. reduce_within x t) whole (in_bind x.first empty (reduce_ends x (var x.first)))) (in_turn (x.first ∷ []) text))
       (in_first (λ ts. apply Recur ts x.place) no_terms (in_apply Recur x.place))
 
   -- with the value of the call
@@ -108,7 +108,7 @@ module _ (program : ProgramView) (x : ReduceTask) where
   called : (v a : Tree) (d : ℕ) (c : BodyView) → IsPlainCall program x.function x.place → is_nil a ≡ false → Rest program (deep (running (folds x (const v) (const a))) 0 d) c → Took v a c
   called v a d c plain e r = by (at alone) refl where
     begun_at : BodyView
-    begun_at = deep (applies x.function (const v) (const a) x.place) 0 d
+    begun_at = deep (reduce_applies x.function (const v) (const a) x.place) 0 d
 
     rested : (z : BodyView) × Rest program begun_at z
     rested = rests program begun_at
@@ -119,7 +119,7 @@ module _ (program : ProgramView) (x : ReduceTask) where
     behind_it : Rest program (put_in (λ t. running (apply Recur (kernels_of (t ∷ [])) x.place)) alone) c
     behind_it = behind program (carried program (λ t. running (apply Recur (kernels_of (t ∷ [])) x.place)) context rested.1.reached) r
 
-    by_itself : is_fault (at alone) ≡ false → (z : BodyView) × Rest program (new_body (applies x.function (const v) (const a) x.place)) z × (at z ≡ at alone)
+    by_itself : is_fault (at alone) ≡ false → (z : BodyView) × Rest program (new_body (reduce_applies x.function (const v) (const a) x.place)) z × (at z ≡ at alone)
     by_itself f = lower_rest program begun_at alone 0 (omega arith) rested.1 f
 
     by : (o : At) → at alone ≡ o → Took v a c
@@ -134,13 +134,13 @@ module _ (program : ProgramView) (x : ReduceTask) where
         (subst (λ (o : Option FaultAt). Rest program (record { term = running (apply Recur (kernels_of (const w ∷ [])) x.place); turns = alone.turns; depth = alone.depth; fault = o }) c) is.1
         (subst (λ t. Rest program (record { term = running (apply Recur (kernels_of (t ∷ [])) x.place); turns = alone.turns; depth = alone.depth; fault = alone.fault }) c) is.0 behind_it))
 
-  pub took : IsPlainCall program x.function x.place → (v a : Tree) (d : ℕ) (c : BodyView) → Rest program (deep (running (lets x (const v) (const a))) 0 d) c → Took v a c
+  pub took : IsPlainCall program x.function x.place → (v a : Tree) (d : ℕ) (c : BodyView) → Rest program (deep (running (reduce_lets x (const v) (const a))) 0 d) c → Took v a c
   took plain v a d c r = by (is_nil a) refl where
-    decided : Rest program (deep (running (decides x (const v) (const a))) 0 d) c
+    decided : Rest program (deep (running (reduce_decides x (const v) (const a))) 0 d) c
     decided = goes refl (subst (λ t. Rest program (deep (running (bind empty t)) 0 d) c) (put_decides x v a) (goes refl r))
 
     tested : Outcome → BodyView
-    tested o = record { term = running (branch (const (value_in o)) (const v) (folds x (const v) (const a))); turns = 0; depth = d; fault = failed x.place o }
+    tested o = record { term = running (branch (const (value_in o)) (const v) (folds x (const v) (const a))); turns = 0; depth = d; fault = outcome_fault x.place o }
 
     told : (b : Bool) → is_nil a ≡ b → Rest program (tested (Ok (bool b))) c
     told b e = subst (λ z. Rest program (tested (Ok (bool z))) c) e (subst (λ o. Rest program (tested o) c) (nil_is a) (goes refl (goes refl decided)))

@@ -12,7 +12,7 @@ use Rattle.ca_term.specs.Kernel.{const}
 use Rattle.ca_term.specs.Program.{ProgramView}
 use Rattle.ca_term.specs.Event.{EventView}
 use Rattle.ca_meaning.specs.Asking.{too_large}
-use Rattle.ca_meaning.specs.Operands.{is_nil, port_number}
+use Rattle.ca_meaning.specs.Operands.{is_nil, port_of_value}
 use Rattle.ca_meaning.specs.Body.{BodyView, at, at_op, faulted, ended, asking, new_body}
 use Rattle.ca_meaning.specs.Choice.{branches_of}
 use Rattle.ca_meaning.specs.Task.{TaskBody, script, body_at, body_fill, BodyRest, new_task}
@@ -26,7 +26,7 @@ use Rattle.ca_laws.proofs.More.{each_more}
 use Rattle.ca_laws.proofs.Tables.{asked}
 use Rattle.ca_derived_laws.specs.TakeLaw.{found_nil, has_ended}
 use Rattle.ca_derived_laws.specs.ReduceTask.{ReduceTask, reduce_text}
-use Rattle.ca_derived_laws.specs.ReduceLaw.{Comes, Folded, posted_by, posted, Reduced, ReduceLaw}
+use Rattle.ca_derived_laws.specs.ReduceLaw.{Comes, Folded, posted_by, values_posted, Reduced, ReduceLaw}
 use Rattle.ca_derived_laws.proofs.Resting.{stays}
 use Rattle.ca_derived_laws.proofs.Taking.{any_more, or_false, or_true}
 use Rattle.ca_derived_laws.proofs.ReduceSteps.{deep, asking_at, posting_at, closing_at, Left, posts, closes, Took, folded, over as took_over, fails, took, begun, shut}
@@ -65,13 +65,13 @@ module _ (program : ProgramView) (x : ReduceTask) (plain : IsPlainCall program x
   Facts failed ts ps found done_it = done_it ≡ false
 
   abbrev At : Stage → List Deed → Type 0
-  At n ds = Facts n (taken ds) (posted ds) (list_any found_nil ds) (list_any has_ended ds)
+  At n ds = Facts n (taken ds) (values_posted ds) (list_any found_nil ds) (list_any has_ended ds)
 
-  by_deed : (n : Stage) (ds : List Deed) (d c : Deed) → d ≡ c → Facts n (taken ds ++ taken_by c) (posted ds ++ posted_by c) (list_any found_nil ds || found_nil c) (list_any has_ended ds || has_ended c) → At n (ds ++ d ∷ [])
+  by_deed : (n : Stage) (ds : List Deed) (d c : Deed) → d ≡ c → Facts n (taken ds ++ taken_by c) (values_posted ds ++ posted_by c) (list_any found_nil ds || found_nil c) (list_any has_ended ds || has_ended c) → At n (ds ++ d ∷ [])
   by_deed n ds d c is k = subst (λ z. At n (ds ++ z ∷ [])) (sym is) (rw (each_more taken_by ds c, each_more posted_by ds c, any_more found_nil ds c, any_more has_ended ds c) k)
 
-  same : (n : Stage) (ds : List Deed) → At n ds → Facts n (taken ds ++ []) (posted ds ++ []) (list_any found_nil ds || false) (list_any has_ended ds || false)
-  same n ds k = rw (append-nil (taken ds), append-nil (posted ds), or_false (list_any found_nil ds), or_false (list_any has_ended ds)) k
+  same : (n : Stage) (ds : List Deed) → At n ds → Facts n (taken ds ++ []) (values_posted ds ++ []) (list_any found_nil ds || false) (list_any has_ended ds || false)
+  same n ds k = rw (append-nil (taken ds), append-nil (values_posted ds), or_false (list_any found_nil ds), or_false (list_any has_ended ds)) k
 
   abbrev op_of : Stage → Option OpView
   op_of (asks v) = Some (taking x.source)
@@ -102,7 +102,7 @@ module _ (program : ProgramView) (x : ReduceTask) (plain : IsPlainCall program x
   valued failed b v i e = absurd (let j : faulted i.0 i.1 ≡ ended v = sym i.2 ∙ e in cc)
 
   ended_at : (n : Stage) (ds : List Deed) → IsOver n → At n ds → At n (ds ++ did_end Ended ∷ [])
-  ended_at (over v) ds i k = by_deed (over v) ds (did_end Ended) (did_end Ended) refl (rw (append-nil (taken ds), append-nil (posted ds), or_false (list_any found_nil ds)) k)
+  ended_at (over v) ds i k = by_deed (over v) ds (did_end Ended) (did_end Ended) refl (rw (append-nil (taken ds), append-nil (values_posted ds), or_false (list_any found_nil ds)) k)
   ended_at (asks v) ds i k = absurd i
   ended_at (posting_it v) ds i k = absurd i
   ended_at (closes_result v) ds i k = absurd i
@@ -116,10 +116,10 @@ module _ (program : ProgramView) (x : ReduceTask) (plain : IsPlainCall program x
   Goes ds c = (k : Stage) × Is k c × At k ds
 
   abbrev Known : Tree → List Deed → Type 0
-  Known v es = Folded program x.function x.place x.initial (taken es) v × (posted es ≡ []) × (list_any found_nil es ≡ true) × (list_any has_ended es ≡ false)
+  Known v es = Folded program x.function x.place x.initial (taken es) v × (values_posted es ≡ []) × (list_any found_nil es ≡ true) × (list_any has_ended es ≡ false)
 
   -- with nil found, and the value of the fold
-  from_left : (v : Tree) (ds : List Deed) (b : TaskBody) (c : BodyView) → b ≡ script c → Folded program x.function x.place x.initial (taken ds) v → posted ds ≡ [] → list_any found_nil ds ≡ true → list_any has_ended ds ≡ false → Left program x v c → Goes ds b
+  from_left : (v : Tree) (ds : List Deed) (b : TaskBody) (c : BodyView) → b ≡ script c → Folded program x.function x.place x.initial (taken ds) v → values_posted ds ≡ [] → list_any found_nil ds ≡ true → list_any has_ended ds ≡ false → Left program x v c → Goes ds b
   from_left v ds b c is f p n e (posts m q s k) = (posting_it v, (m, q, is ∙ ap (λ z. script z) s), (f, p, n, k, e))
   from_left v ds b c is f p n e (closes m q s k) = (closes_result v, (m, q, is ∙ ap (λ z. script z) s), (f, p ∙ ap (λ z. cond z [] ((x.result, v) ∷ [])) (sym k), n, e))
 
@@ -128,12 +128,12 @@ module _ (program : ProgramView) (x : ReduceTask) (plain : IsPlainCall program x
     asks w,
     (m, q, bc ∙ ap (λ z. script z) s),
     by_deed (asks w) ds d _ is
-        (subst (λ z. Folded program x.function x.place x.initial (taken ds ++ cond z [] (a ∷ [])) w) (sym e) (folded_more program x.function x.place x.initial (taken ds) v a w at.0 k), append-nil (posted ds) ∙ at.1, or_false (list_any has_ended ds) ∙ at.2),
+        (subst (λ z. Folded program x.function x.place x.initial (taken ds ++ cond z [] (a ∷ [])) w) (sym e) (folded_more program x.function x.place x.initial (taken ds) v a w at.0 k), append-nil (values_posted ds) ∙ at.1, or_false (list_any has_ended ds) ∙ at.2),
   )
   answer_take v ds d a b c at (got is) bc (fails f p s) = (failed, (f, p, ap body_at bc ∙ s), by_deed failed ds d _ is (or_false (list_any has_ended ds) ∙ at.2))
   answer_take v ds d a b c at (got is) bc (took_over l e) = from_left v (ds ++ d ∷ []) b c bc facts.0 facts.1 facts.2 facts.3 l where
     facts : Known v (ds ++ d ∷ [])
-    facts = subst (λ z. Known v (ds ++ z ∷ [])) (sym is) (rw (each_more taken_by ds (did_take 0 (port_number x.source) a), each_more posted_by ds (did_take 0 (port_number x.source) a), any_more found_nil ds (did_take 0 (port_number x.source) a), any_more has_ended ds (did_take 0 (port_number x.source) a), e, append-nil (taken ds), append-nil (posted ds), or_true (list_any found_nil ds), or_false (list_any has_ended ds)) (at.0, at.1, refl, at.2))
+    facts = subst (λ z. Known v (ds ++ z ∷ [])) (sym is) (rw (each_more taken_by ds (did_take 0 (port_of_value x.source) a), each_more posted_by ds (did_take 0 (port_of_value x.source) a), any_more found_nil ds (did_take 0 (port_of_value x.source) a), any_more has_ended ds (did_take 0 (port_of_value x.source) a), e, append-nil (taken ds), append-nil (values_posted ds), or_true (list_any found_nil ds), or_false (list_any has_ended ds)) (at.0, at.1, refl, at.2))
 
   answer_post : (v : Tree) (ds : List Deed) (d : Deed) (a : Tree) (b : TaskBody) (c : BodyView) (q : ℕ) → At (posting_it v) ds → Replies (posting (port x.result) v) d a → b ≡ script c → c ≡ closing_at program x 0 q → Goes (ds ++ d ∷ []) b
   answer_post v ds d a b c q at (was_posted is pa) bc s = (closes_result v, (0, q, bc ∙ ap (λ z. script z) s), by_deed (closes_result v) ds d _ is (rw (append-nil (taken ds), at.1, at.3, or_false (list_any found_nil ds), or_false (list_any has_ended ds)) (at.0, refl, at.2, at.4)))
@@ -150,7 +150,7 @@ module _ (program : ProgramView) (x : ReduceTask) (plain : IsPlainCall program x
     by : (a : Tree) → Replies (closing (port x.result)) d a → BodyRest program (body_fill a (script (closing_at program x i.0 i.1))) c → Goes (ds ++ d ∷ []) c
     by a (was_shut is an) rest =
         let nilled = subst (λ z. BodyRest program (body_fill z (script (closing_at program x i.0 i.1))) c) an rest in
-        (over v, (i.1, nilled.2 ∙ ap (λ z. script z) (stays (λ e. cc) nilled.1)), by_deed (over v) ds d _ is (rw (append-nil (taken ds), append-nil (posted ds), or_false (list_any found_nil ds)) (at.0, at.1, at.2)))
+        (over v, (i.1, nilled.2 ∙ ap (λ z. script z) (stays (λ e. cc) nilled.1)), by_deed (over v) ds d _ is (rw (append-nil (taken ds), append-nil (values_posted ds), or_false (list_any found_nil ds)) (at.0, at.1, at.2)))
   answered (over v) b c op ds d a i o at ans r = absurd (let q : None ≡ Some op = o in cc)
   answered failed b c op ds d a i o at ans r = absurd (let q : None ≡ Some op = o in cc)
 

@@ -8,7 +8,7 @@ use Rattle.ca_term.specs.Kernel.{const}
 use Rattle.ca_term.specs.Program.{ProgramView}
 use Rattle.ca_term.specs.Event.{EventView}
 use Rattle.ca_meaning.specs.Asking.{too_large}
-use Rattle.ca_meaning.specs.Operands.{is_nil, port_number, truth}
+use Rattle.ca_meaning.specs.Operands.{is_nil, port_of_value, truth}
 use Rattle.ca_meaning.specs.Body.{BodyView, at_op, faulted, ended, new_body}
 use Rattle.ca_meaning.specs.Choice.{branches_of}
 use Rattle.ca_meaning.specs.Task.{TaskBody, script, body_at, body_fill, BodyRest, new_task}
@@ -101,19 +101,19 @@ module _ (program : ProgramView) (x : SplitTask) (plain : IsPlainTest program x)
   answer_take ds d a b c k (got is) bc (puts_next w n q s e t) = (
     gives a w,
     (n, q, bc ∙ ap (λ z. script z) s),
-    by_deed (gives a w) ds d (did_take 0 (port_number x.source) a) is
+    by_deed (gives a w) ds d (did_take 0 (port_of_value x.source) a) is
         (rw (e, append-nil (sent ds), append-nil (put_in ds)) ((ap (λ z. z ++ a ∷ []) k.0, t), k.1)),
   )
   answer_take ds d a b c k (got is) bc (shuts_next n q s e) = (
     shuts_yes,
     (n, q, bc ∙ ap (λ z. script z) s),
-    by_deed shuts_yes ds d (did_take 0 (port_number x.source) a) is
+    by_deed shuts_yes ds d (did_take 0 (port_of_value x.source) a) is
         (rw (e, append-nil (taken ds), append-nil (sent ds), append-nil (put_in ds)) k),
   )
   answer_take ds d a b c k (got is) bc (fails f p s) = (
     failed,
     (f, p, ap body_at bc ∙ s),
-    by_deed failed ds d (did_take 0 (port_number x.source) a) is
+    by_deed failed ds d (did_take 0 (port_of_value x.source) a) is
         (rw (append-nil (sent ds), append-nil (put_in ds)) ((cond (is_nil a) [] (a ∷ []), ap (λ z. z ++ cond (is_nil a) [] (a ∷ [])) (sym k.0)), k.1)),
   )
 
@@ -121,14 +121,14 @@ module _ (program : ProgramView) (x : SplitTask) (plain : IsPlainTest program x)
   answer_put v w ds d a b c k (was_given is pa) bc (again n q s) = (
     asks,
     (n, q, bc ∙ ap (λ z. script z) s),
-    by_deed asks ds d (did_put 0 (port_number (cond (truth w) x.yes x.no)) v a) is
-        (rw (append-nil (taken ds)) (k.0.0, one_more (put_in ds) (port_number (cond (truth w) x.yes x.no), v) k.1 (w, k.0.1, refl))),
+    by_deed asks ds d (did_put 0 (port_of_value (cond (truth w) x.yes x.no)) v a) is
+        (rw (append-nil (taken ds)) (k.0.0, one_more (put_in ds) (port_of_value (cond (truth w) x.yes x.no), v) k.1 (w, k.0.1, refl))),
   )
   answer_put v w ds d a b c k (was_given is pa) bc (leaves n q s) = (
     closes_result,
     (n, q, bc ∙ ap (λ z. script z) s),
-    by_deed closes_result ds d (did_put 0 (port_number (cond (truth w) x.yes x.no)) v a) is
-        (rw (append-nil (taken ds)) (k.0.0, one_more (put_in ds) (port_number (cond (truth w) x.yes x.no), v) k.1 (w, k.0.1, refl))),
+    by_deed closes_result ds d (did_put 0 (port_of_value (cond (truth w) x.yes x.no)) v a) is
+        (rw (append-nil (taken ds)) (k.0.0, one_more (put_in ds) (port_of_value (cond (truth w) x.yes x.no), v) k.1 (w, k.0.1, refl))),
   )
 
   answered : (n : Stage) (b c : TaskBody) (op : OpView) (ds : List Deed) (d : Deed) (a : Tree) → Is n b → op_of n ≡ Some op → At n ds → Replies op d a → BodyRest program (body_fill a b) c → Goes (ds ++ d ∷ []) c
@@ -140,17 +140,17 @@ module _ (program : ProgramView) (x : SplitTask) (plain : IsPlainTest program x)
       answer_put v w ds d a c rest.0 k (subst (λ z. Replies z d a) (let q : op ≡ putting (cond (truth w) x.yes x.no) v = cc in q) ans) rest.2 (gave program x a i.1 rest.0 rest.1)
   answered shuts_yes b c op ds d a i o k ans r = by a (subst (λ z. Replies z d a) (let q : op ≡ closing x.yes = cc in q) ans) (subst (λ z. BodyRest program (body_fill a z) c) i.2 r) where
     by : (a : Tree) → Replies (closing x.yes) d a → BodyRest program (body_fill a (script (shutting_yes_at program x i.0 i.1))) c → Goes (ds ++ d ∷ []) c
-    by a (was_shut is an) rest = (shuts_no, (0, i.1, rest.2 ∙ ap (λ z. script z) (shut_yes program x a i.1 rest.0 rest.1)), by_deed shuts_no ds d (did_close (port_number x.yes)) is (same shuts_no ds k))
+    by a (was_shut is an) rest = (shuts_no, (0, i.1, rest.2 ∙ ap (λ z. script z) (shut_yes program x a i.1 rest.0 rest.1)), by_deed shuts_no ds d (did_close (port_of_value x.yes)) is (same shuts_no ds k))
   answered shuts_no b c op ds d a i o k ans r = by a (subst (λ z. Replies z d a) (let q : op ≡ closing x.no = cc in q) ans) (subst (λ z. BodyRest program (body_fill a z) c) i.2 r) where
     by : (a : Tree) → Replies (closing x.no) d a → BodyRest program (body_fill a (script (shutting_no_at program x i.0 i.1))) c → Goes (ds ++ d ∷ []) c
     by a (was_shut is an) rest =
         let nilled = subst (λ z. BodyRest program (body_fill z (script (shutting_no_at program x i.0 i.1))) c) an rest in
-        (closes_result, (0, i.1, nilled.2 ∙ ap (λ z. script z) (shut_no program x i.1 nilled.0 nilled.1)), by_deed closes_result ds d (did_close (port_number x.no)) is (same closes_result ds k))
+        (closes_result, (0, i.1, nilled.2 ∙ ap (λ z. script z) (shut_no program x i.1 nilled.0 nilled.1)), by_deed closes_result ds d (did_close (port_of_value x.no)) is (same closes_result ds k))
   answered closes_result b c op ds d a i o k ans r = by a (subst (λ z. Replies z d a) (let q : op ≡ closing (port x.result) = cc in q) ans) (subst (λ z. BodyRest program (body_fill a z) c) i.2 r) where
     by : (a : Tree) → Replies (closing (port x.result)) d a → BodyRest program (body_fill a (script (closing_at program x i.0 i.1))) c → Goes (ds ++ d ∷ []) c
     by a (was_shut is an) rest =
         let nilled = subst (λ z. BodyRest program (body_fill z (script (closing_at program x i.0 i.1))) c) an rest in
-        (over, (i.1, nilled.2 ∙ ap (λ z. script z) (stays (λ e. cc) nilled.1)), by_deed over ds d (did_close (port_number (port x.result))) is (same over ds k))
+        (over, (i.1, nilled.2 ∙ ap (λ z. script z) (stays (λ e. cc) nilled.1)), by_deed over ds d (did_close (port_of_value (port x.result))) is (same over ds k))
   answered over b c op ds d a i o k ans r = absurd (let q : None ≡ Some op = o in cc)
   answered failed b c op ds d a i o k ans r = absurd (let q : None ≡ Some op = o in cc)
 

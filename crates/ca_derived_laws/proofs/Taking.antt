@@ -12,7 +12,7 @@ use Rattle.ca_term.specs.Program.{ProgramView}
 use Rattle.ca_term.specs.Event.{EventView}
 use Rattle.ca_meaning.specs.declared.body.FaultAt.{FaultAt}
 use Rattle.ca_meaning.specs.Asking.{too_large}
-use Rattle.ca_meaning.specs.Operands.{is_nil, port_number}
+use Rattle.ca_meaning.specs.Operands.{is_nil, port_of_value}
 use Rattle.ca_meaning.specs.Body.{BodyView, at_or, standing, at, at_op, faulted, ended, asking, new_body}
 use Rattle.ca_meaning.specs.Choice.{branches_of}
 use Rattle.ca_meaning.specs.Redex.{redex}
@@ -26,7 +26,7 @@ use Rattle.ca_laws.proofs.Acts.{Replies, got, gave as was_given, shuts as was_sh
 use Rattle.ca_laws.proofs.More.{each_more, one_longer}
 use Rattle.ca_laws.proofs.Tables.{asked}
 use Rattle.ca_derived_laws.specs.TakeTask.{TakeTask, take_text}
-use Rattle.ca_derived_laws.specs.TakeLaw.{at_most, found_nil, has_ended, closes, onto, TookAtMost, TakeLaw}
+use Rattle.ca_derived_laws.specs.TakeLaw.{at_most, found_nil, has_ended, deed_closes, onto, TookAtMost, TakeLaw}
 use Rattle.ca_derived_laws.proofs.Resting.{stays}
 use Rattle.ca_derived_laws.proofs.TakeSteps.{body, asking_at, giving_at, shutting_at, closing_at, Entered, asks_next, leaves, fails, Took, gives_next, ends_next, took, gave, begun, shut}
 use Rattle.ca_laws.proofs.Keeping.{KeepsStages, stays_in}
@@ -62,7 +62,7 @@ onto_more p (w ∷ vs) v = ap (λ xs. (p, w) ∷ xs) (onto_more p vs v)
 
 module _ (program : ProgramView) (x : TakeTask) where
   abbrev target : ℕ
-  target = port_number x.target
+  target = port_of_value x.target
 
   abbrev most : ℕ
   most = at_most x.bound
@@ -86,17 +86,17 @@ module _ (program : ProgramView) (x : TakeTask) where
   Facts failed ts ps found shut_it done_it = Begins ps (onto target ts) × (length ts ≤ most) × (done_it ≡ false)
 
   abbrev At : Stage → List Deed → Type 0
-  At n ds = Facts n (taken ds) (put_in ds) (list_any found_nil ds) (list_any (closes target) ds) (list_any has_ended ds)
+  At n ds = Facts n (taken ds) (put_in ds) (list_any found_nil ds) (list_any (deed_closes target) ds) (list_any has_ended ds)
 
   by_deed : (n : Stage) (ds : List Deed) (d c : Deed) → d ≡ c
-      → Facts n (taken ds ++ taken_by c) (put_in ds ++ put_by c) (list_any found_nil ds || found_nil c) (list_any (closes target) ds || closes target c) (list_any has_ended ds || has_ended c)
+      → Facts n (taken ds ++ taken_by c) (put_in ds ++ put_by c) (list_any found_nil ds || found_nil c) (list_any (deed_closes target) ds || deed_closes target c) (list_any has_ended ds || has_ended c)
       → At n (ds ++ d ∷ [])
   by_deed n ds d c is k = subst (λ z. At n (ds ++ z ∷ [])) (sym is)
-      (rw (each_more taken_by ds c, each_more put_by ds c, any_more found_nil ds c, any_more (closes target) ds c, any_more has_ended ds c) k)
+      (rw (each_more taken_by ds c, each_more put_by ds c, any_more found_nil ds c, any_more (deed_closes target) ds c, any_more has_ended ds c) k)
 
   -- a deed that tells nothing
-  same : (n : Stage) (ds : List Deed) → At n ds → Facts n (taken ds ++ []) (put_in ds ++ []) (list_any found_nil ds || false) (list_any (closes target) ds || false) (list_any has_ended ds || false)
-  same n ds k = rw (append-nil (taken ds), append-nil (put_in ds), or_false (list_any found_nil ds), or_false (list_any (closes target) ds), or_false (list_any has_ended ds)) k
+  same : (n : Stage) (ds : List Deed) → At n ds → Facts n (taken ds ++ []) (put_in ds ++ []) (list_any found_nil ds || false) (list_any (deed_closes target) ds || false) (list_any has_ended ds || false)
+  same n ds k = rw (append-nil (taken ds), append-nil (put_in ds), or_false (list_any found_nil ds), or_false (list_any (deed_closes target) ds), or_false (list_any has_ended ds)) k
 
   at_once : (n : Stage) (b : TaskBody) (d : BodyView) (op : OpView) → b ≡ script d → IsAtOp b op → (p : Place) × (at d ≡ at_op (record { op = op; place = p }))
   at_once n b d op is k = (k.0, sym (ap body_at is) ∙ k.1)
@@ -138,7 +138,7 @@ module _ (program : ProgramView) (x : TakeTask) where
 
   -- the end tells no more of a task that is over
   ended_at : (n : Stage) (ds : List Deed) → IsOver n → At n ds → At n (ds ++ did_end Ended ∷ [])
-  ended_at over ds i k = by_deed over ds (did_end Ended) (did_end Ended) refl (rw (append-nil (taken ds), append-nil (put_in ds), or_false (list_any found_nil ds), or_false (list_any (closes target) ds)) k)
+  ended_at over ds i k = by_deed over ds (did_end Ended) (did_end Ended) refl (rw (append-nil (taken ds), append-nil (put_in ds), or_false (list_any found_nil ds), or_false (list_any (deed_closes target) ds)) k)
   ended_at (asks n) ds i k = absurd i
   ended_at (gives n v) ds i k = absurd i
   ended_at shuts ds i k = absurd i
@@ -169,7 +169,7 @@ module _ (program : ProgramView) (x : TakeTask) where
   )
   answer_take k n ds d a c b at (got is) same_body (ends_next m s e) =
       (shuts, (m, same_body ∙ ap (λ z. script z) s), by_deed shuts ds d _ is (facts (taken ds ++ cond (is_nil a) [] (a ∷ [])) (ap (λ z. taken ds ++ cond z [] (a ∷ [])) e ∙ append-nil (taken ds)))) where
-        facts : (ts : List Tree) → ts ≡ taken ds → Facts shuts ts (put_in ds ++ []) (list_any found_nil ds || is_nil a) (list_any (closes target) ds || false) (list_any has_ended ds || false)
+        facts : (ts : List Tree) → ts ≡ taken ds → Facts shuts ts (put_in ds ++ []) (list_any found_nil ds || is_nil a) (list_any (deed_closes target) ds || false) (list_any has_ended ds || false)
         facts ts j = let l : length ts ≡ k = ap (λ z. length z) j ∙ at.1 in let h : k < most = at.2 in
             (append-nil (put_in ds) ∙ at.0 ∙ ap (onto target) (sym j), omega (arith, l, h), inr (ap (λ z. list_any found_nil ds || z) e ∙ or_true (list_any found_nil ds)), or_false (list_any has_ended ds) ∙ at.3)
 
@@ -198,7 +198,7 @@ module _ (program : ProgramView) (x : TakeTask) where
           closes_result,
           nilled.2 ∙ ap (λ z. script z) (shut program x nilled.0 nilled.1),
           by_deed closes_result ds d _ is
-              (rw (append-nil (taken ds), append-nil (put_in ds), or_false (list_any found_nil ds), or_false (list_any has_ended ds), eq-eqb target target refl, or_true (list_any (closes target) ds)) (at.0, at.1, at.2, refl, at.3)),
+              (rw (append-nil (taken ds), append-nil (put_in ds), or_false (list_any found_nil ds), or_false (list_any has_ended ds), eq-eqb target target refl, or_true (list_any (deed_closes target) ds)) (at.0, at.1, at.2, refl, at.3)),
         )
   answered closes_result b c op ds d a i o at ans r = by a (subst (λ z. Replies z d a) (let q : op ≡ closing (port x.result) = cc in q) ans) (subst (λ z. BodyRest program (body_fill a z) c) i r) where
     by : (a : Tree) → Replies (closing (port x.result)) d a → BodyRest program (body_fill a (script (closing_at program x 0))) c → Goes (ds ++ d ∷ []) c

@@ -14,11 +14,11 @@ use Rattle.ca_laws.specs.Taken.{taken}
 use Rattle.ca_derived_laws.specs.PlainHeads.{IsPlainFor}
 use Rattle.ca_derived_laws.specs.TakeLaw.{Did, has_ended, found_nil}
 use Rattle.ca_derived_laws.specs.StartsAs.{StartsAs}
-use Rattle.ca_derived_laws.specs.ReduceTask.{ReduceTask, applies, reduce_text}
+use Rattle.ca_derived_laws.specs.ReduceTask.{ReduceTask, reduce_applies, reduce_text}
 
 -- a call of f on these, its turns and its depth counted from 0, comes to v
 abbrev pub Comes : ProgramView → Head → Place → Tree → Tree → Tree → Type 0
-Comes program f p w a v = (c : BodyView) × Rest program (new_body (applies f (const w) (const a) p)) c × (at c ≡ ended v)
+Comes program f p w a v = (c : BodyView) × Rest program (new_body (reduce_applies f (const w) (const a) p)) c × (at c ≡ ended v)
 
 -- f folded over the values from w comes to v
 abbrev pub Folded : ProgramView → Head → Place → Tree → List Tree → Tree → Type 0
@@ -31,13 +31,13 @@ posted_by (did_put k p v a) = (p, v) ∷ []
 posted_by (did_post w p v) = (p, v) ∷ []
 posted_by d = []
 
-abbrev pub posted : List Deed → List (ℕ × Tree)
-posted ds = flat_map posted_by ds
+abbrev pub values_posted : List Deed → List (ℕ × Tree)
+values_posted ds = flat_map posted_by ds
 
 -- What a reduce by f from w with that result port did: where it ended, a take gave nil, and it posted there, once, f
 -- folded over the values that it took, or nothing where that is nil.
 abbrev pub Reduced : ProgramView → Head → Place → Tree → ℕ → List Deed → Type 0
-Reduced program f p w r ds = Did has_ended ds → Did found_nil ds × ((v : Tree) × Folded program f p w (taken ds) v × (posted ds ≡ cond (is_nil v) [] ((r, v) ∷ [])))
+Reduced program f p w r ds = Did has_ended ds → Did found_nil ds × ((v : Tree) × Folded program f p w (taken ds) v × (values_posted ds ≡ cond (is_nil v) [] ((r, v) ∷ [])))
 
 -- each task whose body at its Spawn is that of a reduce by a builtin or a plain function
 abbrev pub ReduceLaw : ProgramView → List EventView → Type 0

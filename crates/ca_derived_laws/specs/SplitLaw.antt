@@ -6,20 +6,20 @@ use Rattle.ca_term.specs.Program.{ProgramView}
 use Rattle.ca_term.specs.Event.{EventView}
 use Rattle.ca_meaning.specs.Body.{BodyView, at, ended, new_body}
 use Rattle.ca_meaning.specs.Rest.{Rest}
-use Rattle.ca_meaning.specs.Operands.{port_number, truth}
+use Rattle.ca_meaning.specs.Operands.{port_of_value, truth}
 use Rattle.ca_laws.specs.Deeds.{Deed, deeds}
 use Rattle.ca_laws.specs.Taken.{taken, sent, put_in, Begins}
 use Rattle.ca_derived_laws.specs.PlainHeads.{IsPlainFor}
 use Rattle.ca_derived_laws.specs.StartsAs.{StartsAs}
-use Rattle.ca_derived_laws.specs.SplitTask.{SplitTask, operand_count, tests, split_text}
+use Rattle.ca_derived_laws.specs.SplitTask.{SplitTask, operand_count, split_tests, split_text}
 
 -- a call of the test on v, its turns and its depth counted from 0, comes to w
 abbrev pub TestComes : ProgramView → SplitTask → Tree → Tree → Type 0
-TestComes program x v w = (c : BodyView) × Rest program (new_body (tests x (const v))) c × (at c ≡ ended w)
+TestComes program x v w = (c : BodyView) × Rest program (new_body (split_tests x (const v))) c × (at c ≡ ended w)
 
 -- a put of v into channel p: the first channel where the test is true, the second where it isn't
 abbrev pub IsSided : ProgramView → SplitTask → ℕ × Tree → Type 0
-IsSided program x q = (w : Tree) × TestComes program x q.1 w × (q.0 ≡ port_number (cond (truth w) x.yes x.no))
+IsSided program x q = (w : Tree) × TestComes program x q.1 w × (q.0 ≡ port_of_value (cond (truth w) x.yes x.no))
 
 abbrev pub AreSided : ProgramView → SplitTask → List (ℕ × Tree) → Type 0
 AreSided program x [] = Unit {0}

@@ -9,7 +9,7 @@ use Rattle.ca_term.specs.declared.head.Head.{Head}
 use Rattle.ca_term.specs.declared.head.Head.TheVariants.{Recur, Take, Put, Close, Post}
 use Rattle.ca_term.specs.Kernel.{Kernel, Kernels, const, var, branch, loop, apply, empty, none as no_terms, item as term}
 use Rattle.ca_term.specs.View.{kernels_of}
-use Rattle.ca_derived_laws.specs.TakeTask.{does, call, name_as}
+use Rattle.ca_derived_laws.specs.TakeTask.{does, called_builtin, let_name}
 
 -- the test is the function on the value and, where it is a keyword, on that
 pub record SplitTask : Type 0 where
@@ -31,39 +31,39 @@ operand_count None = 1
 operand_count (Some k) = 2
 
 -- (p h)
-abbrev pub tests : SplitTask → Kernel → Kernel
-tests x h = apply x.function (operands x.further h) x.place
+abbrev pub split_tests : SplitTask → Kernel → Kernel
+split_tests x h = apply x.function (operands x.further h) x.place
 
-abbrev pub shuts : SplitTask → Tree → Kernel
-shuts x c = apply Close (term (const c) no_terms) x.place
+abbrev pub split_shuts : SplitTask → Tree → Kernel
+split_shuts x c = apply Close (term (const c) no_terms) x.place
 
 -- (>! (if t yes no) h)
-abbrev pub gives : SplitTask → Kernel → Kernel → Kernel
-gives x t h = apply Put (term (branch t (const x.yes) (const x.no)) (term h no_terms)) x.place
+abbrev pub split_gives : SplitTask → Kernel → Kernel → Kernel
+split_gives x t h = apply Put (term (branch t (const x.yes) (const x.no)) (term h no_terms)) x.place
 
 -- (if u (recur) nil)
 abbrev pub repeats : SplitTask → Kernel → Kernel
 repeats x u = branch u (apply Recur no_terms x.place) (const nil)
 
 -- (if (nil? h) (do (close! yes) (close! no)) (if (>! ..) (recur) nil))
-abbrev pub decides : SplitTask → Kernel → Kernel
-decides x h = does (branch (call IsNil (h ∷ []) x.place) (does (shuts x x.yes ∷ shuts x x.no ∷ [])) (repeats x (gives x (tests x h) h)) ∷ [])
+abbrev pub split_decides : SplitTask → Kernel → Kernel
+split_decides x h = does (branch (called_builtin IsNil (h ∷ []) x.place) (does (split_shuts x x.yes ∷ split_shuts x x.no ∷ [])) (repeats x (split_gives x (split_tests x h) h)) ∷ [])
 
-abbrev pub asks : SplitTask → Kernel
-asks x = apply Take (term (const x.source) no_terms) x.place
+abbrev pub split_asks : SplitTask → Kernel
+split_asks x = apply Take (term (const x.source) no_terms) x.place
 
 -- (let [v u] ..), u being the take or its answer
-abbrev pub lets : SplitTask → Kernel → Kernel
-lets x u = name_as x.first u (decides x (var x.first))
+abbrev pub split_lets : SplitTask → Kernel → Kernel
+split_lets x u = let_name x.first u (split_decides x (var x.first))
 
-abbrev pub round : SplitTask → Kernel
-round x = does (lets x (asks x) ∷ [])
+abbrev pub split_round : SplitTask → Kernel
+split_round x = does (split_lets x (split_asks x) ∷ [])
 
-abbrev pub ends : SplitTask → Kernel → Kernel
-ends x h = does (branch (call IsNil (h ∷ []) x.place) (const nil) (apply Post (kernels_of (const (port x.result) ∷ h ∷ [])) x.place) ∷ shuts x (port x.result) ∷ [])
+abbrev pub split_ends : SplitTask → Kernel → Kernel
+split_ends x h = does (branch (called_builtin IsNil (h ∷ []) x.place) (const nil) (apply Post (kernels_of (const (port x.result) ∷ h ∷ [])) x.place) ∷ split_shuts x (port x.result) ∷ [])
 
-abbrev pub within : SplitTask → Kernel → Kernel
-within x u = name_as x.first u (ends x (var x.first))
+abbrev pub split_within : SplitTask → Kernel → Kernel
+split_within x u = let_name x.first u (split_ends x (var x.first))
 
 abbrev pub split_text : SplitTask → Kernel
-split_text x = within x (does (loop [] empty (round x) ∷ []))
+split_text x = split_within x (does (loop [] empty (split_round x) ∷ []))

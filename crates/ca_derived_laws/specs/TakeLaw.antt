@@ -5,7 +5,7 @@ use Rattle.ca_value.specs.Tree.{Tree, int}
 use Rattle.ca_term.specs.declared.event.Ending.TheVariants.{Ended}
 use Rattle.ca_term.specs.Program.{ProgramView}
 use Rattle.ca_term.specs.Event.{EventView}
-use Rattle.ca_meaning.specs.Operands.{is_nil, port_number}
+use Rattle.ca_meaning.specs.Operands.{is_nil, port_of_value}
 use Rattle.ca_laws.specs.Deeds.{Deed, did_take, did_close, did_end, deeds}
 use Rattle.ca_laws.specs.Taken.{taken, put_in, Begins}
 use Rattle.ca_derived_laws.specs.StartsAs.{StartsAs}
@@ -25,9 +25,9 @@ abbrev pub has_ended : Deed → Bool
 has_ended (did_end Ended) = true
 has_ended d = false
 
-abbrev pub closes : ℕ → Deed → Bool
-closes p (did_close q) = eqb q p
-closes p d = false
+abbrev pub deed_closes : ℕ → Deed → Bool
+deed_closes p (did_close q) = eqb q p
+deed_closes p d = false
 
 -- one of its deeds is such
 abbrev pub Did : (Deed → Bool) → List Deed → Type 0
@@ -42,8 +42,8 @@ onto p vs = map (λ v. (p, v)) vs
 pub record TookAtMost (n : ℕ) (target : ℕ) (ds : List Deed) : Type 0 where
   pub order : Begins (put_in ds) (onto target (taken ds))
   pub bound : length (taken ds) ≤ n
-  pub whole : Did has_ended ds → Did (closes target) ds × ((length (taken ds) ≡ n) ⊎ Did found_nil ds)
+  pub whole : Did has_ended ds → Did (deed_closes target) ds × ((length (taken ds) ≡ n) ⊎ Did found_nil ds)
 
 -- each task whose body at its Spawn is that of a take
 abbrev pub TakeLaw : ProgramView → List EventView → Type 0
-TakeLaw program journal = (t : ℕ) (x : TakeTask) → StartsAs program journal t (take_text x) → TookAtMost (at_most x.bound) (port_number x.target) (deeds t journal)
+TakeLaw program journal = (t : ℕ) (x : TakeTask) → StartsAs program journal t (take_text x) → TookAtMost (at_most x.bound) (port_of_value x.target) (deeds t journal)

@@ -7,10 +7,10 @@ use Rattle.ca_meaning.specs.ChannelSteps.{other_side}
 use Rattle.ca_meaning.specs.Operands.{rest_of}
 use Rattle.ca_meaning.specs.Registry.{registry_made}
 use Rattle.ca_meaning.specs.Wait.{brought, port_of, side_of}
-use Rattle.ca_bank.specs.Kept.{closed, enqueued, pruned, unattended}
-use Rattle.ca_registry.specs.Registry.{registered}
+use Rattle.ca_bank.specs.Kept.{closed_channel, enqueued, pruned, unattended}
+use Rattle.ca_registry.specs.Registry.{registry_after}
 use Rattle.ca_commit.specs.Agents.{TaskAgent}
-use Rattle.ca_commit.specs.Applying.{Channels, Members, channels_by, registries_by, waits_by}
+use Rattle.ca_commit.specs.Applying.{BankChannels, Members, channels_by, registries_by, waits_by}
 use Rattle.ca_commit.specs.Contents.{Kept, Parked, at_key, home, whole}
 use Rattle.ca_commit.specs.Entering.{registry_of}
 use Rattle.ca_commit.specs.Listing.{changed_at}
@@ -63,18 +63,18 @@ module _ {X : Type 0} where
     by true same None there v = absurd (let c : None ≡ Some y = v in cc)
     by true same (Some z) there v = entry z there same (eqb n k) refl v
 
-held_queued : (w k : ℕ) (bs : List BranchView) (m : Channels) → AreHeld m → AreHeld (queued_from w k bs m)
+held_queued : (w k : ℕ) (bs : List BranchView) (m : BankChannels) → AreHeld m → AreHeld (queued_from w k bs m)
 held_queued w k [] m h = h
 held_queued w k (b ∷ bs) m h = let f : Option Kept → Option Kept = option_map (enqueued (side_of b) (record { wait = w; branch = k; value = brought b })) in
     held_queued w (suc k) bs (changed_at (port_of b) f m) (held_changed (port_of b) f m h)
 
-channels_held_by : (p w : ℕ) (q : Planned) (m : Channels) → AreHeld m → AreHeld (channels_by p w q m)
+channels_held_by : (p w : ℕ) (q : Planned) (m : BankChannels) → AreHeld m → AreHeld (channels_by p w q m)
 channels_held_by p w (to_do k b alts) m h = held_changed (port_of b) (option_map (done_change b)) m h
 channels_held_by p w (to_meet k b alts v o) m h = held_changed (port_of b) (option_map (pruned (other_side (side_of b)) 0)) m h
 channels_held_by p w (to_park bs) m h = held_queued w 0 bs m h
 channels_held_by p w (to_post bs) m h = held_queued w 0 bs m h
 channels_held_by p w (to_make what) m h = held_changed p (or_was (option_map unattended (channel_made what))) m h
-channels_held_by p w (to_close q) m h = held_changed q (option_map closed) m h
+channels_held_by p w (to_close q) m h = held_changed q (option_map closed_channel) m h
 channels_held_by p w (to_default v) m h = h
 channels_held_by p w (to_spawn kind r) m h = h
 channels_held_by p w (to_register name args) m h = h
@@ -85,7 +85,7 @@ channels_held_by p w (to_refuse f) m h = h
 
 registries_held_by : (p : ℕ) (q : Planned) (m : Members) → AreHeld m → AreHeld (registries_by p q m)
 registries_held_by p (to_make what) m h = held_changed p (or_was (registry_made what)) m h
-registries_held_by p (to_register name args) m h = held_changed (registry_of args) (option_map (registered name (rest_of args))) m h
+registries_held_by p (to_register name args) m h = held_changed (registry_of args) (option_map (registry_after name (rest_of args))) m h
 registries_held_by p (to_do k b alts) m h = h
 registries_held_by p (to_meet k b alts w o) m h = h
 registries_held_by p (to_park bs) m h = h
@@ -131,13 +131,13 @@ module _ {X : Type 0} (w : ℕ) (x none : Parked X) where
   waits_keep P px pn (to_refuse f) m h k y e = h k y e
 
 -- channels that close
-pub held_closed : (ports : List ℕ) (m : Channels) → AreHeld m → AreHeld (closed_all ports m)
+pub held_closed : (ports : List ℕ) (m : BankChannels) → AreHeld m → AreHeld (closed_all ports m)
 held_closed [] m h = h
-held_closed (p ∷ ps) m h = held_closed ps (changed_at p (option_map closed) m) (held_changed p (option_map closed) m h)
+held_closed (p ∷ ps) m h = held_closed ps (changed_at p (option_map closed_channel) m) (held_changed p (option_map closed_channel) m h)
 
-pub held_result : (r : Option ℕ) (m : Channels) → AreHeld m → AreHeld (closed_result r m)
+pub held_result : (r : Option ℕ) (m : BankChannels) → AreHeld m → AreHeld (closed_result r m)
 held_result None m h = h
-held_result (Some p) m h = held_changed p (option_map closed) m h
+held_result (Some p) m h = held_changed p (option_map closed_channel) m h
 
 -- all parts are held after the event of a plan
 pub all_by : {A : Type 0} (h h2 : Has A) (p w : ℕ) (x none : Parked (TaskAgent A)) (q : Planned) → IsAll h → ((i : ℕ) → h2.bank i ≡ channels_by p w q h.bank i) → ((i : ℕ) → h2.registry i ≡ registries_by p q h.registry i)

@@ -17,7 +17,7 @@ use Rattle.ca_commit.proofs.PlanTold.{plan_tells}
 use Rattle.ca_follow.specs.Applies.{Applies}
 use Rattle.ca_follow.specs.Events.{AreNew}
 use Rattle.ca_follow.specs.Follows.{Follows, IsAt}
-use Rattle.ca_follow.specs.Has.{Has, IsAll, parts}
+use Rattle.ca_follow.specs.Has.{Has, IsAll, parts_had}
 use Rattle.ca_follow.proofs.Answers.{close_follows, default_follows, print_follows, register_follows}
 use Rattle.ca_follow.proofs.Done.{done_follows}
 use Rattle.ca_follow.proofs.Going.{LeadsOn}
@@ -42,7 +42,7 @@ module _ {A : Type 0} (place : A → At) (stands : ProgramView → A → TaskBod
   by_plan (to_refuse f) e = absurd e
 
   pub applied_follows : (h h2 : Has A) (s : State) (op : OpView) (at : Place) (start : ℕ) (q : Planned) (t u p w m : ℕ) (a : TaskAgent A) → Follows place stands program h s → IsAll h → IsAt place stands program h s t a → place a.agent ≡ at_op (record { op = op; place = at })
-      → q ≡ planned (seen_in (parts h)) op start → IsEvent q → AreNew h q u p w m → Applies place gives starts program op q t u p w m a h h2
+      → q ≡ planned (seen_in (parts_had h)) op start → IsEvent q → AreNew h q u p w m → Applies place gives starts program op q t u p w m a h h2
       → (s2 : State) × Step program s (event_of h.bank h.registry t u p w m q) s2 × Follows place stands program h2 s2
   applied_follows h h2 s op at start q t u p w m a f all is here plan event new x =
-      by_plan q event h h2 s op at t u p w m a f all is here (subst (λ (z : Planned). PlanTells (parts h) op z) (sym plan) (plan_tells (parts h) op start)) new x
+      by_plan q event h h2 s op at t u p w m a f all is here (subst (λ (z : Planned). PlanTells (parts_had h) op z) (sym plan) (plan_tells (parts_had h) op start)) new x

@@ -21,8 +21,8 @@ use Rattle.ca_meaning.specs.TaskSteps.{moments}
 use Rattle.ca_meaning.specs.Wait.{Wait, is_among}
 use Rattle.ca_commit.specs.Agents.{TaskAgent, place_of, stands_of}
 use Rattle.ca_commit.specs.Contents.{Kept, alive, at_key, home, whole}
-use Rattle.ca_commit.specs.Deciding.{IsCrowded, IsRefused, PlanTells}
-use Rattle.ca_commit.specs.Holds.{Holds, shut_in, shut_kept}
+use Rattle.ca_commit.specs.Deciding.{IsCrowded, AreOperandsRefused, PlanTells}
+use Rattle.ca_commit.specs.Holds.{KeepsChannels, shut_in, shut_kept}
 use Rattle.ca_commit.specs.NewPort.{Times}
 use Rattle.ca_commit.specs.Planning.{state_of, to_refuse}
 use Rattle.ca_commit.specs.Running.{Placed}
@@ -36,7 +36,7 @@ use Rattle.ca_commit.proofs.Shown.{Shown, none_ready, shows, some_crowded}
 use Rattle.ca_commit.proofs.Ticking.{shut_holds}
 use Rattle.ca_follow.specs.Ending.{ticked_by, without_task}
 use Rattle.ca_follow.specs.Follows.{Follows, IsAt}
-use Rattle.ca_follow.specs.Has.{Has, IsAll, parts}
+use Rattle.ca_follow.specs.Has.{Has, IsAll, parts_had}
 use Rattle.ca_follow.proofs.Going.{follows_by, tracks_of}
 use Rattle.ca_follow.proofs.Tracked.{task_over}
 
@@ -51,10 +51,10 @@ whole_closed ps m placed = same_map (whole (closed_all ps m)) (shut_in ps (whole
   by (Some g) q = refl
   by None q = none (is_among q ps)
 
-closed_held : (ps : List ℕ) (m : ℕ → Option (ℕ → Option Kept)) (lives : ℕ → Bool) (channels : Channels) (waits : List Wait) (used : List ℕ) → Placed m → Holds (whole m) lives channels waits used → Holds (whole (closed_all ps m)) lives (shut_all ps channels) waits used
-closed_held ps m lives channels waits used placed h = subst (λ (f : ℕ → Option Kept). Holds f lives (shut_all ps channels) waits used) (sym (whole_closed ps m placed)) (shut_holds ps (whole m) lives channels waits used h)
+closed_held : (ps : List ℕ) (m : ℕ → Option (ℕ → Option Kept)) (lives : ℕ → Bool) (channels : Channels) (waits : List Wait) (used : List ℕ) → Placed m → KeepsChannels (whole m) lives channels waits used → KeepsChannels (whole (closed_all ps m)) lives (shut_all ps channels) waits used
+closed_held ps m lives channels waits used placed h = subst (λ (f : ℕ → Option Kept). KeepsChannels f lives (shut_all ps channels) waits used) (sym (whole_closed ps m placed)) (shut_holds ps (whole m) lives channels waits used h)
 
-result_held : (r : Option ℕ) (m : ℕ → Option (ℕ → Option Kept)) (lives : ℕ → Bool) (channels : Channels) (waits : List Wait) (used : List ℕ) → Placed m → Holds (whole m) lives channels waits used → Holds (whole (closed_result r m)) lives (shut_result r channels) waits used
+result_held : (r : Option ℕ) (m : ℕ → Option (ℕ → Option Kept)) (lives : ℕ → Bool) (channels : Channels) (waits : List Wait) (used : List ℕ) → Placed m → KeepsChannels (whole m) lives channels waits used → KeepsChannels (whole (closed_result r m)) lives (shut_result r channels) waits used
 result_held None m lives channels waits used placed h = h
 result_held (Some p) m lives channels waits used placed h = closed_held (p ∷ []) m lives channels waits used placed h
 
@@ -62,7 +62,7 @@ module _ {A : Type 0} (place : A → At) (stands : ProgramView → A → TaskBod
   abbrev task_ended : State → ℕ → Task → Option ℕ → State
   task_ended s t x r = record s { tasks = update eqb s.tasks t (Some (record x { mode = over })); channels = shut_result r s.channels }
 
-  over_follows : (h : Has A) (s : State) (t : ℕ) (x : Task) (r : Option ℕ) → Follows place stands program h s → Runs s.tasks t x → Holds (whole (closed_result r h.bank)) (alive (whole h.shard)) (shut_result r s.channels) s.waits s.used
+  over_follows : (h : Has A) (s : State) (t : ℕ) (x : Task) (r : Option ℕ) → Follows place stands program h s → Runs s.tasks t x → KeepsChannels (whole (closed_result r h.bank)) (alive (whole h.shard)) (shut_result r s.channels) s.waits s.used
       → Follows place stands program (without_task h t r) (task_ended s t x r)
   over_follows h s t x r f is holds = follows_by place stands program (without_task h t r) (task_ended s t x r) holds f.registered
       (task_over (place_of place) (stands_of stands program) h.running (whole h.shard) h.known s.tasks s.waits t x (record x { mode = over }) (tracks_of place stands program h s f) is refl) f.times f.used
@@ -86,22 +86,22 @@ module _ {A : Type 0} (place : A → At) (stands : ProgramView → A → TaskBod
   faulted_follows h s t a fault at r f all is port stood = fault_follows h s t a fault at r f all is port (ap (fault_at s) stood)
 
   -- what is refused by all that the follower has is refused in the state
-  refused : (h : Has A) (s : State) (op : OpView) (fault : Fault) → Follows place stands program h s → PlanTells (parts h) op (to_refuse fault) → refusal s op ≡ Some fault
+  refused : (h : Has A) (s : State) (op : OpView) (fault : Fault) → Follows place stands program h s → PlanTells (parts_had h) op (to_refuse fault) → refusal s op ≡ Some fault
   refused h s op fault f tells = ⊎_elim unfit crowd tells where
-    shown : Shown (parts h) s
+    shown : Shown (parts_had h) s
     shown = record { holds = f.holds; registered = f.registered }
 
-    all : IsPart (parts h) (parts h)
+    all : IsPart (parts_had h) (parts_had h)
     all = record { lanes = λ i x e. e; banks = λ i x e. e; shards = λ i x e. e; readys = λ i x e. e; registries = λ i x e. e; clocks = λ c e. e }
 
-    unfit : IsRefused (parts h) op fault → refusal s op ≡ Some fault
+    unfit : AreOperandsRefused (parts_had h) op fault → refusal s op ≡ Some fault
     unfit e = refuses s op fault (unfit_same s (state_of (whole h.bank) (whole h.registry)) op (λ n among. (f.holds.channels_are n, f.registered n)) ∙ e)
 
-    crowd : IsCrowded (parts h) op fault → refusal s op ≡ Some fault
-    crowd c = crowd_refuses s op fault (c.0 s (shows (parts h) (parts h) s shown all)) (none_ready (parts h) (parts h) s (branches_of op) shown all c.2) c.1 (some_crowded (parts h) (parts h) s (branches_of op) fault shown all c.3)
+    crowd : IsCrowded (parts_had h) op fault → refusal s op ≡ Some fault
+    crowd c = crowd_refuses s op fault (c.0 s (shows (parts_had h) (parts_had h) s shown all)) (none_ready (parts_had h) (parts_had h) s (branches_of op) shown all c.2) c.1 (some_crowded (parts_had h) (parts_had h) s (branches_of op) fault shown all c.3)
 
   pub refused_follows : (h : Has A) (s : State) (t : ℕ) (a : TaskAgent A) (op : OpView) (fault : Fault) (at : Place) (r : Option PortId) → Follows place stands program h s → IsAll h → IsAt place stands program h s t a → option_map port_number r ≡ a.result
-      → place a.agent ≡ at_op (record { op = op; place = at }) → PlanTells (parts h) op (to_refuse fault) → (s2 : State) × Step program s (is_end t (Faulted fault at r)) s2 × Follows place stands program (without_task h t a.result) s2
+      → place a.agent ≡ at_op (record { op = op; place = at }) → PlanTells (parts_had h) op (to_refuse fault) → (s2 : State) × Step program s (is_end t (Faulted fault at r)) s2 × Follows place stands program (without_task h t a.result) s2
   refused_follows h s t a op fault at r f all is port stood tells =
       fault_follows h s t a fault at r f all is port (ap (fault_at s) stood ∙ ap (option_map (λ z. (z, at))) (refused h s op fault f tells))
 

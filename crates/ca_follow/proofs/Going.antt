@@ -7,7 +7,7 @@ use Rattle.ca_term.specs.Operation.{OpView, SeedView, WantView}
 use Rattle.ca_term.specs.declared.place.Place.{Place}
 use Rattle.ca_term.specs.Program.{ProgramView}
 use Rattle.ca_meaning.specs.Body.{At, at_op}
-use Rattle.ca_meaning.specs.Going.{Runs, Stands, Wakes}
+use Rattle.ca_meaning.specs.Going.{Runs, RunsAtOperation, Wakes}
 use Rattle.ca_meaning.specs.Refusal.{too_many}
 use Rattle.ca_meaning.specs.Registry.{Registry}
 use Rattle.ca_meaning.specs.State.{State, Task, Tasks, runs}
@@ -19,7 +19,7 @@ use Rattle.ca_commit.specs.Agents.{TaskAgent, advances_of, place_of, stands_of}
 use Rattle.ca_commit.specs.Applying.{event_of}
 use Rattle.ca_commit.specs.Contents.{Kept, Parked, alive, at_key, home, nobody, owner, whole}
 use Rattle.ca_commit.specs.Deciding.{PlanTells}
-use Rattle.ca_commit.specs.Holds.{Holds}
+use Rattle.ca_commit.specs.Holds.{KeepsChannels}
 use Rattle.ca_commit.specs.Moves.{FitIn}
 use Rattle.ca_commit.specs.Planning.{Planned}
 use Rattle.ca_commit.specs.Replies.{GoesOn}
@@ -31,11 +31,11 @@ use Rattle.ca_commit.proofs.Shown.{Shown, shows}
 use Rattle.ca_follow.specs.Applies.{Applies, with_all}
 use Rattle.ca_follow.specs.Events.{AreNew}
 use Rattle.ca_follow.specs.Follows.{Follows, IsAt}
-use Rattle.ca_follow.specs.Has.{Has, IsAll, parts}
+use Rattle.ca_follow.specs.Has.{Has, IsAll, parts_had}
 use Rattle.ca_follow.proofs.Tracked.{Tracks, owner_wakes, task_advances, task_goes, tracks_same, wait_gone}
 
 -- all parts are a part of themselves
-pub is_part : {A : Type 0} (h : Has A) → IsPart (parts h) (parts h)
+pub is_part : {A : Type 0} (h : Has A) → IsPart (parts_had h) (parts_had h)
 is_part h = record { lanes = λ i x e. e; banks = λ i x e. e; shards = λ i x e. e; readys = λ i x e. e; registries = λ i x e. e; clocks = λ c e. e }
 
 -- banks or shards that agree are one map
@@ -50,10 +50,10 @@ module _ {A : Type 0} (place : A → At) (stands : ProgramView → A → TaskBod
   tracks_of h s f = record { ready = f.ready; runs = f.runs; owners = f.owners; nobodies = f.nobodies; known = f.known }
 
   -- what is held shows the state's channels, waits and registries
-  pub shown_of : (h : Has A) (s : State) → Follows place stands program h s → Shown (parts h) s
+  pub shown_of : (h : Has A) (s : State) → Follows place stands program h s → Shown (parts_had h) s
   shown_of h s f = record { holds = f.holds; registered = f.registered }
 
-  pub follows_by : (h : Has A) (s : State) → Holds (whole h.bank) (alive (whole h.shard)) s.channels s.waits s.used → ((p : ℕ) → s.registries p ≡ whole h.registry p)
+  pub follows_by : (h : Has A) (s : State) → KeepsChannels (whole h.bank) (alive (whole h.shard)) s.channels s.waits s.used → ((p : ℕ) → s.registries p ≡ whole h.registry p)
       → TracksTasks h.running (whole h.shard) h.known s.tasks s.waits → h.times ≡ Some (record { deadlines = s.deadlines; now = s.now }) → ((w : ℕ) → is_among w s.used ≡ h.used w) → Follows place stands program h s
   follows_by h s holds registered t times used = record { holds = holds; registered = registered; ready = t.ready; runs = t.runs; owners = t.owners; nobodies = t.nobodies; times = times; known = t.known; used = used }
 
@@ -62,22 +62,22 @@ module _ {A : Type 0} (place : A → At) (stands : ProgramView → A → TaskBod
   Went tasks t want v c = (x : Task) × Runs tasks t x × (body_at x.body ≡ at_op want) × ((d : TaskBody) × BodyRest program (body_fill v x.body) d × stands_of stands program c x.result d)
 
   -- it stands at its operation in the state, and isn't refused there
-  pub stands_there : (h : Has A) (s : State) (t : ℕ) (op : OpView) (at : Place) (x : Task) → Follows place stands program h s → Runs s.tasks t x → body_at x.body ≡ at_op (record { op = op; place = at }) → FitIn (parts h) op → too_many s op ≡ None → Stands s t op x
-  stands_there h s t op at x f is e fit few = (is.0, is.1, (at, e), fits s op (fit s (shows (parts h) (parts h) s (shown_of h s f) (is_part h))) few)
+  pub stands_there : (h : Has A) (s : State) (t : ℕ) (op : OpView) (at : Place) (x : Task) → Follows place stands program h s → Runs s.tasks t x → body_at x.body ≡ at_op (record { op = op; place = at }) → FitIn (parts_had h) op → too_many s op ≡ None → RunsAtOperation s t op x
+  stands_there h s t op at x f is e fit few = (is.0, is.1, (at, e), fits s op (fit s (shows (parts_had h) (parts_had h) s (shown_of h s f) (is_part h))) few)
 
   -- so it does by the name that the plan has for its operation
-  pub stands_named : (h : Has A) (s : State) (t : ℕ) (op named : OpView) (at : Place) (x : Task) → op ≡ named → Follows place stands program h s → Runs s.tasks t x → body_at x.body ≡ at_op (record { op = op; place = at }) → FitIn (parts h) op → too_many s named ≡ None → Stands s t named x
-  stands_named h s t op named at x e f is here fit few = subst (λ (o : OpView). Stands s t o x) e (stands_there h s t op at x f is here fit (subst (λ (o : OpView). too_many s o ≡ None) (sym e) few))
+  pub stands_named : (h : Has A) (s : State) (t : ℕ) (op named : OpView) (at : Place) (x : Task) → op ≡ named → Follows place stands program h s → Runs s.tasks t x → body_at x.body ≡ at_op (record { op = op; place = at }) → FitIn (parts_had h) op → too_many s named ≡ None → RunsAtOperation s t named x
+  stands_named h s t op named at x e f is here fit few = subst (λ (o : OpView). RunsAtOperation s t o x) e (stands_there h s t op at x f is here fit (subst (λ (o : OpView). too_many s o ≡ None) (sym e) few))
 
   -- what an event leaves whose task t alone goes on, as c
   pub alone_follows : (h h2 : Has A) (s s2 : State) (t : ℕ) (x : Task) (c : TaskAgent A) (d : TaskBody) → Follows place stands program h s → Runs s.tasks t x → stands_of stands program c x.result d
       → s2.tasks ≡ update eqb s.tasks t (Some (runs x.result d)) → s2.waits ≡ s.waits → s2.used ≡ s.used
       → ((v : ℕ) → h2.running v ≡ update eqb h.running t (Some c) v) → ((i : ℕ) → h2.shard i ≡ h.shard i) → ((v : ℕ) → h2.known v ≡ h.known v) → ((v : ℕ) → h2.used v ≡ h.used v)
-      → Holds (whole h2.bank) (alive (whole h.shard)) s2.channels s.waits s.used → ((p : ℕ) → s2.registries p ≡ whole h2.registry p) → h2.times ≡ Some (record { deadlines = s2.deadlines; now = s2.now })
+      → KeepsChannels (whole h2.bank) (alive (whole h.shard)) s2.channels s.waits s.used → ((p : ℕ) → s2.registries p ≡ whole h2.registry p) → h2.times ≡ Some (record { deadlines = s2.deadlines; now = s2.now })
       → Follows place stands program h2 s2
   alone_follows h h2 s s2 t x c d f is st tasks waits used agents shards known taken holds registered times = follows_by h2 s2
-      (subst (λ (m : ℕ → Option (Parked (TaskAgent A))). Holds (whole h2.bank) (alive m) s2.channels s2.waits s2.used) (sym (same_whole h2.shard h.shard shards))
-      (subst (λ ws. Holds (whole h2.bank) (alive (whole h.shard)) s2.channels ws s2.used) (sym waits) (subst (λ us. Holds (whole h2.bank) (alive (whole h.shard)) s2.channels s.waits us) (sym used) holds)))
+      (subst (λ (m : ℕ → Option (Parked (TaskAgent A))). KeepsChannels (whole h2.bank) (alive m) s2.channels s2.waits s2.used) (sym (same_whole h2.shard h.shard shards))
+      (subst (λ ws. KeepsChannels (whole h2.bank) (alive (whole h.shard)) s2.channels ws s2.used) (sym waits) (subst (λ us. KeepsChannels (whole h2.bank) (alive (whole h.shard)) s2.channels s.waits us) (sym used) holds)))
       registered
       (subst (λ ws. TracksTasks h2.running (whole h2.shard) h2.known s2.tasks ws) (sym waits) (subst (λ (ts : Tasks). TracksTasks h2.running (whole h2.shard) h2.known ts s.waits) (sym tasks)
       (tracks_same (place_of place) (stands_of stands program) (update eqb h.running t (Some c)) h2.running (whole h.shard) (whole h2.shard) h.known h2.known (update eqb s.tasks t (Some (runs x.result d))) s.waits
@@ -91,8 +91,8 @@ module _ {A : Type 0} (place : A → At) (stands : ProgramView → A → TaskBod
   one_goes h h2 t c woken goes e g is v = is v ∙ ap (λ (l : List (ℕ × TaskAgent A)). with_all l (update eqb h.running t goes) v) e ∙ ap (λ (o : Option (TaskAgent A)). update eqb h.running t o v) g
 
   -- banks and registries that stay
-  pub holds_still : (h h2 : Has A) (s : State) → Follows place stands program h s → ((i : ℕ) → h2.bank i ≡ h.bank i) → Holds (whole h2.bank) (alive (whole h.shard)) s.channels s.waits s.used
-  holds_still h h2 s f e = subst (λ (b : ℕ → Option Kept). Holds b (alive (whole h.shard)) s.channels s.waits s.used) (sym (same_whole h2.bank h.bank e)) f.holds
+  pub holds_still : (h h2 : Has A) (s : State) → Follows place stands program h s → ((i : ℕ) → h2.bank i ≡ h.bank i) → KeepsChannels (whole h2.bank) (alive (whole h.shard)) s.channels s.waits s.used
+  holds_still h h2 s f e = subst (λ (b : ℕ → Option Kept). KeepsChannels b (alive (whole h.shard)) s.channels s.waits s.used) (sym (same_whole h2.bank h.bank e)) f.holds
 
   pub registered_still : (h h2 : Has A) (s : State) → Follows place stands program h s → ((i : ℕ) → h2.registry i ≡ h.registry i) → (p : ℕ) → s.registries p ≡ whole h2.registry p
   registered_still h h2 s f e p = f.registered p ∙ sym (ap (λ (o : Option (ℕ → Option Registry)). at_key o p) (e (home p)))
@@ -100,7 +100,7 @@ module _ {A : Type 0} (place : A → At) (stands : ProgramView → A → TaskBod
   -- Plan q of the operation at which task t stands, applied, is a step to a state that what is there then follows.
   abbrev pub LeadsOn : (A → Tree → A → Type 0) → (ProgramView → SeedView → A → Type 0) → Planned → Type 0
   LeadsOn gives starts q = (h h2 : Has A) (s : State) (op : OpView) (at : Place) (t u p w m : ℕ) (a : TaskAgent A) → Follows place stands program h s → IsAll h → IsAt place stands program h s t a → place a.agent ≡ at_op (record { op = op; place = at })
-      → PlanTells (parts h) op q → AreNew h q u p w m → Applies place gives starts program op q t u p w m a h h2
+      → PlanTells (parts_had h) op q → AreNew h q u p w m → Applies place gives starts program op q t u p w m a h h2
       → (s2 : State) × Step program s (event_of h.bank h.registry t u p w m q) s2 × Follows place stands program h2 s2
 
   module _ (gives : A → Tree → A → Type 0) (answers_law : Answered stands place gives) where

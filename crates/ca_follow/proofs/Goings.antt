@@ -14,11 +14,11 @@ use Rattle.ca_commit.specs.Tasks.{agent_of}
 use Rattle.ca_commit.specs.declared.task.Task.{Task}
 use Rattle.ca_commit.proofs.Joining.{twice}
 use Rattle.ca_commit.proofs.Laid.{same_map}
-use Rattle.ca_tasks.specs.TaskLaws.{advanced}
-use Rattle.ca_tasks.specs.Tasks.{advances, over, place, stands}
+use Rattle.ca_tasks.specs.TaskLaws.{task_advanced}
+use Rattle.ca_tasks.specs.Tasks.{advances, task_over_code, place, stands}
 use Rattle.ca_tasks.specs.declared.task.AnyTask.{AnyTask}
 use Rattle.ca_follow.specs.Events.{task_of}
-use Rattle.ca_follow.specs.Follower.{IsBehind, IsFollower, IsMadeFor, Leads, LeadsBehind, Refuses, RefusesBehind, Stands, has, known_in, running_in, with_task}
+use Rattle.ca_follow.specs.Follower.{IsBehind, IsFollower, IsMadeFor, Leads, LeadsBehind, Refuses, RefusesBehind, FollowerStands, has, is_known_task, running_in, with_task}
 use Rattle.ca_follow.specs.Follows.{Follows, IsAt}
 use Rattle.ca_follow.specs.Has.{Has}
 use Rattle.ca_follow.specs.declared.follower.Follower.{Follower}
@@ -44,7 +44,7 @@ follower_taken f tasks number is taken = record {
   over_code = record { running = λ t a e. by t a (eqb number t) (sym (taken t) ∙ e); waiting = is.over_code.waiting };
   paused = is.paused;
 } where
-  by : (t : ℕ) (a : TaskAgent AnyTask) (b : Bool) → cond b None (running_in f.tasks t) ≡ Some a → over (valid_code f.code.now) a.agent
+  by : (t : ℕ) (a : TaskAgent AnyTask) (b : Bool) → cond b None (running_in f.tasks t) ≡ Some a → task_over_code (valid_code f.code.now) a.agent
   by t a true e = absurd (let z : None ≡ Some a = e in cc)
   by t a false e = is.over_code.running t a e
 
@@ -54,15 +54,15 @@ module _ (h g : Has AnyTask) (t : ℕ) (a0 a : TaskAgent AnyTask) (rest : (runni
   put_back = ap (λ (f : ℕ → Option (TaskAgent AnyTask)). record h { running = f }) (sym (twice h.running t None (Some a)) ∙ ap (λ (f : ℕ → Option (TaskAgent AnyTask)). update eqb f t (Some a)) (sym (same_map g.running (update eqb h.running t None) taken)))
       ∙ sym (rest (update eqb g.running t (Some a)))
 
-  pub goes_behind : (program : ProgramView) (s : State) → Stands program h s → h.running t ≡ Some a0 → advances_of advances program a0 a → IsBehind program g t a s
+  pub goes_behind : (program : ProgramView) (s : State) → FollowerStands program h s → h.running t ≡ Some a0 → advances_of advances program a0 a → IsBehind program g t a s
   goes_behind program s st is adv =
-      let k = advanced_follows place stands program advances advanced h s t a0 a st.follows is adv in record {
+      let k = advanced_follows place stands program advances task_advanced h s t a0 a st.follows is adv in record {
         out = taken t ∙ update_here h.running t None;
         stands = record { follows = subst (λ (z : Has AnyTask). Follows place stands program z s) put_back k.0; values = st.values };
         here = subst (λ (z : Has AnyTask). IsAt place stands program z s t a) put_back k.1;
       }
 
-module _ (code : CodeView) (e : EventView) (h g : Has AnyTask) (t : ℕ) (a : TaskAgent AnyTask) (goes : (program : ProgramView) (s : State) → IsMadeFor program code → Stands program h s → IsBehind program g t a s) where
+module _ (code : CodeView) (e : EventView) (h g : Has AnyTask) (t : ℕ) (a : TaskAgent AnyTask) (goes : (program : ProgramView) (s : State) → IsMadeFor program code → FollowerStands program h s → IsBehind program g t a s) where
   -- so what leads on from there leads on
   pub leads_from : (h2 : Has AnyTask) → LeadsBehind code e g t a h2 → Leads code e h h2
   leads_from h2 leads program s lowered st = leads program s lowered (goes program s lowered st)
@@ -76,9 +76,9 @@ refuses_none code e h t none mine program s s2 lowered st step = let k = only_ru
 
 -- the task that was taken out of a follower and went on is behind
 pub paused_behind : (old : Follower) (tasks : Tasks) (number : ℕ) (first later : Task AnyTask) → first.number ≡ number → Some (agent_of first) ≡ running_in old.tasks number → ((t : ℕ) → running_in tasks t ≡ update eqb (running_in old.tasks) number None t)
-    → ((t : ℕ) → known_in tasks t ≡ known_in old.tasks t) → later.number ≡ first.number → later.result ≡ first.result → later.alts ≡ first.alts
+    → ((t : ℕ) → is_known_task tasks t ≡ is_known_task old.tasks t) → later.number ≡ first.number → later.result ≡ first.result → later.alts ≡ first.alts
     → ((program : ProgramView) → Lowered program (valid_code old.code.now) → advances program first.agent later.agent)
-    → (program : ProgramView) (s : State) → IsMadeFor program (valid_code old.code.now) → Stands program (has old) s → IsBehind program (has (record old { tasks = tasks })) later.number (agent_of later) s
+    → (program : ProgramView) (s : State) → IsMadeFor program (valid_code old.code.now) → FollowerStands program (has old) s → IsBehind program (has (record old { tasks = tasks })) later.number (agent_of later) s
 paused_behind old tasks number first later same is taken known counted result alts adv program s lowered st =
     subst (λ (n : ℕ). IsBehind program (has (record old { tasks = tasks })) n (agent_of later) s) (sym (counted ∙ same))
     (goes_behind (has old) (has (record old { tasks = tasks })) number (agent_of first) (agent_of later)

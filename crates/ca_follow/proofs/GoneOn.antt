@@ -8,7 +8,7 @@ use Rattle.ca_meaning.specs.Body.{At}
 use Rattle.ca_meaning.specs.ChannelSteps.{other_side}
 use Rattle.ca_meaning.specs.Wait.{port_of, side_of, told}
 use Rattle.ca_commit.specs.Agents.{TaskAgent, starts_of}
-use Rattle.ca_commit.specs.Applying.{Channels, ReadyBy, RunsBy, channels_by, registries_by, times_by, waits_by}
+use Rattle.ca_commit.specs.Applying.{BankChannels, ReadyBy, RunsBy, channels_by, registries_by, times_by, waits_by}
 use Rattle.ca_commit.specs.Contents.{Parked, nobody, owner, whole}
 use Rattle.ca_commit.specs.Parking.{waiting_as}
 use Rattle.ca_commit.specs.Planning.{Planned, to_close, to_default, to_do, to_look, to_make, to_meet, to_park, to_post, to_print, to_prune, to_refuse, to_register, to_spawn}
@@ -19,7 +19,7 @@ use Rattle.ca_commit.specs.declared.held.Held.{Held}
 use Rattle.ca_commit.specs.declared.task.Task.{Task}
 use Rattle.ca_commit.proofs.Laid.{same_map}
 use Rattle.ca_commit.proofs.Seats.{some_same}
-use Rattle.ca_follow.specs.Applies.{Applies, GoesTo, Wakes, and_number, known_by, knows_all, knows_own, used_by, with_all, with_own}
+use Rattle.ca_follow.specs.Applies.{Applies, GoesTo, PlanWakes, and_number, known_by, knows_all, knows_own, used_by, with_all, with_own}
 use Rattle.ca_follow.specs.Has.{Has}
 use Rattle.ca_follow.proofs.Plain.{again, back}
 
@@ -53,7 +53,7 @@ module _ {A : Type 0} where
 
 module _ {A : Type 0} (place : A → At) (gives : A → Tree → A → Type 0) where
   -- who stands in the ready part after the event, where nobody stood there before
-  abbrev pub Woken : Planned → Channels → (ℕ → Option (ℕ → Option (Parked (TaskAgent A)))) → Option (ℕ × TaskAgent A) → List (ℕ × TaskAgent A) → Type 0
+  abbrev pub Woken : Planned → BankChannels → (ℕ → Option (ℕ → Option (Parked (TaskAgent A)))) → Option (ℕ × TaskAgent A) → List (ℕ × TaskAgent A) → Type 0
   Woken (to_meet k b alts v o) cs sh s woken = WakesBy place gives (whole sh v) (port_of b) (told (other_side (side_of b)) (passing (whole cs (port_of b)) b)) (Some []) (Some woken)
   Woken (to_spawn kind r) cs sh s woken = (x : ℕ × TaskAgent A) × (s ≡ Some x) × (woken ≡ x ∷ [])
   Woken other cs sh s woken = woken ≡ []
@@ -149,7 +149,7 @@ module _ {A : Type 0} (place : A → At) (gives : A → Tree → A → Type 0) w
     IsStarted program op u None = Unit {0}
     IsStarted program op u (Some x) = (x.0 ≡ u) × ((seed : SeedView) → op ≡ spawning seed → starts_of starts program seed x.1)
 
-    wakes_of_woken : (program : ProgramView) (op : OpView) (q : Planned) (u : ℕ) (h : Has A) (s : Option (ℕ × TaskAgent A)) (woken : List (ℕ × TaskAgent A)) → IsStarted program op u s → Woken q h.bank h.shard s woken → Wakes place gives starts program op q u h woken
+    wakes_of_woken : (program : ProgramView) (op : OpView) (q : Planned) (u : ℕ) (h : Has A) (s : Option (ℕ × TaskAgent A)) (woken : List (ℕ × TaskAgent A)) → IsStarted program op u s → Woken q h.bank h.shard s woken → PlanWakes place gives starts program op q u h woken
     wakes_of_woken program op (to_spawn kind r) u h s woken st k =
         let g = subst (λ (z : Option (ℕ × TaskAgent A)). IsStarted program op u z) k.1 st in
         (k.0.1, k.2 ∙ ap (λ n. (n, k.0.1) ∷ []) g.0, g.1)
@@ -173,7 +173,7 @@ module _ {A : Type 0} (place : A → At) (gives : A → Tree → A → Type 0) w
     woken_known (Some (owner u a)) p v f woken k w n = ap (λ (l : List (ℕ × TaskAgent A)). knows_all l f n) (some_same woken ((u, w.0) ∷ []) w.4) ∙ known_here f u (k u a refl) n
 
     all_known : (program : ProgramView) (op : OpView) (q : Planned) (u : ℕ) (h : Has A) (s : Option (ℕ × TaskAgent A)) (woken : List (ℕ × TaskAgent A)) → ((w v : ℕ) (a : TaskAgent A) → whole h.shard w ≡ Some (owner v a) → h.known v ≡ true)
-        → Wakes place gives starts program op q u h woken → (n : ℕ) → knows_all woken h.known n ≡ known_by u q h.known n
+        → PlanWakes place gives starts program op q u h woken → (n : ℕ) → knows_all woken h.known n ≡ known_by u q h.known n
     all_known program op (to_meet k b alts v o) u h s woken waits w n = woken_known (whole h.shard v) (port_of b) (told (other_side (side_of b)) (passing (whole h.bank (port_of b)) b)) h.known woken (λ x a e. waits v x a e) w n
     all_known program op (to_spawn kind r) u h s woken waits w n = ap (λ (l : List (ℕ × TaskAgent A)). knows_all l h.known n) w.1
     all_known program op (to_do k b alts) u h s woken waits w n = ap (λ (l : List (ℕ × TaskAgent A)). knows_all l h.known n) w
@@ -205,7 +205,7 @@ module _ {A : Type 0} (place : A → At) (gives : A → Tree → A → Type 0) w
           known = λ v. g.known v ∙ ap (λ (f : ℕ → Bool). knows_all g.woken f v) (same_map (knows_own g.own h.known) h.known (own_known h.known t g.own known g.is_own)) ∙ all_known program op q u h s g.woken waits wakes v;
           used = g.used;
         } where
-          moved : (q : Planned) → Wakes place gives starts program op q u h g.woken → Wakes place gives starts program op q u (back t b h) g.woken
+          moved : (q : Planned) → PlanWakes place gives starts program op q u h g.woken → PlanWakes place gives starts program op q u (back t b h) g.woken
           moved (to_do i b alts) k = k
           moved (to_meet i b alts x o) k = k
           moved (to_park bs) k = k

@@ -25,21 +25,21 @@ use Rattle.ca_commit.specs.Deciding.{PlanTells}
 use Rattle.ca_commit.specs.Finding.{glance, settle_at}
 use Rattle.ca_commit.specs.NewPort.{Times}
 use Rattle.ca_commit.specs.Planning.{Planned}
-use Rattle.ca_commit.specs.Settling.{settling}
+use Rattle.ca_commit.specs.Settling.{value_settled}
 use Rattle.ca_commit.specs.Ticking.{closed_all, closed_result, ticked_at}
 use Rattle.ca_commit.proofs.Joining.{twice}
 use Rattle.ca_commit.proofs.Laid.{none_put}
 use Rattle.ca_commit.proofs.PlanTold.{plan_tells}
-use Rattle.ca_tasks.specs.TaskLaws.{answered}
+use Rattle.ca_tasks.specs.TaskLaws.{task_answered}
 use Rattle.ca_tasks.specs.Tasks.{gives, place, stands}
 use Rattle.ca_tasks.specs.declared.task.AnyTask.{AnyTask}
 use Rattle.ca_follow.specs.Events.{task_of}
-use Rattle.ca_follow.specs.Follower.{IsRefused, IsSettleOf, IsTickOf, Leads, LeadsBehind, MayFault, Refuses, RefusesBehind, Stands, with_task}
+use Rattle.ca_follow.specs.Follower.{IsPlanRefused, IsSettleOf, IsTickOf, Leads, LeadsBehind, MayFault, Refuses, RefusesBehind, FollowerStands, with_task}
 use Rattle.ca_follow.specs.Follows.{Follows}
-use Rattle.ca_follow.specs.Has.{Has, IsAll, parts}
+use Rattle.ca_follow.specs.Has.{Has, IsAll, parts_had}
 use Rattle.ca_follow.specs.Settles.{SettlesTo}
 use Rattle.ca_follow.proofs.Ends.{ended_follows, faulted_follows, refused_follows, ticked_follows}
-use Rattle.ca_follow.specs.Ending.{IsFault, TicksOnly}
+use Rattle.ca_follow.specs.Ending.{IsTaskFault, TicksOnly}
 use Rattle.ca_follow.specs.Settles.{ServesOnly}
 use Rattle.ca_follow.proofs.OnlyEnds.{only_ended, only_faulted, only_refused}
 use Rattle.ca_follow.proofs.OnlySettled.{only_settled, only_ticked}
@@ -66,7 +66,7 @@ one_port (Some r) None e = absurd cc
 one_port (Some r) (Some q) e = let n : r.n ≡ q.n = cc in let f : ℕ → Option PortId = λ k. Some (record { n = k }) in ap f n
 
 -- a step that is followed is one between states whose values are values
-led : (program : ProgramView) (s : State) (e : EventView) (h2 : Has AnyTask) → IsProgram program → Holds any s → (s2 : State) × Step program s e s2 × Follows place stands program h2 s2 → (s2 : State) × Step program s e s2 × Stands program h2 s2
+led : (program : ProgramView) (s : State) (e : EventView) (h2 : Has AnyTask) → IsProgram program → Holds any s → (s2 : State) × Step program s e s2 × Follows place stands program h2 s2 → (s2 : State) × Step program s e s2 × FollowerStands program h2 s2
 led program s e h2 checked values x =
     (x.0, x.1, record { follows = x.2; values = (step_holds any program (written_of any program checked (any_program program)) s x.0 e x.1 values).0 })
 
@@ -108,19 +108,19 @@ module _ (code : CodeView) (e : EventView) (h : Has AnyTask) (t : ℕ) (a : Task
           stood : place a.agent ≡ faulted f at → (s2 : State) × Step program s (is_end t (Faulted f at r)) s2 × Follows place stands program (record h { running = update eqb (update eqb h.running t (Some a)) t None; bank = closed_result a.result h.bank }) s2
           stood x = faulted_follows place stands program (with_task t a h) s t a f at r b.stands.follows (all_with h t a all) b.here port x
 
-          refused : IsRefused h a f at → (s2 : State) × Step program s (is_end t (Faulted f at r)) s2 × Follows place stands program (record h { running = update eqb (update eqb h.running t (Some a)) t None; bank = closed_result a.result h.bank }) s2
+          refused : IsPlanRefused h a f at → (s2 : State) × Step program s (is_end t (Faulted f at r)) s2 × Follows place stands program (record h { running = update eqb (update eqb h.running t (Some a)) t None; bank = closed_result a.result h.bank }) s2
           refused x = refused_follows place stands program (with_task t a h) s t a x.0 f at r b.stands.follows (all_with h t a all) b.here port x.2
-              (subst (λ (q : Planned). PlanTells (parts h) x.0 q) x.3 (plan_tells (parts h) x.0 x.1))
+              (subst (λ (q : Planned). PlanTells (parts_had h) x.0 q) x.3 (plan_tells (parts_had h) x.0 x.1))
 
     pub fault_refuses : task_of e ≡ Some t → (is_end t (Faulted f at r) ≡ e → ⊥) → RefusesBehind code e h t a
     fault_refuses mine isnt program s s2 lowered b step = by (⊎_elim stood refused may) where
-      by : IsFault e t f at a.result → ⊥
+      by : IsTaskFault e t f at a.result → ⊥
       by x = isnt (ap (λ (q : Option PortId). is_end t (Faulted f at q)) (one_port r x.0 (port ∙ sym x.2)) ∙ sym x.1)
 
-      stood : place a.agent ≡ faulted f at → IsFault e t f at a.result
+      stood : place a.agent ≡ faulted f at → IsTaskFault e t f at a.result
       stood x = only_faulted place stands program (with_task t a h) s s2 e t a f at b.here x step mine
 
-      refused : IsRefused h a f at → IsFault e t f at a.result
+      refused : IsPlanRefused h a f at → IsTaskFault e t f at a.result
       refused x = only_refused place stands program (with_task t a h) s s2 e t x.1 a x.0 at f b.stands.follows (all_with h t a all) b.here x.2 (sym x.3) step mine
 
 module _ (code : CodeView) where
@@ -148,12 +148,12 @@ module _ (code : CodeView) where
   tick_refuses (is_end t how) h m is isnt program s s2 lowered st step = is
 
   -- channel p served a branch, once stale handlers were gone
-  pub settle_leads : (e : EventView) (h h1 h2 : Has AnyTask) (p : ℕ) (side : Side) (w o : ℕ) → ((program : ProgramView) (s : State) → Stands program h s → Stands program h1 s) → SettlesTo place gives p side w o h1 h2
-      → settled w o side p (settling side (whole h1.bank p)) ≡ e → Leads code e h h2
+  pub settle_leads : (e : EventView) (h h1 h2 : Has AnyTask) (p : ℕ) (side : Side) (w o : ℕ) → ((program : ProgramView) (s : State) → FollowerStands program h s → FollowerStands program h1 s) → SettlesTo place gives p side w o h1 h2
+      → settled w o side p (value_settled side (whole h1.bank p)) ≡ e → Leads code e h h2
   settle_leads e h h1 h2 p side w o keeps x same program s lowered st = let st1 = keeps program s st in led program s e h2 lowered.checked st1.values
-      (leads_as program s (settled w o side p (settling side (whole h1.bank p))) e h2 h2 same refl (settled_follows place stands program gives answered h1 h2 s p side w o st1.follows x))
+      (leads_as program s (settled w o side p (value_settled side (whole h1.bank p))) e h2 h2 same refl (settled_follows place stands program gives task_answered h1 h2 s p side w o st1.follows x))
 
-  pub settle_refuses : (e : EventView) (h h1 : Has AnyTask) (p : ℕ) → ((program : ProgramView) (s : State) → Stands program h s → Stands program h1 s) → IsAll h1 → IsSettleOf p e
+  pub settle_refuses : (e : EventView) (h h1 : Has AnyTask) (p : ℕ) → ((program : ProgramView) (s : State) → FollowerStands program h s → FollowerStands program h1 s) → IsAll h1 → IsSettleOf p e
       → ((w k : ℕ) (side : Side) (v : Tree) → ServesOnly w k side v (whole h1.bank p) (settle_at (glance h1.shard) (whole h1.bank p)) → settled w k side p v ≡ e → ⊥) → Refuses code e h
   settle_refuses (made t q what moment) h h1 p keeps all is isnt program s s2 lowered st step = is
   settle_refuses (spawned t u kind r) h h1 p keeps all is isnt program s s2 lowered st step = is

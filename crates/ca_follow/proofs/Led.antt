@@ -8,20 +8,20 @@ use Rattle.ca_meaning.specs.State.{Opening, State}
 use Rattle.ca_states.specs.Code.{CodeView}
 use Rattle.ca_tasks.specs.declared.task.AnyTask.{AnyTask}
 use Rattle.ca_replay.specs.declared.main_end.MainEnd.{MainEnd}
-use Rattle.ca_replay.specs.MainEnd.{main_end}
+use Rattle.ca_replay.specs.MainEnd.{main_text_end}
 use Rattle.ca_replay.specs.Verdict.{IsFirstIllegal}
 use Rattle.ca_replay.proofs.RunsTo.{illegal_next, illegal_over, run_first, run_more, still_open}
 use Rattle.ca_follow.specs.Followed.{IsLed}
-use Rattle.ca_follow.specs.Follower.{IsMadeFor, Leads, Refuses, Stands}
+use Rattle.ca_follow.specs.Follower.{IsMadeFor, Leads, Refuses, FollowerStands}
 use Rattle.ca_follow.specs.Has.{Has}
 
 -- at the opening
-pub led_first : (program : ProgramView) (h : Has AnyTask) → ((s : State) × Opening program s × Stands program h s) → IsLed program [] h None
+pub led_first : (program : ProgramView) (h : Has AnyTask) → ((s : State) × Opening program s × FollowerStands program h s) → IsLed program [] h None
 led_first program h opens = record { state = opens.0; run = run_first program opens.0 opens.1; stands = opens.2 }
 
 module _ (program : ProgramView) (code : CodeView) (made : IsMadeFor program code) (before : List EventView) (h : Has AnyTask) (end : Option MainEnd) (led : IsLed program before h end) where
   -- behind the next event, where the main text isn't over
-  pub led_on : (e : EventView) (h2 : Has AnyTask) → is_some end ≡ false → Leads code e h h2 → IsLed program (before ++ e ∷ []) h2 (main_end e)
+  pub led_on : (e : EventView) (h2 : Has AnyTask) → is_some end ≡ false → Leads code e h h2 → IsLed program (before ++ e ∷ []) h2 (main_text_end e)
   led_on e h2 none leads = let k = leads program led.state made led.stands in
       record { state = k.0; run = run_more program before led.state e k.0 (still_open program before led.state end none led.run) k.1; stands = k.2 }
 

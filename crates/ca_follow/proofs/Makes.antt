@@ -18,7 +18,7 @@ use Rattle.ca_agent.specs.Agents.{Answered, Started}
 use Rattle.ca_bank.specs.Kept.{unattended}
 use Rattle.ca_commit.specs.Agents.{TaskAgent, place_of, stands_of}
 use Rattle.ca_commit.specs.Contents.{Kept, Parked, alive, at_key, channel_of, home, whole}
-use Rattle.ca_commit.specs.Holds.{Holds}
+use Rattle.ca_commit.specs.Holds.{KeepsChannels}
 use Rattle.ca_commit.specs.NewPort.{Times, moment_for, timed}
 use Rattle.ca_commit.specs.Planning.{to_make, to_spawn}
 use Rattle.ca_commit.specs.Running.{or_was}
@@ -51,10 +51,10 @@ nothing_at None e = refl
 nothing_at (Some x) e = absurd (let z : true ≡ false = e in cc)
 
 -- a channel is new, or a port without one
-port_holds : (ports : ℕ → Option Kept) (live : ℕ → Bool) (channels : Channels) (waits : List Wait) (used : List ℕ) (p : ℕ) (o : Option Channel) → Holds ports live channels waits used → ports p ≡ None → channels p ≡ None
-    → Holds (update eqb ports p (option_map unattended o)) live (update eqb channels p o) waits used
+port_holds : (ports : ℕ → Option Kept) (live : ℕ → Bool) (channels : Channels) (waits : List Wait) (used : List ℕ) (p : ℕ) (o : Option Channel) → KeepsChannels ports live channels waits used → ports p ≡ None → channels p ≡ None
+    → KeepsChannels (update eqb ports p (option_map unattended o)) live (update eqb channels p o) waits used
 port_holds ports live channels waits used p (Some c) h a b = made_holds ports live channels waits used p c h a
-port_holds ports live channels waits used p None h a b = subst (λ f. Holds f live (update eqb channels p None) waits used) (sym (none_put ports p a)) (subst (λ f. Holds ports live f waits used) (sym (none_put channels p b)) h)
+port_holds ports live channels waits used p None h a b = subst (λ f. KeepsChannels f live (update eqb channels p None) waits used) (sym (none_put ports p a)) (subst (λ f. KeepsChannels ports live f waits used) (sym (none_put channels p b)) h)
 
 -- only a timeout's moment counts
 deadline_by : (p m now : ℕ) (what : WhatView) (ds : List Deadline) → with_deadline p what m ds ≡ with_deadline p what (unwrap_or (moment_for what m) now) ds
@@ -107,7 +107,7 @@ module _ {A : Type 0} (place : A → At) (stands : ProgramView → A → TaskBod
           refl,
         ),
         alone_follows place stands program h h2 s s2 t g.0 c g.3.0 f g.1 g.3.2 refl refl refl (one_goes place stands program h h2 t c x.woken x.goes x.wakes x.answered.1 x.running) x.shard x.known x.used
-            (subst (λ (b : ℕ → Option Kept). Holds b (alive (whole h.shard)) s2.channels s.waits s.used) (sym banks) (port_holds (whole h.bank) (alive (whole h.shard)) s.channels s.waits s.used p (channel_made what) f.holds new.0 no_channel))
+            (subst (λ (b : ℕ → Option Kept). KeepsChannels b (alive (whole h.shard)) s2.channels s.waits s.used) (sym banks) (port_holds (whole h.bank) (alive (whole h.shard)) s.channels s.waits s.used p (channel_made what) f.holds new.0 no_channel))
             (λ i. ap (λ (o : Option Registry). cond (eqb p i) (registry_made what) o) (f.registered i) ∙ sym (ap (λ (r : ℕ → Option Registry). r i) regs))
             (x.times ∙ ap (λ (o : Option Times). option_map (timed p what m) o) f.times
             ∙ ap (λ (ds : List Deadline). let r : Times = record { deadlines = ds; now = unwrap_or moment s.now } in Some r) (deadline_by p m s.now what s.deadlines)),
@@ -128,7 +128,7 @@ module _ {A : Type 0} (place : A → At) (stands : ProgramView → A → TaskBod
           s2,
           (g.0, seed, tasks, b.0, stands_named place stands program h s t op (spawning seed) at g.0 tells.1.1 f g.1 g.2 tells.0 refl, fresh, tells.1.2, tells.1.3, (g.3.0, g.3.1, refl), b.1, refl),
           follows_by place stands program h2 s2
-              (subst (λ (n : ℕ → Option (Parked (TaskAgent A))). Holds (whole h2.bank) (alive n) s.channels s.waits s.used) (sym (same_whole h2.shard h.shard x.shard)) (holds_still place stands program h h2 s f x.bank))
+              (subst (λ (n : ℕ → Option (Parked (TaskAgent A))). KeepsChannels (whole h2.bank) (alive n) s.channels s.waits s.used) (sym (same_whole h2.shard h.shard x.shard)) (holds_still place stands program h h2 s f x.bank))
               (registered_still place stands program h h2 s f x.registry)
               (tracks_same (place_of place) (stands_of stands program) (update eqb agents u (Some d)) h2.running (whole h.shard) (whole h2.shard) (and_number h.known u) h2.known s2.tasks s.waits
               (λ v. x.running v ∙ ap (λ (l : List (ℕ × TaskAgent A)). with_all l (update eqb h.running t x.goes) v) x.wakes.1 ∙ ap (λ (o : Option (TaskAgent A)). update eqb (update eqb h.running t o) u (Some d) v) x.answered.1)

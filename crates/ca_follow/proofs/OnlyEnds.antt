@@ -9,7 +9,7 @@ use Rattle.ca_term.specs.Event.{EventView, closed, defaulted, done, made, met, o
 use Rattle.ca_term.specs.Operation.{OpView, closing, making, posting, printing, registering, spawning}
 use Rattle.ca_term.specs.Program.{ProgramView}
 use Rattle.ca_meaning.specs.Body.{At, at_op, ended, faulted}
-use Rattle.ca_meaning.specs.Going.{Runs, Stands}
+use Rattle.ca_meaning.specs.Going.{Runs, RunsAtOperation}
 use Rattle.ca_meaning.specs.Refusal.{fault_at, refusal}
 use Rattle.ca_meaning.specs.State.{State, Task}
 use Rattle.ca_meaning.specs.Steps.{Step}
@@ -18,10 +18,10 @@ use Rattle.ca_commit.specs.Agents.{TaskAgent}
 use Rattle.ca_commit.specs.Deciding.{PlanTells, seen_in}
 use Rattle.ca_commit.specs.Planning.{planned, to_refuse}
 use Rattle.ca_commit.specs.Standing.{op_at}
-use Rattle.ca_follow.specs.Ending.{IsFault}
+use Rattle.ca_follow.specs.Ending.{IsTaskFault}
 use Rattle.ca_follow.specs.Events.{task_of}
 use Rattle.ca_follow.specs.Follows.{Follows, IsAt}
-use Rattle.ca_follow.specs.Has.{Has, IsAll, parts}
+use Rattle.ca_follow.specs.Has.{Has, IsAll, parts_had}
 use Rattle.ca_commit.proofs.PlanTold.{plan_tells}
 use Rattle.ca_follow.proofs.OnlyShown.{follower_shows, place_is, refused_is}
 
@@ -31,7 +31,7 @@ same_fault x y e = let same : x ≡ y = cc in same
 module _ (s : State) (e : EventView) (t : ℕ) where
   -- the task stands at an operation
   abbrev pub IsStanding : Type 0
-  IsStanding = (x : Task) × (op : OpView) × Stands s t op x
+  IsStanding = (x : Task) × (op : OpView) × RunsAtOperation s t op x
 
   -- its body has a value, or a fault
   abbrev pub HasValue : Type 0
@@ -44,7 +44,7 @@ module _ (s : State) (e : EventView) (t : ℕ) where
 abbrev pub Acts : State → EventView → ℕ → Type 0
 Acts s e t = IsStanding s e t ⊎ (HasValue s e t ⊎ HasFault s e t)
 
-stands_there : (s : State) (e : EventView) (u t : ℕ) (x : Task) (op : OpView) → Stands s u op x → Some u ≡ Some t → Acts s e t
+stands_there : (s : State) (e : EventView) (u t : ℕ) (x : Task) (op : OpView) → RunsAtOperation s u op x → Some u ≡ Some t → Acts s e t
 stands_there s e u t x op st is = inl (subst (λ (n : ℕ). IsStanding s e n) (let same : u ≡ t = cc in same) (x, op, st))
 
 pub acts : (program : ProgramView) (s s2 : State) (e : EventView) (t : ℕ) → Step program s e s2 → task_of e ≡ Some t → Acts s e t
@@ -65,7 +65,7 @@ acts program s s2 (over u (Faulted f at r)) t step is = let same : u ≡ t = cc 
 
 module _ {A : Type 0} (place : A → At) (stands : ProgramView → A → TaskBody → Type 0) (program : ProgramView) where
   -- where the agent is at a fault, or refused, an event of its task is that fault
-  faults_so : (h : Has A) (s : State) (e : EventView) (t : ℕ) (a : TaskAgent A) (f : Fault) (at : Place) → IsAt place stands program h s t a → fault_at s (place a.agent) ≡ Some (f, at) → HasFault s e t → IsFault e t f at a.result
+  faults_so : (h : Has A) (s : State) (e : EventView) (t : ℕ) (a : TaskAgent A) (f : Fault) (at : Place) → IsAt place stands program h s t a → fault_at s (place a.agent) ≡ Some (f, at) → HasFault s e t → IsTaskFault e t f at a.result
   faults_so h s e t a f at is stood x = let here = place_is place stands program h s t a x.0 is x.4.0 in
       let same = same_fault (x.1, x.2) (f, at) (sym x.5 ∙ sym (ap (fault_at s) here.0) ∙ stood) in
       (x.3, x.7 ∙ ap (λ (z : Fault × Place). over t (Faulted z.0 z.1 x.3)) same, sym x.6 ∙ sym here.1)
@@ -78,18 +78,18 @@ module _ {A : Type 0} (place : A → At) (stands : ProgramView → A → TaskBod
 
   pub only_refused : (h : Has A) (s s2 : State) (e : EventView) (t start : ℕ) (a : TaskAgent A) (op : OpView) (at : Place) (f : Fault)
       → Follows place stands program h s → IsAll h → IsAt place stands program h s t a → place a.agent ≡ at_op (record { op = op; place = at })
-      → to_refuse f ≡ planned (seen_in (parts h)) op start → Step program s e s2 → task_of e ≡ Some t → IsFault e t f at a.result
+      → to_refuse f ≡ planned (seen_in (parts_had h)) op start → Step program s e s2 → task_of e ≡ Some t → IsTaskFault e t f at a.result
   only_refused h s s2 e t start a op at f follows all is stood plan step task = ⊎_elim standing (λ o. ⊎_elim value (λ x. faults_so h s e t a f at is at_fault x) o) (acts program s s2 e t step task) where
     refused : refusal s op ≡ Some f
-    refused = refused_is (parts h) s (follower_shows place stands program h s follows) op f (subst (PlanTells (parts h) op) (sym plan) (plan_tells (parts h) op start))
+    refused = refused_is (parts_had h) s (follower_shows place stands program h s follows) op f (subst (PlanTells (parts_had h) op) (sym plan) (plan_tells (parts_had h) op start))
 
     at_fault : fault_at s (place a.agent) ≡ Some (f, at)
     at_fault = ap (fault_at s) stood ∙ ap (λ (o : Option Fault). option_map (λ (g : Fault). (g, at)) o) refused
 
-    standing : IsStanding s e t → IsFault e t f at a.result
+    standing : IsStanding s e t → IsTaskFault e t f at a.result
     standing x = absurd (let k = ap op_at (sym stood ∙ stands_apart h s e t a is x) in let c : Some f ≡ None = sym refused ∙ ap (refusal s) k ∙ x.2.3 in cc)
 
-    value : HasValue s e t → IsFault e t f at a.result
+    value : HasValue s e t → IsTaskFault e t f at a.result
     value x = absurd (let k = sym stood ∙ value_apart h s e t a is x in cc)
 
   pub only_ended : (h : Has A) (s s2 : State) (e : EventView) (t : ℕ) (a : TaskAgent A) (v : Tree)
@@ -102,12 +102,12 @@ module _ {A : Type 0} (place : A → At) (stands : ProgramView → A → TaskBod
     fault x = absurd (let k : ◌≡◌ {A = Option (Fault × Place)} None (Some (x.1, x.2)) = ap (fault_at s) (sym stood ∙ (place_is place stands program h s t a x.0 is x.4.0).0) ∙ x.5 in cc)
 
   pub only_faulted : (h : Has A) (s s2 : State) (e : EventView) (t : ℕ) (a : TaskAgent A) (f : Fault) (at : Place)
-      → IsAt place stands program h s t a → place a.agent ≡ faulted f at → Step program s e s2 → task_of e ≡ Some t → IsFault e t f at a.result
+      → IsAt place stands program h s t a → place a.agent ≡ faulted f at → Step program s e s2 → task_of e ≡ Some t → IsTaskFault e t f at a.result
   only_faulted h s s2 e t a f at is stood step task = ⊎_elim standing (λ o. ⊎_elim value (λ x. faults_so h s e t a f at is (ap (fault_at s) stood) x) o) (acts program s s2 e t step task) where
-    standing : IsStanding s e t → IsFault e t f at a.result
+    standing : IsStanding s e t → IsTaskFault e t f at a.result
     standing x = absurd (let k = sym stood ∙ stands_apart h s e t a is x in cc)
 
-    value : HasValue s e t → IsFault e t f at a.result
+    value : HasValue s e t → IsTaskFault e t f at a.result
     value x = absurd (let k = sym stood ∙ value_apart h s e t a is x in cc)
 
   -- a task that has an event can go on

@@ -16,13 +16,13 @@ use Rattle.ca_commit.specs.Asks.{AsksSettle, SettleAsks, TakerAsks}
 use Rattle.ca_commit.specs.Contents.{Kept, alive_in, channel_of, home, whole}
 use Rattle.ca_commit.specs.Finding.{Glance, Serving, glance, glance_at, glance_in, gone, here, rests, rests_on_stale, rests_on_unheld, serve, serve_taker, serves, serving, settle_at, unseen}
 use Rattle.ca_commit.specs.Replies.{or_nil}
-use Rattle.ca_commit.specs.Settling.{settling}
+use Rattle.ca_commit.specs.Settling.{value_settled}
 use Rattle.ca_commit.proofs.Findings.{is_here, lives}
 use Rattle.ca_commit.proofs.Holding.{settle_right}
 use Rattle.ca_commit.proofs.PlanTold.{lives_same}
 use Rattle.ca_follow.specs.Ending.{TicksOnly}
 use Rattle.ca_follow.specs.Follows.{Follows}
-use Rattle.ca_follow.specs.Has.{AreAll, Has, IsAll, parts}
+use Rattle.ca_follow.specs.Has.{AreAll, Has, IsAll, parts_had}
 use Rattle.ca_follow.specs.Settles.{ServesOnly}
 
 -- what a look at a channel that may settle says of what it settles, and of what it asks; v is what it would serve
@@ -42,7 +42,7 @@ module _ (see : ℕ → Glance) where
     by unseen e = e
 
   abbrev values_of : Channel → List Handler → List Handler → Side → Tree
-  values_of c ts ps side = settling side (Some (record { channel = c; takes = ts; puts = ps }))
+  values_of c ts ps side = value_settled side (Some (record { channel = c; takes = ts; puts = ps }))
 
   taker_tells : (c : Channel) (vs : List Tree) (closed : Bool) (ts ps : List Handler) → c.held ≡ vs → c.closed ≡ closed
       → Tells see (serve_taker see (is_some (head vs)) closed (head ts)) (TakerAsks (lives see) closed vs (head ts)) (settle_take c vs (head ts)) (values_of c ts ps)
@@ -65,7 +65,7 @@ module _ (see : ℕ → Glance) where
     with_no_putter (rests_on_stale side) t = tt
     with_no_putter (rests_on_unheld w) t = t
 
-  pub settle_tells : (k : Kept) → Tells see (settle_at see (Some k)) (AsksSettle (lives see) k) (settle_row k.channel (head k.takes) (head k.puts)) (λ side. settling side (Some k))
+  pub settle_tells : (k : Kept) → Tells see (settle_at see (Some k)) (AsksSettle (lives see) k) (settle_row k.channel (head k.takes) (head k.puts)) (λ side. value_settled side (Some k))
   settle_tells k = serve_tells k.channel k.takes k.puts (is_fixed k.channel.policy && has_room k.channel)
 
 -- where all shards are held, each wait is seen
@@ -87,17 +87,17 @@ module _ {A : Type 0} (place : A → At) (stands : ProgramView → A → TaskBod
     c = step.0
 
     -- by the finding
-    found : (z : Serving) (kept : Kept) (asked : Type 0) → Tells (glance h.shard) z asked (settle_row kept.channel (head kept.takes) (head kept.puts)) (λ d. settling d (Some kept))
+    found : (z : Serving) (kept : Kept) (asked : Type 0) → Tells (glance h.shard) z asked (settle_row kept.channel (head kept.takes) (head kept.puts)) (λ d. value_settled d (Some kept))
         → (asked → settles side step.2 v step.1 ≡ settle_row kept.channel (head kept.takes) (head kept.puts)) → ServesOnly w k side v (Some kept) z
     found rests kept asked t row = absurd (let e : settles side step.2 v step.1 ≡ unsettled = row t.0 ∙ t.1 in cc)
-    found (serves d x o) kept asked t row = let e : settles side step.2 v step.1 ≡ settles d t.1.0 (settling d (Some kept)) t.1.1 = row t.0 ∙ t.1.2 in
+    found (serves d x o) kept asked t row = let e : settles side step.2 v step.1 ≡ settles d t.1.0 (value_settled d (Some kept)) t.1.1 = row t.0 ∙ t.1.2 in
         let same_side : d ≡ side = cc in
         let same : t.1.0 ≡ step.2 = cc in
-        let value : settling d (Some kept) ≡ v = cc in (
+        let value : value_settled d (Some kept) ≡ v = cc in (
           same_side,
           sym t.1.3 ∙ ap (λ (g : Handler). g.wait) same ∙ step.6,
           sym t.1.4 ∙ ap (λ (g : Handler). g.branch) same ∙ step.7,
-          ap (λ (y : Side). settling y (Some kept)) (sym same_side) ∙ value,
+          ap (λ (y : Side). value_settled y (Some kept)) (sym same_side) ∙ value,
         )
     found (rests_on_stale d) kept asked t row = tt
     found (rests_on_unheld x) kept asked t row = absurd (all_seen h.shard x all.shards t)
@@ -108,7 +108,7 @@ module _ {A : Type 0} (place : A → At) (stands : ProgramView → A → TaskBod
         let same : kept.channel ≡ c = let z : Some kept.channel ≡ Some c = ap channel_of (sym e) ∙ sym (follows.holds.channels_are p) ∙ step.4 in cc in
         found (settle_at (glance h.shard) (Some kept)) kept (AsksSettle (lives (glance h.shard)) kept) (settle_tells (glance h.shard) kept)
         (λ a. sym step.5 ∙ ap (λ (d : Channel). settle_row d (front Take p s.waits) (front Put p s.waits)) (sym same)
-        ∙ settle_right (whole h.bank) (alive_in (parts h)) s p kept follows.holds e (subst (λ (f : ℕ → Bool). AsksSettle f kept) (lives_same (parts h)) a))
+        ∙ settle_right (whole h.bank) (alive_in (parts_had h)) s p kept follows.holds e (subst (λ (f : ℕ → Bool). AsksSettle f kept) (lives_same (parts_had h)) a))
 
   pub only_ticked : (h : Has A) (s s2 : State) (m : ℕ) (ports : List ℕ) → Follows place stands program h s → Step program s (ticked m ports) s2 → TicksOnly m ports h.times
   only_ticked h s s2 m ports follows step = (record { deadlines = s.deadlines; now = s.now }, follows.times, step.0, step.1, step.2, step.3)

@@ -8,7 +8,7 @@ use Rattle.ca_term.specs.Operation.{OpView, closing, making, printing, registeri
 use Rattle.ca_term.specs.Program.{ProgramView}
 use Rattle.ca_meaning.specs.Body.{At, at_op}
 use Rattle.ca_meaning.specs.Choice.{branches_of, is_ready, row}
-use Rattle.ca_meaning.specs.Going.{Stands}
+use Rattle.ca_meaning.specs.Going.{RunsAtOperation}
 use Rattle.ca_meaning.specs.Refusal.{crowded, refusal, too_many, unfit}
 use Rattle.ca_meaning.specs.State.{State, Task}
 use Rattle.ca_meaning.specs.Task.{TaskBody, body_at}
@@ -24,7 +24,7 @@ use Rattle.ca_commit.proofs.Laid.{IsPart}
 use Rattle.ca_commit.proofs.NamesTold.{unfit_same}
 use Rattle.ca_commit.proofs.Shown.{Shown, none_crowded, none_ready, row_seen, shows, some_crowded}
 use Rattle.ca_follow.specs.Follows.{Follows, IsAt}
-use Rattle.ca_follow.specs.Has.{Has, parts}
+use Rattle.ca_follow.specs.Has.{Has, parts_had}
 
 -- parts are a part of themselves
 pub part_of_itself : {A : Type 0} (h : Parts A) → IsPart h h
@@ -76,7 +76,7 @@ module _ {A : Type 0} (h : Parts A) (s : State) (shown : Shown h s) where
 
 module _ {A : Type 0} (place : A → At) (stands : ProgramView → A → TaskBody → Type 0) (program : ProgramView) where
   -- the banks and shards of a follower show the state
-  pub follower_shows : (h : Has A) (s : State) → Follows place stands program h s → Shown (parts h) s
+  pub follower_shows : (h : Has A) (s : State) → Follows place stands program h s → Shown (parts_had h) s
   follower_shows h s f = record { holds = f.holds; registered = f.registered }
 
   -- where a running task's agent is, its body stands, and they have one result port
@@ -84,5 +84,5 @@ module _ {A : Type 0} (place : A → At) (stands : ProgramView → A → TaskBod
   place_is h s t a x is e = subst (λ (y : Task). (place a.agent ≡ body_at y.body) × (a.result ≡ y.result)) (let k : Some is.1.0 ≡ Some x = sym is.1.1.0 ∙ e in let same : is.1.0 ≡ x = cc in same) (is.1.3, is.1.2.0)
 
   -- the operation of its agent is the one at which the task stands
-  pub op_is : (h : Has A) (s : State) (t : ℕ) (a : TaskAgent A) (op op2 : OpView) (at : Place) (x : Task) → IsAt place stands program h s t a → place a.agent ≡ at_op (record { op = op; place = at }) → Stands s t op2 x → op ≡ op2
+  pub op_is : (h : Has A) (s : State) (t : ℕ) (a : TaskAgent A) (op op2 : OpView) (at : Place) (x : Task) → IsAt place stands program h s t a → place a.agent ≡ at_op (record { op = op; place = at }) → RunsAtOperation s t op2 x → op ≡ op2
   op_is h s t a op op2 at x is stood st = ap op_at (sym stood ∙ (place_is h s t a x is st.0).0 ∙ st.2.1)

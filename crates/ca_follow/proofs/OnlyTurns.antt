@@ -19,7 +19,7 @@ use Rattle.ca_commit.specs.Contents.{Kept, Parts, channel_of, whole}
 use Rattle.ca_commit.specs.Deciding.{seen_in}
 use Rattle.ca_commit.specs.Finding.{Finding, Glance, alone, find_at, gone, here, partner, stale, unheld, unready, unseen}
 use Rattle.ca_commit.specs.Holds.{groups}
-use Rattle.ca_commit.specs.Planning.{Planned, Seen, all_asked, all_counted, asked, chosen, counted, decided, first_from, found_of, in_turn, is_alts, otherwise, starting, to_refuse}
+use Rattle.ca_commit.specs.Planning.{Planned, Seen, all_asked, all_counted, handler_asked, chosen, queue_counted, decided, first_from, found_of, in_turn, is_alts, otherwise, starting, to_refuse}
 use Rattle.ca_commit.specs.Replies.{done_answer}
 use Rattle.ca_commit.specs.Waking.{passing}
 use Rattle.ca_commit.proofs.Fitting.{some_ready}
@@ -42,7 +42,7 @@ none_found see (put_of p v) = refl
 
 -- where counting the queues leads to an event, each has a place for one more
 module _ (x : Seen) where
-  asked_event : (g : Glance) (p : ℕ) (side : Side) (place w : ℕ) (rest : Planned) → IsEvent (asked g p side place w rest) → asked g p side place w rest ≡ rest
+  asked_event : (g : Glance) (p : ℕ) (side : Side) (place w : ℕ) (rest : Planned) → IsEvent (handler_asked g p side place w rest) → handler_asked g p side place w rest ≡ rest
   asked_event here p side place w rest e = refl
   asked_event gone p side place w rest e = absurd e
   asked_event unseen p side place w rest e = absurd e
@@ -52,7 +52,7 @@ module _ (x : Seen) where
   all_asked_event p side place (h ∷ q) rest e = let first = asked_event (x.see h.wait) p side place h.wait (all_asked x p side (place + 1) q rest) e in
       first ∙ all_asked_event p side (place + 1) q rest (subst IsEvent first e)
 
-  counted_event : (side : Side) (p : ℕ) (q : List Handler) (rest : Planned) → IsEvent (counted x side p q rest) → counted x side p q rest ≡ rest
+  counted_event : (side : Side) (p : ℕ) (q : List Handler) (rest : Planned) → IsEvent (queue_counted x side p q rest) → queue_counted x side p q rest ≡ rest
   counted_event side p q rest e = by (nat_lt (length q) 1024) (nat_lt (groups q) 1024) e where
     by : (short few : Bool) → IsEvent (cond short rest (all_asked x p side 0 q (cond few rest (to_refuse (crowd_of side))))) → cond short rest (all_asked x p side 0 q (cond few rest (to_refuse (crowd_of side)))) ≡ rest
     by true few e = refl

@@ -22,13 +22,13 @@ use Rattle.ca_commit.specs.Showing.{channels_held, registries_held, waits_held}
 use Rattle.ca_commit.specs.Waking.{IsPaused, ready_in}
 use Rattle.ca_commit.proofs.Seats.{some_same}
 use Rattle.ca_follow.specs.Applies.{and_number}
-use Rattle.ca_follow.specs.Follower.{IsFollower, IsMadeFor, Stands, has, known_in, running_in}
+use Rattle.ca_follow.specs.Follower.{IsFollower, IsMadeFor, FollowerStands, has, is_known_task, running_in}
 use Rattle.ca_follow.specs.Follows.{Follows}
 use Rattle.ca_follow.specs.Has.{AreEmpty, Has, IsAll}
 use Rattle.ca_follow.specs.declared.follower.Follower.{Follower}
 use Rattle.ca_follow.specs.declared.tasks.Tasks.{Tasks as TaskTable}
 use Rattle.ca_replay.proofs.WorldSteps.{opening_values}
-use Rattle.ca_tasks.specs.Tasks.{over, place, stands}
+use Rattle.ca_tasks.specs.Tasks.{task_over_code, place, stands}
 use Rattle.ca_tasks.specs.declared.task.AnyTask.{AnyTask}
 
 -- all parts are there and empty, and the main text alone can go on
@@ -120,7 +120,7 @@ module _ {A : Type 0} (main : A) (h : Has A) (opened : IsOpened main h) where
 
 -- a new table of tasks with the main text put into it, and new parts
 pub opened_of : (f : Follower) (old : TaskTable) (main : AnyTask) → AreEmpty (channels_held f.held.banks) → AreEmpty (registries_held f.held.banks) → AreEmpty (waits_held f.held.shards) → times_in f.held.timers ≡ Some (record { deadlines = []; now = 0 })
-    → ((t : ℕ) → running_in old t ≡ None) → ((t : ℕ) → known_in old t ≡ false) → ((t : ℕ) → running_in f.tasks t ≡ update eqb (running_in old) 0 (Some (main_agent main)) t) → ((t : ℕ) → known_in f.tasks t ≡ and_number (known_in old) 0 t) → keys f.waits ≡ [] → IsOpened main (has f)
+    → ((t : ℕ) → running_in old t ≡ None) → ((t : ℕ) → is_known_task old t ≡ false) → ((t : ℕ) → running_in f.tasks t ≡ update eqb (running_in old) 0 (Some (main_agent main)) t) → ((t : ℕ) → is_known_task f.tasks t ≡ and_number (is_known_task old) 0 t) → keys f.waits ≡ [] → IsOpened main (has f)
 opened_of f old main banks registries shards times none unknown running known no_wait = record {
   banks = banks;
   registries = registries;
@@ -136,13 +136,13 @@ is_mapped g None e = e
 is_mapped g (Some x) e = refl
 
 module _ (f : Follower) (main : AnyTask) (opened : IsOpened main (has f)) where
-  pub opened_follower : over (valid_code f.code.now) main → ready_in f.held.ready ≡ Some [] → IsFollower f
+  pub opened_follower : task_over_code (valid_code f.code.now) main → ready_in f.held.ready ≡ Some [] → IsFollower f
   opened_follower over_main ready = record {
     all = opened_all main (has f) opened;
     timers = is_mapped times_of f.held.timers (ap is_some opened.times);
     ready = ready;
     over_code = record {
-      running = λ t a e. subst (λ (c : TaskAgent AnyTask). over (valid_code f.code.now) c.agent) (only_main main (has f) opened t a e).1 over_main;
+      running = λ t a e. subst (λ (c : TaskAgent AnyTask). task_over_code (valid_code f.code.now) c.agent) (only_main main (has f) opened t a e).1 over_main;
       waiting = λ w u a e. nobody_waits main (has f) opened w (owner u a) e;
     };
     paused = opened_paused main (has f) opened place;
@@ -150,7 +150,7 @@ module _ (f : Follower) (main : AnyTask) (opened : IsOpened main (has f)) where
 
   -- the main text comes to rest, and its machine stands for it there
   pub opened_stands : (program : ProgramView) (code : CodeView) → IsMadeFor program code → ((b : TaskBody) → Lowered program code → BodyRest program (script (new_body program.main)) b → stands program main b)
-      → (s : State) × Opening program s × Stands program (has f) s
+      → (s : State) × Opening program s × FollowerStands program (has f) s
   opened_stands program code made st = let r = body_rests program (script (new_body program.main)) in let opens : Opening program (opening_state r.0) = (r.0, r.1, refl) in (
     opening_state r.0,
     opens,

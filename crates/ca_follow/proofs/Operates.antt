@@ -32,14 +32,14 @@ use Rattle.ca_commit.specs.Waking.{IsPaused, ready_in}
 use Rattle.ca_commit.specs.declared.held.Held.{Held}
 use Rattle.ca_commit.specs.declared.task.Task.{Task}
 use Rattle.ca_commit.proofs.Laid.{same_map}
-use Rattle.ca_tasks.specs.TaskLaws.{answered, started, stays}
-use Rattle.ca_tasks.specs.Tasks.{gives, over, place, stands, starts}
+use Rattle.ca_tasks.specs.TaskLaws.{task_answered, task_started, task_stays}
+use Rattle.ca_tasks.specs.Tasks.{gives, task_over_code, place, stands, starts}
 use Rattle.ca_tasks.specs.declared.task.AnyTask.{AnyTask}
 use Rattle.ca_timers.specs.Timers.{TimersView}
 use Rattle.ca_follow.specs.Applies.{Applies}
-use Rattle.ca_follow.specs.Events.{AreNew, Numbers, start_of, task_of}
-use Rattle.ca_follow.specs.Follower.{AppliedFor, IsBehind, IsFollower, IsMadeFor, IsOverCode, IsPlanOf, IsSpawned, KeepsBehind, Knows, LeadsBehind, RefusesBehind, Stands, has, known_in, running_in, with_task, without_alts}
-use Rattle.ca_follow.specs.Has.{Has, IsAll, parts}
+use Rattle.ca_follow.specs.Events.{AreNew, Numbers, event_start, task_of}
+use Rattle.ca_follow.specs.Follower.{AppliedFor, IsBehind, IsFollower, IsMadeFor, IsOverCode, IsPlanOf, IsSpawnedTask, KeepsBehind, KnowsTask, LeadsBehind, RefusesBehind, FollowerStands, has, is_known_task, running_in, with_task, without_alts}
+use Rattle.ca_follow.specs.Has.{Has, IsAll, parts_had}
 use Rattle.ca_follow.specs.declared.follower.Follower.{Follower}
 use Rattle.ca_follow.specs.declared.tasks.Tasks.{Tasks}
 use Rattle.ca_follow.proofs.AllHeld.{all_by, held_changed}
@@ -52,12 +52,12 @@ use Rattle.ca_follow.proofs.Pruned.{pruned_follows}
 use Rattle.ca_follow.proofs.StillOver.{OwnersOver, owners_over, paused_by, running_over, still_owners}
 use Rattle.ca_follow.proofs.Wanted.{wanted_apart}
 
-module _ (code : CodeView) (e : EventView) (h : Has AnyTask) (t : ℕ) (a : TaskAgent AnyTask) (q : Planned) (all : IsAll h) (plan : IsPlanOf h a (start_of e) q) (event : IsEvent q) where
+module _ (code : CodeView) (e : EventView) (h : Has AnyTask) (t : ℕ) (a : TaskAgent AnyTask) (q : Planned) (all : IsAll h) (plan : IsPlanOf h a (event_start e) q) (event : IsEvent q) where
   -- the event that was made leads on
   pub leads_behind : (h2 : Has AnyTask) (held : Held AnyTask) → AreNew h q held.new_task held.new_port held.new_wait held.moment → AppliedFor code q t held a h h2
       → event_of h.bank h.registry t held.new_task held.new_port held.new_wait held.moment q ≡ e → LeadsBehind code e h t a h2
   leads_behind h2 held new applies is program s made behind =
-      let k = made_leads place stands program gives answered starts started h h2 s plan.0 plan.1 (start_of e) q t held.new_task held.new_port held.new_wait held.moment a all
+      let k = made_leads place stands program gives task_answered starts task_started h h2 s plan.0 plan.1 (event_start e) q t held.new_task held.new_port held.new_wait held.moment a all
       behind.stands.follows behind.here plan.2 plan.3 event new (applies program plan.0 plan.1 made plan.2) in
       let step : Step program s e k.0 = subst (λ (x : EventView). Step program s x k.0) is k.1 in
       (k.0, step, record { follows = k.2; values = (step_holds any program (written_of any program made.checked (any_program program)) s k.0 e step behind.stands.values).0 })
@@ -81,7 +81,7 @@ IsSomewhere code h t a = (program : ProgramView) × (s : State) × IsMadeFor pro
 pub apart_behind : (code : CodeView) (h : Has AnyTask) (t : ℕ) (a : TaskAgent AnyTask) (w : WantView) → IsSomewhere code h t a → place a.agent ≡ at_op w → (z : State) → AreApart z w.op
 apart_behind code h t a w b here z = wanted_apart place stands b.0 (with_task t a h) b.1 t a w b.3.here b.3.stands.values here z
 
-pub knows_behind : (code : CodeView) (h : Has AnyTask) (t : ℕ) (a : TaskAgent AnyTask) → IsSomewhere code h t a → Knows h t
+pub knows_behind : (code : CodeView) (h : Has AnyTask) (t : ℕ) (a : TaskAgent AnyTask) → IsSomewhere code h t a → KnowsTask h t
 knows_behind code h t a b = let f = b.3.stands.follows in record {
   out = b.3.out;
   own = sym (f.known t) ∙ ap is_some b.3.here.1.1.0;
@@ -89,7 +89,7 @@ knows_behind code h t a b = let f = b.3.stands.follows in record {
 }
 
 -- a stale handler that is pruned is no event
-pub keeps_pruned : (h h2 : Has AnyTask) (p i : ℕ) (side : Side) → IsStale (parts h) p side i → h2 ≡ record h { bank = changed_at p (option_map (pruned side i)) h.bank } → (t : ℕ) (a : TaskAgent AnyTask) → KeepsBehind h h2 t a
+pub keeps_pruned : (h h2 : Has AnyTask) (p i : ℕ) (side : Side) → IsStale (parts_had h) p side i → h2 ≡ record h { bank = changed_at p (option_map (pruned side i)) h.bank } → (t : ℕ) (a : TaskAgent AnyTask) → KeepsBehind h h2 t a
 keeps_pruned h h2 p i side stale is t a program s behind = subst (λ (z : Has AnyTask). IsBehind program z t a s) (sym is) (record {
   out = behind.out;
   stands = record { follows = pruned_follows place stands program (with_task t a h) s p side i stale behind.stands.follows; values = behind.stands.values };
@@ -107,8 +107,8 @@ follower_by f f2 is all timers ready code shards tasks = record {
   timers = timers;
   ready = ready;
   over_code = record {
-    running = λ t a e. subst (λ z. over (valid_code z.now) a.agent) (sym code) (is.over_code.running t a (sym (ap (λ (z : Tasks). running_in z t) tasks) ∙ e));
-    waiting = λ w u a e. subst (λ z. over (valid_code z.now) a.agent) (sym code) (is.over_code.waiting w u a (sym (ap (λ m. whole m w) same) ∙ e));
+    running = λ t a e. subst (λ z. task_over_code (valid_code z.now) a.agent) (sym code) (is.over_code.running t a (sym (ap (λ (z : Tasks). running_in z t) tasks) ∙ e));
+    waiting = λ w u a e. subst (λ z. task_over_code (valid_code z.now) a.agent) (sym code) (is.over_code.waiting w u a (sym (ap (λ m. whole m w) same) ∙ e));
   };
   paused = λ w. subst (λ m. IsPaused place (whole m w)) (sym same) (is.paused w);
 } where
@@ -144,48 +144,48 @@ times_stay p m (to_refuse f) c is = is
 
 -- where the event was made and all who can go on were taken, the plan is applied
 started_as : (code : CodeView) (program : ProgramView) (op : OpView) (at : Place) (a : TaskAgent AnyTask) (u : ℕ) (o : Option (Task AnyTask)) → IsMadeFor program code → place a.agent ≡ at_op (record { op = op; place = at })
-    → IfSome o (λ x. IsSpawned code a u x) → IsStarted place gives starts program op u (option_map task_view o)
+    → IfSome o (λ x. IsSpawnedTask code a u x) → IsStarted place gives starts program op u (option_map task_view o)
 started_as code program op at a u None made here k = tt
 started_as code program op at a u (Some x) made here k = (k.number, λ seed e. k.starts program seed at made (here ∙ ap (λ (o : OpView). at_op (record { op = o; place = at })) e))
 
 pub applied_for : (code : CodeView) (q : Planned) (t : ℕ) (held : Held AnyTask) (a : TaskAgent AnyTask) (h h2 : Has AnyTask) (o : Option (Task AnyTask)) → GoneOn place gives starts q t held.new_task held.new_port held.new_wait held.moment (without_alts a) h h2 (option_map task_view o)
-    → IfSome o (λ x. IsSpawned code a held.new_task x) → Knows h t → AppliedFor code q t held a h h2
+    → IfSome o (λ x. IsSpawnedTask code a held.new_task x) → KnowsTask h t → AppliedFor code q t held a h h2
 applied_for code q t held a h h2 o g new k program op at made here = gone_applies place gives starts program op q t held.new_task held.new_port held.new_wait held.moment (without_alts a) (without_alts a) h h2 (option_map task_view o) g
     (started_as code program op at a held.new_task o made here new) k.out k.own k.waiting
 
-spawned_over : (code : CodeView) (a : TaskAgent AnyTask) (u : ℕ) (o : Option (Task AnyTask)) → IfSome o (λ x. IsSpawned code a u x) → (x : ℕ × TaskAgent AnyTask) → option_map task_view o ≡ Some x → over code x.1.agent
+spawned_over : (code : CodeView) (a : TaskAgent AnyTask) (u : ℕ) (o : Option (Task AnyTask)) → IfSome o (λ x. IsSpawnedTask code a u x) → (x : ℕ × TaskAgent AnyTask) → option_map task_view o ≡ Some x → task_over_code code x.1.agent
 spawned_over code a u None k x e = absurd (let c : None ≡ Some x = e in cc)
-spawned_over code a u (Some y) k x e = subst (λ (z : Option (ℕ × TaskAgent AnyTask)). IfSome z (λ v. over code v.1.agent)) e k.over_code
+spawned_over code a u (Some y) k x e = subst (λ (z : Option (ℕ × TaskAgent AnyTask)). IfSome z (λ v. task_over_code code v.1.agent)) e k.over_code
 
-pub follower_after : (f f2 : Follower) (q : Planned) (t u p w m start : ℕ) (a : TaskAgent AnyTask) (o : Option (Task AnyTask)) → IsFollower f → over (valid_code f.code.now) a.agent → IsPlanOf (has f) a start q → GoneOn place gives starts q t u p w m (without_alts a) (has f) (has f2) (option_map task_view o)
-    → IfSome o (λ x. IsSpawned (valid_code f.code.now) a u x) → ready_in f2.held.ready ≡ Some [] → f2.code ≡ f.code → IsFollower f2
+pub follower_after : (f f2 : Follower) (q : Planned) (t u p w m start : ℕ) (a : TaskAgent AnyTask) (o : Option (Task AnyTask)) → IsFollower f → task_over_code (valid_code f.code.now) a.agent → IsPlanOf (has f) a start q → GoneOn place gives starts q t u p w m (without_alts a) (has f) (has f2) (option_map task_view o)
+    → IfSome o (λ x. IsSpawnedTask (valid_code f.code.now) a u x) → ready_in f2.held.ready ≡ Some [] → f2.code ≡ f.code → IsFollower f2
 follower_after f f2 q t u p w m start a o is ov plan g new ready code = record {
   all = all_by (has f) (has f2) p w (owner t (waiting_as place (without_alts a))) nobody q is.all g.bank g.registry g.shard;
   timers = some_timers f2.held.timers (subst (λ (z : Option Times). IsSome z) (sym g.times) (times_stay p m q (times_in f.held.timers) (some_times f.held.timers is.timers)));
   ready = ready;
   over_code = subst (λ z. IsOverCode (valid_code z.now) (has f2)) (sym code) (record {
-    running = running_over place gives starts (over now) (stays now) q t u p w m (without_alts a) (has f) (has f2) (option_map task_view o) g ov is.over_code.running own (spawned_over now a u o new);
+    running = running_over place gives starts (task_over_code now) (task_stays now) q t u p w m (without_alts a) (has f) (has f2) (option_map task_view o) g ov is.over_code.running own (spawned_over now a u o new);
     waiting = λ v n c e. (left v (owner n c) e).0;
   });
-  paused = paused_by place gives starts (over now) (stays now) (has f2).shard left;
+  paused = paused_by place gives starts (task_over_code now) (task_stays now) (has f2).shard left;
 } where
   now : CodeView
   now = valid_code f.code.now
 
-  own : OwnersOver place gives starts (over now) (stays now) (has f).shard
-  own = owners_over place gives starts (over now) (stays now) (has f).shard is.over_code.waiting is.paused
+  own : OwnersOver place gives starts (task_over_code now) (task_stays now) (has f).shard
+  own = owners_over place gives starts (task_over_code now) (task_stays now) (has f).shard is.over_code.waiting is.paused
 
-  left : OwnersOver place gives starts (over now) (stays now) (has f2).shard
-  left = still_owners place gives starts (over now) (stays now) q t u p w m (without_alts a) (has f) (has f2) (option_map task_view o) g ov (ap is_at_op plan.2) own
+  left : OwnersOver place gives starts (task_over_code now) (task_stays now) (has f2).shard
+  left = still_owners place gives starts (task_over_code now) (task_stays now) q t u p w m (without_alts a) (has f) (has f2) (option_map task_view o) g ov (ap is_at_op plan.2) own
 
 -- what a follower has without the handler
 pub pruned_has : (f f2 : Follower) (p i : ℕ) (side : Side) → ((n : ℕ) → channels_held f2.held.banks n ≡ changed_at p (option_map (pruned side i)) (channels_held f.held.banks) n) → ((n : ℕ) → registries_held f2.held.banks n ≡ registries_held f.held.banks n)
     → f2.held.shards ≡ f.held.shards → f2.held.timers ≡ f.held.timers → f2.tasks ≡ f.tasks → f2.waits ≡ f.waits → has f2 ≡ record (has f) { bank = changed_at p (option_map (pruned side i)) (has f).bank }
 pruned_has f f2 p i side b r s t k u = same_has (has f2) (record (has f) { bank = changed_at p (option_map (pruned side i)) (has f).bank }) b r (λ n. ap (λ z. waits_held z n) s) (ap times_in t)
-    (λ v. ap (λ z. running_in z v) k) (λ v. ap (λ z. known_in z v) k) (λ v. ap (λ z. contains nat_eq z v) u)
+    (λ v. ap (λ z. running_in z v) k) (λ v. ap (λ z. is_known_task z v) k) (λ v. ap (λ z. contains nat_eq z v) u)
 
-pub stands_pruned : (h h2 : Has AnyTask) (p i : ℕ) (side : Side) → IsStale (parts h) p side i → h2 ≡ record h { bank = changed_at p (option_map (pruned side i)) h.bank } → (program : ProgramView) (s : State) → Stands program h s → Stands program h2 s
-stands_pruned h h2 p i side stale is program s k = subst (λ (z : Has AnyTask). Stands program z s) (sym is) (record { follows = pruned_follows place stands program h s p side i stale k.follows; values = k.values })
+pub stands_pruned : (h h2 : Has AnyTask) (p i : ℕ) (side : Side) → IsStale (parts_had h) p side i → h2 ≡ record h { bank = changed_at p (option_map (pruned side i)) h.bank } → (program : ProgramView) (s : State) → FollowerStands program h s → FollowerStands program h2 s
+stands_pruned h h2 p i side stale is program s k = subst (λ (z : Has AnyTask). FollowerStands program z s) (sym is) (record { follows = pruned_follows place stands program h s p side i stale k.follows; values = k.values })
 
 -- what is said of what a follower has and of its numbers, said of what it had
 pub moved : (M : Has AnyTask → (u p w m : ℕ) → Type 0) (h g : Has AnyTask) (d d2 : Held AnyTask) → g ≡ h → KeepsCounts d d2 → M g d2.new_task d2.new_port d2.new_wait d2.moment → M h d.new_task d.new_port d.new_wait d.moment

@@ -19,7 +19,7 @@ use Rattle.ca_commit.specs.Planning.{Planned, planned}
 use Rattle.ca_follow.specs.Applies.{Applies}
 use Rattle.ca_follow.specs.Events.{AreNew}
 use Rattle.ca_follow.specs.Follows.{Follows, IsAt}
-use Rattle.ca_follow.specs.Has.{Has, IsAll, parts}
+use Rattle.ca_follow.specs.Has.{Has, IsAll, parts_had}
 use Rattle.ca_follow.proofs.Applied.{applied_follows}
 use Rattle.ca_follow.proofs.Going.{follows_by, tracks_of}
 use Rattle.ca_follow.proofs.Tracked.{task_advances, tracks_same}
@@ -56,7 +56,7 @@ module _ {A : Type 0} (place : A → At) (stands : ProgramView → A → TaskBod
 
   pub made_leads : (gives : A → Tree → A → Type 0) → Answered stands place gives → (starts : ProgramView → SeedView → A → Type 0) → Started stands place starts
       → (h h2 : Has A) (s : State) (op : OpView) (at : Place) (start : ℕ) (q : Planned) (t u p w m : ℕ) (a : TaskAgent A) → IsAll h → Follows place stands program (back t a h) s → IsAt place stands program (back t a h) s t a
-      → place a.agent ≡ at_op (record { op = op; place = at }) → q ≡ planned (seen_in (parts h)) op start → IsEvent q → AreNew h q u p w m → Applies place gives starts program op q t u p w m (plain a) (back t (plain a) h) h2
+      → place a.agent ≡ at_op (record { op = op; place = at }) → q ≡ planned (seen_in (parts_had h)) op start → IsEvent q → AreNew h q u p w m → Applies place gives starts program op q t u p w m (plain a) (back t (plain a) h) h2
       → (s2 : State) × Step program s (event_of h.bank h.registry t u p w m q) s2 × Follows place stands program h2 s2
   made_leads gives answers_law starts starts_law h h2 s op at start q t u p w m a all f is here plan event new x = let k = plain_follows h s t a f is in
       applied_follows place stands program gives answers_law starts starts_law

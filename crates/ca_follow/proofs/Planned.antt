@@ -12,7 +12,7 @@ use Rattle.ca_meaning.specs.Body.{At, at_op, ended, faulted, local, nowhere}
 use Rattle.ca_meaning.specs.Choice.{branches_of}
 use Rattle.ca_bank.specs.Kept.{pruned}
 use Rattle.ca_commit.specs.Agents.{TaskAgent}
-use Rattle.ca_commit.specs.Applying.{Channels, HasSpawned, IsEvent, KeepsApart}
+use Rattle.ca_commit.specs.Applying.{BankChannels, HasSpawned, IsEvent, KeepsApart}
 use Rattle.ca_commit.specs.Contents.{whole}
 use Rattle.ca_commit.specs.Deciding.{IsStale, PlanTells, seen_in}
 use Rattle.ca_commit.specs.Listing.{changed_at}
@@ -26,7 +26,7 @@ use Rattle.ca_states.specs.Code.{CodeView}
 use Rattle.ca_tasks.specs.Tasks.{place}
 use Rattle.ca_tasks.specs.declared.task.AnyTask.{AnyTask}
 use Rattle.ca_follow.specs.Follower.{IsDecided, IsPlanOf, MayFault}
-use Rattle.ca_follow.specs.Has.{AreAll, Has, parts}
+use Rattle.ca_follow.specs.Has.{AreAll, Has, parts_had}
 use Rattle.ca_follow.proofs.NeverLooks.{never_looks}
 use Rattle.ca_follow.proofs.Operates.{IsSomewhere, apart_behind}
 use Rattle.ca_follow.specs.Pruning.{queued_in}
@@ -42,11 +42,11 @@ branches_at nowhere = []
 
 module _ (h : Has AnyTask) (a : TaskAgent AnyTask) (start : ℕ) where
   -- a handler that is to be pruned is stale
-  pub plan_stale : (q : Planned) (p place : ℕ) (side : Side) → q ≡ to_prune p side place → IsPlanOf h a start q → IsStale (parts h) p side place
-  plan_stale q p place side is plan = (subst (PlanTells (parts h) plan.0) (sym plan.3 ∙ is) (plan_tells (parts h) plan.0 start)).1.0
+  pub plan_stale : (q : Planned) (p place : ℕ) (side : Side) → q ≡ to_prune p side place → IsPlanOf h a start q → IsStale (parts_had h) p side place
+  plan_stale q p place side is plan = (subst (PlanTells (parts_had h) plan.0) (sym plan.3 ∙ is) (plan_tells (parts_had h) plan.0 start)).1.0
 
   -- and there are fewer handlers without it
-  pub fewer_left : (q : Planned) (p i : ℕ) (side : Side) (new : Channels) → q ≡ to_prune p side i → IsPlanOf h a start q → ((n : ℕ) → new n ≡ changed_at p (option_map (pruned side i)) h.bank n)
+  pub fewer_left : (q : Planned) (p i : ℕ) (side : Side) (new : BankChannels) → q ≡ to_prune p side i → IsPlanOf h a start q → ((n : ℕ) → new n ≡ changed_at p (option_map (pruned side i)) h.bank n)
       → queued_in (branches_at (place a.agent)) new < queued_in (branches_at (place a.agent)) h.bank
   fewer_left q p i side new is plan changed = subst (λ (z : At). queued_in (branches_at z) new < queued_in (branches_at z) h.bank) (sym plan.2) (prunes_fewer h plan.0 start p i side new (sym is ∙ plan.3) changed)
 
@@ -68,7 +68,7 @@ module _ (h : Has AnyTask) (a : TaskAgent AnyTask) (start : ℕ) where
 
   -- what it brings is apart
   pub plan_apart : (code : CodeView) (t : ℕ) (q : Planned) → IsSomewhere code h t a → IsPlanOf h a start q → KeepsApart q
-  plan_apart code t q b plan = subst KeepsApart (sym plan.3) (plans_apart (seen_in (parts h)) plan.0 start (apart_behind code h t a (record { op = plan.0; place = plan.1 }) b plan.2 (state_of (whole h.bank) (whole h.registry))))
+  plan_apart code t q b plan = subst KeepsApart (sym plan.3) (plans_apart (seen_in (parts_had h)) plan.0 start (apart_behind code h t a (record { op = plan.0; place = plan.1 }) b plan.2 (state_of (whole h.bank) (whole h.registry))))
 
 -- an event is drawn with a plan that is decided and isn't refused
 pub decided_event : (q : Planned) → IsDecided q → ((f : Fault) → q ≡ to_refuse f → ⊥) → IsEvent q
@@ -155,7 +155,7 @@ spawn_only (Op.Post c v) none seed e = absurd (let z : op_view (Op.Post c v) ≡
 -- so at another operation none is
 pub none_started : (h : Has AnyTask) (a : TaskAgent AnyTask) (q : Planned) (w : WantView) → (start : ℕ) × IsPlanOf h a start q → place a.agent ≡ at_op w → ((seed : SeedView) → w.op ≡ spawning seed → ⊥) → HasSpawned {A = AnyTask} None q
 none_started h a (to_spawn kind r) w plan here none =
-    let told = subst (PlanTells (parts h) plan.1.0) (sym plan.1.3) (plan_tells (parts h) plan.1.0 plan.0) in
+    let told = subst (PlanTells (parts_had h) plan.1.0) (sym plan.1.3) (plan_tells (parts_had h) plan.1.0 plan.0) in
     absurd (none told.1.0 (ap (op_at w.op) (sym here ∙ plan.1.2) ∙ told.1.1))
 none_started h a (to_look w) v plan here none = tt
 none_started h a (to_prune p side i) w plan here none = tt
@@ -172,4 +172,4 @@ none_started h a (to_print line) w plan here none = tt
 
 -- where the plan is refused, the task may fault there
 pub refused_may : (h : Has AnyTask) (a : TaskAgent AnyTask) (start : ℕ) (q : Planned) (f : Fault) (w : WantView) → IsPlanOf h a start q → q ≡ to_refuse f → place a.agent ≡ at_op w → MayFault h a f w.place
-refused_may h a start q f w plan is here = inr (w.op, start, here, subst (λ (o : OpView). planned (seen_in (parts h)) o start ≡ to_refuse f) (ap (op_at plan.0) (sym plan.2 ∙ here)) (sym plan.3 ∙ is))
+refused_may h a start q f w plan is here = inr (w.op, start, here, subst (λ (o : OpView). planned (seen_in (parts_had h)) o start ≡ to_refuse f) (ap (op_at plan.0) (sym plan.2 ∙ here)) (sym plan.3 ∙ is))

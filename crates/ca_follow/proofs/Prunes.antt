@@ -9,7 +9,7 @@ use Rattle.ca_term.specs.Operation.{OpView}
 use Rattle.ca_meaning.specs.Choice.{branches_of}
 use Rattle.ca_meaning.specs.Wait.{Handler, port_of}
 use Rattle.ca_bank.specs.Kept.{on, pruned}
-use Rattle.ca_commit.specs.Applying.{Channels}
+use Rattle.ca_commit.specs.Applying.{BankChannels}
 use Rattle.ca_commit.specs.Contents.{Kept, whole}
 use Rattle.ca_commit.specs.Deciding.{IsStale, PlanTells, seen_in}
 use Rattle.ca_commit.specs.Finding.{glance, rests_on_stale, settle_at}
@@ -18,7 +18,7 @@ use Rattle.ca_commit.specs.Planning.{planned, to_prune}
 use Rattle.ca_commit.proofs.PlanTold.{plan_tells}
 use Rattle.ca_commit.proofs.Stales.{settle_stale}
 use Rattle.ca_commit.proofs.Wholes.{whole_changed}
-use Rattle.ca_follow.specs.Has.{Has, parts}
+use Rattle.ca_follow.specs.Has.{Has, parts_had}
 use Rattle.ca_follow.specs.Pruning.{queued_at, queued_in}
 
 -- some branch is of this channel
@@ -37,7 +37,7 @@ shorter : (k : Kept) (side : Side) (place : ℕ) (g : Handler) → slice_get (on
 shorter k Take place g e = let l = length-remove k.takes place (slice_get_within k.takes place g e) in omega (arith, l)
 shorter k Put place g e = let l = length-remove k.puts place (slice_get_within k.puts place g e) in omega (arith, l)
 
-module _ {A : Type 0} (h : Has A) (p place : ℕ) (side : Side) (new : Channels) (stale_there : IsStale (parts h) p side place) (is : (i : ℕ) → new i ≡ changed_at p (option_map (pruned side place)) h.bank i) where
+module _ {A : Type 0} (h : Has A) (p place : ℕ) (side : Side) (new : BankChannels) (stale_there : IsStale (parts_had h) p side place) (is : (i : ℕ) → new i ≡ changed_at p (option_map (pruned side place)) h.bank i) where
   whole_is : (q : ℕ) → whole new q ≡ cond (eqb p q) (option_map (pruned side place) (whole h.bank p)) (whole h.bank q)
   whole_is q = whole_changed p (pruned side place) h.bank new is q
 
@@ -68,14 +68,14 @@ module _ {A : Type 0} (h : Has A) (p place : ℕ) (side : Side) (new : Channels)
     later rest = let one = no_more_at (port_of b) in omega (arith, one, rest)
 
 module _ {A : Type 0} where
-  pub prunes_fewer : (h : Has A) (op : OpView) (start p place : ℕ) (side : Side) (new : Channels) → to_prune p side place ≡ planned (seen_in (parts h)) op start
+  pub prunes_fewer : (h : Has A) (op : OpView) (start p place : ℕ) (side : Side) (new : BankChannels) → to_prune p side place ≡ planned (seen_in (parts_had h)) op start
       → ((i : ℕ) → new i ≡ changed_at p (option_map (pruned side place)) h.bank i) → queued_in (branches_of op) new < queued_in (branches_of op) h.bank
   prunes_fewer h op start p place side new plan is =
-      let tells = subst (PlanTells (parts h) op) (sym plan) (plan_tells (parts h) op start) in
+      let tells = subst (PlanTells (parts_had h) op) (sym plan) (plan_tells (parts_had h) op start) in
       let hangs = tells.1.1 in
       fewer h p place side new tells.1.0 is (branches_of op) (port_there p (branches_of op) hangs.number hangs.branch hangs.picked.0 hangs.at_port)
 
   -- the same where a channel would settle
-  pub settle_prunes_fewer : (h : Has A) (p : ℕ) (side : Side) (new : Channels) → settle_at (glance h.shard) (whole h.bank p) ≡ rests_on_stale side
+  pub settle_prunes_fewer : (h : Has A) (p : ℕ) (side : Side) (new : BankChannels) → settle_at (glance h.shard) (whole h.bank p) ≡ rests_on_stale side
       → ((i : ℕ) → new i ≡ changed_at p (option_map (pruned side 0)) h.bank i) → queued_at (whole new p) < queued_at (whole h.bank p)
-  settle_prunes_fewer h p side new rests is = less_at h p 0 side new (settle_stale (parts h) p side rests) is p refl
+  settle_prunes_fewer h p side new rests is = less_at h p 0 side new (settle_stale (parts_had h) p side rests) is p refl

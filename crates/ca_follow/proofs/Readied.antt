@@ -7,7 +7,7 @@ use Rattle.ca_term.specs.Operation.{WhatView, dropping, fixed, mix, mult, promis
 use Rattle.ca_timers.specs.Timers.{TimersView}
 use Rattle.ca_states.specs.Code.{CodeView}
 use Rattle.ca_commit.specs.Agents.{TaskAgent}
-use Rattle.ca_commit.specs.Applying.{Channels, HasParts, HasSpawned, IsPlanFor, IsTimely, Members, event_of, number_of}
+use Rattle.ca_commit.specs.Applying.{BankChannels, HasParts, HasSpawned, IsPlanFor, IsTimely, Members, event_of, number_of}
 use Rattle.ca_commit.specs.NewPort.{HasTimers, IsNoEarlier, times_in}
 use Rattle.ca_commit.specs.Planning.{Planned, to_close, to_default, to_do, to_look, to_make, to_meet, to_park, to_post, to_print, to_prune, to_refuse, to_register, to_spawn}
 use Rattle.ca_commit.specs.Showing.{channels_held, registries_held, waits_held}
@@ -17,7 +17,7 @@ use Rattle.ca_commit.specs.declared.task.Task.{Task}
 use Rattle.ca_tasks.specs.Tasks.{place}
 use Rattle.ca_tasks.specs.declared.task.AnyTask.{AnyTask}
 use Rattle.ca_follow.specs.Events.{AreNew, IsReading}
-use Rattle.ca_follow.specs.Follower.{IsFollower, IsPlanOf, IsSpawned, has, known_in, running_in, without_alts}
+use Rattle.ca_follow.specs.Follower.{IsFollower, IsPlanOf, IsSpawnedTask, has, is_known_task, running_in, without_alts}
 use Rattle.ca_follow.specs.declared.follower.Follower.{Follower}
 use Rattle.ca_follow.proofs.Makes.{part_of}
 
@@ -29,7 +29,7 @@ held_has f f2 b s t k u = λ i. record {
   shard = waits_held (s i);
   times = times_in (t i);
   running = running_in (k i);
-  known = known_in (k i);
+  known = is_known_task (k i);
   used = λ w. contains nat_eq (u i) w;
 }
 
@@ -97,7 +97,7 @@ pub plan_for : (f : Follower) (a : TaskAgent AnyTask) (q : Planned) → (start :
 plan_for f a q plan = (record { op = plan.1.0; place = plan.1.1 }, plan.1.2, plan.0, plan.1.3)
 
 -- the event of a spawn has the new task's number
-pub event_with : (code : CodeView) (a : TaskAgent AnyTask) (cs : Channels) (rs : Members) (t u p w m : ℕ) (q : Planned) (o : Option (Task AnyTask)) → HasSpawned o q → IfSome o (λ x. IsSpawned code a u x) → event_of cs rs t (number_of o) p w m q ≡ event_of cs rs t u p w m q
+pub event_with : (code : CodeView) (a : TaskAgent AnyTask) (cs : BankChannels) (rs : Members) (t u p w m : ℕ) (q : Planned) (o : Option (Task AnyTask)) → HasSpawned o q → IfSome o (λ x. IsSpawnedTask code a u x) → event_of cs rs t (number_of o) p w m q ≡ event_of cs rs t u p w m q
 event_with code a cs rs t u p w m (to_spawn kind r) (Some x) there new = ap (λ n. spawned t n kind r) new.number
 event_with code a cs rs t u p w m (to_spawn kind r) None there new = absurd (let z : false ≡ true = there in cc)
 event_with code a cs rs t u p w m (to_do k b alts) o there new = refl

@@ -23,10 +23,10 @@ use Rattle.ca_bank.specs.Kept.{pruned}
 use Rattle.ca_commit.specs.Agents.{TaskAgent, place_of, stands_of, wakes_of}
 use Rattle.ca_commit.specs.ChannelMoves.{MovesSettle}
 use Rattle.ca_commit.specs.Contents.{Kept, Parked, Parts, alive, channel_of, on, put_on, whole, with_channel}
-use Rattle.ca_commit.specs.Holds.{Holds}
+use Rattle.ca_commit.specs.Holds.{KeepsChannels}
 use Rattle.ca_commit.specs.Planning.{to_meet}
 use Rattle.ca_commit.specs.Replies.{GoesOn, reply_by}
-use Rattle.ca_commit.specs.Settling.{settling}
+use Rattle.ca_commit.specs.Settling.{value_settled}
 use Rattle.ca_commit.specs.Waking.{passing}
 use Rattle.ca_commit.proofs.Fitting.{ready_fits, some_ready}
 use Rattle.ca_commit.proofs.Holding.{but_wait, changed, pruned as prunes, settle_right, taken_out}
@@ -38,7 +38,7 @@ use Rattle.ca_commit.proofs.Shown.{picks_in, row_seen}
 use Rattle.ca_commit.proofs.Steps.{replied}
 use Rattle.ca_follow.specs.Applies.{with_all}
 use Rattle.ca_follow.specs.Follows.{Follows}
-use Rattle.ca_follow.specs.Has.{Has, parts}
+use Rattle.ca_follow.specs.Has.{Has, parts_had}
 use Rattle.ca_follow.specs.Settles.{SettlesTo}
 use Rattle.ca_follow.proofs.Altered.{whole_altered}
 use Rattle.ca_follow.proofs.Changed.{part_with, whole_entered}
@@ -47,9 +47,9 @@ use Rattle.ca_follow.proofs.Tracked.{task_goes, tracks_same}
 
 -- a wait's handler was served: both are gone
 served : {A : Type 0} (ports : ℕ → Option Kept) (parked : ℕ → Option (Parked A)) (channels : Channels) (waits : List Wait) (used : List ℕ) (side : Side) (q wait : ℕ) (kept : Kept) (g : Handler) (rest : List Handler)
-    → Holds ports (alive parked) channels waits used → ports q ≡ Some kept → on side kept ≡ g ∷ rest → g.wait ≡ wait
-    → Holds (update eqb ports q (Some (put_on side rest kept))) (alive (update eqb parked wait None)) channels (without wait waits) used
-served ports parked channels waits used side q wait kept g rest holds there front is = subst (λ (z : ℕ → Bool). Holds (update eqb ports q (Some (put_on side rest kept))) z channels (without wait waits) used) (sym (alive_but parked wait))
+    → KeepsChannels ports (alive parked) channels waits used → ports q ≡ Some kept → on side kept ≡ g ∷ rest → g.wait ≡ wait
+    → KeepsChannels (update eqb ports q (Some (put_on side rest kept))) (alive (update eqb parked wait None)) channels (without wait waits) used
+served ports parked channels waits used side q wait kept g rest holds there front is = subst (λ (z : ℕ → Bool). KeepsChannels (update eqb ports q (Some (put_on side rest kept))) z channels (without wait waits) used) (sym (alive_but parked wait))
     (prunes ports (but_wait (alive parked) wait) channels (without wait waits) used q kept side g rest (taken_out ports (alive parked) channels waits used wait holds) there front (is_dead (alive parked) wait g.wait (sym is)))
 
 -- what a worker would have beside it: one ready part, with these tasks
@@ -57,7 +57,7 @@ abbrev one_ready : {A : Type 0} → List (ℕ × A) → ℕ → Option (List (�
 one_ready q = update eqb (λ (r : ℕ). None) 0 (Some q)
 
 abbrev with_ready : {A : Type 0} → Has A → List (ℕ × TaskAgent A) → Parts (TaskAgent A)
-with_ready h q = record (parts h) { ready = one_ready q }
+with_ready h q = record (parts_had h) { ready = one_ready q }
 
 others_ready : {A : Type 0} (q r : List (ℕ × A)) (i : ℕ) → (i ≡ 0 → ⊥) → one_ready q i ≡ one_ready r i
 others_ready {A} q r i ne = update_apart (λ (j : ℕ). None) 0 (Some q) i ne ∙ sym (update_apart (λ (j : ℕ). None) 0 (Some r) i ne)
@@ -69,15 +69,15 @@ module _ {A : Type 0} (place : A → At) (stands : ProgramView → A → TaskBod
   -- what an event leaves that completed a wait
   waking_follows : (h h2 : Has A) (s s2 : State) (wait : ℕ) (agents : ℕ → Option (TaskAgent A)) (ports : ℕ → Option Kept) → Follows place stands program h s
       → s2.waits ≡ without wait s.waits → s2.used ≡ s.used → whole h2.bank ≡ ports → whole h2.shard ≡ update eqb (whole h.shard) wait None
-      → Holds ports (alive (update eqb (whole h.shard) wait None)) s2.channels (without wait s.waits) s.used → ((q : ℕ) → s2.registries q ≡ whole h2.registry q)
+      → KeepsChannels ports (alive (update eqb (whole h.shard) wait None)) s2.channels (without wait s.waits) s.used → ((q : ℕ) → s2.registries q ≡ whole h2.registry q)
       → TracksTasks place stands program agents (update eqb (whole h.shard) wait None) h.known s2.tasks (without wait s.waits)
       → ((v : ℕ) → h2.running v ≡ agents v) → ((v : ℕ) → h2.known v ≡ h.known v) → ((v : ℕ) → h2.used v ≡ h.used v)
       → h2.times ≡ Some (record { deadlines = s2.deadlines; now = s2.now }) → Follows place stands program h2 s2
   waking_follows h h2 s s2 wait agents ports f waits used banks shards holds registered tracks running known taken times = follows_by place stands program h2 s2
-      (subst (λ (z : ℕ → Option Kept). Holds z (alive (whole h2.shard)) s2.channels s2.waits s2.used) (sym banks)
-      (subst (λ (z : ℕ → Option (Parked (TaskAgent A))). Holds ports (alive z) s2.channels s2.waits s2.used) (sym shards)
-      (subst (λ (z : List Wait). Holds ports (alive (update eqb (whole h.shard) wait None)) s2.channels z s2.used) (sym waits)
-      (subst (λ (z : List ℕ). Holds ports (alive (update eqb (whole h.shard) wait None)) s2.channels (without wait s.waits) z) (sym used) holds))))
+      (subst (λ (z : ℕ → Option Kept). KeepsChannels z (alive (whole h2.shard)) s2.channels s2.waits s2.used) (sym banks)
+      (subst (λ (z : ℕ → Option (Parked (TaskAgent A))). KeepsChannels ports (alive z) s2.channels s2.waits s2.used) (sym shards)
+      (subst (λ (z : List Wait). KeepsChannels ports (alive (update eqb (whole h.shard) wait None)) s2.channels z s2.used) (sym waits)
+      (subst (λ (z : List ℕ). KeepsChannels ports (alive (update eqb (whole h.shard) wait None)) s2.channels (without wait s.waits) z) (sym used) holds))))
       registered
       (subst (λ (z : List Wait). TracksTasks place stands program h2.running (whole h2.shard) h2.known s2.tasks z) (sym waits)
       (tracks_same (place_of place) (stands_of stands program) agents h2.running (update eqb (whole h.shard) wait None) (whole h2.shard) h.known h2.known s2.tasks (without wait s.waits)
@@ -91,8 +91,8 @@ module _ {A : Type 0} (place : A → At) (stands : ProgramView → A → TaskBod
         let answer : reply_by alts q reply ≡ reply_to op q reply = ap (λ (z : Bool). reply_by z q reply) tells.3 ∙ reply_is op q reply in
         let c = x.answered.0 in let g = went place stands program gives answers_law h s t a c alts (record { op = op; place = at }) (reply_to op q reply) is here (subst (λ (z : Tree). GoesOn gives alts a z c) answer x.answered.2) in
         let tasks : Tasks = update eqb s.tasks t (Some (runs g.0.result g.3.0)) in
-        let is_row : row s b ≡ meets e.handler v = row_seen (parts h) (parts h) s b e.kept shown (is_part h) e.there e.asks ∙ e.by_row ∙ ap (meets e.handler) (sym (ap (λ (z : Option Kept). passing z b) e.there ∙ row_meets e.kept b e.handler e.value e.by_row)) in
-        let picks = picks_in (parts h) (parts h) s op k b shown (is_part h) tells.1 in let held = part_with h.bank q e.kept e.there in
+        let is_row : row s b ≡ meets e.handler v = row_seen (parts_had h) (parts_had h) s b e.kept shown (is_part h) e.there e.asks ∙ e.by_row ∙ ap (meets e.handler) (sym (ap (λ (z : Option Kept). passing z b) e.there ∙ row_meets e.kept b e.handler e.value e.by_row)) in
+        let picks = picks_in (parts_had h) (parts_had h) s op k b shown (is_part h) tells.1 in let held = part_with h.bank q e.kept e.there in
         let parked = there_is (whole h.shard wait) e.lives in let shard = part_with h.shard wait parked.0 parked.1 in
         let banks : whole h2.bank ≡ update eqb (whole h.bank) q (Some (put_on opp e.rest e.kept)) = whole_entered q (option_map (pruned opp 0)) h.bank h2.bank held.0 held.1 x.bank
         ∙ ap (λ (z : Option Kept). update eqb (whole h.bank) q (option_map (pruned opp 0) z)) e.there ∙ ap (λ (z : Kept). update eqb (whole h.bank) q (Some z)) (front_gone opp e.kept e.handler e.rest e.in_front) in
@@ -124,13 +124,13 @@ module _ {A : Type 0} (place : A → At) (stands : ProgramView → A → TaskBod
         )
 
     -- as a worker's event, by which whoever wakes is in its ready part
-    settles_moves : (h h2 : Has A) (p : ℕ) (side : Side) (w o : ℕ) (x : SettlesTo place gives p side w o h h2) → MovesSettle (place_of place) (wakes_of gives) 0 w o side p (settling side (whole h.bank p)) (with_ready h []) (with_ready h2 x.woken)
+    settles_moves : (h h2 : Has A) (p : ℕ) (side : Side) (w o : ℕ) (x : SettlesTo place gives p side w o h h2) → MovesSettle (place_of place) (wakes_of gives) 0 w o side p (value_settled side (whole h.bank p)) (with_ready h []) (with_ready h2 x.woken)
     settles_moves h h2 p side w o x = settle_moves place (λ q a c. Unit {0}) gives (with_ready h []) (with_ready h2 x.woken) 0 w o p side [] x.serves_it x.bank x.registry x.shard refl
         (others_ready x.woken []) (same_ready x.woken []) x.wakes (λ i. refl) refl
 
     pub settled_follows : (h h2 : Has A) (s : State) (p : ℕ) (side : Side) (w o : ℕ) → Follows place stands program h s → SettlesTo place gives p side w o h h2
-        → (s2 : State) × Step program s (settled w o side p (settling side (whole h.bank p))) s2 × Follows place stands program h2 s2
-    settled_follows h h2 s p side w o f x = let v = settling side (whole h.bank p) in let m = settles_moves h h2 p side w o x in
+        → (s2 : State) × Step program s (settled w o side p (value_settled side (whole h.bank p))) s2 × Follows place stands program h2 s2
+    settled_follows h h2 s p side w o f x = let v = value_settled side (whole h.bank p) in let m = settles_moves h h2 p side w o x in
         let kept1 = put_on side m.rest m.kept in let kept2 = with_channel m.after kept1 in let parked2 = update eqb (whole h.shard) w None in
         let right : settle_row m.kept.channel (front Take p s.waits) (front Put p s.waits) ≡ settles side m.h v m.after = settle_right (whole h.bank) (alive (whole h.shard)) s p m.kept f.holds m.there m.asks ∙ m.by_row in
         let wk = wakes_up place stands program gives answers_law h.running (whole h.shard) h.known s.tasks s.waits w p (told side v) m.parked x.woken (tracks_of place stands program h s f) m.lives x.wakes in
@@ -141,6 +141,6 @@ module _ {A : Type 0} (place : A → At) (stands : ProgramView → A → TaskBod
           (m.kept.channel, m.after, m.h, wk.0, f.holds.channels_are p ∙ ap channel_of m.there, right, m.wait_is, m.branch_is, wk.1, refl),
           waking_follows h h2 s s2 w (with_all x.woken h.running) (update eqb (whole h.bank) p (Some kept2)) f refl refl
               (whole_altered h.bank h2.bank p (Some kept2) m.banks) (whole_altered h.shard h2.shard w None m.shards)
-              (subst (λ (z : ℕ → Option Kept). Holds z (alive parked2) s2.channels s2.waits s.used) (twice (whole h.bank) p (Some kept1) (Some kept2)) holds2)
+              (subst (λ (z : ℕ → Option Kept). KeepsChannels z (alive parked2) s2.channels s2.waits s.used) (twice (whole h.bank) p (Some kept1) (Some kept2)) holds2)
               (registered_still place stands program h h2 s f x.registry) wk.2 x.running x.known x.used (x.times ∙ f.times),
         )

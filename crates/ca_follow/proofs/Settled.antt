@@ -18,20 +18,20 @@ use Rattle.ca_commit.specs.Deciding.{IsStale}
 use Rattle.ca_commit.specs.Finding.{Serving, glance, rests, rests_on_stale, rests_on_unheld, serves, settle_at}
 use Rattle.ca_commit.specs.Listing.{changed_at}
 use Rattle.ca_commit.specs.NewPort.{times_in}
-use Rattle.ca_commit.specs.Settling.{IsSettled, Settles, served_in, settle_change, settling}
+use Rattle.ca_commit.specs.Settling.{IsSettled, Settles, served_in, settle_change, value_settled}
 use Rattle.ca_commit.specs.Showing.{channels_held, registries_held, waits_held}
 use Rattle.ca_commit.specs.Waking.{KeepsNumbers, WakesBy, ready_in}
 use Rattle.ca_commit.specs.declared.held.Held.{Held}
 use Rattle.ca_commit.specs.declared.settling.SettleNext.{SettleNext}
 use Rattle.ca_commit.specs.declared.settling.SettleNext.TheVariants as S
 use Rattle.ca_commit.proofs.Stales.{settle_stale}
-use Rattle.ca_tasks.specs.TaskLaws.{stays}
-use Rattle.ca_tasks.specs.Tasks.{gives, over, place, stands, starts}
+use Rattle.ca_tasks.specs.TaskLaws.{task_stays}
+use Rattle.ca_tasks.specs.Tasks.{gives, task_over_code, place, stands, starts}
 use Rattle.ca_tasks.specs.declared.task.AnyTask.{AnyTask}
 use Rattle.ca_follow.specs.Applies.{knows_all, with_all}
-use Rattle.ca_follow.specs.Follower.{IsDecidedNext, IsFollower, IsOverCode, IsPrune, IsSettleOf, Leads, Refuses, SettledBy, Stands, has, known_in, running_in}
+use Rattle.ca_follow.specs.Follower.{IsDecidedNext, IsFollower, IsOverCode, IsPrune, IsSettleOf, Leads, Refuses, SettledBy, FollowerStands, has, is_known_task, running_in}
 use Rattle.ca_follow.specs.Follows.{Follows}
-use Rattle.ca_follow.specs.Has.{Has, IsAll, parts}
+use Rattle.ca_follow.specs.Has.{Has, IsAll, parts_had}
 use Rattle.ca_follow.specs.Pruning.{queued_at}
 use Rattle.ca_follow.specs.Settles.{ServesOnly, SettlesTo}
 use Rattle.ca_follow.specs.declared.follower.Follower.{Follower}
@@ -49,7 +49,7 @@ pub once : (f : Follower) (d d2 : Held AnyTask) (p : ℕ) (next : SettleNext) �
 once f d d2 p next is channels registries shards ready numbers settles = record {
   between = record f { held = d };
   follower = follower_by f (record f { held = d }) is (subst IsAll (sym same) is.all) (subst (λ z. IsSome z) (sym numbers.0) is.timers) (ready ∙ is.ready) refl (λ i. ap (λ z. waits_held z i) shards) refl;
-  stands = λ program s st. subst (λ z. Stands program z s) (sym same) st;
+  stands = λ program s st. subst (λ z. FollowerStands program z s) (sym same) st;
   settles = settles;
   tasks = refl;
   waits = refl;
@@ -76,7 +76,7 @@ known_owner program h s f w u a e = sym (f.known u) ∙ ap (λ o. is_some o) (f.
 pub record Takes (mid new : Follower) : Type 0 where
   pub ready : IsSome mid.held.ready → ready_in new.held.ready ≡ Some []
   pub running : (q : List (ℕ × TaskAgent AnyTask)) → ready_in mid.held.ready ≡ Some q → (t : ℕ) → running_in new.tasks t ≡ with_all q (running_in mid.tasks) t
-  pub known : (q : List (ℕ × TaskAgent AnyTask)) → ready_in mid.held.ready ≡ Some q → (t : ℕ) → known_in new.tasks t ≡ knows_all q (known_in mid.tasks) t
+  pub known : (q : List (ℕ × TaskAgent AnyTask)) → ready_in mid.held.ready ≡ Some q → (t : ℕ) → is_known_task new.tasks t ≡ knows_all q (is_known_task mid.tasks) t
   pub banks : new.held.banks ≡ mid.held.banks
   pub shards : new.held.shards ≡ mid.held.shards
   pub timers : new.held.timers ≡ mid.held.timers
@@ -88,11 +88,11 @@ pub record Served (old mid new : Follower) (p : ℕ) (e : Event) (x : SettledBy 
   pub side : Side
   pub wait : ℕ
   pub branch : ℕ
-  pub event : event_view e ≡ settled wait branch side p (settling side (whole (has x.between).bank p))
+  pub event : event_view e ≡ settled wait branch side p (value_settled side (whole (has x.between).bank p))
   pub to : SettlesTo place gives p side wait branch (has x.between) (has new)
   pub follower : IsFollower new
 
-module _ (old mid new : Follower) (p : ℕ) (e : Event) (x : SettledBy old mid p (S.Settled e)) (takes : Takes mid new) (program : ProgramView) (s : State) (stood : Stands program (has old) s) where
+module _ (old mid new : Follower) (p : ℕ) (e : Event) (x : SettledBy old mid p (S.Settled e)) (takes : Takes mid new) (program : ProgramView) (s : State) (stood : FollowerStands program (has old) s) where
   served_as : (side : Side) (w o : ℕ) → served_in x.between.held p ≡ serves side w o → IsSettled place gives x.between.held mid.held p side w o e → Served old mid new p e x
   served_as side w o serving is = record {
     side = side;
@@ -108,7 +108,7 @@ module _ (old mid new : Follower) (p : ℕ) (e : Event) (x : SettledBy old mid p
       woken = woken;
       wakes = wakes;
       running = λ v. takes.running woken ready v ∙ ap (λ z. with_all woken (running_in z) v) x.tasks;
-      known = λ v. takes.known woken ready v ∙ ap (λ z. knows_all woken (known_in z) v) x.tasks ∙ woken_known place gives starts there p passed (has x.between).known woken (λ u a at. known_owner program (has x.between) s (x.stands program s stood).follows w u a at) wakes v;
+      known = λ v. takes.known woken ready v ∙ ap (λ z. knows_all woken (is_known_task z) v) x.tasks ∙ woken_known place gives starts there p passed (has x.between).known woken (λ u a at. known_owner program (has x.between) s (x.stands program s stood).follows w u a at) wakes v;
       used = λ v. ap (λ z. (has (record new { waits = z })).used v) (takes.waits ∙ x.waits);
     };
     follower = record {
@@ -116,21 +116,21 @@ module _ (old mid new : Follower) (p : ℕ) (e : Event) (x : SettledBy old mid p
       timers = subst (λ z. IsSome z) (sym (takes.timers ∙ is.numbers.0)) x.follower.timers;
       ready = takes.ready (some_ready mid.held.ready woken ready);
       over_code = subst (λ z. IsOverCode (valid_code z.now) (has new)) (sym (takes.code ∙ x.code)) (record {
-        running = λ t a at. all_are (λ (y : TaskAgent AnyTask). over now y.agent) woken (has x.between).running (woken_over place gives starts (over now) (stays now) there p passed woken (λ y e. own w y e) wakes) x.follower.over_code.running t a
+        running = λ t a at. all_are (λ (y : TaskAgent AnyTask). task_over_code now y.agent) woken (has x.between).running (woken_over place gives starts (task_over_code now) (task_stays now) there p passed woken (λ y e. own w y e) wakes) x.follower.over_code.running t a
             (sym (takes.running woken ready t ∙ ap (λ z. with_all woken (running_in z) t) x.tasks) ∙ at);
         waiting = λ v u a at. (left v (owner u a) at).0;
       });
-      paused = paused_by place gives starts (over now) (stays now) (has new).shard left;
+      paused = paused_by place gives starts (task_over_code now) (task_stays now) (has new).shard left;
     };
   } where
     change : Option Kept → Option Kept
-    change = option_map (settle_change side (settling side (whole (has x.between).bank p)))
+    change = option_map (settle_change side (value_settled side (whole (has x.between).bank p)))
 
     there : Option (Parked (TaskAgent AnyTask))
     there = whole (has x.between).shard w
 
     passed : Tree
-    passed = told side (settling side (whole (has x.between).bank p))
+    passed = told side (value_settled side (whole (has x.between).bank p))
 
     found : (woken : List (ℕ × TaskAgent AnyTask)) × (ready_in mid.held.ready ≡ Some woken) × WakesBy place gives there p passed (Some []) (Some woken)
     found = wakes_some place gives there p passed (ready_in mid.held.ready) (subst (λ z. WakesBy place gives there p passed z (ready_in mid.held.ready)) x.follower.ready is.wakes)
@@ -162,11 +162,11 @@ module _ (old mid new : Follower) (p : ℕ) (e : Event) (x : SettledBy old mid p
     now : CodeView
     now = valid_code x.between.code.now
 
-    own : OwnersOver place gives starts (over now) (stays now) (has x.between).shard
-    own = owners_over place gives starts (over now) (stays now) (has x.between).shard x.follower.over_code.waiting x.follower.paused
+    own : OwnersOver place gives starts (task_over_code now) (task_stays now) (has x.between).shard
+    own = owners_over place gives starts (task_over_code now) (task_stays now) (has x.between).shard x.follower.over_code.waiting x.follower.paused
 
-    left : OwnersOver place gives starts (over now) (stays now) (has new).shard
-    left = owners_left place gives starts (over now) (stays now) w (has x.between).shard (has new).shard shards own
+    left : OwnersOver place gives starts (task_over_code now) (task_stays now) (has new).shard
+    left = owners_left place gives starts (task_over_code now) (task_stays now) w (has x.between).shard (has new).shard shards own
 
   pub served : Served old mid new p e x
   served = by (served_in x.between.held p) refl x.settles where
@@ -185,8 +185,8 @@ module _ (code : CodeView) (e : EventView) (old mid new : Follower) (p : ℕ) wh
   pub served_refuses : (made : Event) (x : SettledBy old mid p (S.Settled made)) → Served old mid new p made x → IsSettleOf p e → (event_view made ≡ e → ⊥) → Refuses code e (has old)
   served_refuses made x v is isnt = settle_refuses code e (has old) (has x.between) p x.stands x.follower.all is (λ w k side value only same. isnt (v.event ∙ by w k side value (subst (λ (z : Serving). ServesOnly w k side value (whole (has x.between).bank p) z) v.to.serves_it only) ∙ same)) where
     by : (w k : ℕ) (side : Side) (value : Tree) → ServesOnly w k side value (whole (has x.between).bank p) (serves v.side v.wait v.branch)
-        → settled v.wait v.branch v.side p (settling v.side (whole (has x.between).bank p)) ≡ settled w k side p value
-    by w k side value only = let a : v.side ≡ side = only.0 in let b : v.wait ≡ w = only.1 in let c : v.branch ≡ k = only.2 in let d : settling v.side (whole (has x.between).bank p) ≡ value = ap (λ (y : Side). settling y (whole (has x.between).bank p)) a ∙ only.3 in cc
+        → settled v.wait v.branch v.side p (value_settled v.side (whole (has x.between).bank p)) ≡ settled w k side p value
+    by w k side value only = let a : v.side ≡ side = only.0 in let b : v.wait ≡ w = only.1 in let c : v.branch ≡ k = only.2 in let d : value_settled v.side (whole (has x.between).bank p) ≡ value = ap (λ (y : Side). value_settled y (whole (has x.between).bank p)) a ∙ only.3 in cc
 
   rests_only : (held new_held : Held AnyTask) (z : Serving) (w k : ℕ) (side : Side) (value : Tree) (o : Option Kept) → Settles place gives held new_held p z S.None → ServesOnly w k side value o z → ⊥
   rests_only held new_held rests w k side value o is only = only
@@ -209,10 +209,10 @@ same_follower f g code held tasks waits = λ i. record { code = code i; held = h
 -- a stale handler stands in the way, and nothing was done
 pub record StaleThere (old mid : Follower) (p : ℕ) (side : Side) (place : ℕ) : Type 0 where
   pub follower : IsFollower mid
-  pub stands : (program : ProgramView) (s : State) → Stands program (has old) s → Stands program (has mid) s
+  pub stands : (program : ProgramView) (s : State) → FollowerStands program (has old) s → FollowerStands program (has mid) s
   pub rests_so : settle_at (glance (has mid).shard) (whole (has mid).bank p) ≡ rests_on_stale side
   pub in_front : place ≡ 0
-  pub stale : IsStale (parts (has mid)) p side place
+  pub stale : IsStale (parts_had (has mid)) p side place
 
 module _ (old mid : Follower) (p : ℕ) where
   pub stale_there : (q : PortId) (side : Side) (i : ℕ) (x : SettledBy old mid p (S.Prune q side i)) → StaleThere old mid p side i
@@ -222,10 +222,10 @@ module _ (old mid : Follower) (p : ℕ) where
         let f : x.between ≡ mid = same_follower x.between mid (sym x.code) (sym held) (sym x.tasks) (sym x.waits) in
         let so : settle_at (glance (has mid).shard) (whole (has mid).bank p) ≡ rests_on_stale side = subst (λ (z : Follower). served_in z.held p ≡ rests_on_stale side) f (is ∙ ap rests_on_stale (sym same)) in record {
           follower = subst (λ (z : Follower). IsFollower z) f x.follower;
-          stands = λ program s st. subst (λ (z : Follower). Stands program (has z) s) f (x.stands program s st);
+          stands = λ program s st. subst (λ (z : Follower). FollowerStands program (has z) s) f (x.stands program s st);
           rests_so = so;
           in_front = front;
-          stale = subst (λ (n : ℕ). IsStale (parts (has mid)) p side n) (sym front) (settle_stale (parts (has mid)) p side so);
+          stale = subst (λ (n : ℕ). IsStale (parts_had (has mid)) p side n) (sym front) (settle_stale (parts_had (has mid)) p side so);
         }
 
     by : (z : Serving) → served_in x.between.held p ≡ z → Settles place gives x.between.held mid.held p z (S.Prune q side i) → StaleThere old mid p side i
@@ -251,7 +251,7 @@ module _ (old mid : Follower) (p : ℕ) where
   decided_next (S.Prune q side i) x none = none tt
 
   -- what is told of a follower is told of one that stands for less
-  pub settled_after : (first : Follower) (next : SettleNext) → ((program : ProgramView) (s : State) → Stands program (has first) s → Stands program (has old) s) → SettledBy old mid p next → SettledBy first mid p next
+  pub settled_after : (first : Follower) (next : SettleNext) → ((program : ProgramView) (s : State) → FollowerStands program (has first) s → FollowerStands program (has old) s) → SettledBy old mid p next → SettledBy first mid p next
   settled_after first next keeps x = record {
     between = x.between;
     follower = x.follower;

@@ -10,7 +10,7 @@ use Rattle.ca_meaning.specs.ChannelSteps.{other_side}
 use Rattle.ca_meaning.specs.Sound.{Each}
 use Rattle.ca_meaning.specs.Wait.{port_of, side_of, told}
 use Rattle.ca_commit.specs.Agents.{TaskAgent}
-use Rattle.ca_commit.specs.Applying.{Channels, answer_by, counts_alts}
+use Rattle.ca_commit.specs.Applying.{BankChannels, answer_by, counts_alts}
 use Rattle.ca_commit.specs.Contents.{Parked, at_key, home, nobody, owner, whole}
 use Rattle.ca_commit.specs.Listing.{changed_at}
 use Rattle.ca_commit.specs.Parking.{waiting_as}
@@ -92,7 +92,7 @@ module _ {A : Type 0} (place : A → At) (gives : A → Tree → A → Type 0) (
   woken_over (Some nobody) p v l h w = none_over l (some_same l [] w)
   woken_over (Some (owner u a)) p v l h w = one_over l (u, w.0) (some_same l ((u, w.0) ∷ []) w.4) (stays a.agent w.0.agent _ w.3 (h (owner u a) refl).0)
 
-  each_woken : (q : Planned) (cs : Channels) (sh : ℕ → Option (ℕ → Option (Parked (TaskAgent A)))) (s : Option (ℕ × TaskAgent A)) (l : List (ℕ × TaskAgent A)) → Woken place gives q cs sh s l → OwnersOver sh → ((x : ℕ × TaskAgent A) → s ≡ Some x → over x.1.agent)
+  each_woken : (q : Planned) (cs : BankChannels) (sh : ℕ → Option (ℕ → Option (Parked (TaskAgent A)))) (s : Option (ℕ × TaskAgent A)) (l : List (ℕ × TaskAgent A)) → Woken place gives q cs sh s l → OwnersOver sh → ((x : ℕ × TaskAgent A) → s ≡ Some x → over x.1.agent)
       → Each (λ (x : ℕ × TaskAgent A). over x.1.agent) l
   each_woken (to_meet k b alts v o) cs sh s l w own new = woken_over (whole sh v) (port_of b) (told (other_side (side_of b)) (passing (whole cs (port_of b)) b)) l (λ y e. own v y e) w
   each_woken (to_spawn kind r) cs sh s l w own new = one_over l w.0 w.2 (new w.0 w.1)

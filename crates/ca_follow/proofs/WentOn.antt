@@ -14,10 +14,10 @@ use Rattle.ca_commit.specs.Tasks.{agent_of, task_view}
 use Rattle.ca_commit.specs.Waking.{ready_in}
 use Rattle.ca_commit.specs.declared.held.Held.{Held}
 use Rattle.ca_commit.specs.declared.task.Task.{Task}
-use Rattle.ca_tasks.specs.Tasks.{gives, over, place, starts}
+use Rattle.ca_tasks.specs.Tasks.{gives, task_over_code, place, starts}
 use Rattle.ca_tasks.specs.declared.task.AnyTask.{AnyTask}
 use Rattle.ca_follow.specs.Applies.{knows_all, knows_own, used_by, with_all, with_own}
-use Rattle.ca_follow.specs.Follower.{AppliedFor, IsFollower, IsPlanOf, IsSpawned, Knows, has, known_in, running_in, without_alts}
+use Rattle.ca_follow.specs.Follower.{AppliedFor, IsFollower, IsPlanOf, IsSpawnedTask, KnowsTask, has, is_known_task, running_in, without_alts}
 use Rattle.ca_follow.specs.declared.follower.Follower.{Follower}
 use Rattle.ca_follow.proofs.GoneOn.{GoneOn, goes_by, runs_own, woken_by}
 use Rattle.ca_follow.proofs.Operates.{applied_for, follower_after}
@@ -32,12 +32,12 @@ pub record Went (f f2 : Follower) (d : Held AnyTask) (task : Task AnyTask) (q : 
   pub times : times_in f2.held.timers ≡ times_by f.held.new_port f.held.moment q (times_in f.held.timers)
   pub runs : RunsBy gives f.held task q running
   pub taken : (l : List (ℕ × TaskAgent AnyTask)) → ready_in d.ready ≡ Some l → (t : ℕ) → running_in f2.tasks t ≡ with_all l (with_own (option_map task_view running) (running_in f.tasks)) t
-  pub known : (l : List (ℕ × TaskAgent AnyTask)) → ready_in d.ready ≡ Some l → (t : ℕ) → known_in f2.tasks t ≡ knows_all l (knows_own (option_map task_view running) (known_in f.tasks)) t
+  pub known : (l : List (ℕ × TaskAgent AnyTask)) → ready_in d.ready ≡ Some l → (t : ℕ) → is_known_task f2.tasks t ≡ knows_all l (knows_own (option_map task_view running) (is_known_task f.tasks)) t
   pub empty : IsSome d.ready → ready_in f2.held.ready ≡ Some []
   pub used : (w : ℕ) → contains nat_eq f2.waits w ≡ used_by f.held.new_wait q (λ v. contains nat_eq f.waits v) w
 
 module _ (f f2 : Follower) (d : Held AnyTask) (task : Task AnyTask) (q : Planned) (running spawned : Option (Task AnyTask)) (is : IsFollower f) (none : task.alts ≡ 0) (k : Went f f2 d task q running spawned)
-    (new : IfSome spawned (λ t. IsSpawned (valid_code f.code.now) (agent_of task) f.held.new_task t)) where
+    (new : IfSome spawned (λ t. IsSpawnedTask (valid_code f.code.now) (agent_of task) f.held.new_task t)) where
   gone : GoneOn place gives starts q task.number f.held.new_task f.held.new_port f.held.new_wait f.held.moment (without_alts (agent_of task)) (has f) (has f2) (option_map task_view spawned)
   gone = let w = woken_by place gives f.held d spawned q is.ready k.ready in
       subst (λ (a : TaskAgent AnyTask). GoneOn place gives starts q task.number f.held.new_task f.held.new_port f.held.new_wait f.held.moment a (has f) (has f2) (option_map task_view spawned)) (plain_is (agent_of task) none) (record {
@@ -55,9 +55,9 @@ module _ (f f2 : Follower) (d : Held AnyTask) (task : Task AnyTask) (q : Planned
         used = k.used;
       })
 
-  pub went_applied : Knows (has f) task.number → AppliedFor (valid_code f.code.now) q task.number f.held (agent_of task) (has f) (has f2)
+  pub went_applied : KnowsTask (has f) task.number → AppliedFor (valid_code f.code.now) q task.number f.held (agent_of task) (has f) (has f2)
   went_applied knows = applied_for (valid_code f.code.now) q task.number f.held (agent_of task) (has f) (has f2) spawned gone new knows
 
-  pub went_follower : over (valid_code f.code.now) task.agent → (start : ℕ) × IsPlanOf (has f) (agent_of task) start q → f2.code ≡ f.code → IsFollower f2
+  pub went_follower : task_over_code (valid_code f.code.now) task.agent → (start : ℕ) × IsPlanOf (has f) (agent_of task) start q → f2.code ≡ f.code → IsFollower f2
   went_follower ov plan code = let w = woken_by place gives f.held d spawned q is.ready k.ready in
       follower_after f f2 q task.number f.held.new_task f.held.new_port f.held.new_wait f.held.moment plan.0 (agent_of task) spawned is ov plan.1 gone new (k.empty (some_ready d.ready w.0 w.1)) code

@@ -51,11 +51,11 @@ used_by w other f = f
 
 module _ {A : Type 0} (place : A → At) (gives : A → Tree → A → Type 0) (starts : ProgramView → SeedView → A → Type 0) where
   -- who can go on by it beside its own task: who was met, or the new task u
-  abbrev pub Wakes : ProgramView → OpView → Planned → ℕ → Has A → List (ℕ × TaskAgent A) → Type 0
-  Wakes program op (to_meet k b alts wait o) u h woken =
+  abbrev pub PlanWakes : ProgramView → OpView → Planned → ℕ → Has A → List (ℕ × TaskAgent A) → Type 0
+  PlanWakes program op (to_meet k b alts wait o) u h woken =
       WakesBy place gives (whole h.shard wait) (port_of b) (told (other_side (side_of b)) (passing (whole h.bank (port_of b)) b)) (Some []) (Some woken)
-  Wakes program op (to_spawn kind r) u h woken = (c : TaskAgent A) × (woken ≡ (u, c) ∷ []) × ((seed : SeedView) → op ≡ spawning seed → starts_of starts program seed c)
-  Wakes program op other u h woken = woken ≡ []
+  PlanWakes program op (to_spawn kind r) u h woken = (c : TaskAgent A) × (woken ≡ (u, c) ∷ []) × ((seed : SeedView) → op ≡ spawning seed → starts_of starts program seed c)
+  PlanWakes program op other u h woken = woken ≡ []
 
   -- the task itself: it waits, or goes on with the answer
   abbrev pub GoesTo : Planned → ℕ → Has A → TaskAgent A → Option (TaskAgent A) → Type 0
@@ -70,7 +70,7 @@ module _ {A : Type 0} (place : A → At) (gives : A → Tree → A → Type 0) (
     pub shard : (i : ℕ) → h2.shard i ≡ waits_by w (owner t (waiting_as place a)) nobody q h.shard i
     pub times : h2.times ≡ times_by p m q h.times
     pub woken : List (ℕ × TaskAgent A)
-    pub wakes : Wakes program op q u h woken
+    pub wakes : PlanWakes program op q u h woken
     pub goes : Option (TaskAgent A)
     pub answered : GoesTo q p h a goes
     pub running : (v : ℕ) → h2.running v ≡ with_all woken (update eqb h.running t goes) v

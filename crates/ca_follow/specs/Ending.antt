@@ -13,8 +13,8 @@ use Rattle.ca_commit.specs.Ticking.{closed_all, closed_result, ticked_at}
 use Rattle.ca_follow.specs.Has.{Has}
 
 -- it is the end of task t by this fault, whose result port, if it has one, is r
-abbrev pub IsFault : EventView → ℕ → Fault → Place → Option ℕ → Type 0
-IsFault e t f at r = (result : Option PortId) × (e ≡ over t (Faulted f at result)) × (option_map port_number result ≡ r)
+abbrev pub IsTaskFault : EventView → ℕ → Fault → Place → Option ℕ → Type 0
+IsTaskFault e t f at r = (result : Option PortId) × (e ≡ over t (Faulted f at result)) × (option_map port_number result ≡ r)
 
 -- at moment m exactly these ports are due
 abbrev pub TicksOnly : ℕ → List ℕ → Option Times → Type 0

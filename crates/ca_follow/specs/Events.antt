@@ -8,10 +8,10 @@ use Rattle.ca_commit.specs.NewPort.{Times}
 use Rattle.ca_commit.specs.Planning.{Planned, to_make, to_park, to_post, to_spawn}
 use Rattle.ca_follow.specs.Has.{Has}
 
-abbrev pub start_of : EventView → ℕ
-start_of (done t k b v) = k
-start_of (met t k side p v w o) = k
-start_of e = 0
+abbrev pub event_start : EventView → ℕ
+event_start (done t k b v) = k
+event_start (met t k side p v w o) = k
+event_start e = 0
 
 -- the task whose event it is
 abbrev pub task_of : EventView → Option ℕ

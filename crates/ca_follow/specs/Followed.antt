@@ -11,7 +11,7 @@ use Rattle.ca_replay.specs.declared.main_end.MainEnd.{MainEnd}
 use Rattle.ca_replay.specs.RunTo.{IsRunTo}
 use Rattle.ca_replay.specs.Verdict.{IsFirstIllegal}
 use Rattle.ca_follow.specs.declared.following.Followed.{Followed}
-use Rattle.ca_follow.specs.Follower.{Stands}
+use Rattle.ca_follow.specs.Follower.{FollowerStands}
 use Rattle.ca_follow.specs.Has.{Has}
 
 -- a legal run, with what it writes, or the first event that no legal run has there
@@ -23,4 +23,4 @@ IsFollowed program journal (Followed.IllegalAt k) = IsFirstIllegal program journ
 pub record IsLed (program : ProgramView) (journal : List EventView) (h : Has AnyTask) (end : Option MainEnd) : Type 0 where
   pub state : State
   pub run : IsRunTo program journal state end
-  pub stands : Stands program h state
+  pub stands : FollowerStands program h state

@@ -30,9 +30,9 @@ use Rattle.ca_commit.specs.Tasks.{agent_of}
 use Rattle.ca_commit.specs.Waking.{IsPaused, ready_in}
 use Rattle.ca_commit.specs.declared.held.Held.{Held}
 use Rattle.ca_commit.specs.declared.task.Task.{Task}
-use Rattle.ca_tasks.specs.Tasks.{gives, over, place, stands, starts}
+use Rattle.ca_tasks.specs.Tasks.{gives, task_over_code, place, stands, starts}
 use Rattle.ca_tasks.specs.declared.task.AnyTask.{AnyTask}
-use Rattle.ca_follow.specs.Has.{Has, IsAll, parts}
+use Rattle.ca_follow.specs.Has.{Has, IsAll, parts_had}
 use Rattle.ca_follow.specs.Applies.{Applies}
 use Rattle.ca_follow.specs.Follows.{Follows, IsAt}
 use Rattle.ca_follow.specs.declared.follower.Follower.{Follower}
@@ -47,8 +47,8 @@ running_of (Some (Some t)) = Some (agent_of t)
 abbrev pub running_in : Tasks → ℕ → Option (TaskAgent AnyTask)
 running_in tasks t = running_of (get nat_eq tasks.entries t)
 
-abbrev pub known_in : Tasks → ℕ → Bool
-known_in tasks t = is_some (get nat_eq tasks.entries t)
+abbrev pub is_known_task : Tasks → ℕ → Bool
+is_known_task tasks t = is_some (get nat_eq tasks.entries t)
 
 abbrev pub has : Follower → Has AnyTask
 has f = record {
@@ -57,7 +57,7 @@ has f = record {
   shard = waits_held f.held.shards;
   times = times_in f.held.timers;
   running = running_in f.tasks;
-  known = known_in f.tasks;
+  known = is_known_task f.tasks;
   used = λ w. contains nat_eq f.waits w;
 }
 
@@ -67,8 +67,8 @@ with_task t a h = record h { running = update eqb h.running t (Some a) }
 
 -- whatever can go on or waits is over the code
 pub record IsOverCode (code : CodeView) (h : Has AnyTask) : Type 0 where
-  pub running : (t : ℕ) (a : TaskAgent AnyTask) → h.running t ≡ Some a → over code a.agent
-  pub waiting : (w u : ℕ) (a : TaskAgent AnyTask) → whole h.shard w ≡ Some (owner u a) → over code a.agent
+  pub running : (t : ℕ) (a : TaskAgent AnyTask) → h.running t ≡ Some a → task_over_code code a.agent
+  pub waiting : (w u : ℕ) (a : TaskAgent AnyTask) → whole h.shard w ≡ Some (owner u a) → task_over_code code a.agent
 
 -- it holds all parts, no task is in the ready part, and whoever waits has halted
 pub record IsFollower (f : Follower) : Type 0 where
@@ -85,7 +85,7 @@ pub record IsMadeFor (program : ProgramView) (code : CodeView) : Type 0 where
   pub gos : SameGos program code
 
 -- what is had stands for a state of a run, whose values are values
-pub record Stands (program : ProgramView) (h : Has AnyTask) (s : State) : Type 0 where
+pub record FollowerStands (program : ProgramView) (h : Has AnyTask) (s : State) : Type 0 where
   pub follows : Follows place stands program h s
   pub values : Holds any s
 
@@ -93,36 +93,36 @@ pub record Stands (program : ProgramView) (h : Has AnyTask) (s : State) : Type 0
 pub record IsBehind (program : ProgramView) (h : Has AnyTask) (t : ℕ) (a : TaskAgent AnyTask) (s : State) : Type 0 where
   pub out : h.running t ≡ None
   pub here : IsAt place stands program (with_task t a h) s t a
-  pub stands : Stands program (with_task t a h) s
+  pub stands : FollowerStands program (with_task t a h) s
 
 -- the event leads from each state that this stood for to one that it stands for
 abbrev pub Leads : CodeView → EventView → Has AnyTask → Has AnyTask → Type 0
-Leads code e h h2 = (program : ProgramView) (s : State) → IsMadeFor program code → Stands program h s → (s2 : State) × Step program s e s2 × Stands program h2 s2
+Leads code e h h2 = (program : ProgramView) (s : State) → IsMadeFor program code → FollowerStands program h s → (s2 : State) × Step program s e s2 × FollowerStands program h2 s2
 
 abbrev pub Refuses : CodeView → EventView → Has AnyTask → Type 0
-Refuses code e h = (program : ProgramView) (s s2 : State) → IsMadeFor program code → Stands program h s → Step program s e s2 → ⊥
+Refuses code e h = (program : ProgramView) (s s2 : State) → IsMadeFor program code → FollowerStands program h s → Step program s e s2 → ⊥
 
 -- the same where task t was taken out and is paused as a
 abbrev pub LeadsBehind : CodeView → EventView → Has AnyTask → ℕ → TaskAgent AnyTask → Has AnyTask → Type 0
-LeadsBehind code e h t a h2 = (program : ProgramView) (s : State) → IsMadeFor program code → IsBehind program h t a s → (s2 : State) × Step program s e s2 × Stands program h2 s2
+LeadsBehind code e h t a h2 = (program : ProgramView) (s : State) → IsMadeFor program code → IsBehind program h t a s → (s2 : State) × Step program s e s2 × FollowerStands program h2 s2
 
 abbrev pub RefusesBehind : CodeView → EventView → Has AnyTask → ℕ → TaskAgent AnyTask → Type 0
 RefusesBehind code e h t a = (program : ProgramView) (s s2 : State) → IsMadeFor program code → IsBehind program h t a s → Step program s e s2 → ⊥
 
-abbrev pub IsEnded : At → Type 0
-IsEnded at = (v : Tree) × (at ≡ ended v)
+abbrev pub HasEndedAt : At → Type 0
+HasEndedAt at = (v : Tree) × (at ≡ ended v)
 
 -- the plan of task t's operation, where it is taken out and stands as a, is refused by the fault
-abbrev pub IsRefused : Has AnyTask → TaskAgent AnyTask → Fault → Place → Type 0
-IsRefused h a f at = (op : OpView) × (start : ℕ) × (place a.agent ≡ at_op (record { op = op; place = at })) × (planned (seen_in (parts h)) op start ≡ to_refuse f)
+abbrev pub IsPlanRefused : Has AnyTask → TaskAgent AnyTask → Fault → Place → Type 0
+IsPlanRefused h a f at = (op : OpView) × (start : ℕ) × (place a.agent ≡ at_op (record { op = op; place = at })) × (planned (seen_in (parts_had h)) op start ≡ to_refuse f)
 
 -- it has faulted there, or its operation is refused
 abbrev pub MayFault : Has AnyTask → TaskAgent AnyTask → Fault → Place → Type 0
-MayFault h a f at = (place a.agent ≡ faulted f at) ⊎ IsRefused h a f at
+MayFault h a f at = (place a.agent ≡ faulted f at) ⊎ IsPlanRefused h a f at
 
 -- what `plan` answers, the branches being looked at from that number on, for the operation at which the task stands
 abbrev pub IsPlanOf : Has AnyTask → TaskAgent AnyTask → ℕ → Planned → Type 0
-IsPlanOf h a start q = (op : OpView) × (at : Place) × (place a.agent ≡ at_op (record { op = op; place = at })) × (q ≡ planned (seen_in (parts h)) op start)
+IsPlanOf h a start q = (op : OpView) × (at : Place) × (place a.agent ≡ at_op (record { op = op; place = at })) × (q ≡ planned (seen_in (parts_had h)) op start)
 
 -- all parts are held and no stale handler stands in the way, so it is an event or a fault
 abbrev pub IsDecided : Planned → Type 0
@@ -135,17 +135,17 @@ abbrev pub KeepsBehind : Has AnyTask → Has AnyTask → ℕ → TaskAgent AnyTa
 KeepsBehind h h2 t a = (program : ProgramView) (s : State) → IsBehind program h t a s → IsBehind program h2 t a s
 
 -- the new task is that of the seed at which the other one stands
-abbrev pub StartsAs : CodeView → TaskAgent AnyTask → TaskAgent AnyTask → Type 0
-StartsAs code a c = (program : ProgramView) (seed : SeedView) (at : Place) → IsMadeFor program code → place a.agent ≡ at_op (record { op = spawning seed; place = at }) → starts_of starts program seed c
+abbrev pub StartsFromSeed : CodeView → TaskAgent AnyTask → TaskAgent AnyTask → Type 0
+StartsFromSeed code a c = (program : ProgramView) (seed : SeedView) (at : Place) → IsMadeFor program code → place a.agent ≡ at_op (record { op = spawning seed; place = at }) → starts_of starts program seed c
 
 -- it is that task, under its number, and over the code
-pub record IsSpawned (code : CodeView) (a : TaskAgent AnyTask) (u : ℕ) (t : Task AnyTask) : Type 0 where
+pub record IsSpawnedTask (code : CodeView) (a : TaskAgent AnyTask) (u : ℕ) (t : Task AnyTask) : Type 0 where
   pub number : t.number ≡ u
-  pub starts : StartsAs code a (agent_of t)
-  pub over_code : over code t.agent
+  pub starts : StartsFromSeed code a (agent_of t)
+  pub over_code : task_over_code code t.agent
 
 -- the task was taken out, and is known, as whoever waits is
-pub record Knows (h : Has AnyTask) (t : ℕ) : Type 0 where
+pub record KnowsTask (h : Has AnyTask) (t : ℕ) : Type 0 where
   pub out : h.running t ≡ None
   pub own : h.known t ≡ true
   pub waiting : (w u : ℕ) (a : TaskAgent AnyTask) → whole h.shard w ≡ Some (owner u a) → h.known u ≡ true
@@ -184,7 +184,7 @@ IsPrune (SettleNext.Prune p side i) = Unit {0}
 pub record SettledBy (old new : Follower) (p : ℕ) (next : SettleNext) : Type 0 where
   pub between : Follower
   pub follower : IsFollower between
-  pub stands : (program : ProgramView) (s : State) → Stands program (has old) s → Stands program (has between) s
+  pub stands : (program : ProgramView) (s : State) → FollowerStands program (has old) s → FollowerStands program (has between) s
   pub settles : Settles place gives between.held new.held p (served_in between.held p) next
   pub tasks : new.tasks ≡ between.tasks
   pub waits : new.waits ≡ between.waits

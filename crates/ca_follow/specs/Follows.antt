@@ -10,7 +10,7 @@ use Rattle.ca_meaning.specs.Task.{TaskBody, body_at}
 use Rattle.ca_meaning.specs.Wait.{is_among, owner_of}
 use Rattle.ca_commit.specs.Agents.{TaskAgent, place_of, stands_of}
 use Rattle.ca_commit.specs.Contents.{alive, nobody, owner, whole}
-use Rattle.ca_commit.specs.Holds.{Holds}
+use Rattle.ca_commit.specs.Holds.{KeepsChannels}
 use Rattle.ca_commit.specs.Seated.{PausedAt, StandsAs, Waits}
 use Rattle.ca_follow.specs.Has.{Has, IsAll}
 
@@ -25,7 +25,7 @@ module _ {A : Type 0} (place : A → At) (stands : ProgramView → A → TaskBod
 
   pub record Follows (h : Has A) (s : State) : Type 0 where
     -- channels, queues and live waits
-    pub holds : Holds (whole h.bank) (alive (whole h.shard)) s.channels s.waits s.used
+    pub holds : KeepsChannels (whole h.bank) (alive (whole h.shard)) s.channels s.waits s.used
     pub registered : (p : ℕ) → s.registries p ≡ whole h.registry p
     -- exactly the tasks that run can go on
     pub ready : (t : ℕ) (a : TaskAgent A) → h.running t ≡ Some a → StandsAs (stands_of stands program) s.tasks t a
@@ -37,7 +37,7 @@ module _ {A : Type 0} (place : A → At) (stands : ProgramView → A → TaskBod
     pub used : (w : ℕ) → is_among w s.used ≡ h.used w
 
   -- With all parts at hand the state is followed, and task t is there, as agent a, at this operation.
-  pub record IsAtOp (h : Has A) (s : State) (t : ℕ) (a : TaskAgent A) (op : OpView) (at : Place) : Type 0 where
+  pub record IsFollowedAtOp (h : Has A) (s : State) (t : ℕ) (a : TaskAgent A) (op : OpView) (at : Place) : Type 0 where
     pub follows : Follows h s
     pub all : IsAll h
     pub task : IsAt h s t a

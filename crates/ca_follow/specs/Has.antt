@@ -17,8 +17,8 @@ pub record Has (A : Type 0) : Type 0 where
   pub used : ℕ → Bool
 
 -- as the parts that a worker would hold, but for lanes, ready parts and the clock
-abbrev pub parts : {A : Type 0} → Has A → Parts (TaskAgent A)
-parts h = record { lane = λ w. None; bank = h.bank; registry = h.registry; shard = h.shard; ready = λ r. None; timers = None }
+abbrev pub parts_had : {A : Type 0} → Has A → Parts (TaskAgent A)
+parts_had h = record { lane = λ w. None; bank = h.bank; registry = h.registry; shard = h.shard; ready = λ r. None; timers = None }
 
 -- all sixteen of a kind are there
 abbrev pub AreAll : {X : Type 0} → (ℕ → Option X) → Type 0

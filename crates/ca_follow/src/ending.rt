@@ -5,7 +5,7 @@ ghost use Rattle.ca_states.specs.ValidCode.{valid_code};
 ghost use Rattle.ca_commit.specs.Tasks.{agent_of};
 ghost use Rattle.ca_tasks.specs.Tasks.{place};
 ghost use Rattle.ca_follow.specs.Events.{task_of};
-ghost use Rattle.ca_follow.specs.Follower.{IsEnded, IsFollower, LeadsBehind, RefusesBehind, MayFault, has};
+ghost use Rattle.ca_follow.specs.Follower.{HasEndedAt, IsFollower, LeadsBehind, RefusesBehind, MayFault, has};
 
 use crate::follower::Follower;
 use crate::reading::agrees;
@@ -20,7 +20,7 @@ impl Follower<'_> {
     /// The task, which was taken out, is over by its value; tells whether that is the journal's event.
     pub(crate) fn end(&mut self, task: &Task<AnyTask>, event: &Event) -> bool
         requires follower { IsFollower self.old }
-        requires at { IsEnded (place task.now.agent) }
+        requires at { HasEndedAt (place task.now.agent) }
         requires mine { task_of (event_view event.now) ≡ Some task.now.number }
         ensures allowed { result ≡ true → LeadsBehind (valid_code self.old.code.now) (event_view event.now) (has self.old) task.now.number (agent_of task.now) (has self.new) }
         ensures refused { result ≡ false → RefusesBehind (valid_code self.old.code.now) (event_view event.now) (has self.old) task.now.number (agent_of task.now) }

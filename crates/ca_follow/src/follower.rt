@@ -3,12 +3,12 @@ ghost use Rattle.std.specs.Prelude.{◌≡◌, ◌≤◌, [], IfOk, OnOk, Some};
 ghost use Rattle.ca_term.specs.Program.{ProgramView};
 ghost use Rattle.ca_meaning.specs.State.{Opening, State};
 ghost use Rattle.ca_states.specs.ValidCode.{valid_code};
-ghost use Rattle.ca_commit.specs.Listings.{parts, spare};
+ghost use Rattle.ca_commit.specs.Listings.{parts, spare_parts};
 ghost use Rattle.ca_commit.specs.NewPort.{times_in};
 ghost use Rattle.ca_commit.specs.Showing.{channels_held, registries_held, waits_held};
 ghost use Rattle.ca_commit.specs.Waking.{ready_in};
 ghost use Rattle.ca_follow.specs.Has.{AreEmpty};
-ghost use Rattle.ca_follow.specs.Follower.{IsFollower, IsMadeFor, Stands, has};
+ghost use Rattle.ca_follow.specs.Follower.{IsFollower, IsMadeFor, FollowerStands, has};
 
 use crate::tasks::Tasks;
 use ca_bank::bank::Bank;
@@ -42,7 +42,7 @@ impl<'c> Follower<'c> {
     pub(crate) fn opening(alloc: Global, code: &'c ValidCode) -> Result<Follower<'c>, OutOfMemory>
         ensures follower { IfOk result (λ f. IsFollower f) }
         ensures code { IfOk result (λ f. f.code.now ≡ code.now) }
-        ensures opens { IfOk result (λ f. (program : ProgramView) → IsMadeFor program (valid_code code.now) → (s : State) × Opening program s × Stands program (has f) s) }
+        ensures opens { IfOk result (λ f. (program : ProgramView) → IsMadeFor program (valid_code code.now) → (s : State) × Opening program s × FollowerStands program (has f) s) }
     {
         let mut tasks = Tasks::new(alloc);
         tasks.put(Task {
@@ -79,7 +79,7 @@ fn all_parts(alloc: Global) -> Result<Held<AnyTask>, OutOfMemory>
 // The sixteen banks, with nothing in them. There is room for them.
 fn push_banks(alloc: Global, banks: &mut Banks) -> Result<(), OutOfMemory>
     requires none { parts banks.old ≡ [] }
-    requires room { 16 ≤ spare banks.old }
+    requires room { 16 ≤ spare_parts banks.old }
     ensures channels { OnOk result (AreEmpty (channels_held banks.new)) }
     ensures registries { OnOk result (AreEmpty (registries_held banks.new)) }
 {
@@ -93,7 +93,7 @@ fn push_banks(alloc: Global, banks: &mut Banks) -> Result<(), OutOfMemory>
 // The sixteen shards, with nobody in them. There is room for them.
 fn push_shards(alloc: Global, shards: &mut Shards<AnyTask>) -> Result<(), OutOfMemory>
     requires none { parts shards.old ≡ [] }
-    requires room { 16 ≤ spare shards.old }
+    requires room { 16 ≤ spare_parts shards.old }
     ensures { OnOk result (AreEmpty (waits_held shards.new)) }
 {
     for number in 0..BANKS {

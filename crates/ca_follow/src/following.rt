@@ -8,7 +8,7 @@ ghost use Rattle.ca_lower.specs.Lowered.{Lowered};
 ghost use Rattle.ca_journal.specs.Events.{events};
 ghost use Rattle.ca_journal.specs.Note.{note_view};
 ghost use Rattle.ca_follow.specs.Followed.{IsFollowed};
-ghost use Rattle.ca_follow.specs.Follower.{IsFollower, IsMadeFor, Leads, Refuses, Stands, has};
+ghost use Rattle.ca_follow.specs.Follower.{IsFollower, IsMadeFor, Leads, Refuses, FollowerStands, has};
 
 use crate::follower::Follower;
 use ca_journal::journal::Journal;
@@ -59,7 +59,7 @@ pub fn follow(alloc: Global, code: &ValidCode, journal: &Journal) -> Result<Foll
 // Makes the note's event, where the meaning allows it.
 fn goes_on(alloc: Global, note: &Note, follower: &mut Follower<'_>) -> Result<bool, OutOfMemory>
     requires follower { IsFollower follower.old }
-    requires stands { (program : ProgramView) × (s : State) × IsMadeFor program (valid_code follower.old.code.now) × Stands program (has follower.old) s }
+    requires stands { (program : ProgramView) × (s : State) × IsMadeFor program (valid_code follower.old.code.now) × FollowerStands program (has follower.old) s }
     ensures leads { IfOk result (λ b. b ≡ true → Leads (valid_code follower.old.code.now) (note_view note.now) (has follower.old) (has follower.new)) }
     ensures refused { IfOk result (λ b. b ≡ false → Refuses (valid_code follower.old.code.now) (note_view note.now) (has follower.old)) }
     ensures follower { IfOk result (λ b. b ≡ true → IsFollower follower.new) }

@@ -16,11 +16,11 @@ ghost use Rattle.ca_commit.specs.Listing.{changed_at};
 ghost use Rattle.ca_commit.specs.Showing.{channels_held};
 ghost use Rattle.ca_commit.specs.Tasks.{agent_of, task_view, tasks_in};
 ghost use Rattle.ca_commit.specs.Waking.{ready_in};
-ghost use Rattle.ca_tasks.specs.Tasks.{over, place};
+ghost use Rattle.ca_tasks.specs.Tasks.{task_over_code, place};
 ghost use Rattle.ca_follow.specs.Applies.{knows_all, knows_own, used_by, with_all, with_own};
-ghost use Rattle.ca_follow.specs.Events.{AreNew, Numbers, start_of, task_of};
-ghost use Rattle.ca_follow.specs.Has.{parts};
-ghost use Rattle.ca_follow.specs.Follower.{AppliedFor, IsBehind, IsDecided, IsFollower, IsMadeFor, IsPlanOf, IsSpawned, KeepsBehind, Knows, LeadsBehind, RefusesBehind, Stands, has, known_in, running_in};
+ghost use Rattle.ca_follow.specs.Events.{AreNew, Numbers, event_start, task_of};
+ghost use Rattle.ca_follow.specs.Has.{parts_had};
+ghost use Rattle.ca_follow.specs.Follower.{AppliedFor, IsBehind, IsDecided, IsFollower, IsMadeFor, IsPlanOf, IsSpawnedTask, KeepsBehind, KnowsTask, LeadsBehind, RefusesBehind, FollowerStands, has, is_known_task, running_in};
 
 use crate::follower::Follower;
 use crate::reading::{agrees, give_numbers, start_of};
@@ -52,7 +52,7 @@ impl Follower<'_> {
     ) -> Result<bool, OutOfMemory>
         requires follower { IsFollower self.old }
         requires at { is_at_op (place task.agent) ≡ true }
-        requires over { over (valid_code self.old.code.now) task.agent }
+        requires over { task_over_code (valid_code self.old.code.now) task.agent }
         requires mine { task_of (event_view event.now) ≡ Some task.number }
         requires behind { (program : ProgramView) × (s : State) × IsMadeFor program (valid_code self.old.code.now) × IsBehind program (has self.old) task.number (agent_of task) s }
         ensures allowed { IfOk result (λ b. b ≡ true → LeadsBehind (valid_code self.old.code.now) (event_view event.now) (has self.old) task.number (agent_of task) (has self.new)) }
@@ -109,10 +109,10 @@ impl Follower<'_> {
     // The stale handler leaves its queue, which is no event.
     pub(crate) fn prune(&mut self, port: PortId, side: Side, place: u64)
         requires follower { IsFollower self.old }
-        requires stale { IsStale (parts (has self.old)) port.n side place }
+        requires stale { IsStale (parts_had (has self.old)) port.n side place }
         ensures follower { IsFollower self.new }
         ensures keeps { (t : ℕ) (a : TaskAgent AnyTask) → KeepsBehind (has self.old) (has self.new) t a }
-        ensures stands { (program : ProgramView) (s : State) → Stands program (has self.old) s → Stands program (has self.new) s }
+        ensures stands { (program : ProgramView) (s : State) → FollowerStands program (has self.old) s → FollowerStands program (has self.new) s }
         ensures channels { (i : ℕ) → channels_held self.new.held.banks i ≡ changed_at port.n (option_map (pruned side place)) (channels_held self.old.held.banks) i }
         ensures code { self.new.code ≡ self.old.code }
         ensures tasks { self.new.tasks ≡ self.old.tasks }
@@ -130,8 +130,8 @@ impl Follower<'_> {
         event: &Event,
     ) -> Result<bool, OutOfMemory>
         requires follower { IsFollower self.old }
-        requires over { over (valid_code self.old.code.now) task.agent }
-        requires plan { IsPlanOf (has self.old) (agent_of task) (start_of (event_view event.now)) (plan_view plan) }
+        requires over { task_over_code (valid_code self.old.code.now) task.agent }
+        requires plan { IsPlanOf (has self.old) (agent_of task) (event_start (event_view event.now)) (plan_view plan) }
         requires event { IsEvent (plan_view plan) }
         requires copies { HasCopies plan }
         requires mine { task_of (event_view event.now) ≡ Some task.number }
@@ -168,13 +168,13 @@ impl Follower<'_> {
         plan: Plan,
     ) -> Result<Event, OutOfMemory>
         requires follower { IsFollower self.old }
-        requires over { over (valid_code self.old.code.now) task.agent }
+        requires over { task_over_code (valid_code self.old.code.now) task.agent }
         requires plan { (start : ℕ) × IsPlanOf (has self.old) (agent_of task) start (plan_view plan) }
         requires event { IsEvent (plan_view plan) }
         requires copies { HasCopies plan }
         requires new { AreNew (has self.old) (plan_view plan) self.old.held.new_task self.old.held.new_port self.old.held.new_wait self.old.held.moment }
         requires apart { KeepsApart (plan_view plan) }
-        requires known { Knows (has self.old) task.number }
+        requires known { KnowsTask (has self.old) task.number }
         ensures event { let h = has self.old in IfOk result (λ e. event_view e ≡ event_of h.bank h.registry task.number self.old.held.new_task self.old.held.new_port self.old.held.new_wait self.old.held.moment (plan_view plan)) }
         ensures applies { OnOk result (AppliedFor (valid_code self.old.code.now) (plan_view plan) task.number self.old.held (agent_of task) (has self.old) (has self.new)) }
         ensures follower { OnOk result (IsFollower self.new) }
@@ -208,17 +208,17 @@ impl Follower<'_> {
         spawned: Option<Task<AnyTask>>,
     ) -> Result<Event, OutOfMemory>
         requires follower { IsFollower self.old }
-        requires over { over (valid_code self.old.code.now) task.agent }
+        requires over { task_over_code (valid_code self.old.code.now) task.agent }
         requires none { task.alts ≡ 0 }
         requires plan { (start : ℕ) × IsPlanOf (has self.old) (agent_of task) start (plan_view plan) }
         requires event { IsEvent (plan_view plan) }
         requires copies { HasCopies plan }
         requires new { AreNew (has self.old) (plan_view plan) self.old.held.new_task self.old.held.new_port self.old.held.new_wait self.old.held.moment }
         requires apart { KeepsApart (plan_view plan) }
-        requires known { Knows (has self.old) task.number }
+        requires known { KnowsTask (has self.old) task.number }
         requires made { IsMade place self.old.held plan }
         requires spawned { HasSpawned spawned (plan_view plan) }
-        requires starts { IfSome spawned (λ t. IsSpawned (valid_code self.old.code.now) (agent_of task) self.old.held.new_task t) }
+        requires starts { IfSome spawned (λ t. IsSpawnedTask (valid_code self.old.code.now) (agent_of task) self.old.held.new_task t) }
         ensures event { let h = has self.old in IfOk result (λ e. event_view e ≡ event_of h.bank h.registry task.number self.old.held.new_task self.old.held.new_port self.old.held.new_wait self.old.held.moment (plan_view plan)) }
         ensures applies { OnOk result (AppliedFor (valid_code self.old.code.now) (plan_view plan) task.number self.old.held (agent_of task) (has self.old) (has self.new)) }
         ensures follower { OnOk result (IsFollower self.new) }
@@ -238,10 +238,10 @@ impl Follower<'_> {
         plan: &Plan,
     ) -> Result<Option<Task<AnyTask>>, OutOfMemory>
         requires at { is_at_op (place task.now.agent) ≡ true }
-        requires over { over (valid_code self.now.code.now) task.now.agent }
+        requires over { task_over_code (valid_code self.now.code.now) task.now.agent }
         requires plan { (start : ℕ) × IsPlanOf (has self.now) (agent_of task.now) start (plan_view plan.now) }
         ensures there { IfOk result (λ o. HasSpawned o (plan_view plan.now)) }
-        ensures starts { IfOk result (λ o. IfSome o (λ t. IsSpawned (valid_code self.now.code.now) (agent_of task.now) self.now.held.new_task t)) }
+        ensures starts { IfOk result (λ o. IfSome o (λ t. IsSpawnedTask (valid_code self.now.code.now) (agent_of task.now) self.now.held.new_task t)) }
     {
         let (Plan::Spawn(_, _), Op::Spawn(seed)) = (plan, &task.agent.want().op) else {
             return Ok(None);
@@ -261,7 +261,7 @@ impl Follower<'_> {
     pub(crate) fn take_ready(&mut self) -> Result<(), OutOfMemory>
         ensures ready { OnOk result (IsSome self.old.held.ready → ready_in self.new.held.ready ≡ Some []) }
         ensures running { OnOk result ((q : List (ℕ × TaskAgent AnyTask)) → ready_in self.old.held.ready ≡ Some q → (t : ℕ) → running_in self.new.tasks t ≡ with_all q (running_in self.old.tasks) t) }
-        ensures known { OnOk result ((q : List (ℕ × TaskAgent AnyTask)) → ready_in self.old.held.ready ≡ Some q → (t : ℕ) → known_in self.new.tasks t ≡ knows_all q (known_in self.old.tasks) t) }
+        ensures known { OnOk result ((q : List (ℕ × TaskAgent AnyTask)) → ready_in self.old.held.ready ≡ Some q → (t : ℕ) → is_known_task self.new.tasks t ≡ knows_all q (is_known_task self.old.tasks) t) }
         ensures banks { self.new.held.banks ≡ self.old.held.banks }
         ensures shards { self.new.held.shards ≡ self.old.held.shards }
         ensures timers { self.new.held.timers ≡ self.old.held.timers }
@@ -290,7 +290,7 @@ fn take_running(
 ) -> Result<(), OutOfMemory>
     ensures ready { OnOk result (IsSome ready.old → ready_in ready.new ≡ Some []) }
     ensures running { OnOk result ((q : List (ℕ × TaskAgent AnyTask)) → ready_in ready.old ≡ Some q → (t : ℕ) → running_in tasks.new t ≡ with_all q (with_own (option_map task_view running) (running_in tasks.old)) t) }
-    ensures known { OnOk result ((q : List (ℕ × TaskAgent AnyTask)) → ready_in ready.old ≡ Some q → (t : ℕ) → known_in tasks.new t ≡ knows_all q (knows_own (option_map task_view running) (known_in tasks.old)) t) }
+    ensures known { OnOk result ((q : List (ℕ × TaskAgent AnyTask)) → ready_in ready.old ≡ Some q → (t : ℕ) → is_known_task tasks.new t ≡ knows_all q (knows_own (option_map task_view running) (is_known_task tasks.old)) t) }
 {
     match running {
         Some(task) => {
@@ -305,7 +305,7 @@ fn take_running(
 fn take_all(tasks: &mut Tasks, ready: &mut Option<Ready<AnyTask>>) -> Result<(), OutOfMemory>
     ensures ready { OnOk result (IsSome ready.old → ready_in ready.new ≡ Some []) }
     ensures running { OnOk result ((q : List (ℕ × TaskAgent AnyTask)) → ready_in ready.old ≡ Some q → (t : ℕ) → running_in tasks.new t ≡ with_all q (running_in tasks.old) t) }
-    ensures known { OnOk result ((q : List (ℕ × TaskAgent AnyTask)) → ready_in ready.old ≡ Some q → (t : ℕ) → known_in tasks.new t ≡ knows_all q (known_in tasks.old) t) }
+    ensures known { OnOk result ((q : List (ℕ × TaskAgent AnyTask)) → ready_in ready.old ≡ Some q → (t : ℕ) → is_known_task tasks.new t ≡ knows_all q (is_known_task tasks.old) t) }
 {
     if let Some(ready) = ready {
         put_all(tasks, ready)?;
@@ -317,7 +317,7 @@ fn take_all(tasks: &mut Tasks, ready: &mut Option<Ready<AnyTask>>) -> Result<(),
 fn put_all(tasks: &mut Tasks, ready: &mut Ready<AnyTask>) -> Result<(), OutOfMemory>
     ensures ready { OnOk result (tasks_in ready.new ≡ []) }
     ensures running { OnOk result ((t : ℕ) → running_in tasks.new t ≡ with_all (tasks_in ready.old) (running_in tasks.old) t) }
-    ensures known { OnOk result ((t : ℕ) → known_in tasks.new t ≡ knows_all (tasks_in ready.old) (known_in tasks.old) t) }
+    ensures known { OnOk result ((t : ℕ) → is_known_task tasks.new t ≡ knows_all (tasks_in ready.old) (is_known_task tasks.old) t) }
 {
     while let Some(task) = ready.pop() {
         tasks.put(task)?;

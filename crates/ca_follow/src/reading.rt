@@ -5,7 +5,7 @@ ghost use Rattle.ca_term.specs.Operation.{what_view};
 ghost use Rattle.ca_commit.specs.Contents.{whole};
 ghost use Rattle.ca_commit.specs.Plans.{plan_view};
 ghost use Rattle.ca_commit.specs.Showing.{channels_held, registries_held};
-ghost use Rattle.ca_follow.specs.Events.{AreNew, IsReading, Numbers, start_of, task_of};
+ghost use Rattle.ca_follow.specs.Events.{AreNew, IsReading, Numbers, event_start, task_of};
 ghost use Rattle.ca_follow.specs.Follower.{has};
 
 use crate::follower::Follower;
@@ -38,7 +38,7 @@ pub(crate) fn task_of(event: &Event) -> Option<u64>
 
 /// The number of the branch that is to be looked at first.
 pub(crate) fn start_of(event: &Event) -> u64
-    ensures { result ≡ start_of (event_view event.now) }
+    ensures { result ≡ event_start (event_view event.now) }
 {
     match event {
         Event::Done { branch, .. } | Event::Meet { branch, .. } => *branch,

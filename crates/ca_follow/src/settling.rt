@@ -7,7 +7,7 @@ ghost use Rattle.ca_meaning.specs.TaskSteps.{moments};
 ghost use Rattle.ca_states.specs.ValidCode.{valid_code};
 ghost use Rattle.ca_commit.specs.Showing.{channels_held};
 ghost use Rattle.ca_follow.specs.Events.{IsNotBefore};
-ghost use Rattle.ca_follow.specs.Follower.{IsDecidedNext, IsFollower, IsMadeFor, IsPrune, IsSettleOf, IsTickOf, Leads, Refuses, SettledBy, Stands, has};
+ghost use Rattle.ca_follow.specs.Follower.{IsDecidedNext, IsFollower, IsMadeFor, IsPrune, IsSettleOf, IsTickOf, Leads, Refuses, SettledBy, FollowerStands, has};
 
 use crate::follower::Follower;
 use crate::reading::agrees;
@@ -31,7 +31,7 @@ impl Follower<'_> {
     ) -> Result<bool, OutOfMemory>
         requires event { IsSettleOf port.n (event_view event.now) }
         requires follower { IsFollower self.old }
-        requires stands { (program : ProgramView) × (s : State) × IsMadeFor program (valid_code self.old.code.now) × Stands program (has self.old) s }
+        requires stands { (program : ProgramView) × (s : State) × IsMadeFor program (valid_code self.old.code.now) × FollowerStands program (has self.old) s }
         ensures allowed { IfOk result (λ b. b ≡ true → Leads (valid_code self.old.code.now) (event_view event.now) (has self.old) (has self.new)) }
         ensures refused { IfOk result (λ b. b ≡ false → Refuses (valid_code self.old.code.now) (event_view event.now) (has self.old)) }
         ensures follower { IfOk result (λ b. b ≡ true → IsFollower self.new) }
@@ -81,7 +81,7 @@ impl Follower<'_> {
     ) -> Result<bool, OutOfMemory>
         requires event { IsTickOf moment (event_view event.now) }
         requires follower { IsFollower self.old }
-        requires stands { (program : ProgramView) × (s : State) × IsMadeFor program (valid_code self.old.code.now) × Stands program (has self.old) s }
+        requires stands { (program : ProgramView) × (s : State) × IsMadeFor program (valid_code self.old.code.now) × FollowerStands program (has self.old) s }
         ensures allowed { IfOk result (λ b. b ≡ true → Leads (valid_code self.old.code.now) (event_view event.now) (has self.old) (has self.new)) }
         ensures refused { IfOk result (λ b. b ≡ false → Refuses (valid_code self.old.code.now) (event_view event.now) (has self.old)) }
         ensures follower { IfOk result (λ b. b ≡ true → IsFollower self.new) }

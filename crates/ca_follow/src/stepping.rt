@@ -5,7 +5,7 @@ ghost use Rattle.ca_term.specs.Program.{ProgramView};
 ghost use Rattle.ca_meaning.specs.State.{State};
 ghost use Rattle.ca_states.specs.ValidCode.{valid_code};
 ghost use Rattle.ca_follow.specs.Events.{task_of};
-ghost use Rattle.ca_follow.specs.Follower.{IsFollower, IsMadeFor, Leads, Refuses, Stands, has};
+ghost use Rattle.ca_follow.specs.Follower.{IsFollower, IsMadeFor, Leads, Refuses, FollowerStands, has};
 
 use crate::follower::Follower;
 use crate::reading::task_of;
@@ -18,7 +18,7 @@ impl Follower<'_> {
     /// Makes the event where the run allows it, and tells whether it did.
     pub(crate) fn step(&mut self, alloc: Global, event: &Event) -> Result<bool, OutOfMemory>
         requires follower { IsFollower self.old }
-        requires stands { (program : ProgramView) × (s : State) × IsMadeFor program (valid_code self.old.code.now) × Stands program (has self.old) s }
+        requires stands { (program : ProgramView) × (s : State) × IsMadeFor program (valid_code self.old.code.now) × FollowerStands program (has self.old) s }
         ensures allowed { IfOk result (λ b. b ≡ true → Leads (valid_code self.old.code.now) (event_view event.now) (has self.old) (has self.new)) }
         ensures refused { IfOk result (λ b. b ≡ false → Refuses (valid_code self.old.code.now) (event_view event.now) (has self.old)) }
         ensures follower { IfOk result (λ b. b ≡ true → IsFollower self.new) }
@@ -38,7 +38,7 @@ impl Follower<'_> {
     fn go_on(&mut self, alloc: Global, number: u64, event: &Event) -> Result<bool, OutOfMemory>
         requires event { task_of (event_view event.now) ≡ Some number }
         requires follower { IsFollower self.old }
-        requires stands { (program : ProgramView) × (s : State) × IsMadeFor program (valid_code self.old.code.now) × Stands program (has self.old) s }
+        requires stands { (program : ProgramView) × (s : State) × IsMadeFor program (valid_code self.old.code.now) × FollowerStands program (has self.old) s }
         ensures allowed { IfOk result (λ b. b ≡ true → Leads (valid_code self.old.code.now) (event_view event.now) (has self.old) (has self.new)) }
         ensures refused { IfOk result (λ b. b ≡ false → Refuses (valid_code self.old.code.now) (event_view event.now) (has self.old)) }
         ensures follower { IfOk result (λ b. b ≡ true → IsFollower self.new) }

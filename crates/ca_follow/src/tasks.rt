@@ -3,7 +3,7 @@ ghost use Rattle.std.specs.Prelude.{◌≡◌, ℕ, IfOk, IfSome, None, OnOk, So
 ghost use Rattle.std.specs.Map.{update};
 ghost use Rattle.ca_commit.specs.Tasks.{agent_of};
 ghost use Rattle.ca_follow.specs.Applies.{and_number};
-ghost use Rattle.ca_follow.specs.Follower.{known_in, running_in};
+ghost use Rattle.ca_follow.specs.Follower.{is_known_task, running_in};
 
 use ca_commit::task::Task;
 use ca_tasks::task::AnyTask;
@@ -21,7 +21,7 @@ impl Tasks {
     /// No task yet. It takes no memory.
     pub(crate) fn new(alloc: Global) -> Tasks
         ensures running { (t : ℕ) → running_in result t ≡ None }
-        ensures known { (t : ℕ) → known_in result t ≡ false }
+        ensures known { (t : ℕ) → is_known_task result t ≡ false }
     {
         Tasks {
             entries: IndexMap::new(alloc),
@@ -30,7 +30,7 @@ impl Tasks {
 
     /// Whether a task has that number.
     pub(crate) fn has(&self, number: u64) -> bool
-        ensures { result ≡ known_in self.now number }
+        ensures { result ≡ is_known_task self.now number }
     {
         self.entries.contains_key(&number)
     }
@@ -40,7 +40,7 @@ impl Tasks {
         ensures task { IfOk result (λ o. option_map agent_of o ≡ running_in self.old number) }
         ensures number { IfOk result (λ o. IfSome o (λ t. t.number ≡ number)) }
         ensures running { OnOk result ((t : ℕ) → running_in self.new t ≡ update eqb (running_in self.old) number None t) }
-        ensures known { OnOk result ((t : ℕ) → known_in self.new t ≡ known_in self.old t) }
+        ensures known { OnOk result ((t : ℕ) → is_known_task self.new t ≡ is_known_task self.old t) }
     {
         if !self.has(number) {
             return Ok(None);
@@ -54,7 +54,7 @@ impl Tasks {
     /// The task can go on, under its number.
     pub(crate) fn put(&mut self, task: Task<AnyTask>) -> Result<(), OutOfMemory>
         ensures running { OnOk result ((t : ℕ) → running_in self.new t ≡ update eqb (running_in self.old) task.number (Some (agent_of task)) t) }
-        ensures known { OnOk result ((t : ℕ) → known_in self.new t ≡ and_number (known_in self.old) task.number t) }
+        ensures known { OnOk result ((t : ℕ) → is_known_task self.new t ≡ and_number (is_known_task self.old) task.number t) }
     {
         self.entries.insert(task.number, Some(task))?;
         Ok(())

@@ -6,9 +6,9 @@ use Rattle.ca_term.specs.declared.head.MakeKind.{MakeKind}
 use Rattle.ca_reader.specs.declared.form.Form.{Form}
 use Rattle.ca_reader.specs.View.{form_tree}
 use Rattle.ca_forms.specs.Channels.{option_of, both_options, options_in, is_sized}
-use Rattle.ca_forms.specs.WalkView.{pairs_of, parts_of}
+use Rattle.ca_forms.specs.WalkView.{form_pairs, form_parts}
 
-pub sized_is : (kind : MakeKind) (fs : List Form) → is_sized (Some kind) (pairs_of fs) ≡ nat_eq (length fs) 2
+pub sized_is : (kind : MakeKind) (fs : List Form) → is_sized (Some kind) (form_pairs fs) ≡ nat_eq (length fs) 2
 sized_is kind [] = refl
 sized_is kind (f ∷ []) = refl
 sized_is kind (f ∷ g ∷ []) = refl
@@ -17,7 +17,7 @@ sized_is kind (f ∷ g ∷ k ∷ fs) = sym (by (nat_eq (length (f ∷ g ∷ k �
   by false e = e
   by true e = absurd (omega (arith, eqb-true (length (f ∷ g ∷ k ∷ fs)) 2 e))
 
-pub options_off : (fs : List Form) → (length fs ≡ 2 → ⊥) → (length fs ≡ 4 → ⊥) → (length fs ≡ 6 → ⊥) → options_in (parts_of (drop 1 fs)) ≡ None
+pub options_off : (fs : List Form) → (length fs ≡ 2 → ⊥) → (length fs ≡ 4 → ⊥) → (length fs ≡ 6 → ⊥) → options_in (form_parts (drop 1 fs)) ≡ None
 options_off [] x y z = refl
 options_off (a ∷ []) x y z = refl
 options_off (a ∷ b ∷ []) x y z = absurd (x refl)
@@ -27,13 +27,13 @@ options_off (a ∷ b ∷ c ∷ d ∷ e ∷ []) x y z = refl
 options_off (a ∷ b ∷ c ∷ d ∷ e ∷ f ∷ []) x y z = absurd (z refl)
 options_off (a ∷ b ∷ c ∷ d ∷ e ∷ f ∷ g ∷ fs) x y z = refl
 
-pub options_one : (fs : List Form) → length fs ≡ 2 → options_in (parts_of (drop 1 fs)) ≡ Some AltsOptions.None
+pub options_one : (fs : List Form) → length fs ≡ 2 → options_in (form_parts (drop 1 fs)) ≡ Some AltsOptions.None
 options_one [] h = absurd (omega (arith, h))
 options_one (a ∷ []) h = absurd (omega (arith, h))
 options_one (a ∷ b ∷ []) h = refl
 options_one (a ∷ b ∷ c ∷ fs) h = absurd (omega (arith, h))
 
-pub options_two : (fs : List Form) (k : Form) → length fs ≡ 4 → k ≡ get_or fs 2 k → options_in (parts_of (drop 1 fs)) ≡ option_of (form_tree k)
+pub options_two : (fs : List Form) (k : Form) → length fs ≡ 4 → k ≡ get_or fs 2 k → options_in (form_parts (drop 1 fs)) ≡ option_of (form_tree k)
 options_two [] k h x = absurd (omega (arith, h))
 options_two (a ∷ []) k h x = absurd (omega (arith, h))
 options_two (a ∷ b ∷ []) k h x = absurd (omega (arith, h))
@@ -42,7 +42,7 @@ options_two (a ∷ b ∷ c ∷ d ∷ []) k h x = rw x refl
 options_two (a ∷ b ∷ c ∷ d ∷ e ∷ fs) k h x = absurd (omega (arith, h))
 
 pub options_three : (fs : List Form) (k l : Form) → length fs ≡ 6 → k ≡ get_or fs 2 k → l ≡ get_or fs 4 l
-    → options_in (parts_of (drop 1 fs)) ≡ both_options (option_of (form_tree k)) (option_of (form_tree l))
+    → options_in (form_parts (drop 1 fs)) ≡ both_options (option_of (form_tree k)) (option_of (form_tree l))
 options_three [] k l h x y = absurd (omega (arith, h))
 options_three (a ∷ []) k l h x y = absurd (omega (arith, h))
 options_three (a ∷ b ∷ []) k l h x y = absurd (omega (arith, h))

@@ -12,43 +12,43 @@ use Rattle.ca_reader.specs.View.{form_tree, form_trees, shape_tree}
 use Rattle.ca_forms.specs.declared.error.CheckErrorKind.{CheckErrorKind}
 use Rattle.ca_forms.specs.declared.error.CheckErrorKind.TheVariants.{BadForm, TooMany}
 use Rattle.ca_forms.specs.Binders.{Pair, Binder, Bound, one, many, is_reserved, name_in, names_in, with_name, binder, single, pattern, bounds, with_bound, Part, is_vector, bindings_in, letting}
-use Rattle.ca_forms.specs.Meaning.{Meaning, Env, fail, block}
+use Rattle.ca_forms.specs.Meaning.{Meaning, Env, fail_with, block}
 use Rattle.ca_forms.specs.Outcome.{Gathered, refused}
 use Rattle.ca_forms.specs.Plain.{meanings, row_let, let_of}
 use Rattle.ca_forms.specs.Walk.{walk}
 use Rattle.ca_forms.specs.Judged.{bounds_error, total_name, total_names, total_binder, total_bounds, let_parts}
-use Rattle.ca_forms.specs.WalkView.{pairs_of}
+use Rattle.ca_forms.specs.WalkView.{form_pairs}
 
 pub given : {A : Type 0} → (x y : A) → Some x ≡ Some y → x ≡ y
 given x y h = cc
 
 pub drop_pair : (fs : List Form) (i : ℕ) (f : Form) → i + 1 < length fs → f ≡ get_or fs i f
-    → pairs_of (drop i fs) ≡ record { form = form_tree f; means = walk (form_tree f) } ∷ record { form = form_tree (get_or fs (i + 1) f); means = walk (form_tree (get_or fs (i + 1) f)) } ∷ pairs_of (drop (i + 2) fs)
+    → form_pairs (drop i fs) ≡ record { form = form_tree f; means = walk (form_tree f) } ∷ record { form = form_tree (get_or fs (i + 1) f); means = walk (form_tree (get_or fs (i + 1) f)) } ∷ form_pairs (drop (i + 2) fs)
 drop_pair fs i f h x =
     let one : drop i fs ≡ f ∷ drop (suc i) fs = rw (drop-cons fs i f (omega (arith, h))) (ap (λ z. z ∷ drop (suc i) fs) (sym x)) in
     let two : drop (suc i) fs ≡ get_or fs (suc i) f ∷ drop (suc (suc i)) fs = drop-cons fs (suc i) f (omega (arith, h)) in
     let up : suc i ≡ i + 1 = omega arith in
     let upper : suc (suc i) ≡ i + 2 = omega arith in
-    ap pairs_of (one ∙ ap (λ z. f ∷ z) (two ∙ ap (λ n. get_or fs n f ∷ drop (suc (suc i)) fs) up ∙ ap (λ n. get_or fs (i + 1) f ∷ drop n fs) upper))
+    ap form_pairs (one ∙ ap (λ z. f ∷ z) (two ∙ ap (λ n. get_or fs n f ∷ drop (suc (suc i)) fs) up ∙ ap (λ n. get_or fs (i + 1) f ∷ drop n fs) upper))
 
 pub bounds_good : (fs : List Form) (i : ℕ) (f : Form) → i + 1 < length fs → f ≡ get_or fs i f → is_some (binder (form_tree f)) ≡ true
-    → is_some (bounds (pairs_of (drop i fs))) ≡ is_some (bounds (pairs_of (drop (i + 2) fs)))
-bounds_good fs i f h x t = rw (drop_pair fs i f h x) (by (binder (form_tree f)) (bounds (pairs_of (drop (i + 2) fs))) t) where
+    → is_some (bounds (form_pairs (drop i fs))) ≡ is_some (bounds (form_pairs (drop (i + 2) fs)))
+bounds_good fs i f h x t = rw (drop_pair fs i f h x) (by (binder (form_tree f)) (bounds (form_pairs (drop (i + 2) fs))) t) where
   by : (b : Option Binder) (o : Option (List Bound)) → is_some b ≡ true → is_some (with_bound b (walk (form_tree (get_or fs (i + 1) f))) o) ≡ is_some o
   by None o t = cc
   by (Some b) None t = refl
   by (Some b) (Some bs) t = refl
 
 pub bounds_bad : (fs : List Form) (i : ℕ) (f : Form) → i + 1 < length fs → f ≡ get_or fs i f → is_some (binder (form_tree f)) ≡ false
-    → is_some (bounds (pairs_of (drop i fs))) ≡ false
-bounds_bad fs i f h x t = rw (drop_pair fs i f h x) (by (binder (form_tree f)) (bounds (pairs_of (drop (i + 2) fs))) t) where
+    → is_some (bounds (form_pairs (drop i fs))) ≡ false
+bounds_bad fs i f h x t = rw (drop_pair fs i f h x) (by (binder (form_tree f)) (bounds (form_pairs (drop (i + 2) fs))) t) where
   by : (b : Option Binder) (o : Option (List Bound)) → is_some b ≡ false → is_some (with_bound b (walk (form_tree (get_or fs (i + 1) f))) o) ≡ false
   by None o t = refl
   by (Some b) o t = cc
 
-pub bounds_end : (fs : List Form) (i : ℕ) → length fs ≤ i + 1 → i ≤ length fs → nat_eq i (length fs) ≡ is_some (bounds (pairs_of (drop i fs)))
+pub bounds_end : (fs : List Form) (i : ℕ) → length fs ≤ i + 1 → i ≤ length fs → nat_eq i (length fs) ≡ is_some (bounds (form_pairs (drop i fs)))
 bounds_end fs i h g = by (drop i fs) (length-drop i fs) where
-  by : (gs : List Form) → length gs ≡ length fs - i → nat_eq i (length fs) ≡ is_some (bounds (pairs_of gs))
+  by : (gs : List Form) → length gs ≡ length fs - i → nat_eq i (length fs) ≡ is_some (bounds (form_pairs gs))
   by [] e = eq-eqb i (length fs) (omega (arith, e, g))
   by (k ∷ []) e = neq-eqb (nat_eq i (length fs)) refl where
     differs : i ≡ length fs → ⊥
@@ -69,18 +69,18 @@ bounds_length (q ∷ r ∷ qs) bs h = by (binder q.form) (bounds qs) (λ cs e. b
   by (Some b) None ih h = cc
   by (Some b) (Some cs) ih h = subst (λ z. 2 * length z ≡ suc (suc (length qs))) (given (record { by = b; means = r.means } ∷ cs) bs h) (omega (arith, ih cs refl))
 
-pub pairs_length : (fs : List Form) → length (pairs_of fs) ≡ length fs
+pub pairs_length : (fs : List Form) → length (form_pairs fs) ≡ length fs
 pairs_length [] = refl
 pairs_length (f ∷ fs) = ap suc (pairs_length fs)
 
-pub items_bad : (fs : List Form) → is_some (bounds (pairs_of fs)) ≡ false → bounds_error (bounds (pairs_of fs)) ≡ Some BadForm
-items_bad fs h = by (bounds (pairs_of fs)) h where
+pub items_bad : (fs : List Form) → is_some (bounds (form_pairs fs)) ≡ false → bounds_error (bounds (form_pairs fs)) ≡ Some BadForm
+items_bad fs h = by (bounds (form_pairs fs)) h where
   by : (o : Option (List Bound)) → is_some o ≡ false → bounds_error o ≡ Some BadForm
   by None h = refl
   by (Some bs) h = cc
 
-pub items_good : (fs : List Form) → is_some (bounds (pairs_of fs)) ≡ true → bounds_error (bounds (pairs_of fs)) ≡ cond (nat_lt 64 (length fs / 2)) (Some TooMany) None
-items_good fs h = by (bounds (pairs_of fs)) (λ bs e. bounds_length (pairs_of fs) bs e ∙ pairs_length fs) h where
+pub items_good : (fs : List Form) → is_some (bounds (form_pairs fs)) ≡ true → bounds_error (bounds (form_pairs fs)) ≡ cond (nat_lt 64 (length fs / 2)) (Some TooMany) None
+items_good fs h = by (bounds (form_pairs fs)) (λ bs e. bounds_length (form_pairs fs) bs e ∙ pairs_length fs) h where
   by : (o : Option (List Bound)) → ((bs : List Bound) → o ≡ Some bs → 2 * length bs ≡ length fs) → is_some o ≡ true → bounds_error o ≡ cond (nat_lt 64 (length fs / 2)) (Some TooMany) None
   by None f h = cc
   by (Some bs) f h = ap (λ n. cond (nat_lt 64 n) (Some TooMany) None) (half (f bs refl)) where
@@ -155,17 +155,17 @@ names_step fs i f h x t = rw (add-one, drop-cons fs i f h, ← x) (by (name_in (
   by (Some a) None t = refl
   by (Some a) (Some r) t = refl
 
-pub items_many : (fs : List Form) → is_some (bounds (pairs_of fs)) ≡ true → 64 < length fs / 2 → bounds_error (bounds (pairs_of fs)) ≡ Some TooMany
+pub items_many : (fs : List Form) → is_some (bounds (form_pairs fs)) ≡ true → 64 < length fs / 2 → bounds_error (bounds (form_pairs fs)) ≡ Some TooMany
 items_many fs t h = items_good fs t ∙ ap (λ b. cond b (Some TooMany) None) (lt-ltb 64 (length fs / 2) h)
 
-pub items_few : (fs : List Form) → is_some (bounds (pairs_of fs)) ≡ true → length fs / 2 ≤ 64 → bounds_error (bounds (pairs_of fs)) ≡ None
+pub items_few : (fs : List Form) → is_some (bounds (form_pairs fs)) ≡ true → length fs / 2 ≤ 64 → bounds_error (bounds (form_pairs fs)) ≡ None
 items_few fs t h = items_good fs t ∙ ap (λ b. cond b (Some TooMany) None) (le-ltb 64 (length fs / 2) h)
 
 -- a `let` by what its bindings are judged to be
 pub row_let_right : (p : Place) (b : Part) (es : List Part) (e : Env) → bounds_error (bindings_in b) ≡ None → row_let p (b ∷ es) e ≡ let_parts p (b ∷ es) e
 row_let_right p b es e h = by (is_vector b.form) (bounds b.within) (bounds_are b.within) h where
   tested : (c : Bool) (bs : List Bound) → bs ≡ total_bounds b.within → cond c (Some TooMany) None ≡ None
-      → cond c (fail TooMany p) (letting bs (block (meanings es)) p) e ≡ let_parts p (b ∷ es) e
+      → cond c (fail_with TooMany p) (letting bs (block (meanings es)) p) e ≡ let_parts p (b ∷ es) e
   tested true bs u h = absurd (cc)
   tested false bs u h = ap (λ z. letting z (block (meanings es)) p e) u
 
@@ -177,7 +177,7 @@ row_let_right p b es e h = by (is_vector b.form) (bounds b.within) (bounds_are b
 
 pub row_let_wrong : (p : Place) (b : Part) (es : List Part) (e : Env) (s : Gathered) (k : CheckErrorKind) → bounds_error (bindings_in b) ≡ Some k → row_let p (b ∷ es) e s ≡ refused k p
 row_let_wrong p b es e s k h = by (bindings_in b) h where
-  tested : (c : Bool) (m : Meaning) → cond c (Some TooMany) None ≡ Some k → cond c (fail TooMany p) m e s ≡ refused k p
+  tested : (c : Bool) (m : Meaning) → cond c (Some TooMany) None ≡ Some k → cond c (fail_with TooMany p) m e s ≡ refused k p
   tested true m h = ap (λ z. refused z p) (given TooMany k h)
   tested false m h = absurd (cc)
 

@@ -10,18 +10,18 @@ use Rattle.ca_value.specs.declared.seq.Seq.{Seq}
 use Rattle.ca_value.specs.Seq.{list}
 use Rattle.std.specs.declared.boxed.Box.{Box}
 use Rattle.ca_term.specs.Kernel.{Kernel, Kernels, Bindings, none, item, empty, binding, bind, loop, var}
-use Rattle.ca_term.specs.View.{kernel, kernels, bindings, named, founds}
-use Rattle.ca_forms.specs.Depth.{depth_of, depth_of_items, depth_of_bindings}
-use Rattle.ca_forms.specs.Meaning.{joined, numbered}
+use Rattle.ca_term.specs.View.{kernel, kernels, bindings, binding_view, founds}
+use Rattle.ca_forms.specs.Depth.{kernel_depth, kernels_depth, depth_of_bindings}
+use Rattle.ca_forms.specs.Meaning.{bindings_joined, numbered}
 use Rattle.ca_forms.specs.WalkView.{terms_of}
 
-pub joined_end : (bs : Bindings) → joined bs empty ≡ bs
+pub joined_end : (bs : Bindings) → bindings_joined bs empty ≡ bs
 joined_end empty = refl
 joined_end (binding n t bs) = ap (binding n t) (joined_end bs)
 
-pub bindings_more : (bs : List Binding) (b : Binding) (cs : Bindings) → joined (bindings (bs ++ b ∷ [])) cs ≡ joined (bindings bs) (binding (named b).0 (named b).1 cs)
+pub bindings_more : (bs : List Binding) (b : Binding) (cs : Bindings) → bindings_joined (bindings (bs ++ b ∷ [])) cs ≡ bindings_joined (bindings bs) (binding (binding_view b).0 (binding_view b).1 cs)
 bindings_more [] b cs = refl
-bindings_more (c ∷ bs) b cs = ap (binding (named c).0 (named c).1) (bindings_more bs b cs)
+bindings_more (c ∷ bs) b cs = ap (binding (binding_view c).0 (binding_view c).1) (bindings_more bs b cs)
 
 -- terms, and then others
 abbrev pub followed : Kernels → Kernels → Kernels
@@ -38,25 +38,25 @@ kernels_more (u ∷ ts) t us = ap (item (kernel u)) (kernels_more ts t us)
 
 -- one more of the numbered terms
 pub numbered_more : (n : ℕ) (ts : List Term) (t : Term) (cs : Bindings)
-    → joined (numbered n (terms_of (ts ++ t ∷ []))) cs ≡ joined (numbered n (terms_of ts)) (binding (n + length ts) (kernel t) cs)
+    → bindings_joined (numbered n (terms_of (ts ++ t ∷ []))) cs ≡ bindings_joined (numbered n (terms_of ts)) (binding (n + length ts) (kernel t) cs)
 numbered_more n [] t cs = ap (λ m. binding m (kernel t) cs) none_more where
   none_more : n ≡ n + 0
   none_more = omega arith
-numbered_more n (u ∷ ts) t cs = ap (binding n (kernel u)) (numbered_more (suc n) ts t cs ∙ ap (λ m. joined (numbered (suc n) (terms_of ts)) (binding m (kernel t) cs)) one_more) where
+numbered_more n (u ∷ ts) t cs = ap (binding n (kernel u)) (numbered_more (suc n) ts t cs ∙ ap (λ m. bindings_joined (numbered (suc n) (terms_of ts)) (binding m (kernel t) cs)) one_more) where
   one_more : suc n + length ts ≡ n + suc (length ts)
   one_more = omega arith
 
-pub bound_step : (bs : List Binding) (b : Binding) (n : ℕ) (t : Term) (ts : List Term) → named b ≡ (n, kernel t)
-    → joined (bindings (bs ++ b ∷ [])) (numbered (n + 1) (terms_of ts)) ≡ joined (bindings bs) (numbered n (terms_of (t ∷ ts)))
+pub bound_step : (bs : List Binding) (b : Binding) (n : ℕ) (t : Term) (ts : List Term) → binding_view b ≡ (n, kernel t)
+    → bindings_joined (bindings (bs ++ b ∷ [])) (numbered (n + 1) (terms_of ts)) ≡ bindings_joined (bindings bs) (numbered n (terms_of (t ∷ ts)))
 bound_step bs b n t ts e = bindings_more bs b (numbered (n + 1) (terms_of ts))
-    ∙ ap (λ (p : ℕ × Kernel). joined (bindings bs) (binding p.0 p.1 (numbered (n + 1) (terms_of ts)))) e
-    ∙ ap (λ m. joined (bindings bs) (binding n (kernel t) (numbered m (terms_of ts)))) up where
+    ∙ ap (λ (p : ℕ × Kernel). bindings_joined (bindings bs) (binding p.0 p.1 (numbered (n + 1) (terms_of ts)))) e
+    ∙ ap (λ m. bindings_joined (bindings bs) (binding n (kernel t) (numbered m (terms_of ts)))) up where
       up : n + 1 ≡ suc n
       up = omega arith
 
-pub numbered_depth : (n : ℕ) (ts : List Term) → depth_of_bindings (numbered n (terms_of ts)) ≡ depth_of_items (kernels ts)
+pub numbered_depth : (n : ℕ) (ts : List Term) → depth_of_bindings (numbered n (terms_of ts)) ≡ kernels_depth (kernels ts)
 numbered_depth n [] = refl
-numbered_depth n (t ∷ ts) = ap (max (depth_of (kernel t))) (numbered_depth (suc n) ts)
+numbered_depth n (t ∷ ts) = ap (max (kernel_depth (kernel t))) (numbered_depth (suc n) ts)
 
 pub kernel-Let : (bs : Seq Binding) (body : Box Term Global) → kernel (Let bs body) ≡ bind (bindings (list bs)) (kernel body.value)
 kernel-Let bs body = search (rules, the_lemmas)

@@ -4,7 +4,7 @@ use Rattle.std.proofs.lemmas.List.{append-nil, append_assoc, length-append}
 use Rattle.ca_term.specs.declared.term.Term.{Term}
 use Rattle.ca_term.specs.Kernel.{Kernel, Kernels, Bindings, const, var, branch, bind, loop, seq, frame, turn, apply, none, item, empty, binding}
 use Rattle.ca_term.specs.View.{kernel, kernels}
-use Rattle.ca_forms.specs.Uses.{is_among, noted, uses, uses_items, uses_bindings, aims_out, last_aims_out}
+use Rattle.ca_forms.specs.Uses.{is_name_among, name_noted, uses, uses_items, uses_bindings, aims_out, last_aims_out}
 
 pub last_aims : (ts : List Term) (i : ℕ) (t : Term) → i + 1 ≡ length ts → t ≡ get_or ts i t → aims_out (kernel t) ≡ last_aims_out (kernels ts)
 last_aims [] i t h g = absurd (omega (arith, h))
@@ -23,8 +23,8 @@ longer_same xs = ([], sym (append-nil xs))
 longer_more : (xs ys zs : List ℕ) → Longer xs ys → Longer ys zs → Longer xs zs
 longer_more xs ys zs a b = (a.0 ++ b.0, b.1 ∙ ap (λ (l : List ℕ). l ++ b.0) a.1 ∙ append_assoc xs a.0 b.0)
 
-noted_longer : (n m : ℕ) (seen : List ℕ) → Longer seen (noted n m seen)
-noted_longer n m seen = by (nat_lt m n && not (is_among m seen)) where
+noted_longer : (n m : ℕ) (seen : List ℕ) → Longer seen (name_noted n m seen)
+noted_longer n m seen = by (nat_lt m n && not (is_name_among m seen)) where
   by : (b : Bool) → Longer seen (cond b (seen ++ m ∷ []) seen)
   by true = (m ∷ [], refl)
   by false = longer_same seen

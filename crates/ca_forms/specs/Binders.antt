@@ -12,7 +12,7 @@ use Rattle.ca_reader.specs.Form.{FormTree, FormTrees, Atom, form, atom, group, s
 use Rattle.ca_forms.specs.declared.special.Special.{Special}
 use Rattle.ca_forms.specs.declared.error.CheckErrorKind.TheVariants.{TooMany}
 use Rattle.ca_forms.specs.Words.{special, is_inner}
-use Rattle.ca_forms.specs.Meaning.{Meaning, Named, size, constant, local, fail, operation, lets}
+use Rattle.ca_forms.specs.Meaning.{Meaning, Named, size, constant_value, local_name, fail_with, operation, lets}
 
 -- a form inside a list, with its meaning
 pub record Pair : Type 0 where
@@ -98,13 +98,13 @@ bindings_in b = cond (is_vector b.form) (bounds b.within) None
 
 -- so many items stand in the list, vector or map form at the place
 abbrev pub counted : ℕ → Place → Meaning → Meaning
-counted n p m = cond (nat_lt 4096 n) (fail TooMany p) m
+counted n p m = cond (nat_lt 4096 n) (fail_with TooMany p) m
 
 -- the names of a pattern whose value is h, from its item i on
 abbrev pub spread_items : Place → ℕ → List (List ℕ) → ℕ → List Named
 spread_items p h [] i = []
 spread_items p h (x ∷ xs) i =
-    record { name = x; means = operation (Builtin PartOf) (local h ∷ constant (int (pos i)) ∷ []) p } ∷ spread_items p h xs (suc i)
+    record { name = x; means = operation (Builtin PartOf) (local_name h ∷ constant_value (int (pos i)) ∷ []) p } ∷ spread_items p h xs (suc i)
 
 -- how many names a binder binds, a pattern's own among them
 abbrev pub width : Binder → ℕ

@@ -3,21 +3,21 @@ use Rattle.std.specs.Prelude.{ℕ, suc, max}
 use Rattle.ca_term.specs.Kernel.{Kernel, Kernels, Bindings, const, var, branch, bind, loop, seq, frame, turn, apply, none, item, empty, binding}
 
 abbrev mutual
-  pub depth_of : Kernel → ℕ
-  depth_of (const v) = 1
-  depth_of (var n) = 1
-  depth_of (branch c a b) = suc (max (depth_of c) (max (depth_of a) (depth_of b)))
-  depth_of (bind bs body) = suc (max (depth_of_bindings bs) (depth_of body))
-  depth_of (loop fs bs body) = suc (max (depth_of_bindings bs) (depth_of body))
-  depth_of (seq ts) = suc (depth_of_items ts)
-  depth_of (frame body) = suc (depth_of body)
-  depth_of (turn names text now) = suc (max (depth_of text) (depth_of now))
-  depth_of (apply h ts p) = suc (depth_of_items ts)
+  pub kernel_depth : Kernel → ℕ
+  kernel_depth (const v) = 1
+  kernel_depth (var n) = 1
+  kernel_depth (branch c a b) = suc (max (kernel_depth c) (max (kernel_depth a) (kernel_depth b)))
+  kernel_depth (bind bs body) = suc (max (depth_of_bindings bs) (kernel_depth body))
+  kernel_depth (loop fs bs body) = suc (max (depth_of_bindings bs) (kernel_depth body))
+  kernel_depth (seq ts) = suc (kernels_depth ts)
+  kernel_depth (frame body) = suc (kernel_depth body)
+  kernel_depth (turn names text now) = suc (max (kernel_depth text) (kernel_depth now))
+  kernel_depth (apply h ts p) = suc (kernels_depth ts)
 
-  pub depth_of_items : Kernels → ℕ
-  depth_of_items none = 0
-  depth_of_items (item t ts) = max (depth_of t) (depth_of_items ts)
+  pub kernels_depth : Kernels → ℕ
+  kernels_depth none = 0
+  kernels_depth (item t ts) = max (kernel_depth t) (kernels_depth ts)
 
   pub depth_of_bindings : Bindings → ℕ
   depth_of_bindings empty = 0
-  depth_of_bindings (binding n t bs) = max (depth_of t) (depth_of_bindings bs)
+  depth_of_bindings (binding n t bs) = max (kernel_depth t) (depth_of_bindings bs)

@@ -7,9 +7,9 @@ use Rattle.ca_term.specs.declared.head.Head.TheVariants.{Builtin, Close, Post}
 use Rattle.ca_term.specs.Kernel.{Kernel, const, var, branch, bind, seq, apply, empty, binding}
 use Rattle.ca_term.specs.View.{kernels_of}
 use Rattle.ca_forms.specs.Binders.{Part}
-use Rattle.ca_forms.specs.Go.{unmade, spawned}
+use Rattle.ca_forms.specs.Go.{unmade, go_spawned}
 use Rattle.ca_forms.specs.Meaning.{Meaning, block}
-use Rattle.ca_forms.specs.Outcome.{Gathered, Outcome, done, after, limited}
+use Rattle.ca_forms.specs.Outcome.{Gathered, WalkOutcome, done, after_walk, limited}
 use Rattle.ca_forms.specs.Plain.{meanings, row_loop}
 use Rattle.ca_forms.specs.Uses.{uses}
 
@@ -20,16 +20,16 @@ ending r p = seq (kernels_of (
     ∷ apply Close (kernels_of (var r ∷ [])) p ∷ []))
 
 -- a go body is held a number before it is walked
-abbrev pub opened : Gathered → Gathered
-opened s = record s { bodies = s.bodies ++ unmade ∷ [] }
+abbrev pub go_body_held : Gathered → Gathered
+go_body_held s = record s { bodies = s.bodies ++ unmade ∷ [] }
 
 -- the go block of that number, once its body, the term t, was walked behind the result port r
-abbrev pub finished : Kernel → ℕ → ℕ → Place → Gathered → Outcome Kernel
-finished t number r p s = after (limited (bind (binding (suc r) t empty) (ending r p)) s) (λ u s2.
+abbrev pub go_finished : Kernel → ℕ → ℕ → Place → Gathered → WalkOutcome Kernel
+go_finished t number r p s = after_walk (limited (bind (binding (suc r) t empty) (ending r p)) s) (λ u s2.
     let captured : List ℕ = uses r u [] in
-    done (spawned number r captured p) (record s2 { bodies = slice_set s2.bodies number (record { parameters = captured ++ r ∷ []; body = u }) }))
+    done (go_spawned number r captured p) (record s2 { bodies = slice_set s2.bodies number (record { parameters = captured ++ r ∷ []; body = u }) }))
 
 -- the body of a `go`, or of a `go-loop`
-abbrev pub go_text : Bool → Place → List Part → Meaning
-go_text true p ps = block (row_loop p ps ∷ [])
-go_text false p ps = block (meanings ps)
+abbrev pub go_form_body : Bool → Place → List Part → Meaning
+go_form_body true p ps = block (row_loop p ps ∷ [])
+go_form_body false p ps = block (meanings ps)

@@ -5,8 +5,8 @@ use Rattle.ca_value.specs.declared.builtin.Builtin.TheVariants.{Part as PartOf}
 use Rattle.ca_term.specs.declared.place.Place.{Place}
 use Rattle.ca_term.specs.declared.head.Head.TheVariants.{Builtin}
 use Rattle.ca_term.specs.Kernel.{Kernel, Bindings, const, var, apply, branch, bind, seq, empty, binding, none as no_terms, item as term}
-use Rattle.ca_forms.specs.Outcome.{Gathered, Outcome, done, after, limited}
-use Rattle.ca_forms.specs.Meaning.{Meaning, Named, size, fail, lets, block}
+use Rattle.ca_forms.specs.Outcome.{Gathered, WalkOutcome, done, after_walk, limited}
+use Rattle.ca_forms.specs.Meaning.{Meaning, Named, size, fail_with, lets, block}
 use Rattle.ca_forms.specs.Plain.{meanings, and_of, or_of}
 use Rattle.ca_reader.specs.declared.form.Bracket.TheVariants.{Square}
 use Rattle.ca_reader.specs.Form.{FormTree, FormTrees, form, atom, group, symbol, none, item}
@@ -52,18 +52,18 @@ part_terms p h i (suc n) = part_term p h i ∷ part_terms p h (suc i) n
 
 -- a `let` whose shape was judged
 abbrev pub let_parts : Place → List Part → Meaning
-let_parts p [] = fail BadForm p
+let_parts p [] = fail_with BadForm p
 let_parts p (b ∷ es) = λ env. lets (spread p (size env) (total_bounds b.within)) (block (meanings es)) env
 
 -- (let [n t] (if n u n)) for `and`, (let [n t] (if n n u)) for `or`, from the value t and the rest u
-abbrev pub chained : Bool → ℕ → Kernel → Kernel → Gathered → Outcome Kernel
-chained both n t u s = after (limited (cond both (branch (var n) u (var n)) (branch (var n) (var n) u)) s)
-    (λ y s. after (limited (seq (term y no_terms)) s) (λ x s. limited (bind (binding n t empty) x) s))
+abbrev pub chained : Bool → ℕ → Kernel → Kernel → Gathered → WalkOutcome Kernel
+chained both n t u s = after_walk (limited (cond both (branch (var n) u (var n)) (branch (var n) (var n) u)) s)
+    (λ y s. after_walk (limited (seq (term y no_terms)) s) (λ x s. limited (bind (binding n t empty) x) s))
 
 -- the same for values under hidden names, from the last operand back
-abbrev pub chain_of : Bool → Bindings → Kernel → Gathered → Outcome Kernel
+abbrev pub chain_of : Bool → Bindings → Kernel → Gathered → WalkOutcome Kernel
 chain_of both empty u s = done u s
-chain_of both (binding n t bs) u s = after (chain_of both bs u s) (chained both n t)
+chain_of both (binding n t bs) u s = after_walk (chain_of both bs u s) (chained both n t)
 
 -- an `and`, or an `or`
 abbrev pub more_of : Bool → List Meaning → Meaning

@@ -14,6 +14,6 @@ with_second none k = none
 with_second (item t ts) k = item t (item k ts)
 
 -- the terms, and one more behind them
-abbrev pub with_last : Kernels → Kernel → Kernels
-with_last none k = item k none
-with_last (item t ts) k = item t (with_last ts k)
+abbrev pub with_last_term : Kernels → Kernel → Kernels
+with_last_term none k = item k none
+with_last_term (item t ts) k = item t (with_last_term ts k)

@@ -7,11 +7,11 @@ use Rattle.ca_value.specs.Seq.{list}
 use Rattle.ca_forms.specs.declared.scope.Bound.{Bound}
 use Rattle.ca_forms.specs.Meaning.{lookup}
 
-abbrev pub name_of : Bound → List ℕ
-name_of b = list b.name
+abbrev pub bound_name : Bound → List ℕ
+bound_name b = list b.name
 
-abbrev pub names_of : List Bound → List (List ℕ)
-names_of bs = map name_of bs
+abbrev pub names_of_bounds : List Bound → List (List ℕ)
+names_of_bounds bs = map bound_name bs
 
 -- no number, or no name
 abbrev pub flat : Option (Option ℕ) → Option ℕ
@@ -19,10 +19,10 @@ flat None = None
 flat (Some n) = n
 
 -- the table has for each name its last place
-abbrev pub Finds : {V : Type 0} → (V → List ℕ) → List (V × Option ℕ) → List (List ℕ) → Type 0
-Finds key entries names = (x : List ℕ) → flat (lookup_in (λ v. bytes_eq x (key v)) entries) ≡ lookup x names
+abbrev pub FindsLastPlaces : {V : Type 0} → (V → List ℕ) → List (V × Option ℕ) → List (List ℕ) → Type 0
+FindsLastPlaces key entries names = (x : List ℕ) → flat (lookup_in (λ v. bytes_eq x (key v)) entries) ≡ lookup x names
 
 -- each of the names has beside it its last place among those before it
 abbrev pub Hide : List (List ℕ) → List Bound → Type 0
 Hide before [] = Unit {0}
-Hide before (b ∷ bs) = (b.hides ≡ lookup (name_of b) before) × Hide (before ++ name_of b ∷ []) bs
+Hide before (b ∷ bs) = (b.hides ≡ lookup (bound_name b) before) × Hide (before ++ bound_name b ∷ []) bs

@@ -11,15 +11,15 @@ use Rattle.ca_reader.specs.Form.{FormTree, FormTrees, form, atom, group, none, i
 use Rattle.ca_forms.specs.declared.context.Context.TheVariants.{Main, Function}
 use Rattle.ca_forms.specs.declared.special.Special.{Special}
 use Rattle.ca_forms.specs.declared.error.CheckErrorKind.TheVariants.{Redefined, BadForm, TooMany}
-use Rattle.ca_forms.specs.Depth.{depth_of}
+use Rattle.ca_forms.specs.Depth.{kernel_depth}
 use Rattle.ca_forms.specs.Uses.{uses, aims_out, is_plain}
-use Rattle.ca_forms.specs.Outcome.{Gathered, Outcome, done, refused, after}
+use Rattle.ca_forms.specs.Outcome.{Gathered, WalkOutcome, done, refused, after_walk}
 use Rattle.ca_forms.specs.Words.{special}
-use Rattle.ca_forms.specs.Meaning.{Meaning, Env, Signature, Named, local, loops, block}
+use Rattle.ca_forms.specs.Meaning.{Meaning, Env, Signature, Named, local_name, loops, block}
 use Rattle.ca_forms.specs.Binders.{Part, Binder, one, many, binder, counted, whole_name, unpacked, is_odd}
 use Rattle.ca_forms.specs.Plain.{meanings}
-use Rattle.ca_forms.specs.Names.{is_known, written}
-use Rattle.ca_forms.specs.Walk.{walk, parts}
+use Rattle.ca_forms.specs.Names.{is_known, written_text}
+use Rattle.ca_forms.specs.Walk.{walk, walked_parts}
 
 -- What the top-level forms so far have given: the names of the main text, the functions with their texts, and
 -- how many `def` and `defn` forms there were.
@@ -69,9 +69,9 @@ abbrev pub parameters_in : FormTree → Option (List Binder)
 parameters_in (form (group Square fs) p) = binders_in fs
 parameters_in (form s p) = None
 
-abbrev pub function_of : Option (List ℕ) → Option (List Binder) → Option (List ℕ × Place) → List Part → Top
-function_of (Some f) (Some bs) n es = function (record { name = f; parameters = bs; note = n; body = block (meanings es) })
-function_of x bs n es = wrong
+abbrev pub function_top : Option (List ℕ) → Option (List Binder) → Option (List ℕ × Place) → List Part → Top
+function_top (Some f) (Some bs) n es = function (record { name = f; parameters = bs; note = n; body = block (meanings es) })
+function_top x bs n es = wrong
 
 -- the text that stands before the parameters of a function
 abbrev pub note_in : FormTree → Option (List ℕ × Place)
@@ -80,9 +80,9 @@ note_in (form s p) = None
 
 -- behind the name, where the first part may be such a text
 abbrev pub defn_behind : Option (List ℕ) → Option (List ℕ × Place) → Part → List Part → Top
-defn_behind f None a es = function_of f (parameters_in a.form) None es
+defn_behind f None a es = function_top f (parameters_in a.form) None es
 defn_behind f (Some n) a [] = wrong
-defn_behind f (Some n) a (b ∷ es) = function_of f (parameters_in b.form) (Some n) es
+defn_behind f (Some n) a (b ∷ es) = function_top f (parameters_in b.form) (Some n) es
 
 -- (defn f [p ..] e ..), (defn f "text" [p ..] e ..)
 abbrev pub defn_top : List Part → Top
@@ -107,7 +107,7 @@ list_top k ps m = expression m
 
 -- the parts of a list
 abbrev pub list_parts : FormTree → List Part
-list_parts (form (group Round fs) p) = parts fs
+list_parts (form (group Round fs) p) = walked_parts fs
 list_parts (form s p) = []
 
 abbrev pub top : FormTree → Top
@@ -133,7 +133,7 @@ numbers n (x ∷ xs) = n ∷ numbers (suc n) xs
 -- each name again, with the value that it has
 abbrev pub same_names : ℕ → List (List ℕ) → List Named
 same_names n [] = []
-same_names n (x ∷ xs) = record { name = x; means = local n } ∷ same_names (suc n) xs
+same_names n (x ∷ xs) = record { name = x; means = local_name n } ∷ same_names (suc n) xs
 
 abbrev pub names_of : List Binder → List (List ℕ)
 names_of bs = map whole_name bs
@@ -146,7 +146,7 @@ counted_patterns (many xs q ∷ bs) m = counted (length xs) q (counted_patterns 
 
 abbrev pub noted_text : Option (List ℕ × Place) → Meaning → Meaning
 noted_text None m = m
-noted_text (Some n) m = written n.0 n.1 m
+noted_text (Some n) m = written_text n.0 n.1 m
 
 -- the text before the parameters, the parameters, and then the body
 abbrev pub judged_body : Written → Meaning → Meaning
@@ -203,22 +203,22 @@ pub record Settled : Type 0 where
 -- The body is walked, its calls of itself passing the names that it uses, until no further name comes up. There are
 -- at most 64 of them, and each walk but the last adds one, so 66 walks are enough. (A call of itself brings no new
 -- name, so one is; nothing hangs on that.)
-abbrev pub settled : ℕ → Bool → List ℕ → Written → Place → Tops → Gathered → Outcome Settled
-settled zero looping hidden f p t s = refused TooMany p
-settled (suc n) looping hidden f p t s = after (body_of looping f p (function_env (signature f hidden false) t) s) (λ body s2.
+abbrev pub body_settled : ℕ → Bool → List ℕ → Written → Place → Tops → Gathered → WalkOutcome Settled
+body_settled zero looping hidden f p t s = refused TooMany p
+body_settled (suc n) looping hidden f p t s = after_walk (body_of looping f p (function_env (signature f hidden false) t) s) (λ body s2.
     let used : List ℕ = uses (length t.scope) body hidden in
     cond (nat_lt 64 (length used)) (refused TooMany p)
-    (cond (nat_eq (length used) (length hidden)) (done (record { body = body; hidden = hidden }) s2) (settled n looping used f p t s)))
+    (cond (nat_eq (length used) (length hidden)) (done (record { body = body; hidden = hidden }) s2) (body_settled n looping used f p t s)))
 
 -- A first walk meets each error, and tells which `def` names the body uses and whether a `recur` aims at the
 -- function; a body in which a term was too deep is told by the mark. A body is at most 60 deep.
-abbrev pub add_function : Written → Place → Tops → Gathered → Outcome Tops
-add_function f p t s = after (judged_body f (straight (Some (length f.parameters)) f p) (function_env (signature f [] false) t) s) (λ first s1.
-    cond s1.deep (refused TooMany p) (after (settled 66 (aims_out first) (uses (length t.scope) first []) f p t s) (λ r s2.
-    cond (nat_lt 60 (depth_of r.body)) (refused TooMany p) (done (with_function f r.hidden r.body t) s2))))
+abbrev pub add_function : Written → Place → Tops → Gathered → WalkOutcome Tops
+add_function f p t s = after_walk (judged_body f (straight (Some (length f.parameters)) f p) (function_env (signature f [] false) t) s) (λ first s1.
+    cond s1.deep (refused TooMany p) (after_walk (body_settled 66 (aims_out first) (uses (length t.scope) first []) f p t s) (λ r s2.
+    cond (nat_lt 60 (kernel_depth r.body)) (refused TooMany p) (done (with_function f r.hidden r.body t) s2))))
 
 -- nothing at the top-level form at p was too deep
-abbrev pub shallow : Place → Tops → Gathered → Outcome Tops
+abbrev pub shallow : Place → Tops → Gathered → WalkOutcome Tops
 shallow p t s = cond s.deep (refused TooMany p) (done t s)
 
 -- what the rest of the script gives behind a form: the bindings of the main text, and the functions
@@ -226,23 +226,23 @@ pub record Ended : Type 0 where
   pub bindings : Bindings
   pub tops : Tops
 
-abbrev pub bound_before : ℕ → Kernel → Outcome Ended → Outcome Ended
-bound_before n t o = after o (λ r s. done (record r { bindings = binding n t r.bindings }) s)
+abbrev pub bound_before : ℕ → Kernel → WalkOutcome Ended → WalkOutcome Ended
+bound_before n t o = after_walk o (λ r s. done (record r { bindings = binding n t r.bindings }) s)
 
 -- The form's value gets the name x. The term stands in the main text's Let, so it is at most 399 deep.
-abbrev pub bound_top : List ℕ → Meaning → ℕ → Place → (Tops → Gathered → Outcome Ended) → Tops → Gathered → Outcome Ended
-bound_top x m defined p rest t s = after (m (main_env t) s) (λ u s2.
-    cond (s2.deep || nat_lt 399 (depth_of u)) (refused TooMany p)
+abbrev pub bound_top : List ℕ → Meaning → ℕ → Place → (Tops → Gathered → WalkOutcome Ended) → Tops → Gathered → WalkOutcome Ended
+bound_top x m defined p rest t s = after_walk (m (main_env t) s) (λ u s2.
+    cond (s2.deep || nat_lt 399 (kernel_depth u)) (refused TooMany p)
     (bound_before (length t.scope) u (rest (record t { scope = t.scope ++ x ∷ []; defined = t.defined + defined }) s2)))
 
 -- at most 16 parameters
-abbrev pub one_top : Top → Place → (Tops → Gathered → Outcome Ended) → Tops → Gathered → Outcome Ended
+abbrev pub one_top : Top → Place → (Tops → Gathered → WalkOutcome Ended) → Tops → Gathered → WalkOutcome Ended
 one_top wrong p rest t s = refused BadForm p
 one_top (definition x m) p rest t s = cond (is_taken x t) (refused Redefined p) (bound_top x m 1 p rest t s)
 one_top (expression m) p rest t s = bound_top [] m 0 p rest t s
 one_top (function f) p rest t s = cond (is_taken f.name t) (refused Redefined p)
     (cond (nat_lt 16 (length f.parameters)) (refused TooMany p)
-    (after (add_function f p t s) (λ t2 s2. after (shallow p t2 s2) rest)))
+    (after_walk (add_function f p t s) (λ t2 s2. after_walk (shallow p t2 s2) rest)))
 
 -- The form is past a count: the 4,097th at top level, the 1,025th `def` or `defn`, or a list of more than 4,096
 -- items.

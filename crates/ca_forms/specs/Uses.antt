@@ -5,19 +5,19 @@ use Rattle.ca_term.specs.declared.head.Head.TheVariants.{Recur, Builtin, Call}
 use Rattle.ca_term.specs.Program.{ProcedureView}
 use Rattle.ca_term.specs.Kernel.{Kernel, Kernels, Bindings, const, var, branch, bind, loop, seq, frame, turn, apply, none, item, empty, binding}
 
-abbrev pub is_among : ℕ → List ℕ → Bool
-is_among n [] = false
-is_among n (m ∷ ms) = n == m || is_among n ms
+abbrev pub is_name_among : ℕ → List ℕ → Bool
+is_name_among n [] = false
+is_name_among n (m ∷ ms) = n == m || is_name_among n ms
 
 -- the names seen, and m if it is one below n that wasn't seen
-abbrev pub noted : ℕ → ℕ → List ℕ → List ℕ
-noted n m seen = cond (nat_lt m n && not (is_among m seen)) (seen ++ m ∷ []) seen
+abbrev pub name_noted : ℕ → ℕ → List ℕ → List ℕ
+name_noted n m seen = cond (nat_lt m n && not (is_name_among m seen)) (seen ++ m ∷ []) seen
 
 -- the names below n that a term uses, behind those seen before, in order of first use
 abbrev mutual
   pub uses : ℕ → Kernel → List ℕ → List ℕ
   uses n (const v) seen = seen
-  uses n (var m) seen = noted n m seen
+  uses n (var m) seen = name_noted n m seen
   uses n (branch c a b) seen = uses n b (uses n a (uses n c seen))
   uses n (bind bs body) seen = uses n body (uses_bindings n bs seen)
   uses n (loop fs bs body) seen = uses n body (uses_bindings n bs seen)

@@ -11,10 +11,10 @@ use Rattle.ca_forms.specs.declared.context.At.{At}
 use Rattle.ca_forms.specs.declared.error.CheckError.{CheckError}
 use Rattle.ca_forms.specs.declared.error.CheckError.TheVariants.{Fault, OutOfMemory}
 use Rattle.ca_forms.specs.declared.gathered.Bodies.{Bodies}
-use Rattle.ca_forms.specs.Outcome.{Gathered, Outcome, refused}
+use Rattle.ca_forms.specs.Outcome.{Gathered, WalkOutcome, refused}
 use Rattle.ca_forms.specs.Meaning.{Env, Signature}
 use Rattle.ca_forms.specs.Binders.{Pair, Part}
-use Rattle.ca_forms.specs.Walk.{walk, parts, pairs, within}
+use Rattle.ca_forms.specs.Walk.{walk, walked_parts, pairs, within}
 
 -- what was gathered
 abbrev pub gathered : Bodies → Gathered
@@ -28,16 +28,16 @@ env scope functions at = record { scope = scope; functions = functions; target =
 abbrev pub part : Form → Part
 part f = record { form = form_tree f; means = walk (form_tree f); within = within (form_tree f) }
 
-abbrev pub parts_of : List Form → List Part
-parts_of fs = parts (form_trees fs)
+abbrev pub form_parts : List Form → List Part
+form_parts fs = walked_parts (form_trees fs)
 
-abbrev pub pairs_of : List Form → List Pair
-pairs_of fs = pairs (form_trees fs)
+abbrev pub form_pairs : List Form → List Pair
+form_pairs fs = pairs (form_trees fs)
 
 abbrev pub terms_of : List Term → List Kernel
 terms_of ts = map kernel ts
 
 -- the error is that of this outcome, or want of memory
-abbrev pub Fails : {A : Type 0} → CheckError → Outcome A → Type 0
+abbrev pub Fails : {A : Type 0} → CheckError → WalkOutcome A → Type 0
 Fails (Fault e p) o = o ≡ refused e p
 Fails OutOfMemory o = Unit {0}

@@ -8,9 +8,9 @@ ghost use Rattle.ca_term.specs.declared.head.Head.{Head};
 ghost use Rattle.ca_term.specs.declared.head.MakeKind.{MakeKind};
 ghost use Rattle.ca_term.specs.declared.head.SystemTask.{SystemTask};
 ghost use Rattle.ca_term.specs.declared.head.RegisterName.{RegisterName};
-ghost use Rattle.ca_forms.specs.Channels.{built, made, started, registered, whole, nth_of, tried, unless_default};
-ghost use Rattle.ca_forms.specs.Depth.{depth_of};
-ghost use Rattle.ca_forms.specs.Meaning.{joined, numbered};
+ghost use Rattle.ca_forms.specs.Channels.{built, make_call, spawn_call, register_call, whole_number, nth_call, alts_or_nil, unless_default};
+ghost use Rattle.ca_forms.specs.Depth.{kernel_depth};
+ghost use Rattle.ca_forms.specs.Meaning.{bindings_joined, numbered};
 ghost use Rattle.ca_forms.specs.Outcome.{done, limited};
 ghost use Rattle.ca_forms.specs.WalkView.{gathered, terms_of};
 ghost use Rattle.ca_forms.specs.declared.error.CheckError.{CheckError};
@@ -46,7 +46,7 @@ impl Hidden {
         operands: Seq<Made>,
     ) -> Result<Made, CheckError>
         requires { first + length (list operands) + length (list self.more) < 2 ^ 64 }
-        ensures ok { IfOk result (λ t. limited (bind_of (joined (numbered first (terms_of (list operands))) (numbered (first + length (list operands)) (terms_of (list self.more)))) (kernel self.body)) (gathered bodies.old) ≡ done (kernel t) (gathered bodies.new)) }
+        ensures ok { IfOk result (λ t. limited (bind_of (bindings_joined (numbered first (terms_of (list operands))) (numbered (first + length (list operands)) (terms_of (list self.more)))) (kernel self.body)) (gathered bodies.old) ≡ done (kernel t) (gathered bodies.new)) }
         ensures err { IfErr result (λ e. e ≡ CheckError.OutOfMemory) }
     {
         let Hidden { more, body } = self;
@@ -59,7 +59,7 @@ impl Hidden {
 /// `(offer! c v)`, behind the port and the value.
 pub fn offer(alloc: Global, first: u64, place: Place) -> Result<Hidden, CheckError>
     requires { first + 3 < 2 ^ 64 }
-    ensures more { IfOk result (λ r. terms_of (list r.more) ≡ tried (built Builtin.Vector (var first ∷ var (first + 1) ∷ []) place ∷ []) place ∷ []) }
+    ensures more { IfOk result (λ r. terms_of (list r.more) ≡ alts_or_nil (built Builtin.Vector (var first ∷ var (first + 1) ∷ []) place ∷ []) place ∷ []) }
     ensures body { IfOk result (λ r. kernel r.body ≡ seq_of (kernels_of (unless_default (first + 2) place ∷ []))) }
     ensures err { IfErr result (λ e. e ≡ CheckError.OutOfMemory) }
 {
@@ -75,7 +75,7 @@ pub fn offer(alloc: Global, first: u64, place: Place) -> Result<Hidden, CheckErr
 /// `(poll! c)`, behind the port.
 pub fn poll(alloc: Global, first: u64, place: Place) -> Result<Hidden, CheckError>
     requires { first + 2 < 2 ^ 64 }
-    ensures more { IfOk result (λ r. terms_of (list r.more) ≡ tried (var first ∷ []) place ∷ []) }
+    ensures more { IfOk result (λ r. terms_of (list r.more) ≡ alts_or_nil (var first ∷ []) place ∷ []) }
     ensures body { IfOk result (λ r. kernel r.body ≡ seq_of (kernels_of (unless_default (first + 1) place ∷ []))) }
     ensures err { IfErr result (λ e. e ≡ CheckError.OutOfMemory) }
 {
@@ -84,8 +84,8 @@ pub fn poll(alloc: Global, first: u64, place: Place) -> Result<Hidden, CheckErro
 
 // An alts of the port, whose answer has that number.
 fn trying(alloc: Global, port: Made, answer: u64, place: Place) -> Result<Hidden, CheckError>
-    requires { depth_of (kernel port) ≤ 2 }
-    ensures more { IfOk result (λ r. terms_of (list r.more) ≡ tried (kernel port ∷ []) place ∷ []) }
+    requires { kernel_depth (kernel port) ≤ 2 }
+    ensures more { IfOk result (λ r. terms_of (list r.more) ≡ alts_or_nil (kernel port ∷ []) place ∷ []) }
     ensures body { IfOk result (λ r. kernel r.body ≡ seq_of (kernels_of (unless_default answer place ∷ []))) }
     ensures err { IfErr result (λ e. e ≡ CheckError.OutOfMemory) }
 {
@@ -108,7 +108,7 @@ fn answered(
     place: Place,
 ) -> Result<Hidden, CheckError>
     ensures more { IfOk result (λ r. list r.more ≡ list more) }
-    ensures body { IfOk result (λ r. kernel r.body ≡ seq_of (kernels_of (started task (map var numbers.now) place ∷ var answer ∷ []))) }
+    ensures body { IfOk result (λ r. kernel r.body ≡ seq_of (kernels_of (spawn_call task (map var numbers.now) place ∷ var answer ∷ []))) }
     ensures err { IfErr result (λ e. e ≡ CheckError.OutOfMemory) }
 {
     let term = started(alloc, task, numbers, place)?;
@@ -119,8 +119,8 @@ fn answered(
 /// `(mult c)`, behind the source.
 pub fn mult(alloc: Global, first: u64, place: Place) -> Result<Hidden, CheckError>
     requires { first + 3 < 2 ^ 64 }
-    ensures more { IfOk result (λ r. terms_of (list r.more) ≡ made MakeKind.Unbuffered [] place ∷ made MakeKind.Mult (var first ∷ []) place ∷ []) }
-    ensures body { IfOk result (λ r. kernel r.body ≡ seq_of (kernels_of (started SystemTask.Mult (var (first + 2) ∷ var first ∷ var (first + 1) ∷ []) place ∷ var (first + 2) ∷ []))) }
+    ensures more { IfOk result (λ r. terms_of (list r.more) ≡ make_call MakeKind.Unbuffered [] place ∷ make_call MakeKind.Mult (var first ∷ []) place ∷ []) }
+    ensures body { IfOk result (λ r. kernel r.body ≡ seq_of (kernels_of (spawn_call SystemTask.Mult (var (first + 2) ∷ var first ∷ var (first + 1) ∷ []) place ∷ var (first + 2) ∷ []))) }
     ensures err { IfErr result (λ e. e ≡ CheckError.OutOfMemory) }
 {
     let answers = made(alloc, MakeKind::Unbuffered, &[], place)?;
@@ -139,8 +139,8 @@ pub fn mult(alloc: Global, first: u64, place: Place) -> Result<Hidden, CheckErro
 /// `(mix o)`, behind the output.
 pub fn mix(alloc: Global, first: u64, place: Place) -> Result<Hidden, CheckError>
     requires { first + 3 < 2 ^ 64 }
-    ensures more { IfOk result (λ r. terms_of (list r.more) ≡ made MakeKind.Sliding (whole 1 ∷ []) place ∷ made MakeKind.Mix (var first ∷ var (first + 1) ∷ []) place ∷ []) }
-    ensures body { IfOk result (λ r. kernel r.body ≡ seq_of (kernels_of (started SystemTask.Mix (var (first + 2) ∷ var first ∷ var (first + 1) ∷ []) place ∷ var (first + 2) ∷ []))) }
+    ensures more { IfOk result (λ r. terms_of (list r.more) ≡ make_call MakeKind.Sliding (whole_number 1 ∷ []) place ∷ make_call MakeKind.Mix (var first ∷ var (first + 1) ∷ []) place ∷ []) }
+    ensures body { IfOk result (λ r. kernel r.body ≡ seq_of (kernels_of (spawn_call SystemTask.Mix (var (first + 2) ∷ var first ∷ var (first + 1) ∷ []) place ∷ var (first + 2) ∷ []))) }
     ensures err { IfErr result (λ e. e ≡ CheckError.OutOfMemory) }
 {
     let changes = made_of_one(alloc, MakeKind::Sliding, place)?;
@@ -174,8 +174,8 @@ pub fn changing(alloc: Global, first: u64, place: Place) -> Result<Hidden, Check
 /// `(unsub p t c)`, behind the publication, the topic and the port.
 pub fn unsub(alloc: Global, first: u64, place: Place) -> Result<Hidden, CheckError>
     requires { first + 4 < 2 ^ 64 }
-    ensures more { IfOk result (λ r. terms_of (list r.more) ≡ registered RegisterName.Find (var first ∷ var (first + 1) ∷ []) place ∷ []) }
-    ensures body { IfOk result (λ r. kernel r.body ≡ seq_of (kernels_of (branch_of (built Builtin.IsSome (var (first + 3) ∷ []) place) (registered RegisterName.Untap (nth_of (first + 3) 0 place ∷ var (first + 2) ∷ []) place) (const nil) ∷ const nil ∷ []))) }
+    ensures more { IfOk result (λ r. terms_of (list r.more) ≡ register_call RegisterName.Find (var first ∷ var (first + 1) ∷ []) place ∷ []) }
+    ensures body { IfOk result (λ r. kernel r.body ≡ seq_of (kernels_of (branch_of (built Builtin.IsSome (var (first + 3) ∷ []) place) (register_call RegisterName.Untap (nth_call (first + 3) 0 place ∷ var (first + 2) ∷ []) place) (const nil) ∷ const nil ∷ []))) }
     ensures err { IfErr result (λ e. e ≡ CheckError.OutOfMemory) }
 {
     let found = registered(alloc, RegisterName::Find, &[first, first + 1], place)?;
@@ -188,7 +188,7 @@ pub fn unsub(alloc: Global, first: u64, place: Place) -> Result<Hidden, CheckErr
 // The port is taken from the topic's mult, where the topic has an entry.
 fn untapped(alloc: Global, first: u64, place: Place) -> Result<Made, CheckError>
     requires { first + 4 < 2 ^ 64 }
-    ensures ok { IfOk result (λ t. kernel t ≡ branch_of (built Builtin.IsSome (var (first + 3) ∷ []) place) (registered RegisterName.Untap (nth_of (first + 3) 0 place ∷ var (first + 2) ∷ []) place) (const nil)) }
+    ensures ok { IfOk result (λ t. kernel t ≡ branch_of (built Builtin.IsSome (var (first + 3) ∷ []) place) (register_call RegisterName.Untap (nth_call (first + 3) 0 place ∷ var (first + 2) ∷ []) place) (const nil)) }
     ensures err { IfErr result (λ e. e ≡ CheckError.OutOfMemory) }
 {
     let entry = nth_of(alloc, first + 3, 0, place)?;
@@ -202,7 +202,7 @@ fn untapped(alloc: Global, first: u64, place: Place) -> Result<Made, CheckError>
 pub fn pipe(alloc: Global, first: u64, place: Place) -> Result<Hidden, CheckError>
     requires { first + 3 < 2 ^ 64 }
     ensures more { IfOk result (λ r. terms_of (list r.more) ≡ []) }
-    ensures body { IfOk result (λ r. kernel r.body ≡ seq_of (kernels_of (started SystemTask.Pipe (var first ∷ var (first + 1) ∷ var (first + 2) ∷ []) place ∷ var (first + 1) ∷ []))) }
+    ensures body { IfOk result (λ r. kernel r.body ≡ seq_of (kernels_of (spawn_call SystemTask.Pipe (var first ∷ var (first + 1) ∷ var (first + 2) ∷ []) place ∷ var (first + 1) ∷ []))) }
     ensures err { IfErr result (λ e. e ≡ CheckError.OutOfMemory) }
 {
     answered(
@@ -219,7 +219,7 @@ pub fn pipe(alloc: Global, first: u64, place: Place) -> Result<Hidden, CheckErro
 pub fn merge(alloc: Global, first: u64, place: Place) -> Result<Hidden, CheckError>
     requires { first + 2 < 2 ^ 64 }
     ensures more { IfOk result (λ r. terms_of (list r.more) ≡ []) }
-    ensures body { IfOk result (λ r. kernel r.body ≡ seq_of (kernels_of (started SystemTask.Merge (var first ∷ var (first + 1) ∷ []) place ∷ var (first + 1) ∷ []))) }
+    ensures body { IfOk result (λ r. kernel r.body ≡ seq_of (kernels_of (spawn_call SystemTask.Merge (var first ∷ var (first + 1) ∷ []) place ∷ var (first + 1) ∷ []))) }
     ensures err { IfErr result (λ e. e ≡ CheckError.OutOfMemory) }
 {
     answered(
@@ -235,8 +235,8 @@ pub fn merge(alloc: Global, first: u64, place: Place) -> Result<Hidden, CheckErr
 /// `(onto-chan! c v z)`, behind the port, the values and whether to close.
 pub fn onto(alloc: Global, first: u64, place: Place) -> Result<Hidden, CheckError>
     requires { first + 4 < 2 ^ 64 }
-    ensures more { IfOk result (λ r. terms_of (list r.more) ≡ made MakeKind.Fixed (whole 1 ∷ []) place ∷ []) }
-    ensures body { IfOk result (λ r. kernel r.body ≡ seq_of (kernels_of (started SystemTask.Onto (var first ∷ var (first + 1) ∷ var (first + 2) ∷ var (first + 3) ∷ []) place ∷ var (first + 3) ∷ []))) }
+    ensures more { IfOk result (λ r. terms_of (list r.more) ≡ make_call MakeKind.Fixed (whole_number 1 ∷ []) place ∷ []) }
+    ensures body { IfOk result (λ r. kernel r.body ≡ seq_of (kernels_of (spawn_call SystemTask.Onto (var first ∷ var (first + 1) ∷ var (first + 2) ∷ var (first + 3) ∷ []) place ∷ var (first + 3) ∷ []))) }
     ensures err { IfErr result (λ e. e ≡ CheckError.OutOfMemory) }
 {
     let answer = made_of_one(alloc, MakeKind::Fixed, place)?;
@@ -254,8 +254,8 @@ pub fn onto(alloc: Global, first: u64, place: Place) -> Result<Hidden, CheckErro
 /// `(to-chan! v)`, behind the values.
 pub fn to(alloc: Global, first: u64, place: Place) -> Result<Hidden, CheckError>
     requires { first + 3 < 2 ^ 64 }
-    ensures more { IfOk result (λ r. terms_of (list r.more) ≡ made MakeKind.Sized (built Builtin.Min (whole 100 ∷ built Builtin.Count (var first ∷ []) place ∷ []) place ∷ []) place ∷ made MakeKind.Fixed (whole 1 ∷ []) place ∷ []) }
-    ensures body { IfOk result (λ r. kernel r.body ≡ seq_of (kernels_of (started SystemTask.Onto (var (first + 1) ∷ var first ∷ const (bool true) ∷ var (first + 2) ∷ []) place ∷ var (first + 1) ∷ []))) }
+    ensures more { IfOk result (λ r. terms_of (list r.more) ≡ make_call MakeKind.Sized (built Builtin.Min (whole_number 100 ∷ built Builtin.Count (var first ∷ []) place ∷ []) place ∷ []) place ∷ make_call MakeKind.Fixed (whole_number 1 ∷ []) place ∷ []) }
+    ensures body { IfOk result (λ r. kernel r.body ≡ seq_of (kernels_of (spawn_call SystemTask.Onto (var (first + 1) ∷ var first ∷ const (bool true) ∷ var (first + 2) ∷ []) place ∷ var (first + 1) ∷ []))) }
     ensures err { IfErr result (λ e. e ≡ CheckError.OutOfMemory) }
 {
     let port = sized_for(alloc, first, place)?;
@@ -269,7 +269,7 @@ pub fn to(alloc: Global, first: u64, place: Place) -> Result<Hidden, CheckError>
 // The task that puts the values onto the port behind them, and closes it.
 fn putting(alloc: Global, values: u64, place: Place) -> Result<Made, CheckError>
     requires { values + 3 < 2 ^ 64 }
-    ensures ok { IfOk result (λ t. kernel t ≡ started SystemTask.Onto (var (values + 1) ∷ var values ∷ const (bool true) ∷ var (values + 2) ∷ []) place) }
+    ensures ok { IfOk result (λ t. kernel t ≡ spawn_call SystemTask.Onto (var (values + 1) ∷ var values ∷ const (bool true) ∷ var (values + 2) ∷ []) place) }
     ensures err { IfErr result (λ e. e ≡ CheckError.OutOfMemory) }
 {
     let operands = pair(alloc, Made::local(values + 1), Made::local(values))?;
@@ -285,7 +285,7 @@ fn putting(alloc: Global, values: u64, place: Place) -> Result<Made, CheckError>
 
 // A channel with room for the values of the name, and for 100 at most.
 fn sized_for(alloc: Global, values: u64, place: Place) -> Result<Made, CheckError>
-    ensures ok { IfOk result (λ t. kernel t ≡ made MakeKind.Sized (built Builtin.Min (whole 100 ∷ built Builtin.Count (var values ∷ []) place ∷ []) place ∷ []) place) }
+    ensures ok { IfOk result (λ t. kernel t ≡ make_call MakeKind.Sized (built Builtin.Min (whole_number 100 ∷ built Builtin.Count (var values ∷ []) place ∷ []) place ∷ []) place) }
     ensures err { IfErr result (λ e. e ≡ CheckError.OutOfMemory) }
 {
     let count = over(alloc, Head::Builtin(Builtin::Count), &[values], place)?;

@@ -1,5 +1,5 @@
 ghost use Rattle.std.specs.Prelude.{◌≡◌};
-ghost use Rattle.ca_forms.specs.Kind.{kind_name};
+ghost use Rattle.ca_forms.specs.Kind.{check_error_name};
 
 use ca_term::place::Place;
 use ca_value::memory::OutOfMemory as NoMemory;
@@ -30,7 +30,7 @@ pub enum CheckErrorKind {
 impl CheckErrorKind {
     /// The word that a runner prints for it.
     pub fn name(self) -> &'static str
-        ensures { result.now ≡ kind_name self }
+        ensures { result.now ≡ check_error_name self }
     {
         match self {
             CheckErrorKind::UnknownName => "UnknownName",

@@ -4,8 +4,8 @@ ghost use Rattle.ca_value.specs.Tree.{nil, bool, key};
 ghost use Rattle.ca_value.specs.declared.builtin.Builtin.{Builtin};
 ghost use Rattle.ca_term.specs.Kernel.{const, var, branch as branch_of, bind as bind_of, loop as loop_of, seq as seq_of, apply as apply_of};
 ghost use Rattle.ca_term.specs.View.{kernel, kernels, kernels_of};
-ghost use Rattle.ca_forms.specs.Channels.{built, made, started, registered, whole, nth_of, tried, unless_default};
-ghost use Rattle.ca_forms.specs.Depth.{depth_of, depth_of_items};
+ghost use Rattle.ca_forms.specs.Channels.{built, make_call, spawn_call, register_call, whole_number, nth_call, alts_or_nil, unless_default};
+ghost use Rattle.ca_forms.specs.Depth.{kernel_depth, kernels_depth};
 ghost use Rattle.ca_forms.specs.Meaning.{numbered};
 ghost use Rattle.ca_forms.specs.WalkView.{terms_of};
 ghost use Rattle.ca_forms.specs.declared.error.CheckError.{CheckError};
@@ -35,7 +35,7 @@ pub fn apply(
     operands: Seq<Made>,
     place: Place,
 ) -> Result<Made, CheckError>
-    requires { depth_of_items (kernels (list operands)) < 400 }
+    requires { kernels_depth (kernels (list operands)) < 400 }
     ensures ok { IfOk result (λ t. kernel t ≡ apply_of head (kernels (list operands)) place) }
     ensures err { IfErr result (λ e. e ≡ CheckError.OutOfMemory) }
 {
@@ -45,9 +45,9 @@ pub fn apply(
 
 /// An If.
 pub fn branch(alloc: Global, test: Made, then: Made, otherwise: Made) -> Result<Made, CheckError>
-    requires test { depth_of (kernel test) < 400 }
-    requires then { depth_of (kernel then) < 400 }
-    requires otherwise { depth_of (kernel otherwise) < 400 }
+    requires test { kernel_depth (kernel test) < 400 }
+    requires then { kernel_depth (kernel then) < 400 }
+    requires otherwise { kernel_depth (kernel otherwise) < 400 }
     ensures ok { IfOk result (λ t. kernel t ≡ branch_of (kernel test) (kernel then) (kernel otherwise)) }
     ensures err { IfErr result (λ e. e ≡ CheckError.OutOfMemory) }
 {
@@ -57,7 +57,7 @@ pub fn branch(alloc: Global, test: Made, then: Made, otherwise: Made) -> Result<
 
 /// A Do.
 pub fn seq(alloc: Global, terms: Seq<Made>) -> Result<Made, CheckError>
-    requires { depth_of_items (kernels (list terms)) < 400 }
+    requires { kernels_depth (kernels (list terms)) < 400 }
     ensures ok { IfOk result (λ t. kernel t ≡ seq_of (kernels (list terms))) }
     ensures err { IfErr result (λ e. e ≡ CheckError.OutOfMemory) }
 {
@@ -68,8 +68,8 @@ pub fn seq(alloc: Global, terms: Seq<Made>) -> Result<Made, CheckError>
 /// A Let of these values, from number `first` on.
 pub fn bind(alloc: Global, first: u64, values: Seq<Made>, body: Made) -> Result<Made, CheckError>
     requires numbers { first + length (list values) < 2 ^ 64 }
-    requires values { depth_of_items (kernels (list values)) < 400 }
-    requires body { depth_of (kernel body) < 400 }
+    requires values { kernels_depth (kernels (list values)) < 400 }
+    requires body { kernel_depth (kernel body) < 400 }
     ensures ok { IfOk result (λ t. kernel t ≡ bind_of (numbered first (terms_of (list values))) (kernel body)) }
     ensures err { IfErr result (λ e. e ≡ CheckError.OutOfMemory) }
 {
@@ -80,8 +80,8 @@ pub fn bind(alloc: Global, first: u64, values: Seq<Made>, body: Made) -> Result<
 /// A Loop over these values, from number `first` on.
 pub fn repeat(alloc: Global, first: u64, values: Seq<Made>, body: Made) -> Result<Made, CheckError>
     requires numbers { first + length (list values) < 2 ^ 64 }
-    requires values { depth_of_items (kernels (list values)) < 400 }
-    requires body { depth_of (kernel body) < 400 }
+    requires values { kernels_depth (kernels (list values)) < 400 }
+    requires body { kernel_depth (kernel body) < 400 }
     ensures ok { IfOk result (λ t. kernel t ≡ loop_of [] (numbered first (terms_of (list values))) (kernel body)) }
     ensures err { IfErr result (λ e. e ≡ CheckError.OutOfMemory) }
 {
@@ -105,7 +105,7 @@ pub fn yes() -> Made
 
 /// A small number.
 pub fn whole(number: u8) -> Made
-    ensures { kernel result ≡ whole number }
+    ensures { kernel result ≡ whole_number number }
 {
     Made::constant(Value::Int(number as i64))
 }
@@ -131,8 +131,8 @@ pub fn pair(alloc: Global, first: Made, second: Made) -> Result<Seq<Made>, Check
 
 /// The Do of two terms.
 pub fn followed(alloc: Global, first: Made, second: Made) -> Result<Made, CheckError>
-    requires first { depth_of (kernel first) < 400 }
-    requires second { depth_of (kernel second) < 400 }
+    requires first { kernel_depth (kernel first) < 400 }
+    requires second { kernel_depth (kernel second) < 400 }
     ensures ok { IfOk result (λ t. kernel t ≡ seq_of (kernels_of (kernel first ∷ kernel second ∷ []))) }
     ensures err { IfErr result (λ e. e ≡ CheckError.OutOfMemory) }
 {
@@ -165,7 +165,7 @@ pub fn made(
     numbers: &[u64],
     place: Place,
 ) -> Result<Made, CheckError>
-    ensures ok { IfOk result (λ t. kernel t ≡ made kind (map var numbers.now) place) }
+    ensures ok { IfOk result (λ t. kernel t ≡ make_call kind (map var numbers.now) place) }
     ensures err { IfErr result (λ e. e ≡ CheckError.OutOfMemory) }
 {
     over(alloc, Head::Make(kind), numbers, place)
@@ -178,7 +178,7 @@ pub fn started(
     numbers: &[u64],
     place: Place,
 ) -> Result<Made, CheckError>
-    ensures ok { IfOk result (λ t. kernel t ≡ started task (map var numbers.now) place) }
+    ensures ok { IfOk result (λ t. kernel t ≡ spawn_call task (map var numbers.now) place) }
     ensures err { IfErr result (λ e. e ≡ CheckError.OutOfMemory) }
 {
     over(alloc, Head::Spawn(SeedKind::System(task)), numbers, place)
@@ -191,7 +191,7 @@ pub fn registered(
     numbers: &[u64],
     place: Place,
 ) -> Result<Made, CheckError>
-    ensures ok { IfOk result (λ t. kernel t ≡ registered name (map var numbers.now) place) }
+    ensures ok { IfOk result (λ t. kernel t ≡ register_call name (map var numbers.now) place) }
     ensures err { IfErr result (λ e. e ≡ CheckError.OutOfMemory) }
 {
     over(alloc, Head::Register(name), numbers, place)
@@ -199,7 +199,7 @@ pub fn registered(
 
 /// Item `index` of the value of the name `vector`.
 pub fn nth_of(alloc: Global, vector: u64, index: u8, place: Place) -> Result<Made, CheckError>
-    ensures ok { IfOk result (λ t. kernel t ≡ nth_of vector index place) }
+    ensures ok { IfOk result (λ t. kernel t ≡ nth_call vector index place) }
     ensures err { IfErr result (λ e. e ≡ CheckError.OutOfMemory) }
 {
     let operands = pair(alloc, Made::local(vector), whole(index))?;
@@ -208,7 +208,7 @@ pub fn nth_of(alloc: Global, vector: u64, index: u8, place: Place) -> Result<Mad
 
 /// What a Make of that kind makes of the number 1.
 pub fn made_of_one(alloc: Global, kind: MakeKind, place: Place) -> Result<Made, CheckError>
-    ensures ok { IfOk result (λ t. kernel t ≡ made kind (whole 1 ∷ []) place) }
+    ensures ok { IfOk result (λ t. kernel t ≡ make_call kind (whole_number 1 ∷ []) place) }
     ensures err { IfErr result (λ e. e ≡ CheckError.OutOfMemory) }
 {
     let operands = single(alloc, whole(1))?;
@@ -217,8 +217,8 @@ pub fn made_of_one(alloc: Global, kind: MakeKind, place: Place) -> Result<Made, 
 
 /// An alts of one port, with the default nil.
 pub fn tried(alloc: Global, port: Made, place: Place) -> Result<Made, CheckError>
-    requires { depth_of (kernel port) ≤ 2 }
-    ensures ok { IfOk result (λ t. kernel t ≡ tried (kernel port ∷ []) place) }
+    requires { kernel_depth (kernel port) ≤ 2 }
+    ensures ok { IfOk result (λ t. kernel t ≡ alts_or_nil (kernel port ∷ []) place) }
     ensures err { IfErr result (λ e. e ≡ CheckError.OutOfMemory) }
 {
     let ports = single(alloc, port)?;
@@ -229,7 +229,7 @@ pub fn tried(alloc: Global, port: Made, place: Place) -> Result<Made, CheckError
 
 // Whether the answer of an alts is the default.
 fn is_default(alloc: Global, answer: u64, place: Place) -> Result<Made, CheckError>
-    ensures ok { IfOk result (λ t. kernel t ≡ built Builtin.Equal (nth_of answer 1 place ∷ const (key (codes "default")) ∷ []) place) }
+    ensures ok { IfOk result (λ t. kernel t ≡ built Builtin.Equal (nth_call answer 1 place ∷ const (key (codes "default")) ∷ []) place) }
     ensures err { IfErr result (λ e. e ≡ CheckError.OutOfMemory) }
 {
     let word = Value::key(alloc, Text::from_bytes(alloc, b"default")?)?;

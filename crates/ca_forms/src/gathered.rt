@@ -4,7 +4,7 @@ ghost use Rattle.ca_value.specs.View.{view};
 ghost use Rattle.ca_term.specs.Kernel.{const, var, branch as branch_of, bind as bind_of, loop as loop_of, seq as seq_of, apply as apply_of};
 ghost use Rattle.ca_term.specs.View.{kernel, kernels, kernels_of, bindings};
 ghost use Rattle.ca_forms.specs.declared.error.CheckError.{CheckError};
-ghost use Rattle.ca_forms.specs.Depth.{depth_of, depth_of_items};
+ghost use Rattle.ca_forms.specs.Depth.{kernel_depth, kernels_depth};
 ghost use Rattle.ca_forms.specs.Judged.{part_term, chained, chain_of};
 ghost use Rattle.ca_forms.specs.Meaning.{numbered};
 ghost use Rattle.ca_forms.specs.Outcome.{limited, done};
@@ -44,7 +44,7 @@ impl Model for Made {
     ghost use Rattle.ca_term.specs.declared.term.Term.{Term};
     ghost use Rattle.ca_term.specs.contracts.term.Term as term_row;
     ghost use Rattle.ca_term.specs.View.{kernel};
-    ghost use Rattle.ca_forms.specs.Depth.{depth_of};
+    ghost use Rattle.ca_forms.specs.Depth.{kernel_depth};
 
     ghost Value = { Term };
 
@@ -52,7 +52,7 @@ impl Model for Made {
 
     ghost view = { λ m. m.term };
 
-    ghost invariant = { λ m. (m.depth ≡ depth_of (kernel m.term)) × (m.depth ≤ 400) };
+    ghost invariant = { λ m. (m.depth ≡ kernel_depth (kernel m.term)) × (m.depth ≤ 400) };
 }
 
 /// What a walk gathers: the go bodies so far, by number, and whether a term was too deep.
@@ -85,7 +85,7 @@ impl Made {
 
     /// How deep the term is.
     pub fn depth(&self) -> u64
-        ensures is { result ≡ depth_of (kernel self.now) }
+        ensures is { result ≡ kernel_depth (kernel self.now) }
         ensures most { result ≤ 400 }
     {
         self.depth
@@ -116,7 +116,7 @@ impl Made {
 
 // The deepest of them.
 fn deepest(terms: &[Made]) -> u64
-    ensures is { result ≡ depth_of_items (kernels terms.now) }
+    ensures is { result ≡ kernels_depth (kernels terms.now) }
     ensures most { result ≤ 400 }
 {
     let mut depth = 0;
@@ -180,7 +180,7 @@ impl Bodies {
 
     // The term of that depth; nil, and the mark, where it is deeper than 400.
     fn limit(&mut self, term: Term, depth: u64) -> Made
-        requires { depth ≡ depth_of (kernel term) }
+        requires { depth ≡ kernel_depth (kernel term) }
         ensures { limited (kernel term) (gathered self.old) ≡ done (kernel result) (gathered self.new) }
     {
         if depth <= 400 {

@@ -1,6 +1,6 @@
 ghost use Rattle.std.specs.Prelude.{◌≡◌, IfOk, IfErr, is_some};
 ghost use Rattle.ca_value.specs.Seq.{list};
-ghost use Rattle.ca_reader.specs.Form.{place_of};
+ghost use Rattle.ca_reader.specs.Form.{form_place};
 ghost use Rattle.ca_reader.specs.View.{form_tree};
 ghost use Rattle.ca_forms.specs.declared.context.At.{At};
 ghost use Rattle.ca_forms.specs.declared.error.CheckError.{CheckError};
@@ -44,7 +44,7 @@ pub fn given(
     form: &Form,
 ) -> Result<Applied, CheckError>
     ensures ok { IfOk result (λ a. (at : At) → given (form_tree form.now) (env scope.now functions.now at) ≡ given_view a) }
-    ensures err { IfErr result (λ e. (at : At) → IsWrong e (place_of (form_tree form.now)) (given (form_tree form.now) (env scope.now functions.now at))) }
+    ensures err { IfErr result (λ e. (at : At) → IsWrong e (form_place (form_tree form.now)) (given (form_tree form.now) (env scope.now functions.now at))) }
 {
     match &form.shape {
         Shape::Symbol(name) => named(functions, scope, name, form.place),

@@ -8,9 +8,9 @@ ghost use Rattle.ca_term.specs.View.{kernel, kernels_of};
 ghost use Rattle.ca_term.specs.declared.head.Head.{Head};
 ghost use Rattle.ca_term.specs.declared.head.SeedKind.{SeedKind};
 ghost use Rattle.ca_forms.specs.Channels.{built};
-ghost use Rattle.ca_forms.specs.Depth.{depth_of};
-ghost use Rattle.ca_forms.specs.Go.{spawned};
-ghost use Rattle.ca_forms.specs.GoView.{ending, opened, finished};
+ghost use Rattle.ca_forms.specs.Depth.{kernel_depth};
+ghost use Rattle.ca_forms.specs.Go.{go_spawned};
+ghost use Rattle.ca_forms.specs.GoView.{ending, go_body_held, go_finished};
 ghost use Rattle.ca_forms.specs.Outcome.{done, limited};
 ghost use Rattle.ca_forms.specs.WalkView.{gathered};
 ghost use Rattle.ca_forms.specs.declared.error.CheckError.{CheckError};
@@ -80,7 +80,7 @@ fn spawn(
     place: Place,
 ) -> Result<Made, CheckError>
     ensures ok { IfOk result (λ t. kernel t ≡ apply_of (Head.Spawn (SeedKind.Go number)) (kernels_of (map var (captured.now ++ port ∷ []))) place) }
-    ensures small { IfOk result (λ t. depth_of (kernel t) ≤ 2) }
+    ensures small { IfOk result (λ t. kernel_depth (kernel t) ≤ 2) }
     ensures err { IfErr result (λ e. e ≡ CheckError.OutOfMemory) }
 {
     let operands = locals(alloc, captured)?;
@@ -98,7 +98,7 @@ fn spawned(
     place: Place,
 ) -> Result<Made, CheckError>
     requires { port + 1 < 2 ^ 64 }
-    ensures ok { IfOk result (λ t. kernel t ≡ spawned number port captured.now place) }
+    ensures ok { IfOk result (λ t. kernel t ≡ go_spawned number port captured.now place) }
     ensures err { IfErr result (λ e. e ≡ CheckError.OutOfMemory) }
 {
     let made = made_of_one(alloc, MakeKind::Fixed, place)?;
@@ -125,7 +125,7 @@ impl Bodies {
     /// Holds a number for a go body that is made later.
     pub fn open(&mut self, alloc: Global) -> Result<u64, CheckError>
         ensures number { IfOk result (λ n. n ≡ length (gathered self.old).bodies) }
-        ensures ok { OnOk result (gathered self.new ≡ opened (gathered self.old)) }
+        ensures ok { OnOk result (gathered self.new ≡ go_body_held (gathered self.old)) }
         ensures err { IfErr result (λ e. e ≡ CheckError.OutOfMemory) }
     {
         let number = self.bodies.len();
@@ -156,7 +156,7 @@ impl Bodies {
         place: Place,
     ) -> Result<Made, CheckError>
         requires { port + 2 < 2 ^ 64 }
-        ensures ok { IfOk result (λ t. finished (kernel body) number port place (gathered self.old) ≡ done (kernel t) (gathered self.new)) }
+        ensures ok { IfOk result (λ t. go_finished (kernel body) number port place (gathered self.old) ≡ done (kernel t) (gathered self.new)) }
         ensures err { IfErr result (λ e. e ≡ CheckError.OutOfMemory) }
     {
         let text = task(alloc, self, body, port, place)?;

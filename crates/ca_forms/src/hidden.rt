@@ -6,10 +6,10 @@ ghost use Rattle.ca_term.specs.View.{kernel, kernels_of};
 ghost use Rattle.ca_term.specs.declared.head.Head.{Head};
 ghost use Rattle.ca_term.specs.declared.head.MakeKind.{MakeKind};
 ghost use Rattle.ca_term.specs.declared.head.SystemTask.{SystemTask};
-ghost use Rattle.ca_forms.specs.Channels.{made, started, whole, repeated};
+ghost use Rattle.ca_forms.specs.Channels.{make_call, spawn_call, whole_number, repeated};
 ghost use Rattle.ca_forms.specs.GivenView.{keyword_terms};
 ghost use Rattle.ca_forms.specs.Outcome.{done};
-ghost use Rattle.ca_forms.specs.Planned.{further, closing, hidden_let, and_true};
+ghost use Rattle.ca_forms.specs.Planned.{further, hidden_form_body, hidden_let, and_true};
 ghost use Rattle.ca_forms.specs.WalkView.{gathered, terms_of};
 ghost use Rattle.ca_forms.specs.declared.error.CheckError.{CheckError};
 
@@ -30,7 +30,7 @@ use std::alloc::Global;
 fn behind(alloc: Global, form: HiddenForm, first: u64, place: Place) -> Result<Hidden, CheckError>
     requires { first + 9 < 2 ^ 64 }
     ensures more { IfOk result (λ r. terms_of (list r.more) ≡ further form place first) }
-    ensures body { IfOk result (λ r. kernel r.body ≡ seq_of (kernels_of (closing form place first))) }
+    ensures body { IfOk result (λ r. kernel r.body ≡ seq_of (kernels_of (hidden_form_body form place first))) }
     ensures err { IfErr result (λ e. e ≡ CheckError.OutOfMemory) }
 {
     match form {
@@ -56,7 +56,7 @@ pub fn hiding(
     place: Place,
 ) -> Result<Made, CheckError>
     requires { first + length (list operands) ≤ 2 ^ 63 }
-    ensures ok { IfOk result (λ t. hidden_let first (terms_of (list operands)) (further form place first) (closing form place first) (gathered bodies.old) ≡ done (kernel t) (gathered bodies.new)) }
+    ensures ok { IfOk result (λ t. hidden_let first (terms_of (list operands)) (further form place first) (hidden_form_body form place first) (gathered bodies.old) ≡ done (kernel t) (gathered bodies.new)) }
     ensures err { IfErr result (λ e. e ≡ CheckError.OutOfMemory) }
 {
     let behind = behind(alloc, form, first, place)?;
@@ -89,7 +89,7 @@ pub fn merging(
     place: Place,
 ) -> Result<Made, CheckError>
     requires { first + length (list operands) ≤ 2 ^ 63 }
-    ensures ok { IfOk result (λ t. hidden_let first (terms_of (list operands)) [] (started SystemTask.Merge (var first ∷ var (first + 1) ∷ []) place ∷ var (first + 1) ∷ []) (gathered bodies.old) ≡ done (kernel t) (gathered bodies.new)) }
+    ensures ok { IfOk result (λ t. hidden_let first (terms_of (list operands)) [] (spawn_call SystemTask.Merge (var first ∷ var (first + 1) ∷ []) place ∷ var (first + 1) ∷ []) (gathered bodies.old) ≡ done (kernel t) (gathered bodies.new)) }
     ensures err { IfErr result (λ e. e ≡ CheckError.OutOfMemory) }
 {
     let behind = channels::merge(alloc, first, place)?;
@@ -106,7 +106,7 @@ pub fn publishing(
     place: Place,
 ) -> Result<Made, CheckError>
     requires { first + length (list operands) ≤ 2 ^ 63 }
-    ensures ok { IfOk result (λ t. hidden_let first (terms_of (list operands)) (made MakeKind.Pub (var first ∷ []) place ∷ []) (started (SystemTask.Pub given.function) (var (first + 1) ∷ var first ∷ keyword_terms given.keyword) place ∷ var (first + 1) ∷ []) (gathered bodies.old) ≡ done (kernel t) (gathered bodies.new)) }
+    ensures ok { IfOk result (λ t. hidden_let first (terms_of (list operands)) (make_call MakeKind.Pub (var first ∷ []) place ∷ []) (spawn_call (SystemTask.Pub given.function) (var (first + 1) ∷ var first ∷ keyword_terms given.keyword) place ∷ var (first + 1) ∷ []) (gathered bodies.old) ≡ done (kernel t) (gathered bodies.new)) }
     ensures err { IfErr result (λ e. e ≡ CheckError.OutOfMemory) }
 {
     let behind = publications::publication(alloc, first, given, place)?;
@@ -124,10 +124,10 @@ pub fn pipelining(
     place: Place,
 ) -> Result<Made, CheckError>
     requires { first + length (list operands) ≤ 2 ^ 63 }
-    ensures ok { IfOk result (λ t. hidden_let first (terms_of (list operands)) (made MakeKind.Fixed (var first ∷ []) place ∷ made MakeKind.Fixed (var first ∷ []) place ∷ made MakeKind.Fixed (whole 1 ∷ []) place ∷ [])
-        (repeated first (first + 7) (started (SystemTask.Job transform given.function) (var (first + 4) ∷ keyword_terms given.keyword) place) place
-        ∷ started SystemTask.Feed (var (first + 2) ∷ var (first + 4) ∷ var (first + 5) ∷ []) place
-        ∷ started SystemTask.Collect (var (first + 5) ∷ var (first + 1) ∷ var (first + 3) ∷ var (first + 6) ∷ []) place
+    ensures ok { IfOk result (λ t. hidden_let first (terms_of (list operands)) (make_call MakeKind.Fixed (var first ∷ []) place ∷ make_call MakeKind.Fixed (var first ∷ []) place ∷ make_call MakeKind.Fixed (whole_number 1 ∷ []) place ∷ [])
+        (repeated first (first + 7) (spawn_call (SystemTask.Job transform given.function) (var (first + 4) ∷ keyword_terms given.keyword) place) place
+        ∷ spawn_call SystemTask.Feed (var (first + 2) ∷ var (first + 4) ∷ var (first + 5) ∷ []) place
+        ∷ spawn_call SystemTask.Collect (var (first + 5) ∷ var (first + 1) ∷ var (first + 3) ∷ var (first + 6) ∷ []) place
         ∷ var (first + 6) ∷ []) (gathered bodies.old) ≡ done (kernel t) (gathered bodies.new)) }
     ensures err { IfErr result (λ e. e ≡ CheckError.OutOfMemory) }
 {

@@ -4,8 +4,8 @@ ghost use Rattle.ca_value.specs.Tree.{text, key};
 ghost use Rattle.ca_term.specs.Kernel.{const, item};
 ghost use Rattle.ca_term.specs.View.{kernel, kernels};
 ghost use Rattle.ca_forms.specs.declared.error.CheckError.{CheckError};
-ghost use Rattle.ca_forms.specs.Meaning.{Env, constant};
-ghost use Rattle.ca_forms.specs.Names.{written, is_known};
+ghost use Rattle.ca_forms.specs.Meaning.{Env, constant_value};
+ghost use Rattle.ca_forms.specs.Names.{written_text, is_known};
 ghost use Rattle.ca_forms.specs.Outcome.{Gathered, done};
 ghost use Rattle.ca_forms.specs.Operands.{with_vars, with_second};
 ghost use Rattle.ca_forms.specs.WalkView.{Fails};
@@ -22,8 +22,8 @@ use std::alloc::Global;
 
 /// The text as a constant; `TooMany` where it is longer than 65,535 bytes.
 pub fn text_constant(alloc: Global, bytes: &Text, place: Place) -> Result<Made, CheckError>
-    ensures ok { IfOk result (λ t. (env : Env) (s : Gathered) → written (list bytes.now) place (constant (text (list bytes.now))) env s ≡ done (kernel t) s) }
-    ensures err { IfErr result (λ e. (env : Env) (s : Gathered) → Fails e (written (list bytes.now) place (constant (text (list bytes.now))) env s)) }
+    ensures ok { IfOk result (λ t. (env : Env) (s : Gathered) → written_text (list bytes.now) place (constant_value (text (list bytes.now))) env s ≡ done (kernel t) s) }
+    ensures err { IfErr result (λ e. (env : Env) (s : Gathered) → Fails e (written_text (list bytes.now) place (constant_value (text (list bytes.now))) env s)) }
 {
     if 65535 < bytes.len() {
         return Err(CheckError::Fault(CheckErrorKind::TooMany, place));
@@ -33,10 +33,10 @@ pub fn text_constant(alloc: Global, bytes: &Text, place: Place) -> Result<Made, 
 
 /// The keyword as a constant; `TooMany` where it is longer than 65,535 bytes.
 pub fn key_constant(alloc: Global, bytes: &Text, place: Place) -> Result<Made, CheckError>
-    ensures ok { IfOk result (λ t. (env : Env) (s : Gathered) → written (list bytes.now) place (constant (key (list bytes.now))) env s ≡ done (kernel t) s) }
+    ensures ok { IfOk result (λ t. (env : Env) (s : Gathered) → written_text (list bytes.now) place (constant_value (key (list bytes.now))) env s ≡ done (kernel t) s) }
     ensures is { IfOk result (λ t. kernel t ≡ const (key (list bytes.now))) }
     ensures short { OnOk result (length (list bytes.now) ≤ 65535) }
-    ensures err { IfErr result (λ e. (env : Env) (s : Gathered) → Fails e (written (list bytes.now) place (constant (key (list bytes.now))) env s)) }
+    ensures err { IfErr result (λ e. (env : Env) (s : Gathered) → Fails e (written_text (list bytes.now) place (constant_value (key (list bytes.now))) env s)) }
 {
     if 65535 < bytes.len() {
         return Err(CheckError::Fault(CheckErrorKind::TooMany, place));

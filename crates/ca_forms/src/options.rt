@@ -1,7 +1,7 @@
 ghost use Rattle.std.specs.Prelude.{◌≡◌, drop};
 ghost use Rattle.ca_reader.specs.View.{form_tree};
-ghost use Rattle.ca_forms.specs.Channels.{is_key, option_of, both_options, options_in, buffer_named, head_word, word_of, word_in, is_sized, transform_named};
-ghost use Rattle.ca_forms.specs.WalkView.{part, parts_of, pairs_of};
+ghost use Rattle.ca_forms.specs.Channels.{is_key, option_of, both_options, options_in, buffer_named, head_word, word_of, word_of_part, is_sized, transform_named};
+ghost use Rattle.ca_forms.specs.WalkView.{part, form_parts, form_pairs};
 
 use crate::special::Special;
 use ca_reader::form::{Form, Shape};
@@ -47,7 +47,7 @@ fn both_options(first: Option<AltsOptions>, second: Option<AltsOptions>) -> Opti
 /// The options of an alts, whose word stands first among its parts; None where they are wrong.
 #[tactic(auto, using(crate::proofs::OptionLaws::options_off, crate::proofs::OptionLaws::options_one, crate::proofs::OptionLaws::options_two, crate::proofs::OptionLaws::options_three))]
 pub fn options_in(parts: &[Form]) -> Option<AltsOptions>
-    ensures { result ≡ options_in (parts_of (drop 1 parts.now)) }
+    ensures { result ≡ options_in (form_parts (drop 1 parts.now)) }
 {
     match parts {
         [_, _] => Some(AltsOptions::None),
@@ -69,7 +69,7 @@ fn head_word(form: &Form) -> Option<Special>
 }
 
 fn word_of(forms: &[Form]) -> Option<Special>
-    ensures { result ≡ word_of (pairs_of forms.now) }
+    ensures { result ≡ word_of (form_pairs forms.now) }
 {
     match forms {
         [] => None,
@@ -79,7 +79,7 @@ fn word_of(forms: &[Form]) -> Option<Special>
 
 /// The word at the head of a form that is a list.
 pub fn word_in(form: &Form) -> Option<Special>
-    ensures { result ≡ word_in (part form.now) }
+    ensures { result ≡ word_of_part (part form.now) }
 {
     match &form.shape {
         Shape::List(forms) => word_of(forms.as_slice()),
@@ -114,7 +114,7 @@ pub fn transform_named(word: Option<Special>) -> Option<Transform>
 
 // Whether a buffer's word at the head has one size behind it.
 fn is_sized_list(forms: &[Form]) -> bool
-    ensures { result ≡ is_sized (buffer_named (word_of (pairs_of forms.now))) (pairs_of forms.now) }
+    ensures { result ≡ is_sized (buffer_named (word_of (form_pairs forms.now))) (form_pairs forms.now) }
 {
     match buffer_named(word_of(forms)) {
         Some(_) => forms.len() == 2,
@@ -124,7 +124,7 @@ fn is_sized_list(forms: &[Form]) -> bool
 
 /// Whether a buffer's word has one size behind it; a form without such a word is right too.
 pub fn is_sized(form: &Form) -> bool
-    ensures { result ≡ is_sized (buffer_named (word_in (part form.now))) (part form.now).within }
+    ensures { result ≡ is_sized (buffer_named (word_of_part (part form.now))) (part form.now).within }
 {
     match &form.shape {
         Shape::List(forms) => is_sized_list(forms.as_slice()),

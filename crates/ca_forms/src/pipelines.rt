@@ -6,8 +6,8 @@ ghost use Rattle.ca_term.specs.Kernel.{const, var, branch as branch_of, seq as s
 ghost use Rattle.ca_term.specs.View.{kernel, kernels_of};
 ghost use Rattle.ca_term.specs.declared.head.MakeKind.{MakeKind};
 ghost use Rattle.ca_term.specs.declared.head.SystemTask.{SystemTask};
-ghost use Rattle.ca_forms.specs.Channels.{built, made, started, whole, repeated};
-ghost use Rattle.ca_forms.specs.Depth.{depth_of};
+ghost use Rattle.ca_forms.specs.Channels.{built, make_call, spawn_call, whole_number, repeated};
+ghost use Rattle.ca_forms.specs.Depth.{kernel_depth};
 ghost use Rattle.ca_forms.specs.GivenView.{keyword_terms};
 ghost use Rattle.ca_forms.specs.Rounds.{recur_term, next_term};
 ghost use Rattle.ca_forms.specs.WalkView.{terms_of};
@@ -54,8 +54,8 @@ pub fn applying(
     keyword: Option<Text>,
     place: Place,
 ) -> Result<Made, CheckError>
-    ensures ok { IfOk result (λ t. kernel t ≡ started task (map var numbers.now ++ keyword_terms keyword) place) }
-    ensures small { IfOk result (λ t. depth_of (kernel t) ≤ 2) }
+    ensures ok { IfOk result (λ t. kernel t ≡ spawn_call task (map var numbers.now ++ keyword_terms keyword) place) }
+    ensures small { IfOk result (λ t. kernel_depth (kernel t) ≤ 2) }
     ensures err { IfErr result (λ e. e ≡ CheckError.OutOfMemory) }
 {
     let operands = locals(alloc, numbers)?;
@@ -65,7 +65,7 @@ pub fn applying(
 
 // What is done while the index is below the count: the job, and then the next round.
 fn round(alloc: Global, count: u64, index: u64, job: Made, place: Place) -> Result<Made, CheckError>
-    requires { depth_of (kernel job) ≤ 2 }
+    requires { kernel_depth (kernel job) ≤ 2 }
     ensures ok { IfOk result (λ t. kernel t ≡ branch_of (built Builtin.Less (var index ∷ var count ∷ []) place) (seq_of (kernels_of (kernel job ∷ recur_term (next_term index place ∷ []) place ∷ []))) (const nil)) }
     ensures err { IfErr result (λ e. e ≡ CheckError.OutOfMemory) }
 {
@@ -84,7 +84,7 @@ fn repeated(
     place: Place,
 ) -> Result<Made, CheckError>
     requires number { index + 1 < 2 ^ 64 }
-    requires small { depth_of (kernel job) ≤ 2 }
+    requires small { kernel_depth (kernel job) ≤ 2 }
     ensures ok { IfOk result (λ t. kernel t ≡ repeated count index (kernel job) place) }
     ensures err { IfErr result (λ e. e ≡ CheckError.OutOfMemory) }
 {
@@ -104,10 +104,10 @@ pub fn pipeline(
     place: Place,
 ) -> Result<Hidden, CheckError>
     requires { first + 8 < 2 ^ 64 }
-    ensures more { IfOk result (λ r. terms_of (list r.more) ≡ made MakeKind.Fixed (var first ∷ []) place ∷ made MakeKind.Fixed (var first ∷ []) place ∷ made MakeKind.Fixed (whole 1 ∷ []) place ∷ []) }
-    ensures body { IfOk result (λ r. kernel r.body ≡ seq_of (kernels_of (repeated first (first + 7) (started (SystemTask.Job transform given.function) (var (first + 4) ∷ keyword_terms given.keyword) place) place
-        ∷ started SystemTask.Feed (var (first + 2) ∷ var (first + 4) ∷ var (first + 5) ∷ []) place
-        ∷ started SystemTask.Collect (var (first + 5) ∷ var (first + 1) ∷ var (first + 3) ∷ var (first + 6) ∷ []) place
+    ensures more { IfOk result (λ r. terms_of (list r.more) ≡ make_call MakeKind.Fixed (var first ∷ []) place ∷ make_call MakeKind.Fixed (var first ∷ []) place ∷ make_call MakeKind.Fixed (whole_number 1 ∷ []) place ∷ []) }
+    ensures body { IfOk result (λ r. kernel r.body ≡ seq_of (kernels_of (repeated first (first + 7) (spawn_call (SystemTask.Job transform given.function) (var (first + 4) ∷ keyword_terms given.keyword) place) place
+        ∷ spawn_call SystemTask.Feed (var (first + 2) ∷ var (first + 4) ∷ var (first + 5) ∷ []) place
+        ∷ spawn_call SystemTask.Collect (var (first + 5) ∷ var (first + 1) ∷ var (first + 3) ∷ var (first + 6) ∷ []) place
         ∷ var (first + 6) ∷ []))) }
     ensures err { IfErr result (λ e. e ≡ CheckError.OutOfMemory) }
 {
@@ -142,7 +142,7 @@ pub fn pipeline(
 
 // The channels of jobs and of results, and the port that answers at the end.
 fn pipes(alloc: Global, workers: u64, place: Place) -> Result<Seq<Made>, CheckError>
-    ensures ok { IfOk result (λ s. terms_of (list s) ≡ made MakeKind.Fixed (var workers ∷ []) place ∷ made MakeKind.Fixed (var workers ∷ []) place ∷ made MakeKind.Fixed (whole 1 ∷ []) place ∷ []) }
+    ensures ok { IfOk result (λ s. terms_of (list s) ≡ make_call MakeKind.Fixed (var workers ∷ []) place ∷ make_call MakeKind.Fixed (var workers ∷ []) place ∷ make_call MakeKind.Fixed (whole_number 1 ∷ []) place ∷ []) }
     ensures err { IfErr result (λ e. e ≡ CheckError.OutOfMemory) }
 {
     let jobs = made(alloc, MakeKind::Fixed, &[workers], place)?;

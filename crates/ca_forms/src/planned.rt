@@ -1,10 +1,10 @@
 ghost use Rattle.std.specs.Prelude.{◌≡◌, ◌<◌, [], ◌∷◌, length, drop, cond, Some, option_map};
 ghost use Rattle.ca_reader.specs.View.{form_tree};
 ghost use Rattle.ca_forms.specs.Walk.{within};
-ghost use Rattle.ca_forms.specs.Channels.{transform_named, word_in};
+ghost use Rattle.ca_forms.specs.Channels.{transform_named, word_of_part};
 ghost use Rattle.ca_forms.specs.declared.planned.Planned.{Planned};
-ghost use Rattle.ca_forms.specs.Planned.{misshapen, shaped, parked, blocked, plan_of, plan_of_entry, plan_of_flow, plan_of_alts, plan_of_merge, plan_of_transform, plan_of_pipeline, function_within};
-ghost use Rattle.ca_forms.specs.WalkView.{part, parts_of, pairs_of};
+ghost use Rattle.ca_forms.specs.Planned.{misshapen, shaped, only_in_go_text, blocked, plan_of, plan_of_entry, plan_of_flow, plan_of_alts, plan_of_merge, plan_of_transform, plan_of_pipeline, function_within};
+ghost use Rattle.ca_forms.specs.WalkView.{part, form_parts, form_pairs};
 
 use crate::context::Context;
 use crate::error::CheckErrorKind;
@@ -57,7 +57,7 @@ const WRONG: Planned = Planned::Wrong(CheckErrorKind::BadForm);
 #[tactic(auto, using(crate::proofs::PlanLaws::shaped_some, crate::proofs::PlanLaws::shaped_none))]
 fn shaped(choices: &[Planned], parts: &[Form]) -> Planned
     requires { 0 < length parts.now }
-    ensures { result ≡ shaped choices.now (parts_of (drop 1 parts.now)) }
+    ensures { result ≡ shaped choices.now (form_parts (drop 1 parts.now)) }
 {
     match choices.get(parts.len() - 1) {
         Some(planned) => *planned,
@@ -68,7 +68,7 @@ fn shaped(choices: &[Planned], parts: &[Form]) -> Planned
 // One part stands behind the word.
 fn of_one(planned: Planned, parts: &[Form]) -> Planned
     requires { 0 < length parts.now }
-    ensures { result ≡ shaped (misshapen ∷ planned ∷ []) (parts_of (drop 1 parts.now)) }
+    ensures { result ≡ shaped (misshapen ∷ planned ∷ []) (form_parts (drop 1 parts.now)) }
 {
     shaped(&[WRONG, planned], parts)
 }
@@ -76,7 +76,7 @@ fn of_one(planned: Planned, parts: &[Form]) -> Planned
 // Two parts do.
 fn of_two(planned: Planned, parts: &[Form]) -> Planned
     requires { 0 < length parts.now }
-    ensures { result ≡ shaped (misshapen ∷ misshapen ∷ planned ∷ []) (parts_of (drop 1 parts.now)) }
+    ensures { result ≡ shaped (misshapen ∷ misshapen ∷ planned ∷ []) (form_parts (drop 1 parts.now)) }
 {
     shaped(&[WRONG, WRONG, planned], parts)
 }
@@ -84,13 +84,13 @@ fn of_two(planned: Planned, parts: &[Form]) -> Planned
 // Two parts do, or an option as the third.
 fn with_option(unwritten: Planned, written: Planned, parts: &[Form]) -> Planned
     requires { 0 < length parts.now }
-    ensures { result ≡ shaped (misshapen ∷ misshapen ∷ unwritten ∷ written ∷ []) (parts_of (drop 1 parts.now)) }
+    ensures { result ≡ shaped (misshapen ∷ misshapen ∷ unwritten ∷ written ∷ []) (form_parts (drop 1 parts.now)) }
 {
     shaped(&[WRONG, WRONG, unwritten, written], parts)
 }
 
 fn parked(context: Context, planned: Planned) -> Planned
-    ensures { result ≡ parked context planned }
+    ensures { result ≡ only_in_go_text context planned }
 {
     match (planned, context) {
         (Planned::Wrong(kind), _) => Planned::Wrong(kind),
@@ -121,7 +121,7 @@ fn plan_of_alts(options: Option<AltsOptions>) -> Planned
 // A buffer's word has one size behind it.
 #[tactic(auto, using(crate::proofs::PlanLaws::merge_one, crate::proofs::PlanLaws::merge_two, crate::proofs::PlanLaws::merge_off))]
 fn plan_of_merge(parts: &[Form]) -> Planned
-    ensures { result ≡ plan_of_merge (parts_of (drop 1 parts.now)) }
+    ensures { result ≡ plan_of_merge (form_parts (drop 1 parts.now)) }
 {
     match parts {
         [_, _] => Planned::Merge,
@@ -138,7 +138,7 @@ fn sized_merge(sized: bool) -> Planned
 
 // One function stands behind the transform's word.
 fn plan_of_transform(form: &Form) -> Planned
-    ensures { result ≡ plan_of_transform (transform_named (word_in (part form.now))) (part form.now).within }
+    ensures { result ≡ plan_of_transform (transform_named (word_of_part (part form.now))) (part form.now).within }
 {
     match transform_named(word_in(form)) {
         Some(transform) => plan_over(transform, form),
@@ -160,7 +160,7 @@ fn plan_over(transform: Transform, form: &Form) -> Planned
 
 #[tactic(auto, using(crate::proofs::PlanLaws::transform_on, crate::proofs::PlanLaws::transform_off))]
 fn plan_within(transform: Transform, forms: &[Form]) -> Planned
-    ensures { result ≡ plan_of_transform (Some transform) (pairs_of forms.now) }
+    ensures { result ≡ plan_of_transform (Some transform) (form_pairs forms.now) }
 {
     if forms.len() == 2 {
         Planned::Pipeline(transform)
@@ -171,7 +171,7 @@ fn plan_within(transform: Transform, forms: &[Form]) -> Planned
 
 #[tactic(auto, using(crate::proofs::PlanLaws::pipeline_four, crate::proofs::PlanLaws::pipeline_five, crate::proofs::PlanLaws::pipeline_off))]
 fn plan_of_pipeline(parts: &[Form]) -> Planned
-    ensures { result ≡ plan_of_pipeline (parts_of (drop 1 parts.now)) }
+    ensures { result ≡ plan_of_pipeline (form_parts (drop 1 parts.now)) }
 {
     match parts {
         [_, _, _, transform, _] => plan_of_transform(transform),
@@ -183,7 +183,7 @@ fn plan_of_pipeline(parts: &[Form]) -> Planned
 // What is done once: new tasks between channels.
 fn plan_of_flow(word: Special, parts: &[Form]) -> Planned
     requires { 0 < length parts.now }
-    ensures { result ≡ plan_of_flow word (parts_of (drop 1 parts.now)) }
+    ensures { result ≡ plan_of_flow word (form_parts (drop 1 parts.now)) }
 {
     match word {
         Special::Pub => of_two(Planned::Pub, parts),
@@ -207,7 +207,7 @@ fn plan_of_flow(word: Special, parts: &[Form]) -> Planned
 // Mults, mixes and publications.
 fn plan_of_entry(word: Special, parts: &[Form]) -> Planned
     requires { 0 < length parts.now }
-    ensures { result ≡ plan_of_entry word (parts_of (drop 1 parts.now)) }
+    ensures { result ≡ plan_of_entry word (form_parts (drop 1 parts.now)) }
 {
     match word {
         Special::Mult => of_one(Planned::Hidden(HiddenForm::Mult), parts),
@@ -259,7 +259,7 @@ fn plan_of_entry(word: Special, parts: &[Form]) -> Planned
 /// What the form of that word is, its word standing first among its parts.
 pub fn plan_of(word: Special, context: Context, parts: &[Form]) -> Planned
     requires { 0 < length parts.now }
-    ensures { result ≡ plan_of word context (parts_of (drop 1 parts.now)) }
+    ensures { result ≡ plan_of word context (form_parts (drop 1 parts.now)) }
 {
     match word {
         Special::Take => parked(context, of_one(Planned::Operands(Head::Take), parts)),
@@ -294,7 +294,7 @@ pub fn function_in(form: &Form) -> Option<&Form>
 
 #[tactic(auto, using(crate::proofs::PlanLaws::second_on, crate::proofs::PlanLaws::second_off))]
 fn second_of_two(forms: &[Form]) -> Option<&Form>
-    ensures { option_map (λ f. form_tree f.now) result ≡ function_within (pairs_of forms.now) }
+    ensures { option_map (λ f. form_tree f.now) result ≡ function_within (form_pairs forms.now) }
 {
     match forms {
         [_, second] => Some(second),

@@ -7,7 +7,7 @@ ghost use Rattle.ca_term.specs.View.{kernel, kernels_of};
 ghost use Rattle.ca_term.specs.declared.head.MakeKind.{MakeKind};
 ghost use Rattle.ca_term.specs.declared.head.SystemTask.{SystemTask};
 ghost use Rattle.ca_term.specs.declared.head.RegisterName.{RegisterName};
-ghost use Rattle.ca_forms.specs.Channels.{built, made, started, registered, nth_of, placed};
+ghost use Rattle.ca_forms.specs.Channels.{built, make_call, spawn_call, register_call, nth_call, topic_placed};
 ghost use Rattle.ca_forms.specs.GivenView.{keyword_terms};
 ghost use Rattle.ca_forms.specs.WalkView.{terms_of};
 ghost use Rattle.ca_forms.specs.declared.error.CheckError.{CheckError};
@@ -36,8 +36,8 @@ pub fn publication(
     place: Place,
 ) -> Result<Hidden, CheckError>
     requires { first + 2 < 2 ^ 64 }
-    ensures more { IfOk result (λ r. terms_of (list r.more) ≡ made MakeKind.Pub (var first ∷ []) place ∷ []) }
-    ensures body { IfOk result (λ r. kernel r.body ≡ seq_of (kernels_of (started (SystemTask.Pub given.function) (var (first + 1) ∷ var first ∷ keyword_terms given.keyword) place ∷ var (first + 1) ∷ []))) }
+    ensures more { IfOk result (λ r. terms_of (list r.more) ≡ make_call MakeKind.Pub (var first ∷ []) place ∷ []) }
+    ensures body { IfOk result (λ r. kernel r.body ≡ seq_of (kernels_of (spawn_call (SystemTask.Pub given.function) (var (first + 1) ∷ var first ∷ keyword_terms given.keyword) place ∷ var (first + 1) ∷ []))) }
     ensures err { IfErr result (λ e. e ≡ CheckError.OutOfMemory) }
 {
     let Applied { function, keyword } = given;
@@ -57,8 +57,8 @@ pub fn publication(
 /// `(sub p t c z)`, behind the publication, the topic, the port and whether to close.
 pub fn sub(alloc: Global, first: u64, place: Place) -> Result<Hidden, CheckError>
     requires { first + 9 < 2 ^ 64 }
-    ensures more { IfOk result (λ r. terms_of (list r.more) ≡ registered RegisterName.Find (var first ∷ var (first + 1) ∷ []) place ∷ branch_of (built Builtin.IsNil (var (first + 4) ∷ []) place) (placed first (first + 1) (first + 5) place) (var (first + 4)) ∷ []) }
-    ensures body { IfOk result (λ r. kernel r.body ≡ seq_of (kernels_of (registered RegisterName.Tap (nth_of (first + 5) 0 place ∷ var (first + 2) ∷ var (first + 3) ∷ []) place ∷ const nil ∷ []))) }
+    ensures more { IfOk result (λ r. terms_of (list r.more) ≡ register_call RegisterName.Find (var first ∷ var (first + 1) ∷ []) place ∷ branch_of (built Builtin.IsNil (var (first + 4) ∷ []) place) (topic_placed first (first + 1) (first + 5) place) (var (first + 4)) ∷ []) }
+    ensures body { IfOk result (λ r. kernel r.body ≡ seq_of (kernels_of (register_call RegisterName.Tap (nth_call (first + 5) 0 place ∷ var (first + 2) ∷ var (first + 3) ∷ []) place ∷ const nil ∷ []))) }
     ensures err { IfErr result (λ e. e ≡ CheckError.OutOfMemory) }
 {
     let found = registered(alloc, RegisterName::Find, &[first, first + 1], place)?;
@@ -71,7 +71,7 @@ pub fn sub(alloc: Global, first: u64, place: Place) -> Result<Hidden, CheckError
 // The topic's entry: the one that was found, else a new one.
 fn entered(alloc: Global, first: u64, place: Place) -> Result<Made, CheckError>
     requires { first + 9 < 2 ^ 64 }
-    ensures ok { IfOk result (λ t. kernel t ≡ branch_of (built Builtin.IsNil (var (first + 4) ∷ []) place) (placed first (first + 1) (first + 5) place) (var (first + 4))) }
+    ensures ok { IfOk result (λ t. kernel t ≡ branch_of (built Builtin.IsNil (var (first + 4) ∷ []) place) (topic_placed first (first + 1) (first + 5) place) (var (first + 4))) }
     ensures err { IfErr result (λ e. e ≡ CheckError.OutOfMemory) }
 {
     let test = over(alloc, Head::Builtin(Builtin::IsNil), &[first + 4], place)?;
@@ -82,7 +82,7 @@ fn entered(alloc: Global, first: u64, place: Place) -> Result<Made, CheckError>
 // A tap of the topic's mult, and nil.
 fn tapped(alloc: Global, first: u64, place: Place) -> Result<Made, CheckError>
     requires { first + 9 < 2 ^ 64 }
-    ensures ok { IfOk result (λ t. kernel t ≡ seq_of (kernels_of (registered RegisterName.Tap (nth_of (first + 5) 0 place ∷ var (first + 2) ∷ var (first + 3) ∷ []) place ∷ const nil ∷ []))) }
+    ensures ok { IfOk result (λ t. kernel t ≡ seq_of (kernels_of (register_call RegisterName.Tap (nth_call (first + 5) 0 place ∷ var (first + 2) ∷ var (first + 3) ∷ []) place ∷ const nil ∷ []))) }
     ensures err { IfErr result (λ e. e ≡ CheckError.OutOfMemory) }
 {
     let entry = nth_of(alloc, first + 5, 0, place)?;
@@ -101,7 +101,7 @@ fn placed(
     place: Place,
 ) -> Result<Made, CheckError>
     requires { first + 4 < 2 ^ 64 }
-    ensures ok { IfOk result (λ t. kernel t ≡ placed publication topic first place) }
+    ensures ok { IfOk result (λ t. kernel t ≡ topic_placed publication topic first place) }
     ensures err { IfErr result (λ e. e ≡ CheckError.OutOfMemory) }
 {
     let values = placing(alloc, publication, topic, first, place)?;
@@ -120,7 +120,7 @@ fn placed(
 // Whether the topic's entry holds the mult, the numbers being those from `first` on.
 fn is_placed(alloc: Global, first: u64, place: Place) -> Result<Made, CheckError>
     requires { first + 4 < 2 ^ 64 }
-    ensures ok { IfOk result (λ t. kernel t ≡ built Builtin.Equal (nth_of (first + 3) 0 place ∷ var (first + 2) ∷ []) place) }
+    ensures ok { IfOk result (λ t. kernel t ≡ built Builtin.Equal (nth_call (first + 3) 0 place ∷ var (first + 2) ∷ []) place) }
     ensures err { IfErr result (λ e. e ≡ CheckError.OutOfMemory) }
 {
     let found = nth_of(alloc, first + 3, 0, place)?;
@@ -137,7 +137,7 @@ fn placing(
     place: Place,
 ) -> Result<Seq<Made>, CheckError>
     requires { first + 4 < 2 ^ 64 }
-    ensures ok { IfOk result (λ s. terms_of (list s) ≡ made MakeKind.Unbuffered [] place ∷ made MakeKind.Unbuffered [] place ∷ made MakeKind.Mult (var first ∷ []) place ∷ registered RegisterName.Place (var publication ∷ var topic ∷ var (first + 2) ∷ var first ∷ []) place ∷ []) }
+    ensures ok { IfOk result (λ s. terms_of (list s) ≡ make_call MakeKind.Unbuffered [] place ∷ make_call MakeKind.Unbuffered [] place ∷ make_call MakeKind.Mult (var first ∷ []) place ∷ register_call RegisterName.Place (var publication ∷ var topic ∷ var (first + 2) ∷ var first ∷ []) place ∷ []) }
     ensures err { IfErr result (λ e. e ≡ CheckError.OutOfMemory) }
 {
     let source = made(alloc, MakeKind::Unbuffered, &[], place)?;

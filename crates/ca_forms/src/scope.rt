@@ -27,13 +27,13 @@ pub struct Scope {
 impl Model for Scope {
     ghost use Rattle.ca_value.specs.Seq.{list};
     ghost use Rattle.std.specs.Prelude.{ℕ, List, []};
-    ghost use Rattle.ca_forms.specs.ScopeView.{names_of, Finds, Hide};
+    ghost use Rattle.ca_forms.specs.ScopeView.{names_of_bounds, FindsLastPlaces, Hide};
 
     ghost Value = { List (List ℕ) };
 
-    ghost view = { λ s. names_of (list s.names) };
+    ghost view = { λ s. names_of_bounds (list s.names) };
 
-    ghost invariant = { λ s. Finds (λ v. v.items) s.numbers.entries (names_of (list s.names)) × Hide [] (list s.names) };
+    ghost invariant = { λ s. FindsLastPlaces (λ v. v.items) s.numbers.entries (names_of_bounds (list s.names)) × Hide [] (list s.names) };
 }
 
 impl Scope {

@@ -5,7 +5,7 @@ ghost use Rattle.ca_forms.specs.Binders.{is_odd, is_reserved, name_in, names_in,
 ghost use Rattle.ca_forms.specs.Judged.{bounds_error, over_long, pattern_of, total_binder, total_bounds};
 ghost use Rattle.ca_forms.specs.Plain.{binders};
 ghost use Rattle.ca_forms.specs.Walk.{within};
-ghost use Rattle.ca_forms.specs.WalkView.{part, pairs_of};
+ghost use Rattle.ca_forms.specs.WalkView.{part, form_pairs};
 
 use crate::error::CheckErrorKind;
 use crate::special::Special;
@@ -74,7 +74,7 @@ pub fn is_binder(form: &Form) -> bool
 
 // Whether each second form binds names, and each has its value behind it.
 fn are_bounds(forms: &[Form]) -> bool
-    ensures { result ≡ is_some (bounds (pairs_of forms.now)) }
+    ensures { result ≡ is_some (bounds (form_pairs forms.now)) }
 {
     let mut i = 0;
     while i + 1 < forms.len() {
@@ -88,7 +88,7 @@ fn are_bounds(forms: &[Form]) -> bool
 
 #[tactic(auto, using(crate::proofs::ShapeLaws::items_bad, crate::proofs::ShapeLaws::items_good))]
 fn items_error(forms: &[Form]) -> Option<CheckErrorKind>
-    ensures { result ≡ bounds_error (bounds (pairs_of forms.now)) }
+    ensures { result ≡ bounds_error (bounds (form_pairs forms.now)) }
 {
     if !are_bounds(forms) {
         Some(CheckErrorKind::BadForm)
@@ -148,7 +148,7 @@ pub fn pattern_items(form: &Form) -> &[Form]
 }
 
 fn binds_pattern(items: &[Form]) -> bool
-    ensures { result ≡ list_any is_pattern (binders (total_bounds (pairs_of items.now))) }
+    ensures { result ≡ list_any is_pattern (binders (total_bounds (form_pairs items.now))) }
 {
     for i in 0..items.len() / 2 {
         if is_pattern(&items[2 * i]) {

@@ -2,7 +2,7 @@ ghost use Rattle.std.specs.Prelude.{◌≡◌, [], OnOk, IfOk};
 ghost use Rattle.ca_value.specs.Seq.{list};
 ghost use Rattle.ca_term.specs.View.{kernel, kernels, bindings};
 ghost use Rattle.ca_forms.specs.Tops.{plain_with};
-ghost use Rattle.ca_forms.specs.Uses.{noted, uses, uses_items, uses_bindings, is_recur, aims_out, last_aims_out, is_plain_head, is_plain, are_plain, are_plain_bindings};
+ghost use Rattle.ca_forms.specs.Uses.{name_noted, uses, uses_items, uses_bindings, is_recur, aims_out, last_aims_out, is_plain_head, is_plain, are_plain, are_plain_bindings};
 
 use crate::functions::Functions;
 use ca_term::head::Head;
@@ -22,7 +22,7 @@ pub fn uses(alloc: Global, size: u64, term: &Term) -> Result<Seq<u64>, OutOfMemo
 }
 
 fn note(seen: &mut IndexSet<u64>, size: u64, number: u64) -> Result<(), OutOfMemory>
-    ensures { OnOk result (seen.new.keys ≡ noted size number seen.old.keys) }
+    ensures { OnOk result (seen.new.keys ≡ name_noted size number seen.old.keys) }
 {
     if number < size {
         seen.insert(number)?;

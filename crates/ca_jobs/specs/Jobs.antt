@@ -14,10 +14,10 @@ use Rattle.ca_jobs.specs.declared.job.State.TheVariants.{Takes, Works, Replies}
 abbrev pub work_view : WorkCode → Place → Work
 work_view w p = record { transform = w.transform; function = w.function; keyword = view w.keyword; place = p }
 
-abbrev pub state_view : State → JobState
-state_view Takes = job_takes
-state_view (Works v p) = job_works (view v) p.n
-state_view (Replies p ys) = job_replies p.n (trees_of (vector_trees ys))
+abbrev pub job_state_view : State → JobState
+job_state_view Takes = job_takes
+job_state_view (Works v p) = job_works (view v) p.n
+job_state_view (Replies p ys) = job_replies p.n (trees_of (vector_trees ys))
 
 abbrev pub job_body : WorkCode → Place → NextState State → SystemBody
-job_body k p x = a_job k.jobs.n (work_view k p) (next_view state_view x)
+job_body k p x = a_job k.jobs.n (work_view k p) (next_view job_state_view x)

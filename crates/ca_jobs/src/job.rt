@@ -8,11 +8,11 @@ ghost use Rattle.ca_term.specs.declared.place.Place.{Place};
 ghost use Rattle.ca_meaning.specs.Asks.{to};
 ghost use Rattle.ca_meaning.specs.PipelineTable.{job_next, job_takes, worked_by};
 ghost use Rattle.ca_meaning.specs.System.{new_system};
-ghost use Rattle.ca_system.specs.Applications.{applied, pending, work_done};
+ghost use Rattle.ca_system.specs.Applications.{function_applied, pending_application, work_done};
 ghost use Rattle.ca_system.specs.Applied.{application_view, returned_view};
 ghost use Rattle.ca_system.specs.Stands.{running_body, next_view};
 ghost use Rattle.ca_jobs.specs.Outputs.{outputs_view};
-ghost use Rattle.ca_jobs.specs.Jobs.{job_body, state_view, work_view};
+ghost use Rattle.ca_jobs.specs.Jobs.{job_body, job_state_view, work_view};
 
 use crate::outputs::{Outputs, outputs_by};
 use ca_asking::operands::{port_at, value_at};
@@ -70,7 +70,7 @@ pub fn new_job(transform: Transform, function: PlainFunction, values: Items, pla
 
 /// The transform's function with its value, where the task is about to apply it.
 pub fn pending_work(task: &Job) -> Option<Application<'_>>
-    ensures { option_map application_view result ≡ pending (running_body job_body task.now) }
+    ensures { option_map application_view result ≡ pending_application (running_body job_body task.now) }
 {
     match &task.state {
         Next::To(State::Works(value, _)) => Some(Application {
@@ -85,7 +85,7 @@ pub fn pending_work(task: &Job) -> Option<Application<'_>>
 
 /// Goes on with what the function came to. After `OutOfMemory` the task is only dropped.
 pub fn work_done(task: &mut Job, alloc: Global, returned: Returned) -> Result<(), OutOfMemory>
-    ensures { OnOk result (running_body job_body task.new ≡ applied (returned_view returned) (running_body job_body task.old)) }
+    ensures { OnOk result (running_body job_body task.new ≡ function_applied (returned_view returned) (running_body job_body task.old)) }
 {
     match mem::replace(&mut task.state, Next::Stop) {
         Next::To(state) => task.state = task.kind.worked(alloc, state, returned)?,
@@ -135,7 +135,7 @@ impl Work {
         state: State,
         returned: Returned,
     ) -> Result<Next<State>, OutOfMemory>
-        ensures { IfOk result (λ n. (place : Place) → next_view state_view n ≡ work_done (work_view self.now place) (returned_view returned) (to (state_view state))) }
+        ensures { IfOk result (λ n. (place : Place) → next_view job_state_view n ≡ work_done (work_view self.now place) (returned_view returned) (to (job_state_view state))) }
     {
         match state {
             State::Works(value, reply) => {
@@ -150,7 +150,7 @@ impl Work {
 
 // What follows on a value with its reply port, or on the end of the jobs.
 fn taken(alloc: Global, answer: &Value) -> Result<Next<State>, OutOfMemory>
-    ensures { IfOk result (λ n. next_view state_view n ≡ job_next (view answer.now) job_takes) }
+    ensures { IfOk result (λ n. next_view job_state_view n ≡ job_next (view answer.now) job_takes) }
 {
     if is_nil(answer) {
         return Ok(Next::Stop);
@@ -163,7 +163,7 @@ fn taken(alloc: Global, answer: &Value) -> Result<Next<State>, OutOfMemory>
 
 // The outputs go to the reply port; or the task ends with the fault.
 fn replies(reply: PortId, outputs: Outputs) -> Next<State>
-    ensures { next_view state_view result ≡ worked_by reply.n (outputs_view outputs) }
+    ensures { next_view job_state_view result ≡ worked_by reply.n (outputs_view outputs) }
 {
     match outputs {
         Outputs::All(outputs) => Next::To(State::Replies(reply, outputs)),

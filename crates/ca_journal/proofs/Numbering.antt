@@ -3,20 +3,20 @@ use Rattle.std.proofs.Common.{◌≡◌, ℕ, suc, zero, ◌+◌, ◌<◌, Bool,
 use Rattle.std.proofs.Math.Numerals.{add-one}
 use Rattle.std.specs.Prelude.{cond, nat_le}
 use Rattle.std.specs.declared.vec.Vec.{Vec}
-use Rattle.ca_meaning.specs.Shown.{IsNumbered}
+use Rattle.ca_meaning.specs.Shown.{IsEventNumbered}
 use Rattle.ca_meaning.specs.Sound.{Each}
 use Rattle.ca_journal.specs.declared.entries.Entries.{Entries}
 use Rattle.ca_journal.specs.declared.entry.Entry.{Entry}
 use Rattle.ca_journal.specs.declared.journal.Journal.{Journal}
 use Rattle.ca_journal.specs.Events.{events}
 use Rattle.ca_journal.specs.Kept.{upto}
-use Rattle.ca_journal.specs.Merge.{Numbered, entries, events_of, in_order, joined, laid, piece, placed}
+use Rattle.ca_journal.specs.Merge.{Numbered, entries, events_of, in_order, joined, laid, piece_entries, placed}
 
 abbrev pub AllNumbered : List Numbered → Type 0
-AllNumbered = Each (λ (e : Numbered). IsNumbered e.event)
+AllNumbered = Each (λ (e : Numbered). IsEventNumbered e.event)
 
 abbrev pub PieceNumbered : {Z : Type 0} → Vec Entry Z → Type 0
-PieceNumbered p = AllNumbered (piece p)
+PieceNumbered p = AllNumbered (piece_entries p)
 
 abbrev pub ListNumbered : Entries → Type 0
 ListNumbered l = AllNumbered (entries l)
@@ -33,18 +33,18 @@ each-append : {A : Type 0} (P : A → Type 0) (xs ys : List A) → Each P xs →
 each-append P [] ys h k = k
 each-append P (x ∷ xs) ys h k = (h.0, each-append P xs ys h.1 k)
 
-pieces_joined : {Z : Type 0} (full : List (Vec Entry Z)) → Each PieceNumbered full → AllNumbered (joined (map piece full))
+pieces_joined : {Z : Type 0} (full : List (Vec Entry Z)) → Each PieceNumbered full → AllNumbered (joined (map piece_entries full))
 pieces_joined [] h = tt
-pieces_joined (p ∷ full) h = each-append _ (piece p) (joined (map piece full)) h.0 (pieces_joined full h.1)
+pieces_joined (p ∷ full) h = each-append _ (piece_entries p) (joined (map piece_entries full)) h.0 (pieces_joined full h.1)
 
 pub laid_numbered : {Z : Type 0} (full : List (Vec Entry Z)) (last : Vec Entry Z) → Each PieceNumbered full → PieceNumbered last → AllNumbered (laid full last)
-laid_numbered full last h k = each-append _ (joined (map piece full)) (piece last) (pieces_joined full h) k
+laid_numbered full last h k = each-append _ (joined (map piece_entries full)) (piece_entries last) (pieces_joined full h) k
 
 lists_joined : (lists : List Entries) → Each ListNumbered lists → AllNumbered (joined (map entries lists))
 lists_joined [] h = tt
 lists_joined (l ∷ lists) h = each-append _ (entries l) (joined (map entries lists)) h.0 (lists_joined lists h.1)
 
-placed_numbered : (e : Numbered) (es : List Numbered) → IsNumbered e.event → AllNumbered es → AllNumbered (placed e es)
+placed_numbered : (e : Numbered) (es : List Numbered) → IsEventNumbered e.event → AllNumbered es → AllNumbered (placed e es)
 placed_numbered e [] h k = (h, tt)
 placed_numbered e (f ∷ es) h k =
     elim (nat_le e.number f.number) as (λ (b : Bool). AllNumbered (cond b (e ∷ f ∷ es) (f ∷ placed e es))) [
@@ -56,7 +56,7 @@ in_order_numbered : (es : List Numbered) → AllNumbered es → AllNumbered (in_
 in_order_numbered [] h = tt
 in_order_numbered (e ∷ es) h = placed_numbered e (in_order es) h.0 (in_order_numbered es h.1)
 
-events_numbered : (es : List Numbered) → AllNumbered es → Each IsNumbered (events_of es)
+events_numbered : (es : List Numbered) → AllNumbered es → Each IsEventNumbered (events_of es)
 events_numbered [] h = tt
 events_numbered (e ∷ es) h = (h.0, events_numbered es h.1)
 
@@ -69,6 +69,6 @@ each-upto : {A : Type 0} (P : A → Type 0) (k : Option ℕ) (xs : List A) → E
 each-upto P None xs h = h
 each-upto P (Some n) xs h = each-take P n xs h
 
-pub journal_numbered : (j : Journal) → Each ListNumbered j.lists.items → Each IsNumbered (events j)
+pub journal_numbered : (j : Journal) → Each ListNumbered j.lists.items → Each IsEventNumbered (events j)
 journal_numbered j h =
     each-upto _ j.kept _ (events_numbered (in_order (joined (map entries j.lists.items))) (in_order_numbered _ (lists_joined j.lists.items h)))

@@ -3,7 +3,7 @@ use Rattle.std.proofs.Common.{◌≡◌, ℕ, ◌+◌, ◌<◌, List, [], ◌∷
 use Rattle.std.specs.Prelude.{nat_le, is_some}
 use Rattle.std.specs.declared.vec.Vec.{Vec}
 use Rattle.ca_journal.specs.declared.entry.Entry.{Entry}
-use Rattle.ca_journal.specs.Merge.{Numbered, joined, piece}
+use Rattle.ca_journal.specs.Merge.{Numbered, joined, piece_entries}
 use Rattle.ca_journal.specs.Rising.{rises_from, risen, risen_from}
 use Rattle.ca_journal.proofs.Pieces.{cut_at}
 
@@ -27,7 +27,7 @@ rises_risen n (e ∷ es) = by (nat_le n e.number) (rises_risen e.number es) wher
   by false h = refl
 
 -- the walk goes on behind the piece at this place
-pub risen_step : {Z : Type 0} (o o2 : Option ℕ) (ps : List (Vec Entry Z)) (i : ℕ) (p : Vec Entry Z) (behind : List Numbered) (r : Option ℕ) → i < length ps → p ≡ get_or ps i p → o2 ≡ risen_from o (piece p) → risen_from o (joined (map piece (drop i ps)) ++ behind) ≡ r → risen_from o2 (joined (map piece (drop (i + 1) ps)) ++ behind) ≡ r
+pub risen_step : {Z : Type 0} (o o2 : Option ℕ) (ps : List (Vec Entry Z)) (i : ℕ) (p : Vec Entry Z) (behind : List Numbered) (r : Option ℕ) → i < length ps → p ≡ get_or ps i p → o2 ≡ risen_from o (piece_entries p) → risen_from o (joined (map piece_entries (drop i ps)) ++ behind) ≡ r → risen_from o2 (joined (map piece_entries (drop (i + 1) ps)) ++ behind) ≡ r
 risen_step {Z} o o2 ps i p behind r lt is went h =
-    let rest = joined (map piece (drop (i + 1) ps)) in
-    ap (λ q. risen_from q (rest ++ behind)) went ∙ sym (risen_from_append o (piece p) (rest ++ behind)) ∙ ap (λ es. risen_from o es) (sym (append_assoc (piece p) rest behind)) ∙ sym (ap (λ qs. risen_from o (joined (map piece qs) ++ behind)) (cut_at ps i p lt is)) ∙ h
+    let rest = joined (map piece_entries (drop (i + 1) ps)) in
+    ap (λ q. risen_from q (rest ++ behind)) went ∙ sym (risen_from_append o (piece_entries p) (rest ++ behind)) ∙ ap (λ es. risen_from o es) (sym (append_assoc (piece_entries p) rest behind)) ∙ sym (ap (λ qs. risen_from o (joined (map piece_entries qs) ++ behind)) (cut_at ps i p lt is)) ∙ h

@@ -3,7 +3,7 @@ use Rattle.std.proofs.Common.{◌≡◌, ℕ, suc, ◌+◌, List, [], ◌∷◌,
 use Rattle.std.specs.declared.vec.Vec.{Vec}
 use Rattle.ca_journal.specs.declared.entry.Entry.{Entry}
 use Rattle.ca_journal.specs.declared.entry.Spot.{Spot}
-use Rattle.ca_journal.specs.Numbered.{Numbered, entry_view, piece}
+use Rattle.ca_journal.specs.Numbered.{Numbered, entry_view, piece_entries}
 use Rattle.ca_journal.specs.Said.{is_said, spots_in, spots_of, said_spots}
 
 -- the place of an entry, where it is said
@@ -44,16 +44,16 @@ length_map {A} {B} f (x ∷ xs) = ap suc (length_map f xs)
 
 pub said_push : {Z : Type 0} (full : List (Vec Entry Z)) (last new : Vec Entry Z) (e : Entry) → new.items ≡ last.items ++ e ∷ [] → said_spots full new ≡ said_spots full last ++ spot_of (length full) (length last.items) (entry_view e)
 said_push {Z} full last new e h =
-    let grown : piece new ≡ piece last ++ entry_view e ∷ [] = ap (λ (es : List Entry). map entry_view es) h ∙ map_push entry_view last.items e in
-    let here : spots_in (length full) 0 (piece new) ≡ spots_in (length full) 0 (piece last) ++ spot_of (length full) (0 + length (piece last)) (entry_view e) = ap (λ (es : List Numbered). spots_in (length full) 0 es) grown ∙ spots_push (length full) 0 (piece last) (entry_view e) in
-    let n : 0 + length (piece last) ≡ length last.items = (let k : length (piece last) ≡ length last.items = length_map entry_view last.items in omega (arith, k)) in
-    ap (λ (s : List Spot). spots_of 0 (map piece full) ++ s) (here ∙ ap (λ (m : ℕ). spots_in (length full) 0 (piece last) ++ spot_of (length full) m (entry_view e)) n) ∙ sym (append_assoc (spots_of 0 (map piece full)) (spots_in (length full) 0 (piece last)) (spot_of (length full) (length last.items) (entry_view e)))
+    let grown : piece_entries new ≡ piece_entries last ++ entry_view e ∷ [] = ap (λ (es : List Entry). map entry_view es) h ∙ map_push entry_view last.items e in
+    let here : spots_in (length full) 0 (piece_entries new) ≡ spots_in (length full) 0 (piece_entries last) ++ spot_of (length full) (0 + length (piece_entries last)) (entry_view e) = ap (λ (es : List Numbered). spots_in (length full) 0 es) grown ∙ spots_push (length full) 0 (piece_entries last) (entry_view e) in
+    let n : 0 + length (piece_entries last) ≡ length last.items = (let k : length (piece_entries last) ≡ length last.items = length_map entry_view last.items in omega (arith, k)) in
+    ap (λ (s : List Spot). spots_of 0 (map piece_entries full) ++ s) (here ∙ ap (λ (m : ℕ). spots_in (length full) 0 (piece_entries last) ++ spot_of (length full) m (entry_view e)) n) ∙ sym (append_assoc (spots_of 0 (map piece_entries full)) (spots_in (length full) 0 (piece_entries last)) (spot_of (length full) (length last.items) (entry_view e)))
 
 -- a full piece counts among the others, and the new last one is empty
 pub said_piece : {Z : Type 0} (full new : List (Vec Entry Z)) (last next : Vec Entry Z) → new ≡ full ++ last ∷ [] → next.items ≡ [] → said_spots new next ≡ said_spots full last
 said_piece {Z} full new last next grown none =
-    let nothing : piece next ≡ [] = ap (λ (es : List Entry). map entry_view es) none in
-    let pieces : map piece new ≡ map piece full ++ piece last ∷ [] = ap (λ (ps : List (Vec Entry Z)). map piece ps) grown ∙ map_push piece full last in
-    let behind : spots_in (length new) 0 (piece next) ≡ [] = ap (λ (es : List Numbered). spots_in (length new) 0 es) nothing in
-    let n : 0 + length (map piece full) ≡ length full = (let k : length (map piece full) ≡ length full = length_map piece full in omega (arith, k)) in
-    ap (λ (s : List Spot). spots_of 0 (map piece new) ++ s) behind ∙ append-nil (spots_of 0 (map piece new)) ∙ ap (λ (ps : List (List Numbered)). spots_of 0 ps) pieces ∙ spots_piece 0 (map piece full) (piece last) ∙ ap (λ (m : ℕ). spots_of 0 (map piece full) ++ spots_in m 0 (piece last)) n
+    let nothing : piece_entries next ≡ [] = ap (λ (es : List Entry). map entry_view es) none in
+    let pieces : map piece_entries new ≡ map piece_entries full ++ piece_entries last ∷ [] = ap (λ (ps : List (Vec Entry Z)). map piece_entries ps) grown ∙ map_push piece_entries full last in
+    let behind : spots_in (length new) 0 (piece_entries next) ≡ [] = ap (λ (es : List Numbered). spots_in (length new) 0 es) nothing in
+    let n : 0 + length (map piece_entries full) ≡ length full = (let k : length (map piece_entries full) ≡ length full = length_map piece_entries full in omega (arith, k)) in
+    ap (λ (s : List Spot). spots_of 0 (map piece_entries new) ++ s) behind ∙ append-nil (spots_of 0 (map piece_entries new)) ∙ ap (λ (ps : List (List Numbered)). spots_of 0 ps) pieces ∙ spots_piece 0 (map piece_entries full) (piece_entries last) ∙ ap (λ (m : ℕ). spots_of 0 (map piece_entries full) ++ spots_in m 0 (piece_entries last)) n

@@ -7,7 +7,7 @@ use Rattle.ca_term.specs.Event.{EventView, printed, over}
 use Rattle.ca_meaning.specs.Texts.{output, output_of}
 use Rattle.ca_journal.specs.declared.entry.Entry.{Entry}
 use Rattle.ca_journal.specs.declared.entry.Spot.{Spot}
-use Rattle.ca_journal.specs.Numbered.{Numbered, events_of, joined, laid, piece}
+use Rattle.ca_journal.specs.Numbered.{Numbered, events_of, joined, laid, piece_entries}
 use Rattle.ca_journal.specs.Said.{is_said, spots_in, spots_of, said_spots}
 use Rattle.ca_journal.specs.Spoken.{found_at, text_at, said_text}
 use Rattle.ca_journal.proofs.Saying.{length_map}
@@ -46,21 +46,21 @@ in_pieces f p (es ∷ ps) at =
     let rest : said_text f (spots_of (suc p) ps) ≡ output (events_of (joined ps)) = in_pieces f (suc p) ps (λ k j lt. let n : suc p + k ≡ p + suc k = omega arith in ap (λ (m : ℕ). f (record { piece = m; place = j })) n ∙ at (suc k) j (omega (arith, lt))) in
     text_append f (spots_in p 0 es) (spots_of (suc p) ps) ∙ ap (λ (s : List ℕ). s ++ said_text f (spots_of (suc p) ps)) first ∙ ap (λ (s : List ℕ). output (events_of es) ++ s) rest ∙ sym (output_append (events_of es) (events_of (joined ps))) ∙ ap output (sym (events_append es (joined ps)))
 
-in_last : {Z : Type 0} (full : List (Vec Entry Z)) (last : Vec Entry Z) (j : ℕ) → found_at full last (record { piece = length full; place = 0 + j }) ≡ slice_get (piece last) j
+in_last : {Z : Type 0} (full : List (Vec Entry Z)) (last : Vec Entry Z) (j : ℕ) → found_at full last (record { piece = length full; place = 0 + j }) ≡ slice_get (piece_entries last) j
 in_last {Z} full last j = by (nat_lt (length full) (length full)) test where
   test : nat_lt (length full) (length full) ≡ false
   test = grind (arith, nat_tests)
 
-  by : (b : Bool) → b ≡ false → cond b (slice_get (slice_index_or (map piece full) (length full) []) (0 + j)) (slice_get (piece last) (0 + j)) ≡ slice_get (piece last) j
-  by false k = let n : 0 + j ≡ j = omega arith in ap (λ (m : ℕ). slice_get (piece last) m) n
+  by : (b : Bool) → b ≡ false → cond b (slice_get (slice_index_or (map piece_entries full) (length full) []) (0 + j)) (slice_get (piece_entries last) (0 + j)) ≡ slice_get (piece_entries last) j
+  by false k = let n : 0 + j ≡ j = omega arith in ap (λ (m : ℕ). slice_get (piece_entries last) m) n
   by true k = absurd (let q : true ≡ false = k in cc)
 
-in_full : {Z : Type 0} (full : List (Vec Entry Z)) (last : Vec Entry Z) (k j : ℕ) → k < length (map piece full) → found_at full last (record { piece = 0 + k; place = j }) ≡ slice_get (slice_index_or (map piece full) k []) j
+in_full : {Z : Type 0} (full : List (Vec Entry Z)) (last : Vec Entry Z) (k j : ℕ) → k < length (map piece_entries full) → found_at full last (record { piece = 0 + k; place = j }) ≡ slice_get (slice_index_or (map piece_entries full) k []) j
 in_full {Z} full last k j lt = ap (λ (m : ℕ). found_at full last (record { piece = m; place = j })) (let n : 0 + k ≡ k = omega arith in n) ∙ by (nat_lt k (length full)) test where
   test : nat_lt k (length full) ≡ true
-  test = let n : length (map piece full) ≡ length full = length_map piece full in let less : k < length full = omega (arith, n, lt) in grind (arith, nat_tests)
+  test = let n : length (map piece_entries full) ≡ length full = length_map piece_entries full in let less : k < length full = omega (arith, n, lt) in grind (arith, nat_tests)
 
-  by : (b : Bool) → b ≡ true → cond b (slice_get (slice_index_or (map piece full) k []) j) (slice_get (piece last) j) ≡ slice_get (slice_index_or (map piece full) k []) j
+  by : (b : Bool) → b ≡ true → cond b (slice_get (slice_index_or (map piece_entries full) k []) j) (slice_get (piece_entries last) j) ≡ slice_get (slice_index_or (map piece_entries full) k []) j
   by true h = refl
   by false h = absurd (let q : false ≡ true = h in cc)
 
@@ -68,6 +68,6 @@ in_full {Z} full last k j lt = ap (λ (m : ℕ). found_at full last (record { pi
 pub said_output : {Z : Type 0} (full : List (Vec Entry Z)) (last : Vec Entry Z) → said_text (found_at full last) (said_spots full last) ≡ output (events_of (laid full last))
 said_output {Z} full last =
     let f = found_at full last in
-    let before : said_text f (spots_of 0 (map piece full)) ≡ output (events_of (joined (map piece full))) = in_pieces f 0 (map piece full) (λ k j lt. in_full full last k j lt) in
-    let behind : said_text f (spots_in (length full) 0 (piece last)) ≡ output (events_of (piece last)) = in_piece f (length full) 0 (piece last) (λ j. in_last full last j) in
-    text_append f (spots_of 0 (map piece full)) (spots_in (length full) 0 (piece last)) ∙ ap (λ (s : List ℕ). s ++ said_text f (spots_in (length full) 0 (piece last))) before ∙ ap (λ (s : List ℕ). output (events_of (joined (map piece full))) ++ s) behind ∙ sym (output_append (events_of (joined (map piece full))) (events_of (piece last))) ∙ ap output (sym (events_append (joined (map piece full)) (piece last)))
+    let before : said_text f (spots_of 0 (map piece_entries full)) ≡ output (events_of (joined (map piece_entries full))) = in_pieces f 0 (map piece_entries full) (λ k j lt. in_full full last k j lt) in
+    let behind : said_text f (spots_in (length full) 0 (piece_entries last)) ≡ output (events_of (piece_entries last)) = in_piece f (length full) 0 (piece_entries last) (λ j. in_last full last j) in
+    text_append f (spots_of 0 (map piece_entries full)) (spots_in (length full) 0 (piece_entries last)) ∙ ap (λ (s : List ℕ). s ++ said_text f (spots_in (length full) 0 (piece_entries last))) before ∙ ap (λ (s : List ℕ). output (events_of (joined (map piece_entries full))) ++ s) behind ∙ sym (output_append (events_of (joined (map piece_entries full))) (events_of (piece_entries last))) ∙ ap output (sym (events_append (joined (map piece_entries full)) (piece_entries last)))

@@ -16,5 +16,5 @@ left_of None s = []
 left_of (Some l) s = left_from l.full.items l.last s
 
 -- the entries of a front's list from its place on
-abbrev pub waiting : List Entries → Front → List Numbered
-waiting ls f = left_of (slice_get ls f.list) f.spot
+abbrev pub entries_waiting : List Entries → Front → List Numbered
+entries_waiting ls f = left_of (slice_get ls f.list) f.spot

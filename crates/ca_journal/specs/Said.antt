@@ -4,7 +4,7 @@ use Rattle.std.specs.declared.vec.Vec.{Vec}
 use Rattle.ca_term.specs.Event.{EventView, printed, over}
 use Rattle.ca_journal.specs.declared.entry.Entry.{Entry}
 use Rattle.ca_journal.specs.declared.entry.Spot.{Spot}
-use Rattle.ca_journal.specs.Numbered.{Numbered, piece}
+use Rattle.ca_journal.specs.Numbered.{Numbered, piece_entries}
 
 -- a line of output or the end of a task
 abbrev pub is_said : EventView → Bool
@@ -24,4 +24,4 @@ spots_of p (es ∷ ps) = spots_in p 0 es ++ spots_of (suc p) ps
 
 -- of the full pieces and the last one
 abbrev pub said_spots : {Z : Type 0} → List (Vec Entry Z) → Vec Entry Z → List Spot
-said_spots full last = spots_of 0 (map piece full) ++ spots_in (length full) 0 (piece last)
+said_spots full last = spots_of 0 (map piece_entries full) ++ spots_in (length full) 0 (piece_entries last)

@@ -8,10 +8,10 @@ shown_view (Shown.Kept event) = event_view event.now
 shown_view (Shown.Made event) = event_view event
 
 -- a take or a put is done at once
-abbrev pub IsDone : Note → Type 0
-IsDone (Note.Took branch task port answer) = Unit {0}
-IsDone (Note.Gave branch accepted task port value) = Unit {0}
-IsDone note = ⊥
+abbrev pub IsDoneNote : Note → Type 0
+IsDoneNote (Note.Took branch task port answer) = Unit {0}
+IsDoneNote (Note.Gave branch accepted task port value) = Unit {0}
+IsDoneNote note = ⊥
 
 -- a task waits on one branch
 abbrev pub IsParked : Note → Type 0
@@ -20,7 +20,7 @@ IsParked (Note.PutParked task wait port value) = Unit {0}
 IsParked note = ⊥
 
 -- a value passes to or from a wait
-abbrev pub Passes : Note → Type 0
-Passes (Note.Met side branch other task port wait value) = Unit {0}
-Passes (Note.Settled side branch wait port value) = Unit {0}
-Passes note = ⊥
+abbrev pub ValuePasses : Note → Type 0
+ValuePasses (Note.Met side branch other task port wait value) = Unit {0}
+ValuePasses (Note.Settled side branch wait port value) = Unit {0}
+ValuePasses note = ⊥

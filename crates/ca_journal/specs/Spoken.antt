@@ -4,11 +4,11 @@ use Rattle.std.specs.declared.vec.Vec.{Vec}
 use Rattle.ca_meaning.specs.Texts.{output_of}
 use Rattle.ca_journal.specs.declared.entry.Entry.{Entry}
 use Rattle.ca_journal.specs.declared.entry.Spot.{Spot}
-use Rattle.ca_journal.specs.Numbered.{Numbered, piece}
+use Rattle.ca_journal.specs.Numbered.{Numbered, piece_entries}
 
 -- the entry at the place; the piece behind the full ones is the last
 abbrev pub found_at : {Z : Type 0} → List (Vec Entry Z) → Vec Entry Z → Spot → Option Numbered
-found_at full last s = cond (nat_lt s.piece (length full)) (slice_get (slice_index_or (map piece full) s.piece []) s.place) (slice_get (piece last) s.place)
+found_at full last s = cond (nat_lt s.piece (length full)) (slice_get (slice_index_or (map piece_entries full) s.piece []) s.place) (slice_get (piece_entries last) s.place)
 
 abbrev pub text_at : Option Numbered → List ℕ
 text_at None = []

@@ -4,8 +4,8 @@ ghost use Rattle.ca_term.specs.Cost.{cost_of};
 ghost use Rattle.ca_meaning.specs.Cost.{cost};
 ghost use Rattle.ca_journal.specs.Mains.{mains};
 ghost use Rattle.ca_journal.specs.Note.{note_view};
-ghost use Rattle.ca_journal.specs.Latest.{last_of};
-ghost use Rattle.ca_journal.specs.Numbered.{entry_view, events_of, joined, laid, piece};
+ghost use Rattle.ca_journal.specs.Latest.{last_listed};
+ghost use Rattle.ca_journal.specs.Numbered.{entry_view, events_of, joined, laid, piece_entries};
 ghost use Rattle.ca_journal.specs.Said.{said_spots};
 ghost use Rattle.ca_journal.specs.Spoken.{found_at};
 
@@ -141,7 +141,7 @@ impl Entries {
 
     // The last entry.
     pub(crate) fn last_entry(&self) -> Option<&Entry>
-        ensures { option_map (λ e. entry_view e.now) result ≡ last_of (entries self.now) }
+        ensures { option_map (λ e. entry_view e.now) result ≡ last_listed (entries self.now) }
     {
         match self.last.last() {
             Some(entry) => Some(entry),
@@ -259,7 +259,7 @@ fn ends_with(ends: u64, note: &Note) -> u64
 
 // The last entry in these pieces.
 fn last_in(pieces: &[Vec<Entry>]) -> Option<&Entry>
-    ensures { option_map (λ e. entry_view e.now) result ≡ last_of (joined (map piece pieces.now)) }
+    ensures { option_map (λ e. entry_view e.now) result ≡ last_listed (joined (map piece_entries pieces.now)) }
 {
     let mut left = pieces;
     while let Some((piece, more)) = left.split_last() {

@@ -2,7 +2,7 @@
 ghost use Rattle.std.specs.Prelude.{◌≡◌, ◌<◌, [], ◌++◌, length, map, drop, IfNone, IfSome, option_map, option_to_list, slice_get, slice_set, slice_index_or, vec_len, vec_capacity};
 ghost use Rattle.ca_journal.specs.Merge.{entry_view, in_order, joined, EachAscends};
 ghost use Rattle.ca_journal.specs.Least.{nearer, least_from};
-ghost use Rattle.ca_journal.specs.Left.{waiting};
+ghost use Rattle.ca_journal.specs.Left.{entries_waiting};
 
 use crate::entries::Entries;
 use crate::entry::{Entry, Spot};
@@ -17,10 +17,10 @@ struct Least {
 
 // The entry with the least number, which isn't left any more; or None where none is left.
 pub(crate) fn next<'a>(lists: &'a [Entries], fronts: &mut Vec<Front>) -> Option<&'a Entry>
-    requires { EachAscends (map (waiting lists.now) fronts.old.items) }
-    ensures order { in_order (joined (map (waiting lists.now) fronts.old.items)) ≡ option_to_list (option_map (λ e. entry_view e.now) result) ++ in_order (joined (map (waiting lists.now) fronts.new.items)) }
-    ensures none { IfNone result (joined (map (waiting lists.now) fronts.old.items) ≡ []) }
-    ensures ascends { EachAscends (map (waiting lists.now) fronts.new.items) }
+    requires { EachAscends (map (entries_waiting lists.now) fronts.old.items) }
+    ensures order { in_order (joined (map (entries_waiting lists.now) fronts.old.items)) ≡ option_to_list (option_map (λ e. entry_view e.now) result) ++ in_order (joined (map (entries_waiting lists.now) fronts.new.items)) }
+    ensures none { IfNone result (joined (map (entries_waiting lists.now) fronts.old.items) ≡ []) }
+    ensures ascends { EachAscends (map (entries_waiting lists.now) fronts.new.items) }
     ensures room { vec_capacity fronts.new ≡ vec_capacity fronts.old }
 {
     match least_of(lists, fronts.as_slice()) {
@@ -32,8 +32,8 @@ pub(crate) fn next<'a>(lists: &'a [Entries], fronts: &mut Vec<Front>) -> Option<
 // The entry of the front at the place, which goes on behind it.
 fn pop_at<'a>(lists: &'a [Entries], fronts: &mut Vec<Front>, place: usize) -> Option<&'a Entry>
     requires { place < vec_len fronts.old }
-    ensures front { option_map (λ e. entry_view e.now) result ≡ slice_get (slice_index_or (map (waiting lists.now) fronts.old.items) place []) 0 }
-    ensures rest { map (waiting lists.now) fronts.new.items ≡ slice_set (map (waiting lists.now) fronts.old.items) place (drop 1 (slice_index_or (map (waiting lists.now) fronts.old.items) place [])) }
+    ensures front { option_map (λ e. entry_view e.now) result ≡ slice_get (slice_index_or (map (entries_waiting lists.now) fronts.old.items) place []) 0 }
+    ensures rest { map (entries_waiting lists.now) fronts.new.items ≡ slice_set (map (entries_waiting lists.now) fronts.old.items) place (drop 1 (slice_index_or (map (entries_waiting lists.now) fronts.old.items) place [])) }
     ensures room { vec_capacity fronts.new ≡ vec_capacity fronts.old }
 {
     let front = &mut fronts[place];
@@ -42,8 +42,8 @@ fn pop_at<'a>(lists: &'a [Entries], fronts: &mut Vec<Front>, place: usize) -> Op
 
 // The entry at the front, which goes on behind it.
 fn pop<'a>(lists: &'a [Entries], front: &mut Front) -> Option<&'a Entry>
-    ensures front { option_map (λ e. entry_view e.now) result ≡ slice_get (waiting lists.now front.old) 0 }
-    ensures rest { waiting lists.now front.new ≡ drop 1 (waiting lists.now front.old) }
+    ensures front { option_map (λ e. entry_view e.now) result ≡ slice_get (entries_waiting lists.now front.old) 0 }
+    ensures rest { entries_waiting lists.now front.new ≡ drop 1 (entries_waiting lists.now front.old) }
 {
     let (entry, spot) = first_of(lists, *front)?;
     front.spot = spot;
@@ -52,7 +52,7 @@ fn pop<'a>(lists: &'a [Entries], front: &mut Front) -> Option<&'a Entry>
 
 // The first of the fronts whose entry has the least number.
 fn least_of(lists: &[Entries], fronts: &[Front]) -> Option<Least>
-    ensures least { result ≡ least_from 0 (map (waiting lists.now) fronts.now) }
+    ensures least { result ≡ least_from 0 (map (entries_waiting lists.now) fronts.now) }
     ensures within { IfSome result (λ l. l.place < length fronts.now) }
 {
     let mut least = None;
@@ -68,8 +68,8 @@ fn least_of(lists: &[Entries], fronts: &[Front]) -> Option<Least>
 
 // The entry at the front, and the place behind it.
 fn first_of<'a>(lists: &'a [Entries], front: Front) -> Option<(&'a Entry, Spot)>
-    ensures front { option_map (λ r. entry_view r.0.now) result ≡ slice_get (waiting lists.now front) 0 }
-    ensures rest { IfSome result (λ r. waiting lists.now (record { list = front.list; spot = r.1 }) ≡ drop 1 (waiting lists.now front)) }
+    ensures front { option_map (λ r. entry_view r.0.now) result ≡ slice_get (entries_waiting lists.now front) 0 }
+    ensures rest { IfSome result (λ r. entries_waiting lists.now (record { list = front.list; spot = r.1 }) ≡ drop 1 (entries_waiting lists.now front)) }
 {
     lists.get(front.list)?.first_from(front.spot)
 }

@@ -4,10 +4,10 @@ ghost use Rattle.std.specs.Prelude.{map, option_map};
 ghost use Rattle.ca_value.specs.View.{trees, tree_pairs, view};
 ghost use Rattle.ca_term.specs.Operation.{what_view};
 ghost use Rattle.ca_term.specs.Event.{branch_view, event_view, over, port_number};
-ghost use Rattle.ca_meaning.specs.Shown.{AllPortsFit, BranchNumbered, IsNumber, IsNumbered, MaybeNumber, MaybePort, PairsPortsFit, PortsFit, WhatNumbered};
+ghost use Rattle.ca_meaning.specs.Shown.{AllPortsFit, BranchNumbered, IsNumber, IsEventNumbered, MaybeNumber, MaybePort, PairsPortsFit, PortsFit, WhatNumbered};
 ghost use Rattle.ca_meaning.specs.Sound.{Each};
 ghost use Rattle.ca_journal.specs.Events.{events};
-ghost use Rattle.ca_journal.specs.Merge.{entries, entry_view, piece};
+ghost use Rattle.ca_journal.specs.Merge.{entries, entry_view, piece_entries};
 ghost use Rattle.ca_journal.specs.Note.{note_view};
 
 use crate::entries::Entries;
@@ -20,13 +20,13 @@ use ca_value::value::{Pair, PortId, Value};
 
 /// Each number that an event of the journal shows is one of 64 bits, those of the ports in its values among them.
 pub fn journals_are_numbered(journal: &Journal)
-    ensures { Each IsNumbered (events journal.now) }
+    ensures { Each IsEventNumbered (events journal.now) }
 {
     lists_numbered(journal.lists.as_slice());
 }
 
 fn lists_numbered(lists: &[Entries])
-    ensures { Each (λ l. Each (λ e. IsNumbered e.event) (entries l)) lists.now }
+    ensures { Each (λ l. Each (λ e. IsEventNumbered e.event) (entries l)) lists.now }
 {
     for list in lists {
         list_numbered(list);
@@ -34,14 +34,14 @@ fn lists_numbered(lists: &[Entries])
 }
 
 fn list_numbered(list: &Entries)
-    ensures { Each (λ e. IsNumbered e.event) (entries list.now) }
+    ensures { Each (λ e. IsEventNumbered e.event) (entries list.now) }
 {
     pieces_numbered(list.full.as_slice());
     entries_numbered(list.last.as_slice());
 }
 
 fn pieces_numbered(pieces: &[Vec<Entry>])
-    ensures { Each (λ p. Each (λ e. IsNumbered e.event) (piece p)) pieces.now }
+    ensures { Each (λ p. Each (λ e. IsEventNumbered e.event) (piece_entries p)) pieces.now }
 {
     for piece in pieces {
         entries_numbered(piece.as_slice());
@@ -49,7 +49,7 @@ fn pieces_numbered(pieces: &[Vec<Entry>])
 }
 
 fn entries_numbered(entries: &[Entry])
-    ensures { Each (λ e. IsNumbered e.event) (map entry_view entries.now) }
+    ensures { Each (λ e. IsEventNumbered e.event) (map entry_view entries.now) }
 {
     for entry in entries {
         note_numbered(&entry.note);
@@ -57,7 +57,7 @@ fn entries_numbered(entries: &[Entry])
 }
 
 fn note_numbered(note: &Note)
-    ensures { IsNumbered (note_view note.now) }
+    ensures { IsEventNumbered (note_view note.now) }
 {
     match note {
         Note::Took {
@@ -122,7 +122,7 @@ fn note_numbered(note: &Note)
 }
 
 fn event_numbered(event: &Event)
-    ensures { IsNumbered (event_view event.now) }
+    ensures { IsEventNumbered (event_view event.now) }
 {
     match event {
         Event::Make {
@@ -255,7 +255,7 @@ fn branches_numbered(branches: &[Branch])
 }
 
 fn ending_numbered(task: u64, ending: Ending)
-    ensures { IsNumbered (over task ending) }
+    ensures { IsEventNumbered (over task ending) }
 {
     match ending {
         Ending::Ended => numbers_fit(&[task]),

@@ -3,7 +3,7 @@ ghost use Rattle.std.specs.Prelude.{◌≡◌, [], ◌∷◌, IfOk};
 ghost use Rattle.ca_value.specs.Seq.{list};
 ghost use Rattle.ca_term.specs.Event.{event_view, branch_view, parked};
 ghost use Rattle.ca_journal.specs.Note.{note_view};
-ghost use Rattle.ca_journal.specs.Shown.{shown_view, IsDone, IsParked, Passes};
+ghost use Rattle.ca_journal.specs.Shown.{shown_view, IsDoneNote, IsParked, ValuePasses};
 
 use crate::note::Note;
 use ca_term::event::{Branch, Event, WaitId};
@@ -60,7 +60,7 @@ impl<'a> Shown<'a> {
 
 // Where a take or a put is done at once.
 fn done_of(alloc: Global, note: &Note) -> Result<Event, OutOfMemory>
-    requires { IsDone note.now }
+    requires { IsDoneNote note.now }
     ensures { IfOk result (λ e. event_view e ≡ note_view note.now) }
 {
     match note {
@@ -128,7 +128,7 @@ fn parked_on(alloc: Global, task: u64, wait: WaitId, branch: Branch) -> Result<E
 
 // Where a value passes to or from a wait.
 fn passing_of(alloc: Global, note: &Note) -> Result<Event, OutOfMemory>
-    requires { Passes note.now }
+    requires { ValuePasses note.now }
     ensures { IfOk result (λ e. event_view e ≡ note_view note.now) }
 {
     match note {

@@ -3,7 +3,7 @@ ghost use Rattle.std.specs.Prelude.{◌≡◌, ◌≤◌, ◌∷◌, true, lengt
 ghost use Rattle.std.specs.Vec.{vec_capacity};
 ghost use Rattle.ca_term.specs.Event.{EventView};
 ghost use Rattle.ca_journal.specs.Kept.{upto};
-ghost use Rattle.ca_journal.specs.Left.{waiting};
+ghost use Rattle.ca_journal.specs.Left.{entries_waiting};
 ghost use Rattle.ca_journal.specs.Merge.{entries};
 ghost use Rattle.ca_journal.specs.Rising.{all_rise};
 
@@ -28,7 +28,7 @@ pub struct Walk<'a> {
     pub(crate) fronts: Vec<Front>,
     // So many events more are kept; all where this tells none.
     pub(crate) left: Option<u64>,
-    ghost rising: { all_rise (map (waiting lists.now) fronts.items) ≡ true },
+    ghost rising: { all_rise (map (entries_waiting lists.now) fronts.items) ≡ true },
     ghost roomy: { length lists.now ≤ vec_capacity fronts },
 }
 
@@ -80,7 +80,7 @@ impl<'a> Walk<'a> {
 // The fronts of all lists, from their first entries on.
 fn starts(lists: &[Entries], fronts: Vec<Front>) -> Vec<Front>
     requires { length lists.now ≤ vec_capacity fronts }
-    ensures fronts { map (waiting lists.now) result.items ≡ map entries lists.now }
+    ensures fronts { map (entries_waiting lists.now) result.items ≡ map entries lists.now }
     ensures room { vec_capacity result ≡ vec_capacity fronts }
 {
     let mut fronts = fronts;

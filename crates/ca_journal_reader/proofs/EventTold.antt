@@ -16,8 +16,8 @@ use Rattle.ca_meaning.specs.Shown.{IsNumber, IsShown, AreShown, WhatShown, Maybe
 use Rattle.ca_journal_reader.specs.Found.{Found, then}
 use Rattle.ca_journal_reader.specs.Words.{number_in, byte_in, is_first, word_in, decimal_in, numbered_in}
 use Rattle.ca_journal_reader.specs.ValueText.{text_from, value_field, uncomma}
-use Rattle.ca_journal_reader.specs.FieldText.{named, side_named, kind_named, name_named, fault_named, maybe_port_in, place_in, sized_in, chan_by, timeout_in, from_port_in, mix_in, what_by, what_in, branch_by, branch_in, list_in, branches_in, ports_in, values_in, and_rest, parted}
-use Rattle.ca_journal_reader.specs.EventText.{next, made_in, spawned_in, done_in, met_in, parked_in, posted_in, settled_in, defaulted_in, closed_in, registered_in, printed_in, ticked_in, ended_in, faulted_in, port_of, event_by, event_in, entry_in}
+use Rattle.ca_journal_reader.specs.FieldText.{word_named, side_named, kind_named, name_named, fault_named, maybe_port_in, place_in, sized_in, chan_by, timeout_in, from_port_in, mix_in, what_by, what_in, branch_read_by, branch_in, list_in, branches_read, ports_read, values_read, and_rest, arguments_parted}
+use Rattle.ca_journal_reader.specs.EventText.{next_read, made_read, spawned_in, done_in, met_in, parked_read, posted_in, settled_in, defaulted_in, closed_in, registered_in, printed_in, ticked_in, ended_in, faulted_in, port_read, event_by, event_in, entry_in}
 use Rattle.ca_journal_reader.specs.Input.{and_last, branch_values, branches_values, IsTold}
 use Rattle.ca_journal_reader.proofs.ValueTold.{IfRead, IfFound, Any, any, goes, choice, number_told, decimal_told, numbered_told, Told, field_value_told}
 
@@ -28,7 +28,7 @@ Event o = IfRead IsTold o
 any_then : {A B : Type 0} (Q : B → Type 0) (o : Found A) (f : A → List ℕ → Option B) → ((x : A) (r : List ℕ) → IfRead Q (f x r)) → IfRead Q (then o f)
 any_then Q o f g = goes Any Q o f (any o) (λ x r h. g x r)
 
-onward : {A B : Type 0} (P : A → Type 0) (Q : B → Type 0) (o : Option A) (f : A → Option B) → IfRead P o → ((x : A) → P x → IfRead Q (f x)) → IfRead Q (next o f)
+onward : {A B : Type 0} (P : A → Type 0) (Q : B → Type 0) (o : Option A) (f : A → Option B) → IfRead P o → ((x : A) → P x → IfRead Q (f x)) → IfRead Q (next_read o f)
 onward P Q None f h g = tt
 onward P Q (Some x) f h g = g x h
 
@@ -86,14 +86,14 @@ what_told w s =
 abbrev BranchTold : BranchView → Type 0
 BranchTold b = BranchShown b × AreValues written (branch_values b none)
 
-branch_by_told : (side : Side) (s : List ℕ) → IfFound BranchTold (branch_by side s)
+branch_by_told : (side : Side) (s : List ℕ) → IfFound BranchTold (branch_read_by side s)
 branch_by_told Take s = goes IsNumber (InFront BranchTold) (numbered_in 112 s) (λ p rest. Some (take_of p, rest)) (numbered_told 112 s) (λ p rest h. (h, tt))
 branch_by_told Put s =
     goes IsNumber (InFront BranchTold) (numbered_in 112 s) (λ p rest. then (value_field rest) (λ v rest. Some (put_of p v, rest))) (numbered_told 112 s)
     (λ p rest h. goes Told (InFront BranchTold) (value_field rest) (λ v rest. Some (put_of p v, rest)) (field_value_told rest) (λ v rest k. ((h, k.1), (k.0, tt))))
 
 branch_told : (s : List ℕ) → IfFound BranchTold (branch_in s)
-branch_told s = any_then (InFront BranchTold) (named side_named s) (λ side rest. branch_by side rest) (λ side rest. branch_by_told side rest)
+branch_told s = any_then (InFront BranchTold) (word_named side_named s) (λ side rest. branch_read_by side rest) (λ side rest. branch_by_told side rest)
 
 -- lists
 each_more : {A : Type 0} (P : A → Type 0) (xs : List A) (x : A) → Each P xs → P x → Each P (xs ++ x ∷ [])
@@ -129,17 +129,17 @@ rest_told u (v ∷ ts) h k = let m = rest_told v ts k.0 k.1 in record { shown = 
 abbrev Registers : List Tree × Tree → Type 0
 Registers p = (t : ℕ) (name : Rattle.ca_term.specs.declared.head.RegisterName.RegisterName) → IsNumber t → IsTold (registered t name (trees_of p.0) p.1)
 
-parted_told : (ts : List Tree) → Each Told ts → IfRead Registers (parted ts)
+parted_told : (ts : List Tree) → Each Told ts → IfRead Registers (arguments_parted ts)
 parted_told [] h = tt
 parted_told (t ∷ []) h = tt
 parted_told (t ∷ (u ∷ ts)) h = let m = rest_told u ts h.1.0 h.1.1 in λ n name k. record { shown = (k, (h.0.1, m.shown), m.last); values = (h.0.0, m.values) }
 
 -- the kinds of line
-result_told : (o : Option ℕ) → MaybeNumber o → MaybePort (port_of o)
+result_told : (o : Option ℕ) → MaybeNumber o → MaybePort (port_read o)
 result_told None h = tt
 result_told (Some n) h = h
 
-made_told : (s : List ℕ) → Event (made_in s)
+made_told : (s : List ℕ) → Event (made_read s)
 made_told s =
     goes IsNumber IsTold (numbered_in 116 s) (λ t s. then (numbered_in 112 s) (λ p s. then (what_in s) (λ w s. Some (made t p w.0 w.1)))) (numbered_told 116 s)
     (λ t s ht. goes IsNumber IsTold (numbered_in 112 s) (λ p s. then (what_in s) (λ w s. Some (made t p w.0 w.1))) (numbered_told 112 s)
@@ -148,9 +148,9 @@ made_told s =
 
 spawned_told : (s : List ℕ) → Event (spawned_in s)
 spawned_told s =
-    goes IsNumber IsTold (numbered_in 116 s) (λ t s. then (numbered_in 116 s) (λ u s. then (named kind_named s) (λ kind s. then (maybe_port_in s) (λ o s. Some (spawned t u kind o))))) (numbered_told 116 s)
-    (λ t s ht. goes IsNumber IsTold (numbered_in 116 s) (λ u s. then (named kind_named s) (λ kind s. then (maybe_port_in s) (λ o s. Some (spawned t u kind o)))) (numbered_told 116 s)
-    (λ u s hu. goes Any IsTold (named kind_named s) (λ kind s. then (maybe_port_in s) (λ o s. Some (spawned t u kind o))) (any (named kind_named s))
+    goes IsNumber IsTold (numbered_in 116 s) (λ t s. then (numbered_in 116 s) (λ u s. then (word_named kind_named s) (λ kind s. then (maybe_port_in s) (λ o s. Some (spawned t u kind o))))) (numbered_told 116 s)
+    (λ t s ht. goes IsNumber IsTold (numbered_in 116 s) (λ u s. then (word_named kind_named s) (λ kind s. then (maybe_port_in s) (λ o s. Some (spawned t u kind o)))) (numbered_told 116 s)
+    (λ u s hu. goes Any IsTold (word_named kind_named s) (λ kind s. then (maybe_port_in s) (λ o s. Some (spawned t u kind o))) (any (word_named kind_named s))
     (λ kind s hkind. goes MaybeNumber IsTold (maybe_port_in s) (λ o s. Some (spawned t u kind o)) (maybe_told s)
     (λ o s ho. record { shown = (ht, hu, ho); values = tt }))))
 
@@ -164,20 +164,20 @@ done_told s =
 
 met_told : (s : List ℕ) → Event (met_in s)
 met_told s =
-    goes IsNumber IsTold (numbered_in 116 s) (λ t s. then (decimal_in s) (λ k s. then (named side_named s) (λ side s. then (numbered_in 112 s) (λ p s. then (value_field s) (λ v s. then (numbered_in 119 s) (λ w s. then (decimal_in s) (λ o s. Some (met t k side p v w o)))))))) (numbered_told 116 s)
-    (λ t s ht. goes IsNumber IsTold (decimal_in s) (λ k s. then (named side_named s) (λ side s. then (numbered_in 112 s) (λ p s. then (value_field s) (λ v s. then (numbered_in 119 s) (λ w s. then (decimal_in s) (λ o s. Some (met t k side p v w o))))))) (decimal_told s)
-    (λ k s hk. goes Any IsTold (named side_named s) (λ side s. then (numbered_in 112 s) (λ p s. then (value_field s) (λ v s. then (numbered_in 119 s) (λ w s. then (decimal_in s) (λ o s. Some (met t k side p v w o)))))) (any (named side_named s))
+    goes IsNumber IsTold (numbered_in 116 s) (λ t s. then (decimal_in s) (λ k s. then (word_named side_named s) (λ side s. then (numbered_in 112 s) (λ p s. then (value_field s) (λ v s. then (numbered_in 119 s) (λ w s. then (decimal_in s) (λ o s. Some (met t k side p v w o)))))))) (numbered_told 116 s)
+    (λ t s ht. goes IsNumber IsTold (decimal_in s) (λ k s. then (word_named side_named s) (λ side s. then (numbered_in 112 s) (λ p s. then (value_field s) (λ v s. then (numbered_in 119 s) (λ w s. then (decimal_in s) (λ o s. Some (met t k side p v w o))))))) (decimal_told s)
+    (λ k s hk. goes Any IsTold (word_named side_named s) (λ side s. then (numbered_in 112 s) (λ p s. then (value_field s) (λ v s. then (numbered_in 119 s) (λ w s. then (decimal_in s) (λ o s. Some (met t k side p v w o)))))) (any (word_named side_named s))
     (λ side s hside. goes IsNumber IsTold (numbered_in 112 s) (λ p s. then (value_field s) (λ v s. then (numbered_in 119 s) (λ w s. then (decimal_in s) (λ o s. Some (met t k side p v w o))))) (numbered_told 112 s)
     (λ p s hp. goes Told IsTold (value_field s) (λ v s. then (numbered_in 119 s) (λ w s. then (decimal_in s) (λ o s. Some (met t k side p v w o)))) (field_value_told s)
     (λ v s hv. goes IsNumber IsTold (numbered_in 119 s) (λ w s. then (decimal_in s) (λ o s. Some (met t k side p v w o))) (numbered_told 119 s)
     (λ w s hw. goes IsNumber IsTold (decimal_in s) (λ o s. Some (met t k side p v w o)) (decimal_told s)
     (λ o s ho. record { shown = (ht, hk, hp, hv.1, hw, ho); values = (hv.0, tt) })))))))
 
-parked_told : (s : List ℕ) → Event (parked_in s)
+parked_told : (s : List ℕ) → Event (parked_read s)
 parked_told s =
-    goes IsNumber IsTold (numbered_in 116 s) (λ t s. then (numbered_in 119 s) (λ w s. next (branches_in s) (λ bs. Some (parked t w bs)))) (numbered_told 116 s)
-    (λ t s ht. goes IsNumber IsTold (numbered_in 119 s) (λ w s. next (branches_in s) (λ bs. Some (parked t w bs))) (numbered_told 119 s)
-    (λ w s hw. onward (λ bs. Each BranchTold bs) IsTold (branches_in s) (λ bs. Some (parked t w bs)) (list_told BranchTold (λ s. branch_in (uncomma s)) (λ s. branch_told (uncomma s)) (length s) [] s tt)
+    goes IsNumber IsTold (numbered_in 116 s) (λ t s. then (numbered_in 119 s) (λ w s. next_read (branches_read s) (λ bs. Some (parked t w bs)))) (numbered_told 116 s)
+    (λ t s ht. goes IsNumber IsTold (numbered_in 119 s) (λ w s. next_read (branches_read s) (λ bs. Some (parked t w bs))) (numbered_told 119 s)
+    (λ w s hw. onward (λ bs. Each BranchTold bs) IsTold (branches_read s) (λ bs. Some (parked t w bs)) (list_told BranchTold (λ s. branch_in (uncomma s)) (λ s. branch_told (uncomma s)) (length s) [] s tt)
     (λ bs h. record { shown = (ht, hw, branches_shown bs h); values = branches_are bs h })))
 
 posted_told : (s : List ℕ) → Event (posted_in s)
@@ -190,9 +190,9 @@ posted_told s =
 
 settled_told : (s : List ℕ) → Event (settled_in s)
 settled_told s =
-    goes IsNumber IsTold (numbered_in 119 s) (λ w s. then (decimal_in s) (λ k s. then (named side_named s) (λ side s. then (numbered_in 112 s) (λ p s. then (value_field s) (λ v s. Some (settled w k side p v)))))) (numbered_told 119 s)
-    (λ w s hw. goes IsNumber IsTold (decimal_in s) (λ k s. then (named side_named s) (λ side s. then (numbered_in 112 s) (λ p s. then (value_field s) (λ v s. Some (settled w k side p v))))) (decimal_told s)
-    (λ k s hk. goes Any IsTold (named side_named s) (λ side s. then (numbered_in 112 s) (λ p s. then (value_field s) (λ v s. Some (settled w k side p v)))) (any (named side_named s))
+    goes IsNumber IsTold (numbered_in 119 s) (λ w s. then (decimal_in s) (λ k s. then (word_named side_named s) (λ side s. then (numbered_in 112 s) (λ p s. then (value_field s) (λ v s. Some (settled w k side p v)))))) (numbered_told 119 s)
+    (λ w s hw. goes IsNumber IsTold (decimal_in s) (λ k s. then (word_named side_named s) (λ side s. then (numbered_in 112 s) (λ p s. then (value_field s) (λ v s. Some (settled w k side p v))))) (decimal_told s)
+    (λ k s hk. goes Any IsTold (word_named side_named s) (λ side s. then (numbered_in 112 s) (λ p s. then (value_field s) (λ v s. Some (settled w k side p v)))) (any (word_named side_named s))
     (λ side s hside. goes IsNumber IsTold (numbered_in 112 s) (λ p s. then (value_field s) (λ v s. Some (settled w k side p v))) (numbered_told 112 s)
     (λ p s hp. goes Told IsTold (value_field s) (λ v s. Some (settled w k side p v)) (field_value_told s)
     (λ v s hv. record { shown = (hw, hk, hp, hv.1); values = (hv.0, tt) })))))
@@ -211,10 +211,10 @@ closed_told s =
 
 registered_told : (s : List ℕ) → Event (registered_in s)
 registered_told s =
-    goes IsNumber IsTold (numbered_in 116 s) (λ t s. then (named name_named s) (λ name s. next (values_in s) (λ ts. next (parted ts) (λ p. Some (registered t name (trees_of p.0) p.1))))) (numbered_told 116 s)
-    (λ t s ht. goes Any IsTold (named name_named s) (λ name s. next (values_in s) (λ ts. next (parted ts) (λ p. Some (registered t name (trees_of p.0) p.1)))) (any (named name_named s))
-    (λ name s hn. onward (λ ts. Each Told ts) IsTold (values_in s) (λ ts. next (parted ts) (λ p. Some (registered t name (trees_of p.0) p.1))) (list_told Told value_field field_value_told (length s) [] s tt)
-    (λ ts h. onward Registers IsTold (parted ts) (λ p. Some (registered t name (trees_of p.0) p.1)) (parted_told ts h) (λ p g. g t name ht))))
+    goes IsNumber IsTold (numbered_in 116 s) (λ t s. then (word_named name_named s) (λ name s. next_read (values_read s) (λ ts. next_read (arguments_parted ts) (λ p. Some (registered t name (trees_of p.0) p.1))))) (numbered_told 116 s)
+    (λ t s ht. goes Any IsTold (word_named name_named s) (λ name s. next_read (values_read s) (λ ts. next_read (arguments_parted ts) (λ p. Some (registered t name (trees_of p.0) p.1)))) (any (word_named name_named s))
+    (λ name s hn. onward (λ ts. Each Told ts) IsTold (values_read s) (λ ts. next_read (arguments_parted ts) (λ p. Some (registered t name (trees_of p.0) p.1))) (list_told Told value_field field_value_told (length s) [] s tt)
+    (λ ts h. onward Registers IsTold (arguments_parted ts) (λ p. Some (registered t name (trees_of p.0) p.1)) (parted_told ts h) (λ p g. g t name ht))))
 
 line_told : (t : ℕ) (line : List ℕ) → IsNumber t → Event (cond (nat_lt (length line) 131072) (Some (printed t line)) None)
 line_told t line h = by (nat_lt (length line) 131072) refl where
@@ -230,18 +230,18 @@ printed_told s =
 
 ticked_told : (s : List ℕ) → Event (ticked_in s)
 ticked_told s =
-    goes IsNumber IsTold (decimal_in s) (λ m s. next (ports_in s) (λ ports. Some (ticked m ports))) (decimal_told s)
-    (λ m s hm. onward (λ ps. Each IsNumber ps) IsTold (ports_in s) (λ ports. Some (ticked m ports)) (list_told IsNumber (numbered_in 112) (numbered_told 112) (length s) [] s tt) (λ ps h. record { shown = (hm, h); values = tt }))
+    goes IsNumber IsTold (decimal_in s) (λ m s. next_read (ports_read s) (λ ports. Some (ticked m ports))) (decimal_told s)
+    (λ m s hm. onward (λ ps. Each IsNumber ps) IsTold (ports_read s) (λ ports. Some (ticked m ports)) (list_told IsNumber (numbered_in 112) (numbered_told 112) (length s) [] s tt) (λ ps h. record { shown = (hm, h); values = tt }))
 
 ended_told : (s : List ℕ) → Event (ended_in s)
 ended_told s = goes IsNumber IsTold (numbered_in 116 s) (λ t s. Some (over t Ended)) (numbered_told 116 s) (λ t s ht. record { shown = ht; values = tt })
 
 faulted_told : (s : List ℕ) → Event (faulted_in s)
 faulted_told s =
-    goes IsNumber IsTold (numbered_in 116 s) (λ t s. then (named fault_named s) (λ fault s. then (place_in s) (λ place s. then (maybe_port_in s) (λ o s. Some (over t (Faulted fault place (port_of o))))))) (numbered_told 116 s)
-    (λ t s ht. goes Any IsTold (named fault_named s) (λ fault s. then (place_in s) (λ place s. then (maybe_port_in s) (λ o s. Some (over t (Faulted fault place (port_of o)))))) (any (named fault_named s))
-    (λ fault s hfault. goes IsPlace IsTold (place_in s) (λ place s. then (maybe_port_in s) (λ o s. Some (over t (Faulted fault place (port_of o))))) (place_told s)
-    (λ place s hplace. goes MaybeNumber IsTold (maybe_port_in s) (λ o s. Some (over t (Faulted fault place (port_of o)))) (maybe_told s)
+    goes IsNumber IsTold (numbered_in 116 s) (λ t s. then (word_named fault_named s) (λ fault s. then (place_in s) (λ place s. then (maybe_port_in s) (λ o s. Some (over t (Faulted fault place (port_read o))))))) (numbered_told 116 s)
+    (λ t s ht. goes Any IsTold (word_named fault_named s) (λ fault s. then (place_in s) (λ place s. then (maybe_port_in s) (λ o s. Some (over t (Faulted fault place (port_read o)))))) (any (word_named fault_named s))
+    (λ fault s hfault. goes IsPlace IsTold (place_in s) (λ place s. then (maybe_port_in s) (λ o s. Some (over t (Faulted fault place (port_read o))))) (place_told s)
+    (λ place s hplace. goes MaybeNumber IsTold (maybe_port_in s) (λ o s. Some (over t (Faulted fault place (port_read o)))) (maybe_told s)
     (λ o s ho. record { shown = (ht, hplace.0, hplace.1, result_told o ho); values = tt }))))
 
 by_told : (w s : List ℕ) → Event (event_by w s)

@@ -4,7 +4,7 @@ use Rattle.std.specs.Prelude.{codes}
 use Rattle.std.specs.Fmt.{decimal}
 use Rattle.ca_value.specs.Tree.{Tree, Trees, nil, bool, int, text, key, vector, map as map_tree, port, none, item, items_of}
 use Rattle.ca_value.specs.declared.print.Style.TheVariants.{Readable}
-use Rattle.ca_value.specs.Printed.{printed, printed_more, readable_text, readable_items}
+use Rattle.ca_value.specs.Printed.{printed_value, printed_more, readable_text, readable_items}
 use Rattle.ca_value.specs.IsValue.{written, IsValue, AreValues}
 use Rattle.ca_term.specs.declared.place.Place.{Place}
 use Rattle.ca_term.specs.declared.fault.Fault.{Fault}
@@ -21,7 +21,7 @@ use Rattle.ca_meaning.proofs.LineWords.{Ends}
 use Rattle.ca_journal_reader.specs.Found.{Found, then}
 use Rattle.ca_journal_reader.specs.Words.{is_first, byte_in, number_in, unspaced, word_in, decimal_in, numbered_in, field}
 use Rattle.ca_journal_reader.specs.ValueText.{value_field, uncomma}
-use Rattle.ca_journal_reader.specs.FieldText.{named, side_named, kind_named, name_named, fault_named, maybe_port_in, place_in, sized_in, timeout_in, from_port_in, mix_in, what_in, branch_in, list_in, branches_in, ports_in, values_in, and_rest, parted}
+use Rattle.ca_journal_reader.specs.FieldText.{word_named, side_named, kind_named, name_named, fault_named, maybe_port_in, place_in, sized_in, timeout_in, from_port_in, mix_in, what_in, branch_in, list_in, branches_read, ports_read, values_read, and_rest, arguments_parted}
 use Rattle.ca_journal_reader.specs.Input.{and_last}
 use Rattle.ca_journal_reader.proofs.Numbers.{IsStop, number_back}
 use Rattle.ca_journal_reader.proofs.Loops.{list_step}
@@ -55,11 +55,11 @@ pub end_value : (v : Tree) (r : List ℕ) → IsValue written v → IsShown v �
 end_value v r w h = field_back v (10 ∷ r) w h refl
 
 -- words
-pub cut_side : (w : Side) (x r : List ℕ) → named side_named ((side_text w ⋅ x) ++ r) ≡ Some (w, x ++ r)
+pub cut_side : (w : Side) (x r : List ℕ) → word_named side_named ((side_text w ⋅ x) ++ r) ≡ Some (w, x ++ r)
 cut_side Side.Take x r = refl
 cut_side Side.Put x r = refl
 
-pub cut_kind : (w : TaskKind) (x r : List ℕ) → named kind_named ((kind_text w ⋅ x) ++ r) ≡ Some (w, x ++ r)
+pub cut_kind : (w : TaskKind) (x r : List ℕ) → word_named kind_named ((kind_text w ⋅ x) ++ r) ≡ Some (w, x ++ r)
 cut_kind TaskKind.Go x r = refl
 cut_kind TaskKind.Mult x r = refl
 cut_kind TaskKind.Deliver x r = refl
@@ -72,7 +72,7 @@ cut_kind TaskKind.Feed x r = refl
 cut_kind TaskKind.Job x r = refl
 cut_kind TaskKind.Collect x r = refl
 
-pub cut_name : (w : RegisterName) (x r : List ℕ) → named name_named ((name_text w ⋅ x) ++ r) ≡ Some (w, x ++ r)
+pub cut_name : (w : RegisterName) (x r : List ℕ) → word_named name_named ((name_text w ⋅ x) ++ r) ≡ Some (w, x ++ r)
 cut_name RegisterName.Tap x r = refl
 cut_name RegisterName.Untap x r = refl
 cut_name RegisterName.UntapAll x r = refl
@@ -89,7 +89,7 @@ cut_name RegisterName.Drop x r = refl
 cut_name RegisterName.Clear x r = refl
 cut_name RegisterName.Topics x r = refl
 
-pub cut_fault : (w : Fault) (x r : List ℕ) → named fault_named ((fault_text w ⋅ x) ++ r) ≡ Some (w, x ++ r)
+pub cut_fault : (w : Fault) (x r : List ℕ) → word_named fault_named ((fault_text w ⋅ x) ++ r) ≡ Some (w, x ++ r)
 cut_fault Fault.Overflow x r = refl
 cut_fault Fault.ZeroDivisor x r = refl
 cut_fault Fault.WrongKind x r = refl
@@ -232,9 +232,9 @@ branch_length : (b : BranchView) (x : List ℕ) → length x < length (branch_te
 branch_length (take_of p) x = let e = length-append (branch_text (take_of p)) x in omega (arith, e)
 branch_length (put_of p v) x = let e = length-append (branch_text (put_of p v)) x in omega (arith, e)
 
-pub branches_back : (bs : List BranchView) (r : List ℕ) → Each BranchGood bs → branches_in (branches_text bs ++ (10 ∷ r)) ≡ Some bs
+pub branches_back : (bs : List BranchView) (r : List ℕ) → Each BranchGood bs → branches_read (branches_text bs ++ (10 ∷ r)) ≡ Some bs
 branches_back [] r h = refl
-branches_back (b ∷ bs) r h = ap branches_in (ap (λ z. z ++ (10 ∷ r)) (more_cons b bs) ∙ append_assoc (branch_text b) (more_branches bs) (10 ∷ r)) ∙ by (length (branch_text b ++ x)) (let k = branch_length b x in let j = more_length bs r in omega (arith, k, j)) where
+branches_back (b ∷ bs) r h = ap branches_read (ap (λ z. z ++ (10 ∷ r)) (more_cons b bs) ∙ append_assoc (branch_text b) (more_branches bs) (10 ∷ r)) ∙ by (length (branch_text b ++ x)) (let k = branch_length b x in let j = more_length bs r in omega (arith, k, j)) where
   x : List ℕ
   x = more_branches bs ++ (10 ∷ r)
 
@@ -277,7 +277,7 @@ ports_length (p ∷ ps) r = by (ports_long ps) where
 pub tick_back : (m : ℕ) (ps : List ℕ) (r : List ℕ) → IsNumber m → decimal_in ((decimal m ++ ports_text ps) ++ (10 ∷ r)) ≡ Some (m, unspaced (ports_text ps ++ (10 ∷ r)))
 tick_back m ps r h = ap decimal_in (append_assoc (decimal m) (ports_text ps) (10 ∷ r)) ∙ decimal_back m (ports_text ps ++ (10 ∷ r)) h (ports_stop ps r)
 
-pub ports_back : (ps : List ℕ) (r : List ℕ) → Each IsNumber ps → ports_in (unspaced (ports_text ps ++ (10 ∷ r))) ≡ Some ps
+pub ports_back : (ps : List ℕ) (r : List ℕ) → Each IsNumber ps → ports_read (unspaced (ports_text ps ++ (10 ∷ r))) ≡ Some ps
 ports_back ps r h = ports_go ps (length (unspaced (ports_text ps ++ (10 ∷ r)))) [] r h (ports_length ps r)
 
 -- the arguments of an operation and its answer
@@ -294,8 +294,8 @@ values_go ts zero said r v h lt = absurd (omega (arith, lt))
 values_go none (suc n) said r v h lt = ap (λ (z : List Tree). Some z) (sym (append-nil said))
 values_go (item t ts) (suc n) said r v h lt =
     let x = printed_more Readable ts ++ (10 ∷ r) in
-    let s = (printed Readable t ++ printed_more Readable ts) ++ (10 ∷ r) in
-    let e = append_assoc (printed Readable t) (printed_more Readable ts) (10 ∷ r) in
+    let s = (printed_value Readable t ++ printed_more Readable ts) ++ (10 ∷ r) in
+    let e = append_assoc (printed_value Readable t) (printed_more Readable ts) (10 ∷ r) in
     let is : value_field s ≡ Some (t, unspaced x) = ap value_field e ∙ field_back t x v.0 h.0 (values_end ts r) in
     sym (list_step value_field (suc n) n said (said ++ t ∷ []) s (unspaced x) t refl (ap (is_first 10) e ∙ no_first 10 t x h.0 refl) is refl)
     ∙ values_go ts n (said ++ t ∷ []) r v.1 h.1 (omega (arith, lt))
@@ -305,12 +305,12 @@ values_length : (ts : Trees) (r : List ℕ) → count_of ts < length (printed_mo
 values_length none r = omega arith
 values_length (item t ts) r =
     let k = values_length ts r in
-    let e : length ((printed Readable t ++ printed_more Readable ts) ++ (10 ∷ r)) ≡ length (printed Readable t) + length (printed_more Readable ts ++ (10 ∷ r)) = ap length (append_assoc (printed Readable t) (printed_more Readable ts) (10 ∷ r)) ∙ length-append (printed Readable t) (printed_more Readable ts ++ (10 ∷ r)) in
+    let e : length ((printed_value Readable t ++ printed_more Readable ts) ++ (10 ∷ r)) ≡ length (printed_value Readable t) + length (printed_more Readable ts ++ (10 ∷ r)) = ap length (append_assoc (printed_value Readable t) (printed_more Readable ts) (10 ∷ r)) ∙ length-append (printed_value Readable t) (printed_more Readable ts ++ (10 ∷ r)) in
     omega (arith, k, e)
 
 last_text : (ts : Trees) (v : Tree) → printed_more Readable ts ++ (32 ∷ readable_text v) ≡ printed_more Readable (and_last ts v)
 last_text none v = ap (λ z. 32 ∷ z) (sym (append-nil (readable_text v)))
-last_text (item t ts) v = ap (λ z. 32 ∷ z) (append_assoc (printed Readable t) (printed_more Readable ts) (32 ∷ readable_text v) ∙ ap (λ z. printed Readable t ++ z) (last_text ts v))
+last_text (item t ts) v = ap (λ z. 32 ∷ z) (append_assoc (printed_value Readable t) (printed_more Readable ts) (32 ∷ readable_text v) ∙ ap (λ z. printed_value Readable t ++ z) (last_text ts v))
 
 count_last : (ts : Trees) (v : Tree) → 0 < count_of (and_last ts v)
 count_last none v = omega arith
@@ -321,29 +321,29 @@ shown_last none v h k = (k, tt)
 shown_last (item t ts) v h k = (h.0, shown_last ts v h.1 k)
 
 pub values_back : (t : Tree) (ts : Trees) (v : Tree) (r : List ℕ) → AreValues written (and_last (item t ts) v) → AreShown (item t ts) → IsShown v
-    → values_in ((readable_items (item t ts) ⋅ readable_text v) ++ (10 ∷ r)) ≡ Some (items_of (and_last (item t ts) v))
+    → values_read ((readable_items (item t ts) ⋅ readable_text v) ++ (10 ∷ r)) ≡ Some (items_of (and_last (item t ts) v))
 values_back t ts v r w h k =
-    ap values_in shape ∙ values_go (item t us) (length s) [] r w (shown_last (item t ts) v h k) long where
+    ap values_read shape ∙ values_go (item t us) (length s) [] r w (shown_last (item t ts) v h k) long where
       us : Trees
       us = and_last ts v
 
       s : List ℕ
-      s = (printed Readable t ++ printed_more Readable us) ++ (10 ∷ r)
+      s = (printed_value Readable t ++ printed_more Readable us) ++ (10 ∷ r)
 
-      shape : ((printed Readable t ++ printed_more Readable ts) ++ (32 ∷ readable_text v)) ++ (10 ∷ r) ≡ (printed Readable t ++ printed_more Readable (and_last ts v)) ++ (10 ∷ r)
-      shape = ap (λ z. z ++ (10 ∷ r)) (append_assoc (printed Readable t) (printed_more Readable ts) (32 ∷ readable_text v) ∙ ap (λ z. printed Readable t ++ z) (last_text ts v))
+      shape : ((printed_value Readable t ++ printed_more Readable ts) ++ (32 ∷ readable_text v)) ++ (10 ∷ r) ≡ (printed_value Readable t ++ printed_more Readable (and_last ts v)) ++ (10 ∷ r)
+      shape = ap (λ z. z ++ (10 ∷ r)) (append_assoc (printed_value Readable t) (printed_more Readable ts) (32 ∷ readable_text v) ∙ ap (λ z. printed_value Readable t ++ z) (last_text ts v))
 
-      long : suc (count_of (and_last ts v)) < length ((printed Readable t ++ printed_more Readable (and_last ts v)) ++ (10 ∷ r))
+      long : suc (count_of (and_last ts v)) < length ((printed_value Readable t ++ printed_more Readable (and_last ts v)) ++ (10 ∷ r))
       long =
           let k = values_length (and_last ts v) r in
           let j = printed_there t h.0 in
-          let e : length ((printed Readable t ++ printed_more Readable (and_last ts v)) ++ (10 ∷ r)) ≡ length (printed Readable t) + length (printed_more Readable (and_last ts v) ++ (10 ∷ r)) = ap length (append_assoc (printed Readable t) (printed_more Readable (and_last ts v)) (10 ∷ r)) ∙ length-append (printed Readable t) (printed_more Readable (and_last ts v) ++ (10 ∷ r)) in
+          let e : length ((printed_value Readable t ++ printed_more Readable (and_last ts v)) ++ (10 ∷ r)) ≡ length (printed_value Readable t) + length (printed_more Readable (and_last ts v) ++ (10 ∷ r)) = ap length (append_assoc (printed_value Readable t) (printed_more Readable (and_last ts v)) (10 ∷ r)) ∙ length-append (printed_value Readable t) (printed_more Readable (and_last ts v) ++ (10 ∷ r)) in
           omega (arith, k, j, e)
 
 rest_back : (u : Tree) (ts : Trees) (v : Tree) → and_rest u (items_of (and_last ts v)) ≡ (u ∷ items_of ts, v)
 rest_back u none v = refl
 rest_back u (item t ts) v = ap (λ (p : List Tree × Tree). (u ∷ p.0, p.1)) (rest_back t ts v)
 
-pub parted_back : (t : Tree) (ts : Trees) (v : Tree) → parted (items_of (and_last (item t ts) v)) ≡ Some (t ∷ items_of ts, v)
+pub parted_back : (t : Tree) (ts : Trees) (v : Tree) → arguments_parted (items_of (and_last (item t ts) v)) ≡ Some (t ∷ items_of ts, v)
 parted_back t none v = refl
 parted_back t (item u ts) v = ap (λ (p : List Tree × Tree). Some (t ∷ p.0, p.1)) (rest_back u ts v)

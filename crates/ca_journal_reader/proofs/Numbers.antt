@@ -8,7 +8,7 @@ use Rattle.std.proofs.lemmas.Fmt.{decimal_is_IsNumeral}
 use Rattle.std.proofs.lemmas.Str.{digit_value_digit}
 use Rattle.std.proofs.lemmas.Str.Parse.{digit_from_value}
 use Rattle.ca_journal_reader.specs.Found.{Found}
-use Rattle.ca_journal_reader.specs.Words.{is_digit, number_from, number_in, word_behind}
+use Rattle.ca_journal_reader.specs.Words.{is_digit_byte, number_from, number_in, word_behind}
 
 abbrev pub Read : Type 0
 Read = ℕ × List ℕ
@@ -16,13 +16,13 @@ Read = ℕ × List ℕ
 -- no digit stands in front
 abbrev pub IsStop : List ℕ → Type 0
 IsStop [] = Unit {0}
-IsStop (b ∷ bs) = is_digit b ≡ false
+IsStop (b ∷ bs) = is_digit_byte b ≡ false
 
 stops : (v : ℕ) (r : List ℕ) → IsStop r → number_from v r ≡ (v, r)
 stops v [] s = refl
 stops v (b ∷ bs) s = ap (λ (c : Bool). cond {A = Read} c (number_from (v * 10 + (b - 48)) bs) (v, b ∷ bs)) s
 
-pub digit_is : (c : ℕ) → digit_value c < 10 → (is_digit c ≡ true) × (48 ≤ c) × (c ≤ 57)
+pub digit_is : (c : ℕ) → digit_value c < 10 → (is_digit_byte c ≡ true) × (48 ≤ c) × (c ≤ 57)
 digit_is c d =
     let range = digit_from_value c d in
     let back = digit_value_digit c range in
@@ -47,7 +47,7 @@ number_back n r lt s = ap (λ (z : Read). cond (nat_lt z.0 (2 ^ 64)) (Some z) No
 
 grows : (v : ℕ) (bs : List ℕ) → v ≤ (number_from v bs).0
 grows v [] = omega arith
-grows v (b ∷ bs) = by (is_digit b) (grows (v * 10 + (b - 48)) bs) where
+grows v (b ∷ bs) = by (is_digit_byte b) (grows (v * 10 + (b - 48)) bs) where
   by : (t : Bool) → v * 10 + (b - 48) ≤ (number_from (v * 10 + (b - 48)) bs).0 → v ≤ (cond {A = Read} t (number_from (v * 10 + (b - 48)) bs) (v, b ∷ bs)).0
   by true le = omega (arith, le)
   by false le = omega arith
@@ -55,14 +55,14 @@ grows v (b ∷ bs) = by (is_digit b) (grows (v * 10 + (b - 48)) bs) where
 at_least : (a b : ℕ) → (a < b → ⊥) → b ≤ a
 at_least a b f = ⊎_elim (λ (lt : a < b). absurd (f lt)) (λ le. le) (cases_lt a b)
 
-too_great_at : (text : List ℕ) (i v : ℕ) → i < length text → is_digit (get_or text i 0) ≡ true → v * 10 + (get_or text i 0 - 48) ≤ (number_from v (drop i text)).0
+too_great_at : (text : List ℕ) (i v : ℕ) → i < length text → is_digit_byte (get_or text i 0) ≡ true → v * 10 + (get_or text i 0 - 48) ≤ (number_from v (drop i text)).0
 too_great_at text i v lt is = subst (λ (l : List ℕ). v * 10 + (get_or text i 0 - 48) ≤ (number_from v l).0) (sym (drop-cons text i 0 lt))
     (subst (λ (b : Bool). v * 10 + (get_or text i 0 - 48) ≤ (cond {A = Read} b (number_from (v * 10 + (get_or text i 0 - 48)) (drop (suc i) text)) (v, get_or text i 0 ∷ drop (suc i) text)).0) (sym is) (grows (v * 10 + (get_or text i 0 - 48)) (drop (suc i) text)))
 
-pub product_over : (text : List ℕ) (i v m : ℕ) → i < length text → is_digit (get_or text i 0) ≡ true → number_from v (drop i text) ≡ number_from 0 text → (v * 10 < m → ⊥) → m ≤ (number_from 0 text).0
+pub product_over : (text : List ℕ) (i v m : ℕ) → i < length text → is_digit_byte (get_or text i 0) ≡ true → number_from v (drop i text) ≡ number_from 0 text → (v * 10 < m → ⊥) → m ≤ (number_from 0 text).0
 product_over text i v m lt is inv f = subst (λ (r : Read). m ≤ r.0) inv (let k = too_great_at text i v lt is in let g = at_least (v * 10) m f in omega (arith, k, g))
 
-pub sum_over : (text : List ℕ) (i v m : ℕ) → i < length text → is_digit (get_or text i 0) ≡ true → number_from v (drop i text) ≡ number_from 0 text → (v * 10 + (get_or text i 0 - 48) < m → ⊥) → m ≤ (number_from 0 text).0
+pub sum_over : (text : List ℕ) (i v m : ℕ) → i < length text → is_digit_byte (get_or text i 0) ≡ true → number_from v (drop i text) ≡ number_from 0 text → (v * 10 + (get_or text i 0 - 48) < m → ⊥) → m ≤ (number_from 0 text).0
 sum_over text i v m lt is inv f = subst (λ (r : Read). m ≤ r.0) inv (let k = too_great_at text i v lt is in let g = at_least (v * 10 + (get_or text i 0 - 48)) m f in omega (arith, k, g))
 
 abbrev Passed : Type 0

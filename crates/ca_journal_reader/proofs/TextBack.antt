@@ -4,7 +4,7 @@ use Rattle.std.specs.List.{list_all, prefix_len}
 use Rattle.ca_value.specs.Tree.{Tree, key}
 use Rattle.ca_value.specs.Printed.{escaped, all_escaped}
 use Rattle.ca_value.specs.IsValue.{is_keyword_byte, is_keyword}
-use Rattle.ca_meaning.specs.Shown.{stops}
+use Rattle.ca_meaning.specs.Shown.{ends_word}
 use Rattle.ca_meaning.proofs.LineWords.{Ends}
 use Rattle.ca_journal_reader.specs.Found.{Found}
 use Rattle.ca_journal_reader.specs.ValueText.{text_from, key_in}
@@ -70,7 +70,7 @@ prefix_back p (b ∷ w) r all stop = by (p b) all (λ e. prefix_back p w r e sto
   by false e f = absurd (let k : false ≡ true = e in cc)
 
 -- no byte that ends a word is one of a keyword
-pub stop_is : (b : ℕ) → stops b ≡ true → is_keyword_byte b ≡ false
+pub stop_is : (b : ℕ) → ends_word b ≡ true → is_keyword_byte b ≡ false
 stop_is b = by (b == 32) (b == 10) (b == 44) (b == 93) (b == 125) refl refl refl refl refl where
   same : (n : ℕ) → (b == n) ≡ true → is_keyword_byte n ≡ false → is_keyword_byte b ≡ false
   same n e f = ap is_keyword_byte (eqb-true b n e) ∙ f

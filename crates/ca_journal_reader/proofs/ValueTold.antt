@@ -6,14 +6,14 @@ use Rattle.std.proofs.lemmas.Int.{ints}
 use Rattle.ca_value.specs.Tree.{Tree, nil, bool, int, text, key, vector, map as map_tree, port, trees_of, pairs_of}
 use Rattle.ca_value.specs.Measure.{weight_of, depth_of}
 use Rattle.ca_value.specs.Equality.{equals}
-use Rattle.ca_value.specs.Maps.{put, put_all, paired}
+use Rattle.ca_value.specs.Maps.{put_pair, put_all, paired}
 use Rattle.ca_value.specs.IsValue.{written, IsRegular, IsValue, is_keyword, is_keyword_byte}
 use Rattle.ca_value.proofs.Sound.{AreSound, trees_sound}
 use Rattle.ca_value.proofs.SoundMaps.{hash_map_sound}
-use Rattle.ca_meaning.specs.Shown.{stops, Solid, IsNumber, IsShown, AreShown, PairsShown}
+use Rattle.ca_meaning.specs.Shown.{ends_word, Solid, IsNumber, IsShown, AreShown, PairsShown}
 use Rattle.ca_journal_reader.specs.Found.{Found, then}
-use Rattle.ca_journal_reader.specs.Words.{number_from, number_in, byte_in, word_behind, unspaced, is_first, field, decimal_in, numbered_in, is_digit}
-use Rattle.ca_journal_reader.specs.ValueText.{text_from, text_in, key_in, signed, int_of, signed_in, integer_in, named_in, scalar_in, items_in, uncomma, pair_in, pairs_in, vector_in, map_in, value_by, value_in, is_within, value_field}
+use Rattle.ca_journal_reader.specs.Words.{number_from, number_in, byte_in, word_behind, unspaced, is_first, field, decimal_in, numbered_in, is_digit_byte}
+use Rattle.ca_journal_reader.specs.ValueText.{text_from, text_in, key_in, signed, int_of, signed_in, integer_in, named_in, scalar_in, items_read, uncomma, pair_in, pairs_read, vector_in, map_in, value_by, value_read, is_within, value_field}
 use Rattle.ca_journal_reader.proofs.TextBack.{stop_is}
 
 -- of what is read, if anything is
@@ -94,16 +94,16 @@ front_passes p (b ∷ s) = by (p b) refl (front_passes p s) where
   by true e h = subst (λ (m : ℕ). list_all p (take m (b ∷ s)) ≡ true) (let k : suc (prefix_len p s) ≡ 1 + prefix_len p s = omega arith in k) (ap (λ (t : Bool). t && list_all p (take (prefix_len p s) s)) e ∙ h)
   by false e h = refl
 
-solid_byte : (b : ℕ) → is_keyword_byte b ≡ true → stops b ≡ false
-solid_byte b h = by (stops b) refl where
-  by : (t : Bool) → stops b ≡ t → t ≡ false
+solid_byte : (b : ℕ) → is_keyword_byte b ≡ true → ends_word b ≡ false
+solid_byte b h = by (ends_word b) refl where
+  by : (t : Bool) → ends_word b ≡ t → t ≡ false
   by true e = let k = stop_is b e in absurd (let j : true ≡ false = sym h ∙ k in cc)
   by false e = refl
 
 solid : (s : List ℕ) → list_all is_keyword_byte s ≡ true → Solid s
 solid [] h = tt
 solid (b ∷ s) h = by (is_keyword_byte b) refl h (λ k. solid s k) where
-  by : (t : Bool) → is_keyword_byte b ≡ t → (t && list_all is_keyword_byte s) ≡ true → (list_all is_keyword_byte s ≡ true → Solid s) → (stops b ≡ false) × Solid s
+  by : (t : Bool) → is_keyword_byte b ≡ t → (t && list_all is_keyword_byte s) ≡ true → (list_all is_keyword_byte s ≡ true → Solid s) → (ends_word b ≡ false) × Solid s
   by true e k f = (solid_byte b e, f k)
   by false e k f = absurd (let j : false ≡ true = k in cc)
 
@@ -138,7 +138,7 @@ named_good b s =
 
 scalar_good : (b : ℕ) (s : List ℕ) → IfRead GoodRead (scalar_in b s)
 scalar_good b s =
-    choice GoodRead (is_digit b || b == 45) _ _ (integer_good s)
+    choice GoodRead (is_digit_byte b || b == 45) _ _ (integer_good s)
     (choice GoodRead (b == 34) _ _ (text_good (drop 1 s))
     (choice GoodRead (b == 58) _ _ (key_good (drop 1 s)) (named_good b s)))
 
@@ -162,14 +162,14 @@ are_shown (t ∷ ts) h = (h.0.1, are_shown ts h.1)
 abbrev GoodBy : (List ℕ → Found Tree) → Type 0
 GoodBy f = (s : List ℕ) → IfRead GoodRead (f s)
 
-items_good : (f : List ℕ → Found Tree) → GoodBy f → (n : ℕ) (said : List Tree) (s : List ℕ) → AllGood said → IfFound AllGood (items_in f n said s)
+items_good : (f : List ℕ → Found Tree) → GoodBy f → (n : ℕ) (said : List Tree) (s : List ℕ) → AllGood said → IfFound AllGood (items_read f n said s)
 items_good f g zero said s h = tt
 items_good f g (suc n) said s h =
     choice (λ (r : List Tree × List ℕ). AllGood r.0) (is_first 93 (unspaced s)) _ _ h
-    (goes Good (λ (r : List Tree × List ℕ). AllGood r.0) (f (unspaced s)) (λ t rest. items_in f n (said ++ t ∷ []) rest) (g (unspaced s)) (λ t rest k. items_good f g n (said ++ t ∷ []) rest (good_more said t h k)))
+    (goes Good (λ (r : List Tree × List ℕ). AllGood r.0) (f (unspaced s)) (λ t rest. items_read f n (said ++ t ∷ []) rest) (g (unspaced s)) (λ t rest k. items_good f g n (said ++ t ∷ []) rest (good_more said t h k)))
 
 vector_good : (f : List ℕ → Found Tree) → GoodBy f → (s : List ℕ) → IfRead GoodRead (vector_in f s)
-vector_good f g s = goes AllGood GoodRead (items_in f (length s) [] s) (λ ts rest. Some (vector (trees_of ts), rest)) (items_good f g (length s) [] s tt) (λ ts rest h. (trees_sound written ts (are_sound ts h), are_shown ts h))
+vector_good f g s = goes AllGood GoodRead (items_read f (length s) [] s) (λ ts rest. Some (vector (trees_of ts), rest)) (items_good f g (length s) [] s tt) (λ ts rest h. (trees_sound written ts (are_sound ts h), are_shown ts h))
 
 -- pairs
 abbrev Pairs : Type 0
@@ -187,18 +187,18 @@ paired_flat : (qs : Pairs) → paired (flat qs) ≡ qs
 paired_flat [] = refl
 paired_flat (q ∷ qs) = ap (λ z. (q.0, q.1) ∷ z) (paired_flat qs)
 
-put_all_more : (ps qs : Pairs) (q : Tree × Tree) → put_all ps (qs ++ q ∷ []) ≡ put (put_all ps qs) q.0 q.1
+put_all_more : (ps qs : Pairs) (q : Tree × Tree) → put_all ps (qs ++ q ∷ []) ≡ put_pair (put_all ps qs) q.0 q.1
 put_all_more ps [] q = refl
-put_all_more ps (r ∷ qs) q = put_all_more (put ps r.0 r.1) qs q
+put_all_more ps (r ∷ qs) q = put_all_more (put_pair ps r.0 r.1) qs q
 
 flat_more : (qs : Pairs) (q : Tree × Tree) → AllGood (flat qs) → Good q.0 → Good q.1 → AllGood (flat (qs ++ q ∷ []))
 flat_more [] q h k v = (k, (v, tt))
 flat_more (r ∷ qs) q h k v = (h.0, (h.1.0, flat_more qs q h.1.1 k v))
 
-put_shown : (ps : Pairs) (k v : Tree) → PairsShownIn ps → IsShown k → IsShown v → PairsShownIn (put ps k v)
+put_shown : (ps : Pairs) (k v : Tree) → PairsShownIn ps → IsShown k → IsShown v → PairsShownIn (put_pair ps k v)
 put_shown [] k v h a b = (a, b, tt)
 put_shown (p ∷ ps) k v h a b = by (equals k p.0) (put_shown ps k v h.2 a b) where
-  by : (t : Bool) → PairsShownIn (put ps k v) → PairsShownIn (cond t ((p.0, v) ∷ ps) (p ∷ put ps k v))
+  by : (t : Bool) → PairsShownIn (put_pair ps k v) → PairsShownIn (cond t ((p.0, v) ∷ ps) (p ∷ put_pair ps k v))
   by true m = (h.0, b, h.2)
   by false m = (h.0, h.1, m)
 
@@ -208,10 +208,10 @@ record ArePut (said : Pairs) : Type 0 where
   good : AllGood (flat from)
   shown : PairsShownIn said
 
-put_more : (said : Pairs) (p : Tree × Tree) → ArePut said → Good p.0 → Good p.1 → ArePut (put said p.0 p.1)
+put_more : (said : Pairs) (p : Tree × Tree) → ArePut said → Good p.0 → Good p.1 → ArePut (put_pair said p.0 p.1)
 put_more said p h k v = record {
   from = h.from ++ p ∷ [];
-  are = ap (λ (z : Pairs). put z p.0 p.1) h.are ∙ sym (put_all_more [] h.from p);
+  are = ap (λ (z : Pairs). put_pair z p.0 p.1) h.are ∙ sym (put_all_more [] h.from p);
   good = flat_more h.from p h.good k v;
   shown = put_shown said p.0 p.1 h.shown k.1 v.1;
 }
@@ -232,23 +232,23 @@ pair_good f g s =
     goes Good (λ (r : (Tree × Tree) × List ℕ). PairGood r.0) (f s) (λ k rest. then (f (unspaced rest)) (λ v rest. Some ((k, v), rest))) (g s)
     (λ k rest h. goes Good (λ (r : (Tree × Tree) × List ℕ). PairGood r.0) (f (unspaced rest)) (λ v rest. Some ((k, v), rest)) (g (unspaced rest)) (λ v rest i. (h, i)))
 
-pairs_good : (f : List ℕ → Found Tree) → GoodBy f → (n : ℕ) (said : Pairs) (s : List ℕ) → ArePut said → IfFound ArePut (pairs_in f n said s)
+pairs_good : (f : List ℕ → Found Tree) → GoodBy f → (n : ℕ) (said : Pairs) (s : List ℕ) → ArePut said → IfFound ArePut (pairs_read f n said s)
 pairs_good f g zero said s h = tt
 pairs_good f g (suc n) said s h =
     choice (λ (r : Pairs × List ℕ). ArePut r.0) (is_first 125 (uncomma s)) _ _ h
-    (goes PairGood (λ (r : Pairs × List ℕ). ArePut r.0) (pair_in f (uncomma s)) (λ p rest. pairs_in f n (put said p.0 p.1) rest) (pair_good f g (uncomma s)) (λ p rest k. pairs_good f g n (put said p.0 p.1) rest (put_more said p h k.0 k.1)))
+    (goes PairGood (λ (r : Pairs × List ℕ). ArePut r.0) (pair_in f (uncomma s)) (λ p rest. pairs_read f n (put_pair said p.0 p.1) rest) (pair_good f g (uncomma s)) (λ p rest k. pairs_good f g n (put_pair said p.0 p.1) rest (put_more said p h k.0 k.1)))
 
 map_good : (f : List ℕ → Found Tree) → GoodBy f → (s : List ℕ) → IfRead GoodRead (map_in f s)
 map_good f g s =
-    goes ArePut GoodRead (pairs_in f (min (length s) 65536) [] s) (λ ps rest. Some (map_tree (pairs_of ps), rest)) (pairs_good f g (min (length s) 65536) [] s (record { from = []; are = refl; good = tt; shown = tt })) (λ ps rest h. map_good_of ps h)
+    goes ArePut GoodRead (pairs_read f (min (length s) 65536) [] s) (λ ps rest. Some (map_tree (pairs_of ps), rest)) (pairs_good f g (min (length s) 65536) [] s (record { from = []; are = refl; good = tt; shown = tt })) (λ ps rest h. map_good_of ps h)
 
 by_good : (f : List ℕ → Found Tree) → GoodBy f → (s : List ℕ) → IfRead GoodRead (value_by f s)
 by_good f g [] = tt
 by_good f g (b ∷ s) = choice GoodRead (b == 91) _ _ (vector_good f g s) (choice GoodRead (b == 123) _ _ (map_good f g s) (scalar_good b (b ∷ s)))
 
-value_good : (d : ℕ) (s : List ℕ) → IfRead GoodRead (value_in d s)
+value_good : (d : ℕ) (s : List ℕ) → IfRead GoodRead (value_read d s)
 value_good zero s = tt
-value_good (suc d) s = by_good (value_in d) (value_good d) s
+value_good (suc d) s = by_good (value_read d) (value_good d) s
 
 -- a value within the bounds
 abbrev pub Told : Tree → Type 0
@@ -269,5 +269,5 @@ bounded t rest g = by (is_within t) refl where
 
 pub field_value_told : (s : List ℕ) → IfFound Told (value_field s)
 field_value_told s =
-    field_told Told (then (value_in 80 s) (λ t rest. cond (is_within t) (Some (t, rest)) None))
-    (goes Good (λ (r : Tree × List ℕ). Told r.0) (value_in 80 s) (λ t rest. cond (is_within t) (Some (t, rest)) None) (value_good 80 s) (λ t rest g. bounded t rest g))
+    field_told Told (then (value_read 80 s) (λ t rest. cond (is_within t) (Some (t, rest)) None))
+    (goes Good (λ (r : Tree × List ℕ). Told r.0) (value_read 80 s) (λ t rest. cond (is_within t) (Some (t, rest)) None) (value_good 80 s) (λ t rest g. bounded t rest g))

@@ -18,8 +18,8 @@ with_rest None rest = None
 with_rest (Some x) rest = Some (x, rest)
 
 -- the word in front, where it names something
-abbrev pub named : {A : Type 0} → (List ℕ → Option A) → List ℕ → Found A
-named name s = with_rest (name (word_in s).0) (word_in s).1
+abbrev pub word_named : {A : Type 0} → (List ℕ → Option A) → List ℕ → Found A
+word_named name s = with_rest (name (word_in s).0) (word_in s).1
 
 abbrev pub side_named : List ℕ → Option Side
 side_named w =
@@ -125,12 +125,12 @@ what_by w s =
 abbrev pub what_in : List ℕ → Found (WhatView × Option ℕ)
 what_in s = what_by (word_in s).0 (word_in s).1
 
-abbrev pub branch_by : Side → List ℕ → Found BranchView
-branch_by Side.Take s = then (numbered_in 112 s) (λ p rest. Some (take_of p, rest))
-branch_by Side.Put s = then (numbered_in 112 s) (λ p rest. then (value_field rest) (λ v rest. Some (put_of p v, rest)))
+abbrev pub branch_read_by : Side → List ℕ → Found BranchView
+branch_read_by Side.Take s = then (numbered_in 112 s) (λ p rest. Some (take_of p, rest))
+branch_read_by Side.Put s = then (numbered_in 112 s) (λ p rest. then (value_field rest) (λ v rest. Some (put_of p v, rest)))
 
 abbrev pub branch_in : List ℕ → Found BranchView
-branch_in s = then (named side_named s) (λ side rest. branch_by side rest)
+branch_in s = then (word_named side_named s) (λ side rest. branch_read_by side rest)
 
 -- at most so many behind those that were read, up to the line feed
 abbrev pub list_in : {A : Type 0} → (List ℕ → Found A) → ℕ → List A → List ℕ → Option (List A)
@@ -138,14 +138,14 @@ list_in f zero said s = None
 list_in f (suc n) said s = cond (is_first 10 s) (Some said) (then (f s) (λ x rest. list_in f n (said ++ x ∷ []) rest))
 
 -- branches, with a comma and a space between
-abbrev pub branches_in : List ℕ → Option (List BranchView)
-branches_in s = list_in (λ s. branch_in (uncomma s)) (length s) [] s
+abbrev pub branches_read : List ℕ → Option (List BranchView)
+branches_read s = list_in (λ s. branch_in (uncomma s)) (length s) [] s
 
-abbrev pub ports_in : List ℕ → Option (List ℕ)
-ports_in s = list_in (numbered_in 112) (length s) [] s
+abbrev pub ports_read : List ℕ → Option (List ℕ)
+ports_read s = list_in (numbered_in 112) (length s) [] s
 
-abbrev pub values_in : List ℕ → Option (List Tree)
-values_in s = list_in value_field (length s) [] s
+abbrev pub values_read : List ℕ → Option (List Tree)
+values_read s = list_in value_field (length s) [] s
 
 -- the values from the second on but the last, and the last
 abbrev pub and_rest : Tree → List Tree → List Tree × Tree
@@ -153,7 +153,7 @@ and_rest u [] = ([], u)
 and_rest u (v ∷ ts) = (u ∷ (and_rest v ts).0, (and_rest v ts).1)
 
 -- the arguments of an operation on a registry, one at the least, and the answer behind them
-abbrev pub parted : List Tree → Option (List Tree × Tree)
-parted [] = None
-parted (t ∷ []) = None
-parted (t ∷ (u ∷ ts)) = Some (t ∷ (and_rest u ts).0, (and_rest u ts).1)
+abbrev pub arguments_parted : List Tree → Option (List Tree × Tree)
+arguments_parted [] = None
+arguments_parted (t ∷ []) = None
+arguments_parted (t ∷ (u ∷ ts)) = Some (t ∷ (and_rest u ts).0, (and_rest u ts).1)

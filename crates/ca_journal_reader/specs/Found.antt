@@ -19,10 +19,10 @@ Finds f (Err Bad) rest found = found ≡ None
 Finds f (Err OutOfMemory) rest found = Unit {0}
 
 -- The same of an answer behind which nothing is read.
-abbrev pub Gives : {A B : Type 0} → (A → B) → Result A Refused → Option B → Type 0
-Gives f (Ok x) given = given ≡ Some (f x)
-Gives f (Err Bad) given = given ≡ None
-Gives f (Err OutOfMemory) given = Unit {0}
+abbrev pub FindsAtEnd : {A B : Type 0} → (A → B) → Result A Refused → Option B → Type 0
+FindsAtEnd f (Ok x) given = given ≡ Some (f x)
+FindsAtEnd f (Err Bad) given = given ≡ None
+FindsAtEnd f (Err OutOfMemory) given = Unit {0}
 
 abbrev pub itself : {A : Type 0} → A → A
 itself x = x

@@ -3,10 +3,10 @@ use Rattle.std.specs.Prelude.{ℕ, zero, suc, ℤ, pos, neg_ℤ, ◌^◌, List, 
 use Rattle.std.specs.List.{prefix_len}
 use Rattle.ca_value.specs.Tree.{Tree, nil, bool, int, text, key, vector, map, port, trees_of, pairs_of}
 use Rattle.ca_value.specs.Measure.{weight_of, depth_of}
-use Rattle.ca_value.specs.Maps.{put}
+use Rattle.ca_value.specs.Maps.{put_pair}
 use Rattle.ca_value.specs.IsValue.{is_keyword_byte}
 use Rattle.ca_journal_reader.specs.Found.{Found, then}
-use Rattle.ca_journal_reader.specs.Words.{is_digit, number_in, word_behind, unspaced, is_first, field}
+use Rattle.ca_journal_reader.specs.Words.{is_digit_byte, number_in, word_behind, unspaced, is_first, field}
 
 -- the byte that an escape stands for
 abbrev pub unescaped : ℕ → ℕ
@@ -55,16 +55,16 @@ named_in b s =
 -- a value that is no vector and no map, and whose first byte is b
 abbrev pub scalar_in : ℕ → List ℕ → Found Tree
 scalar_in b s =
-    cond (is_digit b || b == 45) (integer_in s)
+    cond (is_digit_byte b || b == 45) (integer_in s)
     (cond (b == 34) (text_in (drop 1 s))
     (cond (b == 58) (key_in (drop 1 s)) (named_in b s)))
 
 -- at most so many items, each read by f, behind those that were read, up to the closing bracket
-abbrev pub items_in : (List ℕ → Found Tree) → ℕ → List Tree → List ℕ → Found (List Tree)
-items_in f zero said s = None
-items_in f (suc n) said s =
+abbrev pub items_read : (List ℕ → Found Tree) → ℕ → List Tree → List ℕ → Found (List Tree)
+items_read f zero said s = None
+items_read f (suc n) said s =
     cond (is_first 93 (unspaced s)) (Some (said, drop 1 (unspaced s)))
-    (then (f (unspaced s)) (λ t rest. items_in f n (said ++ t ∷ []) rest))
+    (then (f (unspaced s)) (λ t rest. items_read f n (said ++ t ∷ []) rest))
 
 -- without the comma and the space in front
 abbrev pub uncomma : List ℕ → List ℕ
@@ -75,32 +75,32 @@ abbrev pub pair_in : (List ℕ → Found Tree) → List ℕ → Found (Tree × T
 pair_in f s = then (f s) (λ k rest. then (f (unspaced rest)) (λ v rest. Some ((k, v), rest)))
 
 -- the same of pairs
-abbrev pub pairs_in : (List ℕ → Found Tree) → ℕ → List (Tree × Tree) → List ℕ → Found (List (Tree × Tree))
-pairs_in f zero said s = None
-pairs_in f (suc n) said s =
+abbrev pub pairs_read : (List ℕ → Found Tree) → ℕ → List (Tree × Tree) → List ℕ → Found (List (Tree × Tree))
+pairs_read f zero said s = None
+pairs_read f (suc n) said s =
     cond (is_first 125 (uncomma s)) (Some (said, drop 1 (uncomma s)))
-    (then (pair_in f (uncomma s)) (λ p rest. pairs_in f n (put said p.0 p.1) rest))
+    (then (pair_in f (uncomma s)) (λ p rest. pairs_read f n (put_pair said p.0 p.1) rest))
 
 -- a vector and a map behind the opening bracket
 abbrev pub vector_in : (List ℕ → Found Tree) → List ℕ → Found Tree
-vector_in f s = then (items_in f (length s) [] s) (λ ts rest. Some (vector (trees_of ts), rest))
+vector_in f s = then (items_read f (length s) [] s) (λ ts rest. Some (vector (trees_of ts), rest))
 
 -- A map that is a value has less than 65,536 pairs.
 abbrev pub map_in : (List ℕ → Found Tree) → List ℕ → Found Tree
-map_in f s = then (pairs_in f (min (length s) 65536) [] s) (λ ps rest. Some (map (pairs_of ps), rest))
+map_in f s = then (pairs_read f (min (length s) 65536) [] s) (λ ps rest. Some (map (pairs_of ps), rest))
 
 abbrev pub value_by : (List ℕ → Found Tree) → List ℕ → Found Tree
 value_by f [] = None
 value_by f (b ∷ s) = cond (b == 91) (vector_in f s) (cond (b == 123) (map_in f s) (scalar_in b (b ∷ s)))
 
 -- a value at most d deep
-abbrev pub value_in : ℕ → List ℕ → Found Tree
-value_in zero s = None
-value_in (suc d) s = value_by (value_in d) s
+abbrev pub value_read : ℕ → List ℕ → Found Tree
+value_read zero s = None
+value_read (suc d) s = value_by (value_read d) s
 
 abbrev pub is_within : Tree → Bool
 is_within t = nat_le (weight_of t) 131072 && nat_le (depth_of t) 80
 
 -- a value within the bounds, and the space behind it
 abbrev pub value_field : List ℕ → Found Tree
-value_field s = field (then (value_in 80 s) (λ t rest. cond (is_within t) (Some (t, rest)) None))
+value_field s = field (then (value_read 80 s) (λ t rest. cond (is_within t) (Some (t, rest)) None))

@@ -4,13 +4,13 @@ use Rattle.std.specs.Int.{is_in_range}
 use Rattle.std.specs.List.{prefix_len}
 use Rattle.ca_journal_reader.specs.Found.{Found, then}
 
-abbrev pub is_digit : ℕ → Bool
-is_digit b = is_in_range 48 57 b
+abbrev pub is_digit_byte : ℕ → Bool
+is_digit_byte b = is_in_range 48 57 b
 
 -- the number of the digits in front, after those that make v, and what follows
 abbrev pub number_from : ℕ → List ℕ → ℕ × List ℕ
 number_from v [] = (v, [])
-number_from v (b ∷ bs) = cond (is_digit b) (number_from (v * 10 + (b - 48)) bs) (v, b ∷ bs)
+number_from v (b ∷ bs) = cond (is_digit_byte b) (number_from (v * 10 + (b - 48)) bs) (v, b ∷ bs)
 
 -- where 64 bits hold it
 abbrev pub number_in : List ℕ → Found ℕ

@@ -2,7 +2,7 @@
 ghost use Rattle.std.specs.Prelude.{◌≡◌, ◌^◌, ◌≤◌, None, IfSome, drop, length};
 ghost use Rattle.std.specs.List.{prefix_len};
 ghost use Rattle.ca_journal_reader.specs.Found.{Found, Finds, itself};
-ghost use Rattle.ca_journal_reader.specs.Words.{is_digit, is_first, is_word_byte, number_from, number_in, unspaced, byte_in, word_behind, word_in, decimal_in, numbered_in};
+ghost use Rattle.ca_journal_reader.specs.Words.{is_digit_byte, is_first, is_word_byte, number_from, number_in, unspaced, byte_in, word_behind, word_in, decimal_in, numbered_in};
 
 use crate::refused::Refused;
 
@@ -12,7 +12,7 @@ pub(crate) struct Cursor<'a> {
 }
 
 pub(crate) fn is_digit(byte: u8) -> bool
-    ensures { result ≡ is_digit byte }
+    ensures { result ≡ is_digit_byte byte }
 {
     matches!(byte, b'0'..=b'9')
 }

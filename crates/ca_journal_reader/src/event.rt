@@ -1,8 +1,8 @@
 //! The line of an event: one function for each kind.
 ghost use Rattle.std.specs.Prelude.{◌≡◌};
 ghost use Rattle.ca_term.specs.Event.{event_view};
-ghost use Rattle.ca_journal_reader.specs.Found.{Gives};
-ghost use Rattle.ca_journal_reader.specs.EventText.{made_in, spawned_in, done_in, met_in, parked_in, posted_in, settled_in, defaulted_in, closed_in, registered_in, printed_in, ticked_in, ended_in, faulted_in, event_by, entry_in};
+ghost use Rattle.ca_journal_reader.specs.Found.{FindsAtEnd};
+ghost use Rattle.ca_journal_reader.specs.EventText.{made_read, spawned_in, done_in, met_in, parked_read, posted_in, settled_in, defaulted_in, closed_in, registered_in, printed_in, ticked_in, ended_in, faulted_in, event_by, entry_in};
 
 use crate::cursor::Cursor;
 use crate::field::Made;
@@ -15,7 +15,7 @@ use std::alloc::Global;
 impl<'a> Cursor<'a> {
     /// The event of a line, behind the line's number.
     pub(crate) fn entry(&mut self, alloc: Global) -> Result<Event, Refused>
-        ensures { Gives event_view result (entry_in self.old.rest.now) }
+        ensures { FindsAtEnd event_view result (entry_in self.old.rest.now) }
     {
         self.decimal()?;
         let word = self.word();
@@ -24,7 +24,7 @@ impl<'a> Cursor<'a> {
 
     /// The event whose kind this word tells.
     fn event(&mut self, alloc: Global, word: &[u8]) -> Result<Event, Refused>
-        ensures { Gives event_view result (event_by word.now self.old.rest.now) }
+        ensures { FindsAtEnd event_view result (event_by word.now self.old.rest.now) }
     {
         if word == b"make".as_slice() {
             return self.made_line();
@@ -72,7 +72,7 @@ impl<'a> Cursor<'a> {
     }
 
     fn made_line(&mut self) -> Result<Event, Refused>
-        ensures { Gives event_view result (made_in self.old.rest.now) }
+        ensures { FindsAtEnd event_view result (made_read self.old.rest.now) }
     {
         let task = self.numbered(b't')?;
         let port = self.port()?;
@@ -86,7 +86,7 @@ impl<'a> Cursor<'a> {
     }
 
     fn spawned_line(&mut self) -> Result<Event, Refused>
-        ensures { Gives event_view result (spawned_in self.old.rest.now) }
+        ensures { FindsAtEnd event_view result (spawned_in self.old.rest.now) }
     {
         let task = self.numbered(b't')?;
         let spawned = self.numbered(b't')?;
@@ -101,7 +101,7 @@ impl<'a> Cursor<'a> {
     }
 
     fn done_line(&mut self, alloc: Global) -> Result<Event, Refused>
-        ensures { Gives event_view result (done_in self.old.rest.now) }
+        ensures { FindsAtEnd event_view result (done_in self.old.rest.now) }
     {
         let task = self.numbered(b't')?;
         let branch = self.decimal()?;
@@ -116,7 +116,7 @@ impl<'a> Cursor<'a> {
     }
 
     fn met_line(&mut self, alloc: Global) -> Result<Event, Refused>
-        ensures { Gives event_view result (met_in self.old.rest.now) }
+        ensures { FindsAtEnd event_view result (met_in self.old.rest.now) }
     {
         let task = self.numbered(b't')?;
         let branch = self.decimal()?;
@@ -137,7 +137,7 @@ impl<'a> Cursor<'a> {
     }
 
     fn parked_line(&mut self, alloc: Global) -> Result<Event, Refused>
-        ensures { Gives event_view result (parked_in self.old.rest.now) }
+        ensures { FindsAtEnd event_view result (parked_read self.old.rest.now) }
     {
         let task = self.numbered(b't')?;
         let n = self.numbered(b'w')?;
@@ -150,7 +150,7 @@ impl<'a> Cursor<'a> {
     }
 
     fn posted_line(&mut self, alloc: Global) -> Result<Event, Refused>
-        ensures { Gives event_view result (posted_in self.old.rest.now) }
+        ensures { FindsAtEnd event_view result (posted_in self.old.rest.now) }
     {
         let task = self.numbered(b't')?;
         let n = self.numbered(b'w')?;
@@ -165,7 +165,7 @@ impl<'a> Cursor<'a> {
     }
 
     fn settled_line(&mut self, alloc: Global) -> Result<Event, Refused>
-        ensures { Gives event_view result (settled_in self.old.rest.now) }
+        ensures { FindsAtEnd event_view result (settled_in self.old.rest.now) }
     {
         let n = self.numbered(b'w')?;
         let branch = self.decimal()?;
@@ -182,7 +182,7 @@ impl<'a> Cursor<'a> {
     }
 
     fn defaulted_line(&mut self, alloc: Global) -> Result<Event, Refused>
-        ensures { Gives event_view result (defaulted_in self.old.rest.now) }
+        ensures { FindsAtEnd event_view result (defaulted_in self.old.rest.now) }
     {
         let task = self.numbered(b't')?;
         let value = self.value(alloc)?;
@@ -190,7 +190,7 @@ impl<'a> Cursor<'a> {
     }
 
     fn closed_line(&mut self) -> Result<Event, Refused>
-        ensures { Gives event_view result (closed_in self.old.rest.now) }
+        ensures { FindsAtEnd event_view result (closed_in self.old.rest.now) }
     {
         let task = self.numbered(b't')?;
         let port = self.port()?;
@@ -198,7 +198,7 @@ impl<'a> Cursor<'a> {
     }
 
     fn registered_line(&mut self, alloc: Global) -> Result<Event, Refused>
-        ensures { Gives event_view result (registered_in self.old.rest.now) }
+        ensures { FindsAtEnd event_view result (registered_in self.old.rest.now) }
     {
         let task = self.numbered(b't')?;
         let name = self.name()?;
@@ -215,7 +215,7 @@ impl<'a> Cursor<'a> {
     }
 
     fn printed_line(&mut self, alloc: Global) -> Result<Event, Refused>
-        ensures { Gives event_view result (printed_in self.old.rest.now) }
+        ensures { FindsAtEnd event_view result (printed_in self.old.rest.now) }
     {
         let task = self.numbered(b't')?;
         self.byte(b'"')?;
@@ -227,7 +227,7 @@ impl<'a> Cursor<'a> {
     }
 
     fn ticked_line(&mut self, alloc: Global) -> Result<Event, Refused>
-        ensures { Gives event_view result (ticked_in self.old.rest.now) }
+        ensures { FindsAtEnd event_view result (ticked_in self.old.rest.now) }
     {
         let moment = self.decimal()?;
         let ports = self.ports(alloc)?;
@@ -235,7 +235,7 @@ impl<'a> Cursor<'a> {
     }
 
     fn ended_line(&mut self) -> Result<Event, Refused>
-        ensures { Gives event_view result (ended_in self.old.rest.now) }
+        ensures { FindsAtEnd event_view result (ended_in self.old.rest.now) }
     {
         let task = self.numbered(b't')?;
         Ok(Event::End {
@@ -245,7 +245,7 @@ impl<'a> Cursor<'a> {
     }
 
     fn faulted_line(&mut self) -> Result<Event, Refused>
-        ensures { Gives event_view result (faulted_in self.old.rest.now) }
+        ensures { FindsAtEnd event_view result (faulted_in self.old.rest.now) }
     {
         let task = self.numbered(b't')?;
         let fault = self.fault()?;

@@ -3,8 +3,8 @@ ghost use Rattle.std.specs.Prelude.{◌≡◌, ◌∷◌, ◌++◌, [], length, 
 ghost use Rattle.ca_value.specs.Seq.{list};
 ghost use Rattle.ca_value.specs.View.{view, views};
 ghost use Rattle.ca_term.specs.Event.{branch_view, port_number};
-ghost use Rattle.ca_journal_reader.specs.Found.{Gives};
-ghost use Rattle.ca_journal_reader.specs.FieldText.{branches_in, ports_in, values_in, parted};
+ghost use Rattle.ca_journal_reader.specs.Found.{FindsAtEnd};
+ghost use Rattle.ca_journal_reader.specs.FieldText.{branches_read, ports_read, values_read, arguments_parted};
 
 use crate::cursor::Cursor;
 use crate::refused::Refused;
@@ -18,7 +18,7 @@ use std::alloc::Global;
 impl<'a> Cursor<'a> {
     /// Branches, with a comma and a space between.
     pub(crate) fn branches(&mut self, alloc: Global) -> Result<Seq<Branch>, Refused>
-        ensures { Gives (λ bs. map branch_view (list bs)) result (branches_in self.old.rest.now) }
+        ensures { FindsAtEnd (λ bs. map branch_view (list bs)) result (branches_read self.old.rest.now) }
     {
         let mut branches = Seq::new(alloc);
         for _ in 0..self.rest.len() {
@@ -34,7 +34,7 @@ impl<'a> Cursor<'a> {
 
     /// Ports, with a space between.
     pub(crate) fn ports(&mut self, alloc: Global) -> Result<Seq<PortId>, Refused>
-        ensures { Gives (λ ps. map port_number (list ps)) result (ports_in self.old.rest.now) }
+        ensures { FindsAtEnd (λ ps. map port_number (list ps)) result (ports_read self.old.rest.now) }
     {
         let mut ports = Seq::new(alloc);
         for _ in 0..self.rest.len() {
@@ -49,7 +49,7 @@ impl<'a> Cursor<'a> {
 
     /// Values, with a space between.
     pub(crate) fn values(&mut self, alloc: Global) -> Result<Items, Refused>
-        ensures { Gives (λ vs. views (list vs)) result (values_in self.old.rest.now) }
+        ensures { FindsAtEnd (λ vs. views (list vs)) result (values_read self.old.rest.now) }
     {
         let mut items = Items::new(alloc);
         for _ in 0..self.rest.len() {
@@ -65,8 +65,8 @@ impl<'a> Cursor<'a> {
 
 /// The arguments of an operation, one at the least, and the answer behind them.
 pub(crate) fn parted(mut values: Items) -> Option<(Items, Value)>
-    ensures some { IfSome result (λ r. parted (views (list values)) ≡ Some (views (list r.0), view r.1)) }
-    ensures none { IfNone result (parted (views (list values)) ≡ None) }
+    ensures some { IfSome result (λ r. arguments_parted (views (list values)) ≡ Some (views (list r.0), view r.1)) }
+    ensures none { IfNone result (arguments_parted (views (list values)) ≡ None) }
 {
     let answer = values.pop()?;
     if values.len() == 0 {

@@ -2,9 +2,9 @@
 ghost use Rattle.std.specs.Prelude.{◌≡◌, ◌∷◌, ◌++◌, [], length, min, OnOk};
 ghost use Rattle.ca_value.specs.Seq.{list};
 ghost use Rattle.ca_value.specs.View.{view, views, pair_view, map_pairs};
-ghost use Rattle.ca_value.specs.Maps.{put};
+ghost use Rattle.ca_value.specs.Maps.{put_pair};
 ghost use Rattle.ca_journal_reader.specs.Found.{Finds, itself};
-ghost use Rattle.ca_journal_reader.specs.ValueText.{signed, signed_in, integer_in, named_in, scalar_in, items_in, uncomma, pair_in, pairs_in, vector_in, map_in, value_by, value_in, value_field};
+ghost use Rattle.ca_journal_reader.specs.ValueText.{signed, signed_in, integer_in, named_in, scalar_in, items_read, uncomma, pair_in, pairs_read, vector_in, map_in, value_by, value_read, value_field};
 
 use crate::cursor::{Cursor, is_digit};
 use crate::refused::Refused;
@@ -37,7 +37,7 @@ impl<'a> Cursor<'a> {
     /// A value at most so deep.
     #[cycle(value)]
     fn value_within(&mut self, alloc: Global, depth: u64) -> Result<Value, Refused>
-        ensures { Finds view result self.new.rest.now (value_in depth self.old.rest.now) }
+        ensures { Finds view result self.new.rest.now (value_read depth self.old.rest.now) }
     {
         if depth == 0 {
             return Err(Refused::Bad);
@@ -59,7 +59,7 @@ impl<'a> Cursor<'a> {
     /// A vector behind its opening bracket.
     #[cycle(value)]
     fn vector(&mut self, alloc: Global, depth: u64) -> Result<Value, Refused>
-        ensures { Finds view result self.new.rest.now (vector_in (value_in depth) self.old.rest.now) }
+        ensures { Finds view result self.new.rest.now (vector_in (value_read depth) self.old.rest.now) }
     {
         let items = self.items(alloc, depth)?;
         Ok(Value::vector(alloc, items)?)
@@ -68,7 +68,7 @@ impl<'a> Cursor<'a> {
     /// The items of a vector, up to its closing bracket.
     #[cycle(value)]
     fn items(&mut self, alloc: Global, depth: u64) -> Result<Items, Refused>
-        ensures { Finds (λ vs. views (list vs)) result self.new.rest.now (items_in (value_in depth) (length self.old.rest.now) [] self.old.rest.now) }
+        ensures { Finds (λ vs. views (list vs)) result self.new.rest.now (items_read (value_read depth) (length self.old.rest.now) [] self.old.rest.now) }
     {
         let mut items = Items::new(alloc);
         for _ in 0..self.rest.len() {
@@ -86,7 +86,7 @@ impl<'a> Cursor<'a> {
     /// A map behind its opening bracket.
     #[cycle(value)]
     fn map(&mut self, alloc: Global, depth: u64) -> Result<Value, Refused>
-        ensures { Finds view result self.new.rest.now (map_in (value_in depth) self.old.rest.now) }
+        ensures { Finds view result self.new.rest.now (map_in (value_read depth) self.old.rest.now) }
     {
         let pairs = self.pairs(alloc, depth)?;
         Ok(Value::Map(pairs))
@@ -95,7 +95,7 @@ impl<'a> Cursor<'a> {
     /// The pairs of a map, up to its closing bracket.
     #[cycle(value)]
     fn pairs(&mut self, alloc: Global, depth: u64) -> Result<Map, Refused>
-        ensures { Finds map_pairs result self.new.rest.now (pairs_in (value_in depth) (min (length self.old.rest.now) 65536) [] self.old.rest.now) }
+        ensures { Finds map_pairs result self.new.rest.now (pairs_read (value_read depth) (min (length self.old.rest.now) 65536) [] self.old.rest.now) }
     {
         let mut map = Map::of(alloc, Pairs::new(alloc))?;
         for _ in 0..self.rest.len().min(MOST_PAIRS) {
@@ -113,7 +113,7 @@ impl<'a> Cursor<'a> {
     /// A key and its value.
     #[cycle(value)]
     fn pair(&mut self, alloc: Global, depth: u64) -> Result<Pair, Refused>
-        ensures { Finds pair_view result self.new.rest.now (pair_in (value_in depth) self.old.rest.now) }
+        ensures { Finds pair_view result self.new.rest.now (pair_in (value_read depth) self.old.rest.now) }
     {
         let key = self.value_within(alloc, depth)?;
         self.skip_space();
@@ -219,7 +219,7 @@ pub(crate) fn add_item(items: &mut Items, value: Value) -> Result<(), OutOfMemor
 
 /// Sets the value of the pair's key.
 fn add_pair(alloc: Global, map: &mut Map, pair: Pair) -> Result<(), OutOfMemory>
-    ensures { let p = pair_view pair in OnOk result (map_pairs map.new ≡ put (map_pairs map.old) p.0 p.1) }
+    ensures { let p = pair_view pair in OnOk result (map_pairs map.new ≡ put_pair (map_pairs map.old) p.0 p.1) }
 {
     let (key, value) = pair.into_parts();
     map.put(alloc, key, value)

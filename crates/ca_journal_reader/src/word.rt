@@ -1,7 +1,7 @@
 //! What words in a line name.
 ghost use Rattle.std.specs.Prelude.{◌≡◌};
 ghost use Rattle.ca_journal_reader.specs.Found.{Finds, itself};
-ghost use Rattle.ca_journal_reader.specs.FieldText.{named, side_named, kind_named, name_named, fault_named};
+ghost use Rattle.ca_journal_reader.specs.FieldText.{word_named, side_named, kind_named, name_named, fault_named};
 
 use crate::cursor::Cursor;
 use crate::refused::Refused;
@@ -11,7 +11,7 @@ use ca_term::head::RegisterName;
 
 impl<'a> Cursor<'a> {
     pub(crate) fn side(&mut self) -> Result<Side, Refused>
-        ensures { Finds itself result self.new.rest.now (named side_named self.old.rest.now) }
+        ensures { Finds itself result self.new.rest.now (word_named side_named self.old.rest.now) }
     {
         match side_named(self.word()) {
             Some(side) => Ok(side),
@@ -20,7 +20,7 @@ impl<'a> Cursor<'a> {
     }
 
     pub(crate) fn kind(&mut self) -> Result<TaskKind, Refused>
-        ensures { Finds itself result self.new.rest.now (named kind_named self.old.rest.now) }
+        ensures { Finds itself result self.new.rest.now (word_named kind_named self.old.rest.now) }
     {
         match kind_named(self.word()) {
             Some(kind) => Ok(kind),
@@ -29,7 +29,7 @@ impl<'a> Cursor<'a> {
     }
 
     pub(crate) fn name(&mut self) -> Result<RegisterName, Refused>
-        ensures { Finds itself result self.new.rest.now (named name_named self.old.rest.now) }
+        ensures { Finds itself result self.new.rest.now (word_named name_named self.old.rest.now) }
     {
         match name_named(self.word()) {
             Some(name) => Ok(name),
@@ -38,7 +38,7 @@ impl<'a> Cursor<'a> {
     }
 
     pub(crate) fn fault(&mut self) -> Result<Fault, Refused>
-        ensures { Finds itself result self.new.rest.now (named fault_named self.old.rest.now) }
+        ensures { Finds itself result self.new.rest.now (word_named fault_named self.old.rest.now) }
     {
         match fault_named(self.word()) {
             Some(fault) => Ok(fault),

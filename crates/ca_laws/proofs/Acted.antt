@@ -9,11 +9,11 @@ use Rattle.ca_term.specs.declared.event.Ending.TheVariants.{Ended, Faulted}
 use Rattle.ca_term.specs.Operation.{OpView, taking, putting, choosing, posting, making, spawning, closing, registering, printing}
 use Rattle.ca_term.specs.Program.{ProgramView}
 use Rattle.ca_term.specs.Event.{BranchView, take_of, put_of, EventView, made, spawned, done, met, parked, posted, settled, defaulted, closed, registered, printed, ticked, over as is_over}
-use Rattle.ca_meaning.specs.Operands.{port_number}
+use Rattle.ca_meaning.specs.Operands.{port_of_value}
 use Rattle.ca_meaning.specs.Channel.{Channel}
 use Rattle.ca_meaning.specs.Wait.{Handler, side_of, port_of, front, queue, owner_of, told}
 use Rattle.ca_meaning.specs.Row.{completes as row_completes, meets, row_on}
-use Rattle.ca_meaning.specs.Task.{TaskBody, body_fill, BodyRest, reply_to, reply_at, reply}
+use Rattle.ca_meaning.specs.Task.{TaskBody, body_fill, BodyRest, reply_to, reply_at, body_reply}
 use Rattle.ca_meaning.specs.TaskSteps.{kind_of}
 use Rattle.ca_meaning.specs.State.{State, Task, Tasks, Mode, running, waiting, over, runs}
 use Rattle.ca_meaning.specs.Choice.{branches_of, default_of}
@@ -51,9 +51,9 @@ put_told c ts ps v a d (promised cl pr an k) = inl an
 put_told c ts ps v a d (accepted cl pr r x y an k) = inl an
 
 take_replies : (op : OpView) (k p : ℕ) (a : Tree) → slice_get (branches_of op) k ≡ Some (take_of p) → Replies op (did_take k p a) (reply_to op p a)
-take_replies (taking c) k p a at = let o = only_one (take_of (port_number c)) k (take_of p) at in got (same_takes k p (port_number c) a o.0 o.1)
-take_replies (putting c v) k p a at = apart_branches p (port_number c) v (only_one (put_of (port_number c) v) k (take_of p) at).1
-take_replies (posting c v) k p a at = apart_branches p (port_number c) v (only_one (put_of (port_number c) v) k (take_of p) at).1
+take_replies (taking c) k p a at = let o = only_one (take_of (port_of_value c)) k (take_of p) at in got (same_takes k p (port_of_value c) a o.0 o.1)
+take_replies (putting c v) k p a at = apart_branches p (port_of_value c) v (only_one (put_of (port_of_value c) v) k (take_of p) at).1
+take_replies (posting c v) k p a at = apart_branches p (port_of_value c) v (only_one (put_of (port_of_value c) v) k (take_of p) at).1
 take_replies (choosing ports pr d) k p a at = chose k p a refl at refl
 take_replies (making what) k p a at = no_branch k (take_of p) at
 take_replies (spawning seed) k p a at = no_branch k (take_of p) at
@@ -62,10 +62,10 @@ take_replies (registering name args) k p a at = no_branch k (take_of p) at
 take_replies (printing line) k p a at = no_branch k (take_of p) at
 
 put_replies : (op : OpView) (k p : ℕ) (v a : Tree) → slice_get (branches_of op) k ≡ Some (put_of p v) → IsPutAnswer a → Replies op (did_put k p v a) (reply_to op p a)
-put_replies (putting c u) k p v a at is = let o = only_one (put_of (port_number c) u) k (put_of p v) at in gave (same_puts k p (port_number c) v u a o.0 o.1) is
-put_replies (posting c u) k p v a at is = let o = only_one (put_of (port_number c) u) k (put_of p v) at in posts (same_puts k p (port_number c) v u a o.0 o.1) is
+put_replies (putting c u) k p v a at is = let o = only_one (put_of (port_of_value c) u) k (put_of p v) at in gave (same_puts k p (port_of_value c) v u a o.0 o.1) is
+put_replies (posting c u) k p v a at is = let o = only_one (put_of (port_of_value c) u) k (put_of p v) at in posts (same_puts k p (port_of_value c) v u a o.0 o.1) is
 put_replies (choosing ports pr d) k p v a at is = chose_put k p v a refl at refl is
-put_replies (taking c) k p v a at is = apart_branches (port_number c) p v (sym (only_one (take_of (port_number c)) k (put_of p v) at).1)
+put_replies (taking c) k p v a at is = apart_branches (port_of_value c) p v (sym (only_one (take_of (port_of_value c)) k (put_of p v) at).1)
 put_replies (making what) k p v a at is = no_branch k (put_of p v) at
 put_replies (spawning seed) k p v a at is = no_branch k (put_of p v) at
 put_replies (closing c) k p v a at is = no_branch k (put_of p v) at
@@ -100,7 +100,7 @@ module _ (program : ProgramView) (s s2 : State) (e : EventView) (t : ℕ) (x : T
   alone u z y c shows at k is = own u z y c (update eqb s.tasks u (Some y)) shows at k is (update_here s.tasks u (Some y)) (λ ne. update_apart s.tasks u (Some y) t ne)
 
   -- a task that goes on with the reply of a branch's channel
-  with_reply : (z : Task) (op : OpView) (c : Deed) (p : ℕ) (a : Tree) (b : TaskBody) → IsAtOp z.body op → BodyRest program (body_fill (reply z.body p a) z.body) b → Replies op c (reply_to op p a) → Acts program z (runs z.result b) (Some c)
+  with_reply : (z : Task) (op : OpView) (c : Deed) (p : ℕ) (a : Tree) (b : TaskBody) → IsAtOp z.body op → BodyRest program (body_fill (body_reply z.body p a) z.body) b → Replies op c (reply_to op p a) → Acts program z (runs z.result b) (Some c)
   with_reply z op c p a b at r k = goes op c (reply_to op p a) b refl at k (subst (λ i. BodyRest program (body_fill i z.body) b) (ap (λ i. reply_at i p a) at.1) r) refl
 
   not_mine : AllWaited s.tasks s.waits → (w : ℕ) → (owner_of w s.waits ≡ Some t → ⊥) → is_wait w (wait_of x.mode) ≡ false
@@ -125,7 +125,7 @@ module _ (program : ProgramView) (s s2 : State) (e : EventView) (t : ℕ) (x : T
         let same : st.0 ≡ x = same_there st.0 s.tasks st.2 there in
         let at_op' : IsAtOp x.body st.1 = subst (λ (q : Task). IsAtOp q.body st.1) same st.3 in
         let woke : wakes.0 ≡ x = same_there wakes.0 tasks (ap tasks (sym tn) ∙ wakes.1) at in
-        let rest : BodyRest program (body_fill (reply x.body p (told side v)) x.body) wakes.3.0 = subst (λ (q : Task). BodyRest program (body_fill (reply q.body p (told side v)) q.body) wakes.3.0) woke wakes.3.1 in
+        let rest : BodyRest program (body_fill (body_reply x.body p (told side v)) x.body) wakes.3.0 = subst (λ (q : Task). BodyRest program (body_fill (body_reply q.body p (told side v)) q.body) wakes.3.0) woke wakes.3.1 in
         let mine : is_wait w (wait_of x.mode) ≡ true = ap (λ (q : Task). is_wait w (wait_of q.mode)) (sym woke) ∙ ap (λ m. is_wait w (wait_of m)) wakes.2 ∙ eq-eqb w w refl in (
           runs x.result wakes.3.0,
           ap (λ (z : Tasks). z t) (is ∙ wakes.3.2) ∙ ap (update eqb tasks n (Some (runs wakes.0.result wakes.3.0))) (sym tn) ∙ update_here tasks n (Some (runs wakes.0.result wakes.3.0)) ∙ ap (λ (q : Task). Some (runs q.result wakes.3.0)) woke,

@@ -8,7 +8,7 @@ use Rattle.ca_term.specs.Operation.{OpView, taking, putting, choosing, making, s
 use Rattle.ca_term.specs.Program.{ProgramView}
 use Rattle.ca_term.specs.Event.{take_of, put_of}
 use Rattle.ca_meaning.specs.Body.{ended}
-use Rattle.ca_meaning.specs.Operands.{port_number}
+use Rattle.ca_meaning.specs.Operands.{port_of_value}
 use Rattle.ca_meaning.specs.ChannelSteps.{with_default}
 use Rattle.ca_meaning.specs.TaskSteps.{kind_of, result_of}
 use Rattle.ca_meaning.specs.Choice.{branches_of, parks as may_park}
@@ -29,16 +29,16 @@ IsPutAnswer a = (a ≡ bool true) ⊎ (a ≡ bool false)
 
 -- how a deed answers the operation
 pub data Replies : OpView → Deed → Tree → Type 0 where
-  got : {c a : Tree} {d : Deed} → d ≡ did_take 0 (port_number c) a → Replies (taking c) d a
-  gave : {c v a : Tree} {d : Deed} → d ≡ did_put 0 (port_number c) v a → IsPutAnswer a → Replies (putting c v) d a
+  got : {c a : Tree} {d : Deed} → d ≡ did_take 0 (port_of_value c) a → Replies (taking c) d a
+  gave : {c v a : Tree} {d : Deed} → d ≡ did_put 0 (port_of_value c) v a → IsPutAnswer a → Replies (putting c v) d a
   chose : {ports : Trees} {priority : Bool} {default : Option Tree} {a : Tree} {d : Deed} (k p : ℕ) (v : Tree) → d ≡ did_take k p v → slice_get (branches_of (choosing ports priority default)) k ≡ Some (take_of p) → a ≡ pair_of v (port p) → Replies (choosing ports priority default) d a
   chose_put : {ports : Trees} {priority : Bool} {default : Option Tree} {a : Tree} {d : Deed} (k p : ℕ) (u v : Tree) → d ≡ did_put k p u v → slice_get (branches_of (choosing ports priority default)) k ≡ Some (put_of p u) → a ≡ pair_of v (port p) → IsPutAnswer v → Replies (choosing ports priority default) d a
   chose_default : {ports : Trees} {priority : Bool} {default : Option Tree} {a : Tree} {d : Deed} (v : Tree) → d ≡ did_default v → default ≡ Some v → a ≡ with_default v → Replies (choosing ports priority default) d a
-  posts : {c v a : Tree} {d : Deed} → d ≡ did_put 0 (port_number c) v a → IsPutAnswer a → Replies (posting c v) d a
-  posts_late : {c v a : Tree} {d : Deed} (w : ℕ) → d ≡ did_post w (port_number c) v → a ≡ bool true → Replies (posting c v) d a
+  posts : {c v a : Tree} {d : Deed} → d ≡ did_put 0 (port_of_value c) v a → IsPutAnswer a → Replies (posting c v) d a
+  posts_late : {c v a : Tree} {d : Deed} (w : ℕ) → d ≡ did_post w (port_of_value c) v → a ≡ bool true → Replies (posting c v) d a
   creates : {what : WhatView} {a : Tree} {d : Deed} (p : ℕ) (moment : Option ℕ) → d ≡ did_make p what moment → a ≡ port p → Replies (making what) d a
   starts : {seed : SeedView} {a : Tree} {d : Deed} (u : ℕ) → d ≡ did_spawn u (kind_of seed) (result_of seed) → a ≡ nil → Replies (spawning seed) d a
-  shuts : {c a : Tree} {d : Deed} → d ≡ did_close (port_number c) → a ≡ nil → Replies (closing c) d a
+  shuts : {c a : Tree} {d : Deed} → d ≡ did_close (port_of_value c) → a ≡ nil → Replies (closing c) d a
   enrols : {name : RegisterName} {args : Trees} {a : Tree} {d : Deed} → d ≡ did_register name args a → Replies (registering name args) d a
   prints : {line : List ℕ} {a : Tree} {d : Deed} → d ≡ did_print line → a ≡ nil → Replies (printing line) d a
 

@@ -13,7 +13,7 @@ use Rattle.ca_meaning.specs.State.{State, Task, Tasks, Mode, running, waiting, o
 use Rattle.ca_meaning.specs.Going.{Wakes}
 use Rattle.ca_meaning.specs.Steps.{Step, Steps}
 use Rattle.ca_meaning.specs.Sound.{Sound}
-use Rattle.ca_meaning.specs.History.{completes}
+use Rattle.ca_meaning.specs.History.{completes_wait}
 use Rattle.ca_meaning.specs.EndsLaw.{is_of}
 use Rattle.ca_meaning.specs.WaitLaw.{OwnEvent, Told}
 use Rattle.ca_laws.specs.Deeds.{Deed, deed_on, deed, wait_after, with_deed, deeds_from, wait_from, deeds, wait_in}
@@ -58,7 +58,7 @@ module _ (program : ProgramView) (t : ℕ) (x y : Task) where
   not_parked (ticked m ports) f = refl
   not_parked (is_over u how) f = refl
 
-  stays : (n : ℕ) (e : EventView) → is_of t e ≡ false → completes n e ≡ false → wait_after t e (Some n) ≡ Some n
+  stays : (n : ℕ) (e : EventView) → is_of t e ≡ false → completes_wait n e ≡ false → wait_after t e (Some n) ≡ Some n
   stays n (parked u w bs) f c = ap (λ b. cond b (Some w) (Some n)) f
   stays n (met u k side p v w j) f c = ap (λ b. cond b None (Some n)) c
   stays n (settled w k side p v) f c = ap (λ b. cond b None (Some n)) c
@@ -73,7 +73,7 @@ module _ (program : ProgramView) (t : ℕ) (x y : Task) where
   stays n (ticked m ports) f c = refl
   stays n (is_over u how) f c = refl
 
-  gone : (n : ℕ) (e : EventView) → completes n e ≡ true → wait_after t e (Some n) ≡ None
+  gone : (n : ℕ) (e : EventView) → completes_wait n e ≡ true → wait_after t e (Some n) ≡ None
   gone n (met u k side p v w j) c = ap (λ b. cond b None (Some n)) c
   gone n (settled w k side p v) c = ap (λ b. cond b None (Some n)) c
   gone n (parked u w bs) c = no_other false c refl
@@ -109,8 +109,8 @@ module _ (program : ProgramView) (t : ℕ) (x y : Task) where
     by : (b : Bool) → is_of t e ≡ b → wait_of y.mode ≡ wait_after t e None
     by false f = ap (λ (z : Task). wait_of z.mode) (k.0 f) ∙ ap wait_of xm ∙ sym (not_parked e f)
     by true f = own_wait e f (k.1 f)
-  told_wait e (waiting n) xm k = by (completes n e) refl where
-    by : (b : Bool) → completes n e ≡ b → wait_of y.mode ≡ wait_after t e (Some n)
+  told_wait e (waiting n) xm k = by (completes_wait n e) refl where
+    by : (b : Bool) → completes_wait n e ≡ b → wait_of y.mode ≡ wait_after t e (Some n)
     by false c = ap (λ (z : Task). wait_of z.mode) (k.1 c) ∙ ap wait_of xm ∙ sym (stays n e k.0 c)
     by true c = ap (λ (z : Task). wait_of z.mode) (k.2 c).3 ∙ sym (gone n e c)
   told_wait e over xm k = ap (λ (z : Task). wait_of z.mode) k.1 ∙ ap wait_of xm ∙ sym (not_parked e k.0)

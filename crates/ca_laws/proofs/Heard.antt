@@ -3,7 +3,7 @@ use Rattle.std.proofs.Common.{◌≡◌, inl, inr, ℕ, List, [], ◌∷◌, ◌
 use Rattle.ca_value.specs.Tree.{Tree}
 use Rattle.ca_term.specs.Operation.{OpView, taking, putting, choosing, posting, making, spawning, closing, registering, printing}
 use Rattle.ca_term.specs.Event.{take_of, put_of, EventView}
-use Rattle.ca_meaning.specs.Operands.{port_number}
+use Rattle.ca_meaning.specs.Operands.{port_of_value}
 use Rattle.ca_meaning.specs.Choice.{branches_of}
 use Rattle.ca_meaning.specs.MixTable.{MixPorts, read_of}
 use Rattle.ca_meaning.specs.State.{State}
@@ -16,7 +16,7 @@ use Rattle.ca_laws.proofs.Orders.{one_branch, no_branch}
 module _ (x : MixPorts) (before : List Deed) where
   took : (op : OpView) (k p : ℕ) → MixRule x before op → slice_get (branches_of op) k ≡ Some (take_of p) → TakesRead x before k p
   took (choosing ports priority default) k p r e = (r.0, r.1, ap (λ z. slice_get z k) (sym r.2) ∙ e)
-  took (putting c v) k p r e = absurd (let q : take_of p ≡ put_of (port_number c) v = one_branch (put_of (port_number c) v) k (take_of p) e in cc)
+  took (putting c v) k p r e = absurd (let q : take_of p ≡ put_of (port_of_value c) v = one_branch (put_of (port_of_value c) v) k (take_of p) e in cc)
   took (registering name args) k p r e = no_branch (take_of p) e
   took (taking c) k p r e = absurd r
   took (making what) k p r e = absurd r
@@ -28,9 +28,9 @@ module _ (x : MixPorts) (before : List Deed) where
   gave : (op : OpView) (k p : ℕ) (v : Tree) → MixRule x before op → slice_get (branches_of op) k ≡ Some (put_of p v) → PutsHeard x before p v
   gave (choosing ports priority default) k p v r e = no_puts (read_of r.0 ++ x.changes ∷ []) k p v (ap (λ z. slice_get z k) (sym r.2) ∙ e)
   gave (putting c y) k p v r e =
-      let q : put_of p v ≡ put_of (port_number c) y = one_branch (put_of (port_number c) y) k (put_of p v) e in
+      let q : put_of p v ≡ put_of (port_of_value c) y = one_branch (put_of (port_of_value c) y) k (put_of p v) e in
       let same : y ≡ v = cc in
-      ((let i : p ≡ port_number c = cc in i) ∙ ap port_number r.0, r.1, r.2, r.3, r.4 ∙ ap (λ z. Some (r.2, z)) same, r.5)
+      ((let i : p ≡ port_of_value c = cc in i) ∙ ap port_of_value r.0, r.1, r.2, r.3, r.4 ∙ ap (λ z. Some (r.2, z)) same, r.5)
   gave (registering name args) k p v r e = no_branch (put_of p v) e
   gave (taking c) k p v r e = absurd r
   gave (making what) k p v r e = absurd r

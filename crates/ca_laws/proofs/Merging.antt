@@ -8,7 +8,7 @@ use Rattle.ca_term.specs.Operation.{OpView, putting, choosing, closing}
 use Rattle.ca_term.specs.Program.{ProgramView}
 use Rattle.ca_term.specs.Event.{EventView}
 use Rattle.ca_meaning.specs.Body.{asking}
-use Rattle.ca_meaning.specs.Operands.{is_nil, port_number, first_of, second_of}
+use Rattle.ca_meaning.specs.Operands.{is_nil, port_of_value, first_of, second_of}
 use Rattle.ca_meaning.specs.Asking.{too_large_branches}
 use Rattle.ca_meaning.specs.Choice.{branches_of}
 use Rattle.ca_meaning.specs.State.{State}
@@ -17,7 +17,7 @@ use Rattle.ca_meaning.specs.Asks.{Next, to, stop, fail, trees_in, too_large_here
 use Rattle.ca_meaning.specs.PipeTable.{MergeState, merge_chooses, merge_puts, merge_closes, without_port, inputs_left, merge_asks, merge_next}
 use Rattle.ca_meaning.specs.System.{SystemBody, a_merge}
 use Rattle.ca_laws.specs.Deeds.{Deed, did_take, did_put, did_wait, did_end}
-use Rattle.ca_laws.specs.MergeRules.{choice_after, choice_from, last_choice, left_after, left_from, MergeRule, MergesKeepTo}
+use Rattle.ca_laws.specs.MergeRules.{choice_after, choice_from, last_choice, left_after, values_left, MergeRule, MergesKeepTo}
 use Rattle.ca_laws.proofs.Acts.{IsPutAnswer, Replies, gave, chose, chose_put, chose_default, shuts}
 use Rattle.ca_laws.proofs.Tables.{stands_only, Keeps, all_keep_to}
 
@@ -25,7 +25,7 @@ choice_more : (o : Option (ℕ × Tree)) (ds : List Deed) (d : Deed) → choice_
 choice_more o [] d = refl
 choice_more o (c ∷ ds) d = choice_more (choice_after c o) ds d
 
-left_more : (vs : Trees) (ds : List Deed) (d : Deed) → left_from vs (ds ++ d ∷ []) ≡ left_after d (left_from vs ds)
+left_more : (vs : Trees) (ds : List Deed) (d : Deed) → values_left vs (ds ++ d ∷ []) ≡ left_after d (values_left vs ds)
 left_more vs [] d = refl
 left_more vs (c ∷ ds) d = left_more (left_after c vs) ds d
 
@@ -61,11 +61,11 @@ module _ (program : ProgramView) (inputs : Trees) (output : ℕ) (place : Place)
   MergesAt (fail g) o ws = Unit {0}
 
   abbrev MergeAt : Next MergeState → List Deed → Type 0
-  MergeAt n ds = MergesAt n (last_choice ds) (left_from inputs ds)
+  MergeAt n ds = MergesAt n (last_choice ds) (values_left inputs ds)
 
-  by_deed : (n : Next MergeState) (ds : List Deed) (d c : Deed) → d ≡ c → MergesAt n (choice_after c (last_choice ds)) (left_after c (left_from inputs ds)) → MergeAt n (ds ++ d ∷ [])
+  by_deed : (n : Next MergeState) (ds : List Deed) (d c : Deed) → d ≡ c → MergesAt n (choice_after c (last_choice ds)) (left_after c (values_left inputs ds)) → MergeAt n (ds ++ d ∷ [])
   by_deed n ds d c is k = subst (λ z. MergeAt n (ds ++ z ∷ [])) (sym is)
-      (subst (λ z. MergesAt n z (left_from inputs (ds ++ c ∷ []))) (sym (choice_more None ds c))
+      (subst (λ z. MergesAt n z (values_left inputs (ds ++ c ∷ []))) (sym (choice_more None ds c))
       (subst (λ z. MergesAt n (choice_after c (last_choice ds)) z) (sym (left_more inputs ds c)) k))
 
   -- the inputs that are left
@@ -79,8 +79,8 @@ module _ (program : ProgramView) (inputs : Trees) (output : ℕ) (place : Place)
   allowed merge_closes ds k = (refl, k)
 
   -- it chose the value v of the channel p
-  took : (ds : List Deed) (v : Tree) (vs : Trees) (p : ℕ) (a : Tree) → MergeAt (to (merge_chooses v vs)) ds → (b : Bool) → MergesAt (cond b (inputs_left (without_port p (item v vs))) (to (merge_puts (item v vs) a))) (cond b None (Some (p, a))) (cond b (without_port p (left_from inputs ds)) (left_from inputs ds))
-  took ds v vs p a k true = left (without_port p (item v vs)) (without_port p (left_from inputs ds)) (ap (without_port p) k.1)
+  took : (ds : List Deed) (v : Tree) (vs : Trees) (p : ℕ) (a : Tree) → MergeAt (to (merge_chooses v vs)) ds → (b : Bool) → MergesAt (cond b (inputs_left (without_port p (item v vs))) (to (merge_puts (item v vs) a))) (cond b None (Some (p, a))) (cond b (without_port p (values_left inputs ds)) (values_left inputs ds))
+  took ds v vs p a k true = left (without_port p (item v vs)) (without_port p (values_left inputs ds)) (ap (without_port p) k.1)
   took ds v vs p a k false = (p, refl, k.1)
 
   answered : (s : MergeState) (ds : List Deed) (d : Deed) (a : Tree) → MergeAt (to s) ds → Replies (merge_op s) d a → MergeAt (merge_next a s) (ds ++ d ∷ [])
@@ -92,7 +92,7 @@ module _ (program : ProgramView) (inputs : Trees) (output : ℕ) (place : Place)
       (by_deed (to (merge_puts (item v vs) u)) ds d (did_put j p w u) is (p, ap (choice_after (did_put j p w u)) k.0, k.1)))
   answered (merge_chooses v vs) ds d a k (chose_default u is df an) = absurd (let j : None ≡ Some u = df in cc)
   answered (merge_puts vs v) ds d a k (gave is pa) = by_deed (inputs_left vs) ds d (did_put 0 output v a) is
-      (subst (λ o. MergesAt (inputs_left vs) (choice_after (did_put 0 output v a) o) (left_from inputs ds)) (sym k.1) (left vs (left_from inputs ds) k.2))
+      (subst (λ o. MergesAt (inputs_left vs) (choice_after (did_put 0 output v a) o) (values_left inputs ds)) (sym k.1) (left vs (values_left inputs ds) k.2))
   answered merge_closes ds d a k (shuts is an) = tt
 
   merge_keeps : Keeps program merge_body merge_op MergeAt (MergeRule inputs output)
@@ -105,6 +105,6 @@ module _ (program : ProgramView) (inputs : Trees) (output : ℕ) (place : Place)
   }
 
 pub merges_keep_to : (program : ProgramView) (journal : List EventView) (s : State) → Reaches program journal s → MergesKeepTo program journal s
-merges_keep_to program = all_keep_to program SystemTask.Merge refl (λ values place. MergeRule (trees_in (first_of values)) (port_number (second_of values)))
-    (λ values place. merge_body program (trees_in (first_of values)) (port_number (second_of values)) place) (λ values place. merge_op program (trees_in (first_of values)) (port_number (second_of values)) place) (λ values place. MergeAt program (trees_in (first_of values)) (port_number (second_of values)) place)
-    (λ values place. merge_keeps program (trees_in (first_of values)) (port_number (second_of values)) place) (λ values place c r. (inputs_left (trees_in (first_of values)), r, left program (trees_in (first_of values)) (port_number (second_of values)) place (trees_in (first_of values)) (trees_in (first_of values)) refl))
+merges_keep_to program = all_keep_to program SystemTask.Merge refl (λ values place. MergeRule (trees_in (first_of values)) (port_of_value (second_of values)))
+    (λ values place. merge_body program (trees_in (first_of values)) (port_of_value (second_of values)) place) (λ values place. merge_op program (trees_in (first_of values)) (port_of_value (second_of values)) place) (λ values place. MergeAt program (trees_in (first_of values)) (port_of_value (second_of values)) place)
+    (λ values place. merge_keeps program (trees_in (first_of values)) (port_of_value (second_of values)) place) (λ values place c r. (inputs_left (trees_in (first_of values)), r, left program (trees_in (first_of values)) (port_of_value (second_of values)) place (trees_in (first_of values)) (trees_in (first_of values)) refl))

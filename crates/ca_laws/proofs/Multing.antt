@@ -19,7 +19,7 @@ use Rattle.ca_meaning.specs.Asks.{Next, to, stop, fail, needing, closes_due, tap
 use Rattle.ca_meaning.specs.MultTable.{MultPorts, MultState, mult_takes, mult_reads, mult_spawns, mult_waits, mult_reads_last, mult_closes, acks_due, spawns_due, closing_of, mult_asks, mult_next}
 use Rattle.ca_meaning.specs.System.{SystemBody, a_mult}
 use Rattle.ca_laws.specs.Deeds.{Deed, did_take, did_wait, did_end}
-use Rattle.ca_laws.specs.Taken.{answer_after, last_answer, since_after, is_take, is_start, is_close, takes_since, starts_since, closes_since}
+use Rattle.ca_laws.specs.Taken.{answer_after, last_answer, since_after, is_take, is_spawn_deed, is_close, takes_since, starts_since, closes_since}
 use Rattle.ca_laws.specs.MultRules.{taps_after, taps_from, taps_read, MultRule, mult_ports, MultsKeepTo}
 use Rattle.ca_laws.proofs.Acts.{Replies, got, starts, shuts, enrols}
 use Rattle.ca_laws.proofs.More.{next_item, one_longer, answer_more, since_more}
@@ -47,13 +47,13 @@ module _ (x : MultPorts) where
   abbrev MultAt : Next MultState → List Deed → Type 0
   MultAt n ds = MultsAt n (taps_read ds) (takes_since ds) (starts_since ds) (closes_since ds) (last_answer ds)
 
-  after : (n : Next MultState) (ds : List Deed) (d : Deed) → MultsAt n (taps_after d (taps_read ds)) (since_after is_take d (takes_since ds)) (since_after is_start d (starts_since ds)) (since_after is_close d (closes_since ds)) (answer_after d (last_answer ds)) → MultAt n (ds ++ d ∷ [])
+  after : (n : Next MultState) (ds : List Deed) (d : Deed) → MultsAt n (taps_after d (taps_read ds)) (since_after is_take d (takes_since ds)) (since_after is_spawn_deed d (starts_since ds)) (since_after is_close d (closes_since ds)) (answer_after d (last_answer ds)) → MultAt n (ds ++ d ∷ [])
   after n ds d k =
       subst (λ z. MultsAt n z (takes_since (ds ++ d ∷ [])) (starts_since (ds ++ d ∷ [])) (closes_since (ds ++ d ∷ [])) (last_answer (ds ++ d ∷ []))) (sym (taps_more [] ds d))
       (subst (λ z. MultsAt n (taps_after d (taps_read ds)) z (starts_since (ds ++ d ∷ [])) (closes_since (ds ++ d ∷ [])) (last_answer (ds ++ d ∷ []))) (sym (since_more is_take 0 ds d))
-      (subst (λ z. MultsAt n (taps_after d (taps_read ds)) (since_after is_take d (takes_since ds)) z (closes_since (ds ++ d ∷ [])) (last_answer (ds ++ d ∷ []))) (sym (since_more is_start 0 ds d))
-      (subst (λ z. MultsAt n (taps_after d (taps_read ds)) (since_after is_take d (takes_since ds)) (since_after is_start d (starts_since ds)) z (last_answer (ds ++ d ∷ []))) (sym (since_more is_close 0 ds d))
-      (subst (λ z. MultsAt n (taps_after d (taps_read ds)) (since_after is_take d (takes_since ds)) (since_after is_start d (starts_since ds)) (since_after is_close d (closes_since ds)) z) (sym (answer_more None ds d)) k))))
+      (subst (λ z. MultsAt n (taps_after d (taps_read ds)) (since_after is_take d (takes_since ds)) z (closes_since (ds ++ d ∷ [])) (last_answer (ds ++ d ∷ []))) (sym (since_more is_spawn_deed 0 ds d))
+      (subst (λ z. MultsAt n (taps_after d (taps_read ds)) (since_after is_take d (takes_since ds)) (since_after is_spawn_deed d (starts_since ds)) z (last_answer (ds ++ d ∷ []))) (sym (since_more is_close 0 ds d))
+      (subst (λ z. MultsAt n (taps_after d (taps_read ds)) (since_after is_take d (takes_since ds)) (since_after is_spawn_deed d (starts_since ds)) (since_after is_close d (closes_since ds)) z) (sym (answer_more None ds d)) k))))
 
   -- the answers that are due, where so many were taken
   answers : (n : ℕ) (ts : List TapView) (k m z : ℕ) (o : Option (ℕ × Tree)) → m ≡ length ts → k + n ≡ length ts → MultsAt (acks_due n) ts k m z o
@@ -101,7 +101,7 @@ module _ (program : ProgramView) (x : MultPorts) (place : Place) where
   allowed mult_reads_last ds k = (refl, refl, k.0.0, k.0.1, k.1, k.2)
   allowed (mult_closes c cs) ds k = (c, refl, k.3, ap (slice_get (closing_of (taps_read ds))) (sym k.2) ∙ ap (λ z. slice_get z (length k.0)) k.1 ∙ next_item k.0 c cs)
 
-  by_deed : (n : Next MultState) (ds : List Deed) (d c : Deed) → d ≡ c → MultsAt x n (taps_after c (taps_read ds)) (since_after is_take c (takes_since ds)) (since_after is_start c (starts_since ds)) (since_after is_close c (closes_since ds)) (answer_after c (last_answer ds)) → MultAt x n (ds ++ d ∷ [])
+  by_deed : (n : Next MultState) (ds : List Deed) (d c : Deed) → d ≡ c → MultsAt x n (taps_after c (taps_read ds)) (since_after is_take c (takes_since ds)) (since_after is_spawn_deed c (starts_since ds)) (since_after is_close c (closes_since ds)) (answer_after c (last_answer ds)) → MultAt x n (ds ++ d ∷ [])
   by_deed n ds d c is k = subst (λ z. MultAt x n (ds ++ z ∷ [])) (sym is) (after x n ds c k)
 
   took : (ds : List Deed) (a : Tree) → MultAt x (to mult_takes) ds → (b : Bool) → is_nil a ≡ b → MultsAt x (cond b (to mult_reads_last) (to (mult_reads a))) (taps_read ds) (suc (takes_since ds)) (starts_since ds) (closes_since ds) (Some (x.source, a))

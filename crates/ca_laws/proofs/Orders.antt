@@ -3,7 +3,7 @@ use Rattle.std.proofs.Common.{◌≡◌, inl, inr, ℕ, zero, suc, List, [], ◌
 use Rattle.ca_value.specs.Tree.{Tree, port}
 use Rattle.ca_term.specs.Operation.{OpView, taking, putting, choosing, posting, making, spawning, closing, registering, printing}
 use Rattle.ca_term.specs.Event.{BranchView, take_of, put_of, EventView}
-use Rattle.ca_meaning.specs.Operands.{port_number}
+use Rattle.ca_meaning.specs.Operands.{port_of_value}
 use Rattle.ca_meaning.specs.Asks.{pair_of}
 use Rattle.ca_meaning.specs.Choice.{branches_of}
 use Rattle.ca_meaning.specs.PipelineTable.{FeedPorts, CollectPorts}
@@ -34,8 +34,8 @@ more_begins xs ys zs b = (b.0 ++ zs, ap (λ z. z ++ zs) b.1 ∙ append_assoc xs 
 -- a put of its own, by its rule
 module _ (c : CollectPorts) (before : List Deed) where
   next_output : (op : OpView) (k p : ℕ) (v : Tree) → CollectRule c before op → slice_get (branches_of op) k ≡ Some (put_of p v) → Begins (sent before ++ v ∷ []) (collected before)
-  next_output (putting x y) k p v r e = subst (λ z. Begins (sent before ++ z ∷ []) (collected before)) (let q : put_of p v ≡ put_of (port_number x) y = one_branch (put_of (port_number x) y) k (put_of p v) e in let i : y ≡ v = cc in i) r.1
-  next_output (taking x) k p v r e = absurd (let q : put_of p v ≡ take_of (port_number x) = one_branch (take_of (port_number x)) k (put_of p v) e in cc)
+  next_output (putting x y) k p v r e = subst (λ z. Begins (sent before ++ z ∷ []) (collected before)) (let q : put_of p v ≡ put_of (port_of_value x) y = one_branch (put_of (port_of_value x) y) k (put_of p v) e in let i : y ≡ v = cc in i) r.1
+  next_output (taking x) k p v r e = absurd (let q : put_of p v ≡ take_of (port_of_value x) = one_branch (take_of (port_of_value x)) k (put_of p v) e in cc)
   next_output (closing x) k p v r e = no_branch (put_of p v) e
   next_output (choosing ports priority default) k p v r e = absurd r
   next_output (making what) k p v r e = absurd r
@@ -81,11 +81,11 @@ joined_begins xs ys zs a b = (a.0 ++ b.0, b.1 ∙ ap (λ z. z ++ b.0) a.1 ∙ ap
 module _ (f : FeedPorts) (before : List Deed) where
   next_put : (op : OpView) (k p : ℕ) (v : Tree) → FeedRule f before op → slice_get (branches_of op) k ≡ Some (put_of p v) → Begins (put_in before ++ (p, v) ∷ []) (passed_on f (taken before) (made_in before))
   next_put (putting c y) k p v r e =
-      let q : put_of p v ≡ put_of (port_number c) y = one_branch (put_of (port_number c) y) k (put_of p v) e in
-      let there : r.0 ≡ p = sym (ap port_number r.1) ∙ (let i : port_number c ≡ p = cc in i) in
+      let q : put_of p v ≡ put_of (port_of_value c) y = one_branch (put_of (port_of_value c) y) k (put_of p v) e in
+      let there : r.0 ≡ p = sym (ap port_of_value r.1) ∙ (let i : port_of_value c ≡ p = cc in i) in
       subst (λ z. Begins (put_in before ++ (p, z) ∷ []) (passed_on f (taken before) (made_in before))) (let i : y ≡ v = cc in i)
       (subst (λ n. Begins (put_in before ++ (n, y) ∷ []) (passed_on f (taken before) (made_in before))) there r.2)
-  next_put (taking x) k p v r e = absurd (let q : put_of p v ≡ take_of (port_number x) = one_branch (take_of (port_number x)) k (put_of p v) e in cc)
+  next_put (taking x) k p v r e = absurd (let q : put_of p v ≡ take_of (port_of_value x) = one_branch (take_of (port_of_value x)) k (put_of p v) e in cc)
   next_put (closing x) k p v r e = no_branch (put_of p v) e
   next_put (making what) k p v r e = no_branch (put_of p v) e
   next_put (choosing ports priority default) k p v r e = absurd r

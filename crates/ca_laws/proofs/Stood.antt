@@ -13,7 +13,7 @@ use Rattle.ca_meaning.specs.Choice.{branches_of}
 use Rattle.ca_meaning.specs.Going.{IsAtOp}
 use Rattle.ca_meaning.specs.Steps.{Step}
 use Rattle.ca_meaning.specs.Sound.{Each, Sound}
-use Rattle.ca_meaning.specs.History.{branch_on, completes}
+use Rattle.ca_meaning.specs.History.{branch_on, completes_wait}
 use Rattle.ca_meaning.specs.WaitLaw.{Told}
 use Rattle.ca_meaning.proofs.Waits.{each-append, each-weaker, handlers_of, queue_without, queue_joined, other, owner_else, owner_before, owner_joined}
 use Rattle.ca_meaning.proofs.Effects.{waits_of}
@@ -51,9 +51,9 @@ queue_live side p (y ∷ ys) = each-append (λ (h : Handler). is_live h.wait (y 
 
 -- what an event does to the waits
 data Waits (program : ProgramView) (s s2 : State) (e : EventView) : Type 0 where
-  kept : s2.waits ≡ s.waits → ((n : ℕ) → completes n e ≡ false) → Waits program s s2 e
-  gone : (w : ℕ) → s2.waits ≡ without w s.waits → ((n : ℕ) → completes n e ≡ eqb n w) → Waits program s s2 e
-  came : (y : Wait) → s2.waits ≡ s.waits ++ y ∷ [] → ((n : ℕ) → completes n e ≡ false) → is_among y.number s.used ≡ false
+  kept : s2.waits ≡ s.waits → ((n : ℕ) → completes_wait n e ≡ false) → Waits program s s2 e
+  gone : (w : ℕ) → s2.waits ≡ without w s.waits → ((n : ℕ) → completes_wait n e ≡ eqb n w) → Waits program s s2 e
+  came : (y : Wait) → s2.waits ≡ s.waits ++ y ∷ [] → ((n : ℕ) → completes_wait n e ≡ false) → is_among y.number s.used ≡ false
       → ((u : ℕ) → y.owner ≡ Some u → (x : Task) × (op : OpView) × (s2.tasks u ≡ Some x) × IsAtOp x.body op × (branches_of op ≡ y.branches)) → Waits program s s2 e
 
 waits_do : (program : ProgramView) (s s2 : State) (e : EventView) → Step program s e s2 → Waits program s s2 e
@@ -75,7 +75,7 @@ waits_do program s s2 (is_over t (Faulted fault place result)) x = kept (waits_o
 
 module _ (program : ProgramView) (s s2 : State) (e : EventView) (sound : Sound s) (x : Step program s e s2) where
   -- a wait that the event doesn't complete keeps its owner where it is
-  owner_stays : (w u : ℕ) → owner_of w s.waits ≡ Some u → completes w e ≡ false → (y : Task) → s.tasks u ≡ Some y → s2.tasks u ≡ Some y
+  owner_stays : (w u : ℕ) → owner_of w s.waits ≡ Some u → completes_wait w e ≡ false → (y : Task) → s.tasks u ≡ Some y → s2.tasks u ≡ Some y
   owner_stays w u own not y there =
       let o = sound.owned w u own in
       let same : o.0 ≡ y = (let k : Some o.0 ≡ Some y = sym o.1 ∙ there in cc) in
@@ -83,7 +83,7 @@ module _ (program : ProgramView) (s s2 : State) (e : EventView) (sound : Sound s
       let told : Told program u (waiting w) y e t.0 = subst (λ m. Told program u m y e t.0) (ap (λ (z : Task). z.mode) (sym same) ∙ o.2) t.2 in
       t.1 ∙ ap (λ z. Some z) (told.1 not)
 
-  stays : (side : Side) (p : ℕ) (h : Handler) → completes h.wait e ≡ false → ((u : ℕ) → owner_of h.wait s2.waits ≡ Some u → owner_of h.wait s.waits ≡ Some u) → Stood s side p h → Stood s2 side p h
+  stays : (side : Side) (p : ℕ) (h : Handler) → completes_wait h.wait e ≡ false → ((u : ℕ) → owner_of h.wait s2.waits ≡ Some u → owner_of h.wait s.waits ≡ Some u) → Stood s side p h → Stood s2 side p h
   stays side p h not back st u own =
       let b = back u own in
       let k = st u b in

@@ -18,7 +18,7 @@ use Rattle.ca_meaning.specs.Asks.{Ask, Next, to, stop, fail, stands_at}
 use Rattle.ca_meaning.specs.System.{SystemBody, new_system, system_fill, SystemRest}
 use Rattle.ca_meaning.specs.Task.{TaskBody, system_task, body_fill, BodyRest}
 use Rattle.ca_meaning.specs.State.{State}
-use Rattle.ca_meaning.specs.Going.{IsAtOp, Stands}
+use Rattle.ca_meaning.specs.Going.{IsAtOp, RunsAtOperation}
 use Rattle.ca_meaning.specs.Steps.{Steps}
 use Rattle.ca_meaning.specs.Legal.{Reaches}
 use Rattle.ca_meaning.proofs.ChannelLaws.{steps_split}
@@ -158,7 +158,7 @@ pub keeps_from : (program : ProgramView) (kind : SystemTask) (Rule : Trees → P
     → SpawnsFrom program early u (system kind v l) × KeepsTo (Rule v l) t journal s
 keeps_from program kind Rule body op_of At keeps begins journal s r early late u t result is m v l seed =
     let k = m.2 in
-    let from : SpawnsFrom program early u (system kind v l) = record { before = m.0; reaches = record { opening = r.opening; opens = r.opens; steps = m.1 }; spawner = k.1.0; stands = subst (λ z. Stands m.0 u (spawning z) k.1.0) seed k.1.4 } in (
+    let from : SpawnsFrom program early u (system kind v l) = record { before = m.0; reaches = record { opening = r.opening; opens = r.opens; steps = m.1 }; spawner = k.1.0; stands = subst (λ z. RunsAtOperation m.0 u (spawning z) k.1.0) seed k.1.4 } in (
       from,
       keeping_keeps program (body v l) (op_of v l) (At v l) (Rule v l) (keeps v l) t journal s
           (stays_in program (InRow (body v l)) (WasAllowed (At v l) (Rule v l)) (stages program (body v l) (op_of v l) (At v l) (Rule v l) (keeps v l)) journal early late s u t (kind_of_system kind) result (system kind v l) r is from

@@ -7,7 +7,7 @@ use Rattle.ca_term.specs.Operation.{OpView, taking, putting}
 use Rattle.ca_term.specs.Program.{ProgramView}
 use Rattle.ca_term.specs.Event.{EventView}
 use Rattle.ca_meaning.specs.Body.{ended, faulted, at_op}
-use Rattle.ca_meaning.specs.Operands.{is_nil, port_number, first_of}
+use Rattle.ca_meaning.specs.Operands.{is_nil, port_of_value, first_of}
 use Rattle.ca_meaning.specs.Choice.{branches_of}
 use Rattle.ca_meaning.specs.State.{State}
 use Rattle.ca_meaning.specs.Legal.{Reaches}
@@ -98,7 +98,7 @@ jobs_keep_to program journal s r early late u t result is =
     let w = job_seed m.2.1.1 m.2.1.6 in
     let x = w.0.0 in
     let f = w.0.1 in
-    let k = keeps_from program (SystemTask.Job x f) (λ values place. JobRule program (port_number (first_of values)) (job_work x f values place))
-    (λ values place. job_body program (port_number (first_of values)) (job_work x f values place)) (λ values place. job_op program (port_number (first_of values)) (job_work x f values place)) (λ values place. JobAt program (port_number (first_of values)) (job_work x f values place))
-    (λ values place. job_keeps program (port_number (first_of values)) (job_work x f values place)) (λ values place c r. (to takes, r, refl)) journal s r early late u t result is m w.1 w.2 w.3 in
+    let k = keeps_from program (SystemTask.Job x f) (λ values place. JobRule program (port_of_value (first_of values)) (job_work x f values place))
+    (λ values place. job_body program (port_of_value (first_of values)) (job_work x f values place)) (λ values place. job_op program (port_of_value (first_of values)) (job_work x f values place)) (λ values place. JobAt program (port_of_value (first_of values)) (job_work x f values place))
+    (λ values place. job_keeps program (port_of_value (first_of values)) (job_work x f values place)) (λ values place c r. (to takes, r, refl)) journal s r early late u t result is m w.1 w.2 w.3 in
     (w.0, w.1, w.2, k.0, k.1)

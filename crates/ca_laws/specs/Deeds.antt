@@ -9,7 +9,7 @@ use Rattle.ca_term.specs.declared.event.Side.TheVariants.{Take, Put}
 use Rattle.ca_term.specs.declared.event.Ending.{Ending}
 use Rattle.ca_term.specs.Operation.{OpView, WhatView, SeedView, making, spawning, closing, registering, printing, posting}
 use Rattle.ca_term.specs.Event.{BranchView, take_of, put_of, EventView, made, spawned, done, met, parked, posted, settled, defaulted, closed, registered, printed, ticked, over as is_over}
-use Rattle.ca_meaning.specs.Operands.{port_number}
+use Rattle.ca_meaning.specs.Operands.{port_of_value}
 use Rattle.ca_meaning.specs.ChannelSteps.{other_side}
 use Rattle.ca_meaning.specs.TaskSteps.{kind_of, result_of}
 use Rattle.ca_meaning.specs.Choice.{branches_of, default_of}
@@ -93,11 +93,11 @@ abbrev pub IsDeedOf : OpView → Deed → Type 0
 IsDeedOf op (did_take k p a) = slice_get (branches_of op) k ≡ Some (take_of p)
 IsDeedOf op (did_put k p v a) = slice_get (branches_of op) k ≡ Some (put_of p v)
 IsDeedOf op (did_wait w bs) = bs ≡ branches_of op
-IsDeedOf op (did_post w p v) = (c : Tree) × (op ≡ posting c v) × (p ≡ port_number c)
+IsDeedOf op (did_post w p v) = (c : Tree) × (op ≡ posting c v) × (p ≡ port_of_value c)
 IsDeedOf op (did_default v) = default_of op ≡ Some v
 IsDeedOf op (did_make p what moment) = op ≡ making what
 IsDeedOf op (did_spawn u kind result) = (seed : SeedView) × (op ≡ spawning seed) × (kind ≡ kind_of seed) × (result ≡ result_of seed)
-IsDeedOf op (did_close p) = (c : Tree) × (op ≡ closing c) × (p ≡ port_number c)
+IsDeedOf op (did_close p) = (c : Tree) × (op ≡ closing c) × (p ≡ port_of_value c)
 IsDeedOf op (did_register name args a) = op ≡ registering name args
 IsDeedOf op (did_print line) = op ≡ printing line
 IsDeedOf op (did_end how) = ⊥

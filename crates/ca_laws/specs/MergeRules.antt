@@ -5,7 +5,7 @@ use Rattle.ca_term.specs.declared.head.SystemTask.TheVariants.{Merge}
 use Rattle.ca_term.specs.Program.{ProgramView}
 use Rattle.ca_term.specs.Operation.{OpView, taking, putting, choosing, making, spawning, closing, registering, printing, posting}
 use Rattle.ca_term.specs.Event.{EventView}
-use Rattle.ca_meaning.specs.Operands.{is_nil, port_number, first_of, second_of}
+use Rattle.ca_meaning.specs.Operands.{is_nil, port_of_value, first_of, second_of}
 use Rattle.ca_meaning.specs.Asks.{trees_in}
 use Rattle.ca_meaning.specs.PipeTable.{without_port}
 use Rattle.ca_meaning.specs.State.{State}
@@ -32,18 +32,18 @@ abbrev pub left_after : Deed → Trees → Trees
 left_after (did_take k p a) vs = cond (is_nil a) (without_port p vs) vs
 left_after d vs = vs
 
-abbrev pub left_from : Trees → List Deed → Trees
-left_from vs [] = vs
-left_from vs (d ∷ ds) = left_from (left_after d vs) ds
+abbrev pub values_left : Trees → List Deed → Trees
+values_left vs [] = vs
+values_left vs (d ∷ ds) = values_left (left_after d vs) ds
 
 -- what a merge of the inputs into its output may ask for after all that it did
 abbrev pub MergeRule : Trees → ℕ → List Deed → OpView → Type 0
 -- an alts over the inputs that are left, where it put the answer of the last
-MergeRule inputs output before (choosing ports priority default) = (last_choice before ≡ None) × (ports ≡ left_from inputs before)
+MergeRule inputs output before (choosing ports priority default) = (last_choice before ≡ None) × (ports ≡ values_left inputs before)
 -- a put of the answer of its last alts
 MergeRule inputs output before (putting c v) = (p : ℕ) × (c ≡ port output) × (last_choice before ≡ Some (p, v))
 -- the close of its output, where no input is left
-MergeRule inputs output before (closing c) = (c ≡ port output) × (left_from inputs before ≡ none)
+MergeRule inputs output before (closing c) = (c ≡ port output) × (values_left inputs before ≡ none)
 MergeRule inputs output before (taking c) = ⊥
 MergeRule inputs output before (making what) = ⊥
 MergeRule inputs output before (spawning seed) = ⊥
@@ -53,4 +53,4 @@ MergeRule inputs output before (posting c v) = ⊥
 
 -- each merge keeps to its rule
 abbrev pub MergesKeepTo : ProgramView → List EventView → State → Type 0
-MergesKeepTo program journal s = AllKeepTo Merge (λ values place. MergeRule (trees_in (first_of values)) (port_number (second_of values))) program journal s
+MergesKeepTo program journal s = AllKeepTo Merge (λ values place. MergeRule (trees_in (first_of values)) (port_of_value (second_of values))) program journal s

@@ -7,7 +7,7 @@ use Rattle.ca_term.specs.declared.head.SystemTask.TheVariants.{Mix}
 use Rattle.ca_term.specs.Program.{ProgramView}
 use Rattle.ca_term.specs.Operation.{OpView, taking, putting, choosing, making, spawning, closing, registering, printing, posting}
 use Rattle.ca_term.specs.Event.{BranchView, take_of, EventView}
-use Rattle.ca_meaning.specs.Operands.{is_nil, port_number, first_of, second_of, third_of}
+use Rattle.ca_meaning.specs.Operands.{is_nil, port_of_value, first_of, second_of, third_of}
 use Rattle.ca_meaning.specs.Choice.{branches_of}
 use Rattle.ca_meaning.specs.State.{State}
 use Rattle.ca_meaning.specs.Asks.{one_of, two_of}
@@ -32,8 +32,8 @@ last_reading x ds = reading_from x None ds
 abbrev pub takes_from : List ℕ → List BranchView
 takes_from ps = each_of (λ p. take_of p) ps
 
-abbrev pub is_heard : ModesRead → ℕ → Bool
-is_heard m p = any_of (eqb p) (heard_of m)
+abbrev pub is_port_heard : ModesRead → ℕ → Bool
+is_port_heard m p = any_of (eqb p) (heard_of m)
 
 -- what a mix may ask for after all that it did
 abbrev pub MixRule : MixPorts → List Deed → OpView → Type 0
@@ -42,7 +42,7 @@ MixRule x before (choosing ports priority default) =
     (m : ModesRead) × (last_reading x before ≡ Some m) × (branches_of (choosing ports priority default) ≡ takes_from (read_of m ++ x.changes ∷ []))
 -- a put, into its output, of the answer of its last alts, which came from a channel that the last reading tells to hear
 MixRule x before (putting c v) =
-    (c ≡ port x.out) × (m : ModesRead) × (p : ℕ) × (last_reading x before ≡ Some m) × (last_answer before ≡ Some (p, v)) × (is_heard m p ≡ true)
+    (c ≡ port x.out) × (m : ModesRead) × (p : ℕ) × (last_reading x before ≡ Some m) × (last_answer before ≡ Some (p, v)) × (is_port_heard m p ≡ true)
 -- a reading of its own modes, or the end of a source that its last alts found closed
 MixRule x before (registering name args) =
     ((name ≡ Modes) × (args ≡ one_of (port x.mix)))
@@ -61,11 +61,11 @@ TakesRead x before k p = (m : ModesRead) × (last_reading x before ≡ Some m) �
 
 -- and the put of v into channel p is of the answer of its last alts, from a channel that the last reading tells to hear
 abbrev pub PutsHeard : MixPorts → List Deed → ℕ → Tree → Type 0
-PutsHeard x before p v = (p ≡ x.out) × (m : ModesRead) × (q : ℕ) × (last_reading x before ≡ Some m) × (last_answer before ≡ Some (q, v)) × (is_heard m q ≡ true)
+PutsHeard x before p v = (p ≡ x.out) × (m : ModesRead) × (q : ℕ) × (last_reading x before ≡ Some m) × (last_answer before ≡ Some (q, v)) × (is_port_heard m q ≡ true)
 
 -- the mix, its output and its change channel are the values of its Spawn
 abbrev pub mix_ports : Trees → MixPorts
-mix_ports values = record { mix = port_number (first_of values); out = port_number (second_of values); changes = port_number (third_of values) }
+mix_ports values = record { mix = port_of_value (first_of values); out = port_of_value (second_of values); changes = port_of_value (third_of values) }
 
 -- each mix keeps to the rule
 abbrev pub MixLaw : ProgramView → List EventView → State → Type 0

@@ -8,7 +8,7 @@ use Rattle.ca_term.specs.declared.head.SystemTask.TheVariants.{Mult, Deliver}
 use Rattle.ca_term.specs.Program.{ProgramView}
 use Rattle.ca_term.specs.Operation.{OpView, taking, putting, choosing, making, spawning, closing, registering, printing, posting, system}
 use Rattle.ca_term.specs.Event.{EventView, spawned}
-use Rattle.ca_meaning.specs.Operands.{port_number, first_of, second_of, third_of}
+use Rattle.ca_meaning.specs.Operands.{port_of_value, first_of, second_of, third_of}
 use Rattle.ca_meaning.specs.Registry.{TapView}
 use Rattle.ca_meaning.specs.Asks.{taps_in, one_of, two_of}
 use Rattle.ca_meaning.specs.MultTable.{MultPorts, Delivery, closing_of}
@@ -69,10 +69,10 @@ DeliverRule d before (posting c v) = ⊥
 
 -- their ports are the values of the Spawn
 abbrev pub mult_ports : Trees → MultPorts
-mult_ports values = record { mult = port_number (first_of values); source = port_number (second_of values); acks = port_number (third_of values) }
+mult_ports values = record { mult = port_of_value (first_of values); source = port_of_value (second_of values); acks = port_of_value (third_of values) }
 
 abbrev pub delivery_of : Trees → Delivery
-delivery_of values = record { mult = port_number (first_of values); channel = port_number (second_of values); value = third_of values; acks = port_number (fourth_of values) }
+delivery_of values = record { mult = port_of_value (first_of values); channel = port_of_value (second_of values); value = third_of values; acks = port_of_value (fourth_of values) }
 
 -- each mult and each delivery keeps to its rule
 abbrev pub MultsKeepTo : ProgramView → List EventView → State → Type 0

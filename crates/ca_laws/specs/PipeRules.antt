@@ -6,7 +6,7 @@ use Rattle.ca_term.specs.declared.head.SystemTask.TheVariants.{Pipe, Onto}
 use Rattle.ca_term.specs.Program.{ProgramView}
 use Rattle.ca_term.specs.Operation.{OpView, taking, putting, choosing, making, spawning, closing, registering, printing, posting}
 use Rattle.ca_term.specs.Event.{EventView}
-use Rattle.ca_meaning.specs.Operands.{truth, port_number, first_of, second_of, third_of}
+use Rattle.ca_meaning.specs.Operands.{truth, port_of_value, first_of, second_of, third_of}
 use Rattle.ca_meaning.specs.Asks.{trees_in}
 use Rattle.ca_meaning.specs.PipeTable.{PipePorts, OntoPorts}
 use Rattle.ca_meaning.specs.System.{fourth_of}
@@ -45,10 +45,10 @@ OntoRule x items before (posting c v) = ⊥
 
 -- their ports and items are the values of the Spawn
 abbrev pub pipe_ports : Trees → PipePorts
-pipe_ports values = record { source = port_number (first_of values); target = port_number (second_of values); closes = truth (third_of values) }
+pipe_ports values = record { source = port_of_value (first_of values); target = port_of_value (second_of values); closes = truth (third_of values) }
 
 abbrev pub onto_ports : Trees → OntoPorts
-onto_ports values = record { target = port_number (first_of values); closes = truth (third_of values); result = port_number (fourth_of values) }
+onto_ports values = record { target = port_of_value (first_of values); closes = truth (third_of values); result = port_of_value (fourth_of values) }
 
 abbrev pub onto_items : Trees → List Tree
 onto_items values = items_of (trees_in (second_of values))

@@ -9,7 +9,7 @@ use Rattle.ca_term.specs.declared.head.SystemTask.TheVariants.{Feed, Job, Collec
 use Rattle.ca_term.specs.Program.{ProgramView}
 use Rattle.ca_term.specs.Operation.{OpView, taking, putting, choosing, making, spawning, closing, registering, printing, posting, fixed}
 use Rattle.ca_term.specs.Event.{EventView}
-use Rattle.ca_meaning.specs.Operands.{truth, port_number, first_of, second_of, third_of}
+use Rattle.ca_meaning.specs.Operands.{truth, port_of_value, first_of, second_of, third_of}
 use Rattle.ca_meaning.specs.Asks.{port_in, value_and_port, pair_of, trees_in}
 use Rattle.ca_meaning.specs.Applied.{Work, outputs, Outs}
 use Rattle.ca_meaning.specs.PipelineTable.{FeedPorts, CollectPorts}
@@ -105,20 +105,20 @@ CollectRule c before (posting x v) = ⊥
 
 -- their ports, and the work of the jobs, are the values and the place of the Spawn
 abbrev pub feed_ports : Trees → FeedPorts
-feed_ports values = record { source = port_number (first_of values); jobs = port_number (second_of values); replies = port_number (third_of values) }
+feed_ports values = record { source = port_of_value (first_of values); jobs = port_of_value (second_of values); replies = port_of_value (third_of values) }
 
 abbrev pub job_work : Transform → PlainFunction → Trees → Place → Work
 job_work x f values place = record { transform = x; function = f; keyword = second_of values; place = place }
 
 abbrev pub collect_ports : Trees → CollectPorts
-collect_ports values = record { replies = port_number (first_of values); target = port_number (second_of values); closes = truth (third_of values); result = port_number (fourth_of values) }
+collect_ports values = record { replies = port_of_value (first_of values); target = port_of_value (second_of values); closes = truth (third_of values); result = port_of_value (fourth_of values) }
 
 -- each feed, each job and each collect keeps to its rule
 abbrev pub FeedsKeepTo : ProgramView → List EventView → State → Type 0
 FeedsKeepTo program journal s = AllKeepTo Feed (λ values place. FeedRule (feed_ports values)) program journal s
 
 abbrev pub JobsKeepTo : ProgramView → List EventView → State → Type 0
-JobsKeepTo program journal s = AllKeepToOf (λ (x : Transform × PlainFunction). Job x.0 x.1) (λ x values place. JobRule program (port_number (first_of values)) (job_work x.0 x.1 values place)) TaskKind.Job program journal s
+JobsKeepTo program journal s = AllKeepToOf (λ (x : Transform × PlainFunction). Job x.0 x.1) (λ x values place. JobRule program (port_of_value (first_of values)) (job_work x.0 x.1 values place)) TaskKind.Job program journal s
 
 abbrev pub CollectsKeepTo : ProgramView → List EventView → State → Type 0
 CollectsKeepTo program journal s = AllKeepTo Collect (λ values place. CollectRule (collect_ports values)) program journal s

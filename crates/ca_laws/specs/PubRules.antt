@@ -9,7 +9,7 @@ use Rattle.ca_term.specs.declared.head.SystemTask.TheVariants.{Pub}
 use Rattle.ca_term.specs.Program.{ProgramView}
 use Rattle.ca_term.specs.Operation.{OpView, taking, putting, choosing, making, spawning, closing, registering, printing, posting}
 use Rattle.ca_term.specs.Event.{EventView}
-use Rattle.ca_meaning.specs.Operands.{is_nil, port_number, first_of, second_of, third_of}
+use Rattle.ca_meaning.specs.Operands.{is_nil, port_of_value, first_of, second_of, third_of}
 use Rattle.ca_meaning.specs.Asks.{ports_in, one_of, two_of}
 use Rattle.ca_meaning.specs.Applied.{Applied}
 use Rattle.ca_meaning.specs.PubTable.{PubPorts, channel_of_pair}
@@ -52,7 +52,7 @@ PubRule program x place before (posting c v) = ⊥
 
 -- its ports and its topic function are the values and the kind of the Spawn
 abbrev pub pub_ports : PlainFunction → Trees → PubPorts
-pub_ports f values = record { publication = port_number (first_of values); source = port_number (second_of values); topic = f; keyword = third_of values }
+pub_ports f values = record { publication = port_of_value (first_of values); source = port_of_value (second_of values); topic = f; keyword = third_of values }
 
 -- each publication keeps to its rule
 abbrev pub PubsKeepTo : ProgramView → List EventView → State → Type 0

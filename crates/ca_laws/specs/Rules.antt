@@ -10,7 +10,7 @@ use Rattle.ca_term.specs.Program.{ProgramView}
 use Rattle.ca_term.specs.Event.{EventView, spawned}
 use Rattle.ca_meaning.specs.State.{State, Task}
 use Rattle.ca_meaning.specs.TaskSteps.{kind_of_system}
-use Rattle.ca_meaning.specs.Going.{IsAtOp, Stands}
+use Rattle.ca_meaning.specs.Going.{IsAtOp, RunsAtOperation}
 use Rattle.ca_meaning.specs.Legal.{Reaches}
 use Rattle.ca_laws.specs.Deeds.{Deed, did_end, deeds, IsDeedOf}
 
@@ -30,7 +30,7 @@ pub record SpawnsFrom (program : ProgramView) (early : List EventView) (u : ℕ)
   pub before : State
   pub reaches : Reaches program early before
   pub spawner : Task
-  pub stands : Stands before u (spawning seed) spawner
+  pub stands : RunsAtOperation before u (spawning seed) spawner
 
 -- each task of the kind that is spawned in the journal keeps to the rule for the values and the place of its Spawn
 abbrev pub AllKeepTo : SystemTask → (Trees → Place → List Deed → OpView → Type 0) → ProgramView → List EventView → State → Type 0

@@ -61,9 +61,9 @@ abbrev pub is_take : Deed → Bool
 is_take (did_take k p a) = true
 is_take d = false
 
-abbrev pub is_start : Deed → Bool
-is_start (did_spawn u kind result) = true
-is_start d = false
+abbrev pub is_spawn_deed : Deed → Bool
+is_spawn_deed (did_spawn u kind result) = true
+is_spawn_deed d = false
 
 abbrev pub is_close : Deed → Bool
 is_close (did_close p) = true
@@ -73,7 +73,7 @@ abbrev pub takes_since : List Deed → ℕ
 takes_since ds = since_from is_take 0 ds
 
 abbrev pub starts_since : List Deed → ℕ
-starts_since ds = since_from is_start 0 ds
+starts_since ds = since_from is_spawn_deed 0 ds
 
 abbrev pub closes_since : List Deed → ℕ
 closes_since ds = since_from is_close 0 ds

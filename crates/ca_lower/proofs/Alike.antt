@@ -8,9 +8,9 @@ use Rattle.ca_meaning.specs.Body.{BodyView, local, at, standing, contract, turns
 use Rattle.ca_meaning.specs.declared.body.FaultAt.{FaultAt}
 use Rattle.ca_meaning.specs.Rest.{LocalSteps, here, after}
 use Rattle.ca_states.specs.Code.{CodeView}
-use Rattle.ca_states.specs.Machine.{Frame, State, Move, goes, ends, faults, waits, runs, move, resumed}
+use Rattle.ca_states.specs.Machine.{Frame, RunnerState, Move, goes, ends, faults, waits, runs_block, move, resumed}
 use Rattle.ca_lower.specs.Lowered.{After, AreAlike}
-use Rattle.ca_lower.specs.Implements.{Position, position, start_of}
+use Rattle.ca_lower.specs.Implements.{CodePosition, position, start_of}
 use Rattle.ca_meaning.proofs.Contexts.{Context}
 
 abbrev pub body : Kernel → ℕ → ℕ → BodyView
@@ -19,14 +19,14 @@ body t turns depth = record { term = t; turns = turns; depth = depth; fault = No
 abbrev pub next_of : Kernel → ℕ → ℕ → Option FaultAt → BodyView
 next_of t turns depth f = record { term = t; turns = turns; depth = depth; fault = f }
 
-abbrev pub state : ℕ → List Tree → List Frame → ℕ → State
+abbrev pub state : ℕ → List Tree → List Frame → ℕ → RunnerState
 state n s K turns = record { block = n; slots = s; frames = K; turns = turns }
 
-abbrev pub run_from : CodeView → Position → List Tree → List Frame → ℕ → Move
-run_from C (position n is x) s K turns = runs C is x (state n s K turns)
+abbrev pub run_from : CodeView → CodePosition → List Tree → List Frame → ℕ → Move
+run_from C (position n is x) s K turns = runs_block C is x (state n s K turns)
 
 -- alike from a place in a block on
-abbrev pub AlikeAt : ProgramView → CodeView → ℕ → Position → List Tree → List Frame → ℕ → Kernel → Type 0
+abbrev pub AlikeAt : ProgramView → CodeView → ℕ → CodePosition → List Tree → List Frame → ℕ → Kernel → Type 0
 AlikeAt P C n p s K turns t = After P (AreAlike P C n) (run_from C p s K turns) (body t turns (length K))
 
 module _ (P : ProgramView) where
@@ -34,24 +34,24 @@ module _ (P : ProgramView) where
   steps_on here q = q
   steps_on (after l p) q = after l (steps_on p q)
 
-  pub after_back : (G : State → BodyView → Type 0) → ((c : State) (a b : BodyView) → LocalSteps P a b → G c b → G c a) → (m : Move) (a b : BodyView) → LocalSteps P a b → After P G m b → After P G m a
+  pub after_back : (G : RunnerState → BodyView → Type 0) → ((c : RunnerState) (a b : BodyView) → LocalSteps P a b → G c b → G c a) → (m : Move) (a b : BodyView) → LocalSteps P a b → After P G m b → After P G m a
   after_back G h (goes c) a b s g = h c a b s g
   after_back G h (ends v turns) a b s g = (g.0, steps_on s g.1, g.2, g.3)
   after_back G h (faults f p turns) a b s g = (g.0, steps_on s g.1, g.2, g.3)
   after_back G h (waits w d c) a b s g = (g.0, steps_on s g.1, g.2, g.3, g.4)
 
-  pub after_map : (G H : State → BodyView → Type 0) → ((c : State) (b : BodyView) → G c b → H c b) → (m : Move) (b : BodyView) → After P G m b → After P H m b
+  pub after_map : (G H : RunnerState → BodyView → Type 0) → ((c : RunnerState) (b : BodyView) → G c b → H c b) → (m : Move) (b : BodyView) → After P G m b → After P H m b
   after_map G H h (goes c) b g = h c b g
   after_map G H h (ends v turns) b g = g
   after_map G H h (faults f p turns) b g = g
   after_map G H h (waits w d c) b g = (g.0, g.1, g.2, g.3, λ v. h (resumed v d c) (fill v g.0) (g.4 v))
 
   module _ (C : CodeView) where
-    pub alike_back : (n : ℕ) (c : State) (a b : BodyView) → LocalSteps P a b → AreAlike P C n c b → AreAlike P C n c a
+    pub alike_back : (n : ℕ) (c : RunnerState) (a b : BodyView) → LocalSteps P a b → AreAlike P C n c b → AreAlike P C n c a
     alike_back zero c a b s g = tt
     alike_back (suc n) c a b s g = after_back (AreAlike P C n) (alike_back n) (move C c) a b s g
 
-    pub alike_less : (m n : ℕ) → m ≤ n → (c : State) (b : BodyView) → AreAlike P C n c b → AreAlike P C m c b
+    pub alike_less : (m n : ℕ) → m ≤ n → (c : RunnerState) (b : BodyView) → AreAlike P C n c b → AreAlike P C m c b
     alike_less zero n le c b g = tt
     alike_less (suc m) zero le c b g = absurd (omega arith)
     alike_less (suc m) (suc n) le c b g = let le' : m ≤ n = omega (arith, le) in after_map (AreAlike P C n) (AreAlike P C m) (alike_less m n le') (move C c) b g

@@ -9,7 +9,7 @@ use Rattle.ca_term.specs.Fits.{count_terms, count_bindings}
 use Rattle.ca_states.specs.declared.code.Exit.TheVariants.{Jump}
 use Rattle.ca_states.specs.Code.{Instruction, moving}
 use Rattle.ca_lower.specs.Implements.{Scope, Target, in_slots, moves, names_bound}
-use Rattle.ca_lower.specs.Emit.{Builder, building, add, at_work, close, nowhere, emit, emit_bindings, emit_in_order}
+use Rattle.ca_lower.specs.Emit.{Builder, building, add, at_work, close, without_place, emit, emit_bindings, emit_in_order}
 use Rattle.ca_lower.specs.InOrder.{emit_rest}
 
 pub add_add : (a b : List Instruction) (B : Builder) → add b (add a B) ≡ add (a ++ b) B
@@ -44,7 +44,7 @@ bind_laid w lp S S1 h from bs body B0 B1 B2 ef es e1 e2 =
 -- bindings and then a loop's text
 pub loop_laid : (w : ℕ) (lp inner : Option Target) (S S1 : Scope) (h count from : ℕ) (gs : Founds) (bs : Bindings) (body : Kernel) (B0 B1 B2 B3 : Builder)
     → count ≡ count_bindings bs → from ≡ h + count → inner ≡ Some (record { first = h; count = count; head = at_work B1 + 1 }) → S1 ≡ S ++ in_slots (names_bound bs) h → B1 ≡ emit_bindings w S h bs B0
-    → B2 ≡ close w (Jump (at_work B1 + 1) nowhere) (h + count) B1 → B3 ≡ emit w inner S1 from body B2
+    → B2 ≡ close w (Jump (at_work B1 + 1) without_place) (h + count) B1 → B3 ≡ emit w inner S1 from body B2
     → add (moving h from ∷ []) B3 ≡ emit w lp S h (loop gs bs body) B0
 loop_laid w lp inner S S1 h count from gs bs body B0 B1 B2 B3 ec ef ei es e1 e2 e3 =
     let c = count_bindings bs in
@@ -52,9 +52,9 @@ loop_laid w lp inner S S1 h count from gs bs body B0 B1 B2 B3 ec ef ei es e1 e2 
     let E = emit_bindings w S h bs B0 in
     let f : from ≡ h + c = ef ∙ ap (λ k. h + k) ec in
     let i : inner ≡ Some (record { first = h; count = c; head = at_work E + 1 }) = ei ∙ ap₂ (λ k b. Some (record { first = h; count = k; head = at_work b + 1 })) ec e1 in
-    let g : B2 ≡ close w (Jump (at_work E + 1) nowhere) (h + c) E = e2 ∙ ap₂ (λ k b. close w (Jump (at_work b + 1) nowhere) (h + k) b) ec e1 in
+    let g : B2 ≡ close w (Jump (at_work E + 1) without_place) (h + c) E = e2 ∙ ap₂ (λ k b. close w (Jump (at_work b + 1) without_place) (h + k) b) ec e1 in
     ap (add (moving h from ∷ [])) (e3 ∙ ap₂ (λ o b. emit w o S1 from body b) i g)
-    ∙ ap₂ (λ s k. add (moving h k ∷ []) (emit w (Some (record { first = h; count = c; head = at_work E + 1 })) s k body (close w (Jump (at_work E + 1) nowhere) (h + c) E))) es f
+    ∙ ap₂ (λ s k. add (moving h k ∷ []) (emit w (Some (record { first = h; count = c; head = at_work E + 1 })) s k body (close w (Jump (at_work E + 1) without_place) (h + c) E))) es f
 
 -- one more of the terms in order
 pub rest_next : (w : ℕ) (lp own : Option Target) (S : Scope) (h left : ℕ) (t : Term) (ts : List Term) (B : Builder) → own ≡ cond (left == 1) lp None → left ≡ suc (length ts)

@@ -15,21 +15,21 @@ use Rattle.ca_meaning.specs.Started.{procedure_at, started as started_text}
 use Rattle.ca_states.specs.declared.code.Exit.{Exit}
 use Rattle.ca_states.specs.declared.code.Exit.TheVariants.{Jump, Branch}
 use Rattle.ca_states.specs.Code.{Instruction, constant, copying, moving, CodeView, function_at}
-use Rattle.ca_states.specs.Machine.{Frame, Move, goes, faults, read, write, reads, taken, slots_from, effect, answered, begun_at, turned, returned, went, runs}
-use Rattle.ca_lower.specs.Implements.{Position, position, start_of, before, Scope, slot_of, in_slots, names_bound, Target, moves, operand_slot, next_slot, Operand, Implements, ImplementsBindings, ImplementsAll}
+use Rattle.ca_states.specs.Machine.{Frame, Move, goes, faults, read, slot_written, reads, slot_taken, slots_from, effect, slot_answered, begun_at, turned, returned, went, runs_block}
+use Rattle.ca_lower.specs.Implements.{CodePosition, position, start_of, before, Scope, slot_of, in_slots, names_bound, Target, moves, operand_slot, next_slot, Operand, Implements, ImplementsBindings, ImplementsAll}
 use Rattle.ca_lower.specs.Lowered.{After, AreAlike}
 use Rattle.ca_lower.proofs.Puts.{puts_items, puts_bindings, puts-const, puts-branch, puts-bind, puts_items-none, puts_items-item, puts_bindings-empty, puts_bindings-binding, puts-append, puts_bindings-append, consts}
 use Rattle.ca_meaning.proofs.Contexts.{Context, InnerAll, inside, in_branch, in_bind, in_first, in_rest}
 use Rattle.ca_lower.proofs.Slots.{Same, same_trans, same_write, same_then_write, same_taken, Holds, holds_same, holds_append, holds_one, holds_range, holds_below, puts_var, founds_at, length-bound, read-write_same, moved, move_slots}
 use Rattle.ca_lower.proofs.Alike.{body, state, run_from, AlikeAt, alike_back, alike_next, after_back, fire}
 
-pub run_constant : (C : CodeView) (q : Position) (h : ℕ) (v : Tree) (s : List Tree) (K : List Frame) (turns : ℕ) → run_from C (before (constant h v) q) s K turns ≡ run_from C q (write s h v) K turns
+pub run_constant : (C : CodeView) (q : CodePosition) (h : ℕ) (v : Tree) (s : List Tree) (K : List Frame) (turns : ℕ) → run_from C (before (constant h v) q) s K turns ≡ run_from C q (slot_written s h v) K turns
 run_constant C (position n is x) h v s K turns = refl
 
-pub run_copying : (C : CodeView) (q : Position) (h a : ℕ) (s : List Tree) (K : List Frame) (turns : ℕ) → run_from C (before (copying h a) q) s K turns ≡ run_from C q (write s h (read s a)) K turns
+pub run_copying : (C : CodeView) (q : CodePosition) (h a : ℕ) (s : List Tree) (K : List Frame) (turns : ℕ) → run_from C (before (copying h a) q) s K turns ≡ run_from C q (slot_written s h (read s a)) K turns
 run_copying C (position n is x) h a s K turns = refl
 
-pub run_moving : (C : CodeView) (q : Position) (h a : ℕ) (s : List Tree) (K : List Frame) (turns : ℕ) → run_from C (before (moving h a) q) s K turns ≡ run_from C q (moved s h a) K turns
+pub run_moving : (C : CodeView) (q : CodePosition) (h a : ℕ) (s : List Tree) (K : List Frame) (turns : ℕ) → run_from C (before (moving h a) q) s K turns ≡ run_from C q (moved s h a) K turns
 run_moving C (position n is x) h a s K turns = refl
 
 pub run_moves : (C : CodeView) (n d a k : ℕ) (x : Exit) (s : List Tree) (K : List Frame) (turns : ℕ) → run_from C (position n (moves d a k) x) s K turns ≡ run_from C (position n [] x) (move_slots s d a k) K turns
@@ -37,15 +37,15 @@ run_moves C n d a zero x s K turns = refl
 run_moves C n d a (suc k) x s K turns = run_moves C n (suc d) (suc a) k x (moved s d a) K turns
 
 -- what a builtin over slots comes to
-abbrev pub many_move : CodeView → Position → ℕ → List Tree → List Frame → ℕ → Place → Outcome → Move
-many_move C q h s K turns p (Ok v) = run_from C q (write s h v) K turns
+abbrev pub many_move : CodeView → CodePosition → ℕ → List Tree → List Frame → ℕ → Place → Outcome → Move
+many_move C q h s K turns p (Ok v) = run_from C q (slot_written s h v) K turns
 many_move C q h s K turns p (Err f) = faults (task_fault f) p turns
 
-pub went_by : (C : CodeView) (q : Position) (h : ℕ) (p : Place) (s s' : List Tree) (K : List Frame) (turns : ℕ) (i : Instruction) (o : Outcome)
-    → effect i s ≡ answered s' h p o → run_from C (before i q) s K turns ≡ many_move C q h s' K turns p o
-went_by C (position n is x) h p s s' K turns i o e = ap (λ f. went f (state n s K turns) (runs C is x)) e ∙ by o
+pub went_by : (C : CodeView) (q : CodePosition) (h : ℕ) (p : Place) (s s' : List Tree) (K : List Frame) (turns : ℕ) (i : Instruction) (o : Outcome)
+    → effect i s ≡ slot_answered s' h p o → run_from C (before i q) s K turns ≡ many_move C q h s' K turns p o
+went_by C (position n is x) h p s s' K turns i o e = ap (λ f. went f (state n s K turns) (runs_block C is x)) e ∙ by o
   where
-    by : (o : Outcome) → went (answered s' h p o) (state n s K turns) (runs C is x) ≡ many_move C (position n is x) h s' K turns p o
+    by : (o : Outcome) → went (slot_answered s' h p o) (state n s K turns) (runs_block C is x) ≡ many_move C (position n is x) h s' K turns p o
     by (Ok v) = refl
     by (Err f) = refl
 
@@ -66,10 +66,10 @@ module _ (P : ProgramView) (C : CodeView) where
       → AreAlike P C m (state (function_at C f).block (begun_at C (function_at C f) vs) K turns) (body (E (started_text (procedure_at P.functions f) vs)) turns (length K))
 
   -- what goes on after the value
-  abbrev pub Then : ℕ → Position → ℕ → List Tree → List Frame → (Kernel → Kernel) → Type 0
+  abbrev pub Then : ℕ → CodePosition → ℕ → List Tree → List Frame → (Kernel → Kernel) → Type 0
   Then n q h s K E = (m : ℕ) → m ≤ n → (s' : List Tree) (turns : ℕ) → Same h s s' → AlikeAt P C m q s' K turns (E (const (read s' h)))
 
-  abbrev pub ThenAll : ℕ → Position → ℕ → ℕ → List Tree → List Frame → (Kernels → Kernel) → Type 0
+  abbrev pub ThenAll : ℕ → CodePosition → ℕ → ℕ → List Tree → List Frame → (Kernels → Kernel) → Type 0
   ThenAll n q h count s K E = (m : ℕ) → m ≤ n → (s' : List Tree) (turns : ℕ) → Same h s s' → AlikeAt P C m q s' K turns (E (consts (reads s' (slots_from h count))))
 
   -- what goes on after a recur
@@ -81,13 +81,13 @@ module _ (P : ProgramView) (C : CodeView) where
 
   abbrev pub Gen : Kernel → Type 0
   Gen t =
-      (n : ℕ) (lp : Option Target) (names : Scope) (fs : Founds) (h : ℕ) (p q : Position) (s : List Tree) (K : List Frame) (E : Kernel → Kernel) (turns : ℕ)
+      (n : ℕ) (lp : Option Target) (names : Scope) (fs : Founds) (h : ℕ) (p q : CodePosition) (s : List Tree) (K : List Frame) (E : Kernel → Kernel) (turns : ℕ)
       → Calls n → Implements C lp names h t p q → Holds names fs s h → Under lp h → Context E → Again n lp s K E → Then n q h s K E
       → AlikeAt P C n p s K turns (E (puts fs t))
 
   abbrev pub GenAll : Kernels → Type 0
   GenAll ts =
-      (n : ℕ) (names : Scope) (fs : Founds) (h : ℕ) (p q : Position) (s : List Tree) (K : List Frame) (E : Kernel → Kernel) (F : Kernels → Kernel) (turns : ℕ)
+      (n : ℕ) (names : Scope) (fs : Founds) (h : ℕ) (p q : CodePosition) (s : List Tree) (K : List Frame) (E : Kernel → Kernel) (F : Kernels → Kernel) (turns : ℕ)
       → Calls n → ImplementsAll C names h ts p q → Holds names fs s h → Context E → InnerAll F → ThenAll n q h (count_terms ts) s K (λ us. E (F us))
       → AlikeAt P C n p s K turns (E (F (puts_items fs ts)))
 
@@ -106,13 +106,13 @@ module _ (P : ProgramView) (C : CodeView) where
   under_more (Some t) h g le u = omega (arith, le, u)
 
   -- steps of the term alone
-  pub at_back : (n : ℕ) (p : Position) (s : List Tree) (K : List Frame) (turns : ℕ) (t u : Kernel) → LocalSteps P (body t turns (length K)) (body u turns (length K)) → AlikeAt P C n p s K turns u → AlikeAt P C n p s K turns t
+  pub at_back : (n : ℕ) (p : CodePosition) (s : List Tree) (K : List Frame) (turns : ℕ) (t u : Kernel) → LocalSteps P (body t turns (length K)) (body u turns (length K)) → AlikeAt P C n p s K turns u → AlikeAt P C n p s K turns t
   at_back n p s K turns t u steps g = after_back P (AreAlike P C n) (alike_back P C n) (run_from C p s K turns) (body t turns (length K)) (body u turns (length K)) steps g
 
   pub gen_const : (v : Tree) → Gen (const v)
   gen_const v n lp names fs h p q s K E turns calls im holds under ctx again cont =
-      let g = cont n (omega arith) (write s h v) turns (same_write h h v s (omega arith)) in
-      let g2 : AlikeAt P C n q (write s h v) K turns (E (const v)) = subst (λ w. AlikeAt P C n q (write s h v) K turns (E (const w))) (read-write_same s h v) g in
+      let g = cont n (omega arith) (slot_written s h v) turns (same_write h h v s (omega arith)) in
+      let g2 : AlikeAt P C n q (slot_written s h v) K turns (E (const v)) = subst (λ w. AlikeAt P C n q (slot_written s h v) K turns (E (const w))) (read-write_same s h v) g in
       let g3 : After P (AreAlike P C n) (run_from C (before (constant h v) q) s K turns) (body (E (const v)) turns (length K)) =
       subst (λ m. After P (AreAlike P C n) m (body (E (const v)) turns (length K))) (sym (run_constant C q h v s K turns)) g2 in
       let g4 : AlikeAt P C n p s K turns (E (const v)) = subst (λ r. AlikeAt P C n r s K turns (E (const v))) (sym im) g3 in
@@ -122,26 +122,26 @@ module _ (P : ProgramView) (C : CodeView) where
   gen_var x n lp names fs h p q s K E turns calls im holds under ctx again cont =
       let a = slot_of names x in
       let v = read s a in
-      let g = cont n (omega arith) (write s h v) turns (same_write h h v s (omega arith)) in
-      let g2 : AlikeAt P C n q (write s h v) K turns (E (const v)) = subst (λ w. AlikeAt P C n q (write s h v) K turns (E (const w))) (read-write_same s h v) g in
+      let g = cont n (omega arith) (slot_written s h v) turns (same_write h h v s (omega arith)) in
+      let g2 : AlikeAt P C n q (slot_written s h v) K turns (E (const v)) = subst (λ w. AlikeAt P C n q (slot_written s h v) K turns (E (const w))) (read-write_same s h v) g in
       let g3 : After P (AreAlike P C n) (run_from C (before (copying h a) q) s K turns) (body (E (const v)) turns (length K)) =
       subst (λ m. After P (AreAlike P C n) m (body (E (const v)) turns (length K))) (sym (run_copying C q h a s K turns)) g2 in
       let g4 : AlikeAt P C n p s K turns (E (const v)) = subst (λ r. AlikeAt P C n r s K turns (E (const v))) (sym im.1) g3 in
       subst (λ t. AlikeAt P C n p s K turns (E t)) (sym (puts_var names fs s h x holds im.0)) g4
 
   -- a value is moved down into slot h
-  pub moved_down : (n : ℕ) (q : Position) (h a : ℕ) (s s' : List Tree) (K : List Frame) (E : Kernel → Kernel) (turns : ℕ) → h ≤ a → Same h s s' → Then n q h s K E → AlikeAt P C n (before (moving h a) q) s' K turns (E (const (read s' a)))
+  pub moved_down : (n : ℕ) (q : CodePosition) (h a : ℕ) (s s' : List Tree) (K : List Frame) (E : Kernel → Kernel) (turns : ℕ) → h ≤ a → Same h s s' → Then n q h s K E → AlikeAt P C n (before (moving h a) q) s' K turns (E (const (read s' a)))
   moved_down n q h a s s' K E turns le same cont =
       let v = read s' a in
-      let same2 : Same h s (moved s' h a) = same_then_write h h v s (taken s' a) (omega arith) (same_trans h h s s' (taken s' a) (omega arith) same (same_taken h a s' le)) in
+      let same2 : Same h s (moved s' h a) = same_then_write h h v s (slot_taken s' a) (omega arith) (same_trans h h s s' (slot_taken s' a) (omega arith) same (same_taken h a s' le)) in
       let g = cont n (omega arith) (moved s' h a) turns same2 in
-      let g2 : AlikeAt P C n q (moved s' h a) K turns (E (const v)) = subst (λ w. AlikeAt P C n q (moved s' h a) K turns (E (const w))) (read-write_same (taken s' a) h v) g in
+      let g2 : AlikeAt P C n q (moved s' h a) K turns (E (const v)) = subst (λ w. AlikeAt P C n q (moved s' h a) K turns (E (const w))) (read-write_same (slot_taken s' a) h v) g in
       subst (λ m. After P (AreAlike P C n) m (body (E (const v)) turns (length K))) (sym (run_moving C q h a s' K turns)) g2
 
   -- BINDINGS
   abbrev pub GenBindings : Bindings → Type 0
   GenBindings bs =
-      (n : ℕ) (names : Scope) (fs : Founds) (h : ℕ) (p q : Position) (s : List Tree) (K : List Frame) (E : Kernel → Kernel) (inner : Kernel) (turns : ℕ)
+      (n : ℕ) (names : Scope) (fs : Founds) (h : ℕ) (p q : CodePosition) (s : List Tree) (K : List Frame) (E : Kernel → Kernel) (inner : Kernel) (turns : ℕ)
       → Calls n → ImplementsBindings C names h bs p q → Holds names fs s h → Context E
       → ((m : ℕ) → m ≤ n → (s' : List Tree) (turns' : ℕ) → Same h s s' → AlikeAt P C m q s' K turns' (E (puts (fs ++ founds_at s' (names_bound bs) h) inner)))
       → AlikeAt P C n p s K turns (E (bind (puts_bindings fs bs) (puts fs inner)))
@@ -247,7 +247,7 @@ module _ (P : ProgramView) (C : CodeView) where
   -- one operand, which is read in its slot
   abbrev pub GenOperand : Kernel → Type 0
   GenOperand t =
-      (n : ℕ) (names : Scope) (fs : Founds) (h : ℕ) (p q : Position) (s : List Tree) (K : List Frame) (E : Kernel → Kernel) (turns : ℕ)
+      (n : ℕ) (names : Scope) (fs : Founds) (h : ℕ) (p q : CodePosition) (s : List Tree) (K : List Frame) (E : Kernel → Kernel) (turns : ℕ)
       → Calls n → Operand names t (Implements C None names h t p q) p q → Holds names fs s h → Context E
       → ((m : ℕ) → m ≤ n → (s' : List Tree) (turns' : ℕ) → Same h s s' → AlikeAt P C m q s' K turns' (E (const (read s' (operand_slot names h t)))))
       → AlikeAt P C n p s K turns (E (puts fs t))
@@ -259,7 +259,7 @@ module _ (P : ProgramView) (C : CodeView) where
       subst (λ t. AlikeAt P C n p s K turns (E t)) (sym (puts_var names fs s h x holds im.0)) g
   gen_operand t gt n names fs h p q s K E turns calls im holds ctx cont = gt n None names fs h p q s K E turns calls im holds tt ctx tt cont
 
-  pub slot_before : (names : Scope) (fs : Founds) (s : List Tree) (h : ℕ) (t : Kernel) (own : Type 0) (p q : Position) → Holds names fs s h → Operand names t own p q → operand_slot names h t < next_slot h t
+  pub slot_before : (names : Scope) (fs : Founds) (s : List Tree) (h : ℕ) (t : Kernel) (own : Type 0) (p q : CodePosition) → Holds names fs s h → Operand names t own p q → operand_slot names h t < next_slot h t
   slot_before names fs s h (var x) own p q holds im = holds_below names fs s h x holds im.0
   slot_before names fs s h t own p q holds im = omega arith
 

@@ -18,14 +18,14 @@ use Rattle.ca_term.specs.Asking.{asked, task_fault}
 use Rattle.ca_term.specs.Fits.{count_terms}
 use Rattle.ca_term.specs.Program.{ProgramView}
 use Rattle.ca_meaning.specs.Redex.{redex, values_of}
-use Rattle.ca_meaning.specs.Body.{local, faulted, at_or, standing, turns_after, fault_of, failed as failed_at, value_in, step, fill}
+use Rattle.ca_meaning.specs.Body.{local, faulted, at_or, standing, turns_after, fault_of, outcome_fault as failed_at, value_in, step, fill}
 use Rattle.ca_meaning.specs.Rest.{LocalSteps, here, after}
 use Rattle.ca_meaning.specs.Started.{procedure_at, started as started_text}
 use Rattle.ca_states.specs.declared.code.Exit.TheVariants.{Jump, Branch, Return, Cut}
 use Rattle.ca_states.specs.declared.code.Exit.TheVariants as exit
 use Rattle.ca_states.specs.Code.{Instruction, one, two, two_int, pushing, putting, many, CodeView, function_at}
-use Rattle.ca_states.specs.Machine.{Frame, goes, faults, read, write, reads, taken, taken_all, slots_from, effect, answered, applied, begun_at, waiting}
-use Rattle.ca_lower.specs.Implements.{Position, position, start_of, before, Scope, moves, operand_slot, next_slot, integer_of, paired, Operand, Second, LeadsByCut, Implements, ImplementsAll}
+use Rattle.ca_states.specs.Machine.{Frame, goes, faults, read, slot_written, reads, slot_taken, taken_all, slots_from, effect, slot_answered, builtin_applied, begun_at, waits_or_faults}
+use Rattle.ca_lower.specs.Implements.{CodePosition, position, start_of, before, Scope, moves, operand_slot, next_slot, written_integer, paired_instruction, Operand, Second, LeadsByCut, Implements, ImplementsAll}
 use Rattle.ca_lower.specs.Lowered.{After, AreAlike}
 use Rattle.ca_lower.proofs.Puts.{puts_items, puts_one, puts_two, puts_three, puts-apply, puts-const, consts, values-consts, operands-consts}
 use Rattle.ca_meaning.proofs.Contexts.{Context, inside, in_frame, in_apply, in_first, in_rest}
@@ -35,21 +35,21 @@ use Rattle.ca_lower.proofs.Goes.{went_by, run_moves, many_move, Calls, Then, Gen
 use Rattle.ca_meaning.proofs.Asked.{IsOperation, at_asked}
 use Rattle.ca_lower.proofs.Leaves.{not_ready, asks_at, apply_redex, apply_replace}
 
-integer_is : (u : Kernel) (z : ℤ) → integer_of u ≡ Some z → u ≡ const (int z)
+integer_is : (u : Kernel) (z : ℤ) → written_integer u ≡ Some z → u ≡ const (int z)
 integer_is (const (int y)) z e = let g : y ≡ z = cc in ap (λ k. const (int k)) g
 integer_is t z e = absurd (let g : None ≡ Some z = e in cc)
 
 module _ (P : ProgramView) (C : CodeView) where
   -- BUILTINS
   -- a builtin's value, or its fault
-  applied_at : (n h : ℕ) (q : Position) (b : BuiltinName) (pl : Place) (ws s s' : List Tree) (K : List Frame) (E : Kernel → Kernel) (turns : ℕ) (o : Outcome) → applied b ws ≡ o → Context E → Same h s s' → Then P C n q h s K E
+  applied_at : (n h : ℕ) (q : CodePosition) (b : BuiltinName) (pl : Place) (ws s s' : List Tree) (K : List Frame) (E : Kernel → Kernel) (turns : ℕ) (o : Outcome) → builtin_applied b ws ≡ o → Context E → Same h s s' → Then P C n q h s K E
       → After P (AreAlike P C n) (many_move C q h s' K turns pl o) (body (E (apply (Builtin b) (consts ws) pl)) turns (length K))
   applied_at n h q b pl ws s s' K E turns (Ok v) e ctx same cont =
       let r = apply (Builtin b) (consts ws) pl in
       let o : builtin_result b (values_of (consts ws)) ≡ Ok v = ap (builtin_result b) (values-consts ws) ∙ e in
-      let g = cont n (omega arith) (write s' h v) turns (same_then_write h h v s s' (omega arith) same) in
-      let g2 : AlikeAt P C n q (write s' h v) K turns (E (const v)) = subst (λ w. AlikeAt P C n q (write s' h v) K turns (E (const w))) (read-write_same s' h v) g in
-      at_back P C n q (write s' h v) K turns (E r) (E (const v))
+      let g = cont n (omega arith) (slot_written s' h v) turns (same_then_write h h v s s' (omega arith) same) in
+      let g2 : AlikeAt P C n q (slot_written s' h v) K turns (E (const v)) = subst (λ w. AlikeAt P C n q (slot_written s' h v) K turns (E (const w))) (read-write_same s' h v) g in
+      at_back P C n q (slot_written s' h v) K turns (E r) (E (const v))
       (fire P E r (const v) turns (length K) ctx refl refl (apply_redex (Builtin b) ws pl) (ap (λ x. const (value_in x)) o) (apply_replace (const v) (Builtin b) ws pl) (ap (failed_at pl) o) refl) g2
   applied_at n h q b pl ws s s' K E turns (Err f) e ctx same cont =
       let r = apply (Builtin b) (consts ws) pl in
@@ -64,20 +64,20 @@ module _ (P : ProgramView) (C : CodeView) where
       )
 
   -- by an instruction behind the operands
-  built : (n h : ℕ) (r q : Position) (b : BuiltinName) (pl : Place) (i : Instruction) (ws s s1 left : List Tree) (K : List Frame) (E : Kernel → Kernel) (turns : ℕ)
-      → r ≡ before i q → effect i s1 ≡ answered left h pl (applied b ws) → Context E → Same h s left → Then P C n q h s K E → AlikeAt P C n r s1 K turns (E (apply (Builtin b) (consts ws) pl))
+  built : (n h : ℕ) (r q : CodePosition) (b : BuiltinName) (pl : Place) (i : Instruction) (ws s s1 left : List Tree) (K : List Frame) (E : Kernel → Kernel) (turns : ℕ)
+      → r ≡ before i q → effect i s1 ≡ slot_answered left h pl (builtin_applied b ws) → Context E → Same h s left → Then P C n q h s K E → AlikeAt P C n r s1 K turns (E (apply (Builtin b) (consts ws) pl))
   built n h r q b pl i ws s s1 left K E turns er ed ctx same cont =
       subst (λ z. AlikeAt P C n z s1 K turns (E (apply (Builtin b) (consts ws) pl))) (sym er)
-      (subst (λ mv. After P (AreAlike P C n) mv (body (E (apply (Builtin b) (consts ws) pl)) turns (length K))) (sym (went_by C q h pl s1 left K turns i (applied b ws) ed))
-      (applied_at n h q b pl ws s left K E turns (applied b ws) refl ctx same cont))
+      (subst (λ mv. After P (AreAlike P C n) mv (body (E (apply (Builtin b) (consts ws) pl)) turns (length K))) (sym (went_by C q h pl s1 left K turns i (builtin_applied b ws) ed))
+      (applied_at n h q b pl ws s left K E turns (builtin_applied b ws) refl ctx same cont))
 
-  then_less : (m n : ℕ) (q : Position) (h : ℕ) (s : List Tree) (K : List Frame) (E : Kernel → Kernel) → m ≤ n → Then P C n q h s K E → Then P C m q h s K E
+  then_less : (m n : ℕ) (q : CodePosition) (h : ℕ) (s : List Tree) (K : List Frame) (E : Kernel → Kernel) → m ≤ n → Then P C n q h s K E → Then P C m q h s K E
   then_less m n q h s K E le cont j le2 = cont j (omega (arith, le, le2))
 
   -- over a row of slots
   gen_row : (b : BuiltinName) (ts : Kernels) (pl : Place) → GenAll P C ts
-      → (n : ℕ) (names : Scope) (fs : Founds) (h : ℕ) (p q : Position) (s : List Tree) (K : List Frame) (E : Kernel → Kernel) (turns : ℕ)
-      → Calls P C n → (r : Position) × ImplementsAll C names h ts p r × (r ≡ before (many b h h (count_terms ts) pl) q) → Holds names fs s h → Context E → Then P C n q h s K E
+      → (n : ℕ) (names : Scope) (fs : Founds) (h : ℕ) (p q : CodePosition) (s : List Tree) (K : List Frame) (E : Kernel → Kernel) (turns : ℕ)
+      → Calls P C n → (r : CodePosition) × ImplementsAll C names h ts p r × (r ≡ before (many b h h (count_terms ts) pl) q) → Holds names fs s h → Context E → Then P C n q h s K E
       → AlikeAt P C n p s K turns (E (puts fs (apply (Builtin b) ts pl)))
   gen_row b ts pl gts n names fs h p q s K E turns calls (r, its, er) holds ctx cont =
       let k = count_terms ts in
@@ -101,8 +101,8 @@ module _ (P : ProgramView) (C : CodeView) where
 
   -- over one and an integer of the text
   gen_integer : (b : BuiltinName) (t u : Kernel) (z : ℤ) (pl : Place) → u ≡ const (int z) → Gen P C t
-      → (n : ℕ) (names : Scope) (fs : Founds) (h : ℕ) (p q : Position) (s : List Tree) (K : List Frame) (E : Kernel → Kernel) (turns : ℕ) → Calls P C n
-      → (r : Position) → Operand names t (Implements C None names h t p r) p r → r ≡ before (two_int b h (operand_slot names h t) z pl) q
+      → (n : ℕ) (names : Scope) (fs : Founds) (h : ℕ) (p q : CodePosition) (s : List Tree) (K : List Frame) (E : Kernel → Kernel) (turns : ℕ) → Calls P C n
+      → (r : CodePosition) → Operand names t (Implements C None names h t p r) p r → r ≡ before (two_int b h (operand_slot names h t) z pl) q
       → Holds names fs s h → Context E → Then P C n q h s K E → AlikeAt P C n p s K turns (E (puts fs (apply (Builtin b) (item t (item u none)) pl)))
   gen_integer b t u z pl eu gt n names fs h p q s K E turns calls r it er holds ctx cont =
       let F : Kernels → Kernel = λ us. apply (Builtin b) us pl in
@@ -116,8 +116,8 @@ module _ (P : ProgramView) (C : CodeView) where
 
   -- over two, the first of which is read in its slot too
   gen_slots : (b : BuiltinName) (t u : Kernel) (pl : Place) → Gen P C t → Gen P C u
-      → (n : ℕ) (names : Scope) (fs : Founds) (h : ℕ) (p q : Position) (s : List Tree) (K : List Frame) (E : Kernel → Kernel) (turns : ℕ) → Calls P C n
-      → (r r2 : Position) × Operand names t (Implements C None names h t p r) p r × Operand names u (Implements C None names (next_slot h t) u r r2) r r2 × (r2 ≡ before (two b h (operand_slot names h t) (operand_slot names (next_slot h t) u) pl) q)
+      → (n : ℕ) (names : Scope) (fs : Founds) (h : ℕ) (p q : CodePosition) (s : List Tree) (K : List Frame) (E : Kernel → Kernel) (turns : ℕ) → Calls P C n
+      → (r r2 : CodePosition) × Operand names t (Implements C None names h t p r) p r × Operand names u (Implements C None names (next_slot h t) u r r2) r r2 × (r2 ≡ before (two b h (operand_slot names h t) (operand_slot names (next_slot h t) u) pl) q)
       → Holds names fs s h → Context E → Then P C n q h s K E → AlikeAt P C n p s K turns (E (puts fs (apply (Builtin b) (item t (item u none)) pl)))
   gen_slots b t u pl gt gu n names fs h p q s K E turns calls (r, r2, it, iu, er) holds ctx cont =
       let F : Kernels → Kernel = λ us. apply (Builtin b) us pl in
@@ -141,26 +141,26 @@ module _ (P : ProgramView) (C : CodeView) where
       (then_less k n q h s K E (omega (arith, le, le2)) cont)))) in
       subst (λ z. AlikeAt P C n p s K turns (E z)) (sym (puts-apply fs (Builtin b) (item t (item u none)) pl ∙ ap F (puts_two fs t u))) g
 
-  gen_second : (o : Option ℤ) (b : BuiltinName) (t u : Kernel) (pl : Place) → integer_of u ≡ o → Gen P C t → Gen P C u
-      → (n : ℕ) (names : Scope) (fs : Founds) (h : ℕ) (p q : Position) (s : List Tree) (K : List Frame) (E : Kernel → Kernel) (turns : ℕ) → Calls P C n
-      → (r r2 : Position) × Operand names t (Implements C None names h t p r) p r × Second o (Operand names u (Implements C None names (next_slot h t) u r r2) r r2) r r2
-      × (r2 ≡ before (paired b h (operand_slot names h t) o (operand_slot names (next_slot h t) u) pl) q)
+  gen_second : (o : Option ℤ) (b : BuiltinName) (t u : Kernel) (pl : Place) → written_integer u ≡ o → Gen P C t → Gen P C u
+      → (n : ℕ) (names : Scope) (fs : Founds) (h : ℕ) (p q : CodePosition) (s : List Tree) (K : List Frame) (E : Kernel → Kernel) (turns : ℕ) → Calls P C n
+      → (r r2 : CodePosition) × Operand names t (Implements C None names h t p r) p r × Second o (Operand names u (Implements C None names (next_slot h t) u r r2) r r2) r r2
+      × (r2 ≡ before (paired_instruction b h (operand_slot names h t) o (operand_slot names (next_slot h t) u) pl) q)
       → Holds names fs s h → Context E → Then P C n q h s K E → AlikeAt P C n p s K turns (E (puts fs (apply (Builtin b) (item t (item u none)) pl)))
   gen_second (Some z) b t u pl e gt gu n names fs h p q s K E turns calls (r, r2, it, iu, er) holds ctx cont =
       gen_integer b t u z pl (integer_is u z e) gt n names fs h p q s K E turns calls r it (iu ∙ er) holds ctx cont
   gen_second None b t u pl e gt gu n names fs h p q s K E turns calls im holds ctx cont = gen_slots b t u pl gt gu n names fs h p q s K E turns calls im holds ctx cont
 
   gen_both : (b : BuiltinName) (t u : Kernel) (pl : Place) → Gen P C t → Gen P C u
-      → (n : ℕ) (names : Scope) (fs : Founds) (h : ℕ) (p q : Position) (s : List Tree) (K : List Frame) (E : Kernel → Kernel) (turns : ℕ) → Calls P C n
-      → (r r2 : Position) × Operand names t (Implements C None names h t p r) p r × Second (integer_of u) (Operand names u (Implements C None names (next_slot h t) u r r2) r r2) r r2
-      × (r2 ≡ before (paired b h (operand_slot names h t) (integer_of u) (operand_slot names (next_slot h t) u) pl) q)
+      → (n : ℕ) (names : Scope) (fs : Founds) (h : ℕ) (p q : CodePosition) (s : List Tree) (K : List Frame) (E : Kernel → Kernel) (turns : ℕ) → Calls P C n
+      → (r r2 : CodePosition) × Operand names t (Implements C None names h t p r) p r × Second (written_integer u) (Operand names u (Implements C None names (next_slot h t) u r r2) r r2) r r2
+      × (r2 ≡ before (paired_instruction b h (operand_slot names h t) (written_integer u) (operand_slot names (next_slot h t) u) pl) q)
       → Holds names fs s h → Context E → Then P C n q h s K E → AlikeAt P C n p s K turns (E (puts fs (apply (Builtin b) (item t (item u none)) pl)))
-  gen_both b t u pl gt gu n names fs h p q s K E turns calls im holds ctx cont = gen_second (integer_of u) b t u pl refl gt gu n names fs h p q s K E turns calls im holds ctx cont
+  gen_both b t u pl gt gu n names fs h p q s K E turns calls im holds ctx cont = gen_second (written_integer u) b t u pl refl gt gu n names fs h p q s K E turns calls im holds ctx cont
 
   -- `conj` of an item: the collection is taken out of slot h
   gen_conj : (t u : Kernel) (pl : Place) → Gen P C t → Gen P C u
-      → (n : ℕ) (names : Scope) (fs : Founds) (h : ℕ) (p q : Position) (s : List Tree) (K : List Frame) (E : Kernel → Kernel) (turns : ℕ) → Calls P C n
-      → (r r2 : Position) × Implements C None names h t p r × Operand names u (Implements C None names (suc h) u r r2) r r2 × (r2 ≡ before (pushing h h (operand_slot names (suc h) u) pl) q) → Holds names fs s h → Context E → Then P C n q h s K E → AlikeAt P C n p s K turns (E (puts fs (apply (Builtin Conj) (item t (item u none)) pl)))
+      → (n : ℕ) (names : Scope) (fs : Founds) (h : ℕ) (p q : CodePosition) (s : List Tree) (K : List Frame) (E : Kernel → Kernel) (turns : ℕ) → Calls P C n
+      → (r r2 : CodePosition) × Implements C None names h t p r × Operand names u (Implements C None names (suc h) u r r2) r r2 × (r2 ≡ before (pushing h h (operand_slot names (suc h) u) pl) q) → Holds names fs s h → Context E → Then P C n q h s K E → AlikeAt P C n p s K turns (E (puts fs (apply (Builtin Conj) (item t (item u none)) pl)))
   gen_conj t u pl gt gu n names fs h p q s K E turns calls (r, r2, it, iu, er) holds ctx cont =
       let F : Kernels → Kernel = λ us. apply (Builtin Conj) us pl in
       let inn = in_apply (Builtin Conj) pl in
@@ -176,14 +176,14 @@ module _ (P : ProgramView) (C : CodeView) where
       (λ k le2 s2 turns2 same2.
       let same3 = same_trans h (suc h) s s1 s2 (omega arith) same1 same2 in
       subst (λ x. AlikeAt P C k r2 s2 K turns2 (E (F (item (const x) (item (const (read s2 c)) none))))) (same2 h (omega arith))
-      (built k h r2 q Conj pl (pushing h h c pl) (read s2 h ∷ read s2 c ∷ []) s s2 (taken s2 h) K E turns2 er refl ctx (same_trans h h s s2 (taken s2 h) (omega arith) same3 (same_taken h h s2 (omega arith)))
+      (built k h r2 q Conj pl (pushing h h c pl) (read s2 h ∷ read s2 c ∷ []) s s2 (slot_taken s2 h) K E turns2 er refl ctx (same_trans h h s s2 (slot_taken s2 h) (omega arith) same3 (same_taken h h s2 (omega arith)))
       (then_less k n q h s K E (omega (arith, le, le2)) cont)))) in
       subst (λ z. AlikeAt P C n p s K turns (E z)) (sym (puts-apply fs (Builtin Conj) (item t (item u none)) pl ∙ ap F (puts_two fs t u))) g
 
   -- `assoc` of a pair
   gen_assoc : (t u w : Kernel) (pl : Place) → Gen P C t → Gen P C u → Gen P C w
-      → (n : ℕ) (names : Scope) (fs : Founds) (h : ℕ) (p q : Position) (s : List Tree) (K : List Frame) (E : Kernel → Kernel) (turns : ℕ) → Calls P C n
-      → (r r2 r3 : Position) × Implements C None names h t p r × Operand names u (Implements C None names (suc h) u r r2) r r2 × Operand names w (Implements C None names (next_slot (suc h) u) w r2 r3) r2 r3
+      → (n : ℕ) (names : Scope) (fs : Founds) (h : ℕ) (p q : CodePosition) (s : List Tree) (K : List Frame) (E : Kernel → Kernel) (turns : ℕ) → Calls P C n
+      → (r r2 r3 : CodePosition) × Implements C None names h t p r × Operand names u (Implements C None names (suc h) u r r2) r r2 × Operand names w (Implements C None names (next_slot (suc h) u) w r2 r3) r2 r3
       × (r3 ≡ before (putting h h (operand_slot names (suc h) u) (operand_slot names (next_slot (suc h) u) w) pl) q) → Holds names fs s h → Context E → Then P C n q h s K E
       → AlikeAt P C n p s K turns (E (puts fs (apply (Builtin Assoc) (item t (item u (item w none))) pl)))
   gen_assoc t u w pl gt gu gw n names fs h p q s K E turns calls (r, r2, r3, it, iu, iw, er) holds ctx cont =
@@ -217,7 +217,7 @@ module _ (P : ProgramView) (C : CodeView) where
       let ek : read s3 c ≡ key = same3 c (slot_before P C names fs s1 h2 u (Implements C None names h2 u r r2) r r2 holds1 iu) in
       subst (λ x. AlikeAt P C k r3 s3 K turns3 (E (F (item (const x) (item (const key) (item (const (read s3 d)) none)))))) eh
       (subst (λ x. AlikeAt P C k r3 s3 K turns3 (E (F (item (const (read s3 h)) (item (const x) (item (const (read s3 d)) none)))))) ek
-      (built k h r3 q Assoc pl (putting h h c d pl) (read s3 h ∷ read s3 c ∷ read s3 d ∷ []) s s3 (taken s3 h) K E turns3 er refl ctx (same_trans h h s s3 (taken s3 h) (omega arith) same13 (same_taken h h s3 (omega arith)))
+      (built k h r3 q Assoc pl (putting h h c d pl) (read s3 h ∷ read s3 c ∷ read s3 d ∷ []) s s3 (slot_taken s3 h) K E turns3 er refl ctx (same_trans h h s s3 (slot_taken s3 h) (omega arith) same13 (same_taken h h s3 (omega arith)))
       (then_less k n q h s K E (omega (arith, le, le2, le4)) cont)))))) in
       subst (λ z. AlikeAt P C n p s K turns (E z)) (sym (puts-apply fs (Builtin Assoc) (item t (item u (item w none))) pl ∙ ap F (puts_three fs t u w))) g
 
@@ -238,27 +238,27 @@ module _ (P : ProgramView) (C : CodeView) where
 
   -- OPERATIONS
   -- an operation, or the fault of one of its operands
-  cut_at : (n h to : ℕ) (q : Position) (f : Head) (pl : Place) (ws s s' : List Tree) (K : List Frame) (E : Kernel → Kernel) (turns : ℕ) (o : Result OpView Fault) → IsOperation f → asked f (trees_of ws) pl ≡ o → Context E → Same h s s' → q ≡ start_of C to → Then P C n q h s K E
-      → After P (AreAlike P C n) (waiting pl h (state to s' K turns) o) (body (E (apply f (consts ws) pl)) turns (length K))
+  cut_at : (n h to : ℕ) (q : CodePosition) (f : Head) (pl : Place) (ws s s' : List Tree) (K : List Frame) (E : Kernel → Kernel) (turns : ℕ) (o : Result OpView Fault) → IsOperation f → asked f (trees_of ws) pl ≡ o → Context E → Same h s s' → q ≡ start_of C to → Then P C n q h s K E
+      → After P (AreAlike P C n) (waits_or_faults pl h (state to s' K turns) o) (body (E (apply f (consts ws) pl)) turns (length K))
   cut_at n h to q f pl ws s s' K E turns (Err x) op e ctx same eq cont =
       let r = apply f (consts ws) pl in
       (body (E r) turns (length K), here, stands P E r turns (length K) ctx refl (not_ready f (consts ws) pl op) (apply_redex f ws pl) ∙ asks_at f ws pl turns (length K) op ∙ ap (at_asked pl) e, refl)
   cut_at n h to q f pl ws s s' K E turns (Ok x) op e ctx same eq cont =
       let r = apply f (consts ws) pl in
       let no = not_ready f (consts ws) pl op in
-      let go_on : (v : Tree) → AreAlike P C n (state to (write s' h v) K 0) (fill v (body (E r) turns (length K))) =
+      let go_on : (v : Tree) → AreAlike P C n (state to (slot_written s' h v) K 0) (fill v (body (E r) turns (length K))) =
       λ v.
-      let g : AreAlike P C n (state to (write s' h v) K 0) (body (E (const v)) 0 (length K)) =
-      alike_next P C n to (write s' h v) K 0 (body (E (const v)) 0 (length K))
-      (λ j le2. subst (λ x. AlikeAt P C j (start_of C to) (write s' h v) K 0 (E (const x))) (read-write_same s' h v)
-      (subst (λ z. AlikeAt P C j z (write s' h v) K 0 (E (const (read (write s' h v) h)))) eq (cont j (omega (arith, le2)) (write s' h v) 0 (same_then_write h h v s s' (omega arith) same)))) in
-      subst (λ t. AreAlike P C n (state to (write s' h v) K 0) (body t 0 (length K))) (sym (filled P E r (const v) ctx refl no (apply_replace (const v) f ws pl))) g
+      let g : AreAlike P C n (state to (slot_written s' h v) K 0) (body (E (const v)) 0 (length K)) =
+      alike_next P C n to (slot_written s' h v) K 0 (body (E (const v)) 0 (length K))
+      (λ j le2. subst (λ x. AlikeAt P C j (start_of C to) (slot_written s' h v) K 0 (E (const x))) (read-write_same s' h v)
+      (subst (λ z. AlikeAt P C j z (slot_written s' h v) K 0 (E (const (read (slot_written s' h v) h)))) eq (cont j (omega (arith, le2)) (slot_written s' h v) 0 (same_then_write h h v s s' (omega arith) same)))) in
+      subst (λ t. AreAlike P C n (state to (slot_written s' h v) K 0) (body t 0 (length K))) (sym (filled P E r (const v) ctx refl no (apply_replace (const v) f ws pl))) g
       in
       (body (E r) turns (length K), here, stands P E r turns (length K) ctx refl no (apply_redex f ws pl) ∙ asks_at f ws pl turns (length K) op ∙ ap (at_asked pl) e, refl, go_on)
 
   gen_operation : (f : Head) (ts : Kernels) (pl : Place) → IsOperation f → GenAll P C ts
-      → (n : ℕ) (names : Scope) (fs : Founds) (h : ℕ) (p q : Position) (s : List Tree) (K : List Frame) (E : Kernel → Kernel) (turns : ℕ)
-      → Calls P C n → (r : Position) → ImplementsAll C names h ts p r → LeadsByCut f C h (count_terms ts) pl r q → Holds names fs s h → Context E → Then P C n q h s K E
+      → (n : ℕ) (names : Scope) (fs : Founds) (h : ℕ) (p q : CodePosition) (s : List Tree) (K : List Frame) (E : Kernel → Kernel) (turns : ℕ)
+      → Calls P C n → (r : CodePosition) → ImplementsAll C names h ts p r → LeadsByCut f C h (count_terms ts) pl r q → Holds names fs s h → Context E → Then P C n q h s K E
       → AlikeAt P C n p s K turns (E (puts fs (apply f ts pl)))
   gen_operation f ts pl op gts n names fs h p q s K E turns calls r its (b, to, er, eq) holds ctx cont =
       let k = count_terms ts in
@@ -273,7 +273,7 @@ module _ (P : ProgramView) (C : CodeView) where
 
   -- CALLS
   -- a call, or its fault
-  pub called_at : (n f h to : ℕ) (q : Position) (pl : Place) (ws s s' : List Tree) (K : List Frame) (E : Kernel → Kernel) (turns : ℕ) (a b : Bool) → nat_le 999_999 turns ≡ a → nat_le 256 (length K) ≡ b → Context E → Same h s s' → Calls P C n → f < length C.functions → length ws ≡ (function_at C f).values → q ≡ start_of C to → Then P C n q h s K E
+  pub called_at : (n f h to : ℕ) (q : CodePosition) (pl : Place) (ws s s' : List Tree) (K : List Frame) (E : Kernel → Kernel) (turns : ℕ) (a b : Bool) → nat_le 999_999 turns ≡ a → nat_le 256 (length K) ≡ b → Context E → Same h s s' → Calls P C n → f < length C.functions → length ws ≡ (function_at C f).values → q ≡ start_of C to → Then P C n q h s K E
       → After P (AreAlike P C n) (cond a (faults Spun pl turns) (cond b (faults TooDeep pl turns) (goes (state (function_at C f).block (begun_at C (function_at C f) ws) (record { next = to; answer = h; slots = s' } ∷ K) (suc turns))))) (body (E (apply (head.Call f) (consts ws) pl)) turns (length K))
   called_at n f h to q pl ws s s' K E turns true b ea eb ctx same calls ltf len eq cont =
       let r = apply (head.Call f) (consts ws) pl in
@@ -291,11 +291,11 @@ module _ (P : ProgramView) (C : CodeView) where
       let back : LocalSteps P (body (E (frame (const v))) turns' (suc (length K))) (body (E (const v)) turns' (suc (length K) - 1)) =
       fire P E (frame (const v)) (const v) turns' (suc (length K)) ctx refl refl refl refl refl refl refl in
       let e : suc (length K) - 1 ≡ length K = omega arith in
-      alike_back P C m (state to (write s' h v) K turns') (body (E (frame (const v))) turns' (suc (length K))) (body (E (const v)) turns' (length K))
+      alike_back P C m (state to (slot_written s' h v) K turns') (body (E (frame (const v))) turns' (suc (length K))) (body (E (const v)) turns' (length K))
       (subst (λ k. LocalSteps P (body (E (frame (const v))) turns' (suc (length K))) (body (E (const v)) turns' k)) e back)
-      (alike_next P C m to (write s' h v) K turns' (body (E (const v)) turns' (length K))
-      (λ k le2. subst (λ x. AlikeAt P C k (start_of C to) (write s' h v) K turns' (E (const x))) (read-write_same s' h v)
-      (subst (λ z. AlikeAt P C k z (write s' h v) K turns' (E (const (read (write s' h v) h)))) eq (cont k (omega (arith, le, le2)) (write s' h v) turns' (same_then_write h h v s s' (omega arith) same)))))) in
+      (alike_next P C m to (slot_written s' h v) K turns' (body (E (const v)) turns' (length K))
+      (λ k le2. subst (λ x. AlikeAt P C k (start_of C to) (slot_written s' h v) K turns' (E (const x))) (read-write_same s' h v)
+      (subst (λ z. AlikeAt P C k z (slot_written s' h v) K turns' (E (const (read (slot_written s' h v) h)))) eq (cont k (omega (arith, le, le2)) (slot_written s' h v) turns' (same_then_write h h v s s' (omega arith) same)))))) in
       alike_back P C n (state (function_at C f).block (begun_at C (function_at C f) ws) K' (suc turns)) (body (E r) turns (length K)) (body (E (frame t)) (suc turns) (suc (length K)))
       (fire P E r (frame t) turns (length K) ctx refl refl (apply_redex (head.Call f) ws pl) (ap (λ l. frame (started_text (procedure_at P.functions f) l)) (operands-consts ws)) (apply_replace (frame t) (head.Call f) ws pl) refl
       (ap₂ (λ o u. cond o (faulted Spun pl) (cond u (faulted TooDeep pl) local)) ea eb))

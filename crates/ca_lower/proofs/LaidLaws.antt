@@ -3,17 +3,17 @@ use Rattle.std.proofs.Common.{◌≡◌, ℕ, zero, suc, ◌+◌, ◌<◌, List,
 use Rattle.std.specs.Prelude.{slice_get}
 use Rattle.ca_term.specs.Program.{ProcedureView, arity}
 use Rattle.ca_states.specs.declared.code.EntryPoint.{EntryPoint}
-use Rattle.ca_lower.specs.Emit.{Builder, at_work, emit_text, emit_texts, entries, greater, widest, width_of}
+use Rattle.ca_lower.specs.Emit.{Builder, at_work, emit_text, emit_texts, text_entries, greater, widest, width_of}
 use Rattle.ca_lower.proofs.GreaterLaws.{greater_zero, greater_none, greater_assoc}
 
 -- so many of the texts are laid out
 pub record AreLaid (fs : List ProcedureView) (n : ℕ) (B : Builder) (es : List EntryPoint) (w : ℕ) (B0 : Builder) : Type 0 where
   pub code : emit_texts (drop n fs) B ≡ emit_texts fs B0
-  pub begin : es ++ entries (drop n fs) B ≡ entries fs B0
+  pub begin : es ++ text_entries (drop n fs) B ≡ text_entries fs B0
   pub wide : greater w (widest (drop n fs)) ≡ widest fs
 
 pub laid_start : (fs : List ProcedureView) (B0 : Builder) (es : List EntryPoint) → es ≡ [] → AreLaid fs 0 B0 es 0 B0
-laid_start fs B0 es e = record { code = refl; begin = ap (λ l. l ++ entries fs B0) e; wide = greater_zero (widest fs) }
+laid_start fs B0 es e = record { code = refl; begin = ap (λ l. l ++ text_entries fs B0) e; wide = greater_zero (widest fs) }
 
 drop_some : (fs : List ProcedureView) (n : ℕ) (t : ProcedureView) → slice_get fs n ≡ Some t → drop n fs ≡ t ∷ drop (n + 1) fs
 drop_some [] n t h = absurd (let g : None ≡ Some t = h in cc)
@@ -39,15 +39,15 @@ laid_next fs n m t B B2 B0 es es2 w w2 is em eb ee ew laid =
     let one : EntryPoint = record { block = at_work B; values = arity t } in
     record {
       code = ap (emit_texts more) eb ∙ sym (ap (λ ts. emit_texts ts B) d) ∙ laid.code;
-      begin = ap₂ (λ l b. l ++ entries more b) ee eb ∙ append_assoc es (one ∷ []) (entries more (emit_text t B)) ∙ sym (ap (λ ts. es ++ entries ts B) d) ∙ laid.begin;
+      begin = ap₂ (λ l b. l ++ text_entries more b) ee eb ∙ append_assoc es (one ∷ []) (text_entries more (emit_text t B)) ∙ sym (ap (λ ts. es ++ text_entries ts B) d) ∙ laid.begin;
       wide = ap (λ k. greater k (widest more)) ew ∙ greater_assoc w (width_of t) (widest more) ∙ sym (ap (λ ts. greater w (widest ts)) d) ∙ laid.wide;
     }
 
 pub laid_code : (fs : List ProcedureView) (n : ℕ) (B B0 : Builder) (es : List EntryPoint) (w : ℕ) → slice_get fs n ≡ None → AreLaid fs n B es w B0 → B ≡ emit_texts fs B0
 laid_code fs n B B0 es w is laid = sym (ap (λ ts. emit_texts ts B) (drop_none fs n is)) ∙ laid.code
 
-pub laid_begin : (fs : List ProcedureView) (n : ℕ) (B B0 : Builder) (es : List EntryPoint) (w : ℕ) → slice_get fs n ≡ None → AreLaid fs n B es w B0 → es ≡ entries fs B0
-laid_begin fs n B B0 es w is laid = sym (append-nil es) ∙ sym (ap (λ ts. es ++ entries ts B) (drop_none fs n is)) ∙ laid.begin
+pub laid_begin : (fs : List ProcedureView) (n : ℕ) (B B0 : Builder) (es : List EntryPoint) (w : ℕ) → slice_get fs n ≡ None → AreLaid fs n B es w B0 → es ≡ text_entries fs B0
+laid_begin fs n B B0 es w is laid = sym (append-nil es) ∙ sym (ap (λ ts. es ++ text_entries ts B) (drop_none fs n is)) ∙ laid.begin
 
 pub laid_wide : (fs : List ProcedureView) (n : ℕ) (B B0 : Builder) (es : List EntryPoint) (w : ℕ) → slice_get fs n ≡ None → AreLaid fs n B es w B0 → w ≡ widest fs
 laid_wide fs n B B0 es w is laid = sym (greater_none w) ∙ sym (ap (λ ts. greater w (widest ts)) (drop_none fs n is)) ∙ laid.wide

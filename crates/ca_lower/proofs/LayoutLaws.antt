@@ -13,7 +13,7 @@ use Rattle.ca_term.specs.Fits.{count_terms}
 use Rattle.ca_states.specs.Code.{one, pushing, putting, many}
 use Rattle.ca_lower.specs.declared.emit.Layout.{Layout}
 use Rattle.ca_lower.specs.Layouts.{layout_of}
-use Rattle.ca_lower.specs.Implements.{Scope, Target, operand_slot, next_slot, integer_of, paired}
+use Rattle.ca_lower.specs.Implements.{Scope, Target, operand_slot, next_slot, written_integer, paired_instruction}
 use Rattle.ca_lower.specs.Emit.{Builder, add, operand, second, emit, emit_all, finish}
 
 pub on_ok : {A E : Type 0} (r : Result A E) (P Q : Type 0) → (P → Q) → OnOk r P → OnOk r Q
@@ -21,7 +21,7 @@ on_ok (Ok x) P Q f p = f p
 on_ok (Err x) P Q f p = tt
 
 -- an integer of the text has the next slot, and no code
-pub integer_slot : (S : Scope) (h : ℕ) (k : Kernel) (z : ℤ) → Some z ≡ integer_of k → h ≡ operand_slot S h k
+pub integer_slot : (S : Scope) (h : ℕ) (k : Kernel) (z : ℤ) → Some z ≡ written_integer k → h ≡ operand_slot S h k
 integer_slot S h (var x) z e = absurd (let g : Some z ≡ None = e in cc)
 integer_slot S h k z e = refl
 
@@ -49,7 +49,7 @@ module _ (w : ℕ) (S : Scope) (h : ℕ) (p : Place) where
   two_of b t u B =
       let m = next_slot h t in
       let B1 = operand t (emit w None S h t B) B in
-      add (paired b h (operand_slot S h t) (integer_of u) (operand_slot S m u) p ∷ []) (second (integer_of u) (operand u (emit w None S m u B1) B1) B1)
+      add (paired_instruction b h (operand_slot S h t) (written_integer u) (operand_slot S m u) p ∷ []) (second (written_integer u) (operand u (emit w None S m u B1) B1) B1)
 
   two_laid : (b : BuiltinName) (ts : List Term) (lp : Option Target) (B : Builder) (t u : Term) → layout_of b (length ts) ≡ Layout.Two → t ≡ get_or ts 0 t → u ≡ get_or ts 1 u
       → emit w lp S h (apply (Builtin b) (kernels ts) p) B ≡ two_of b (kernel t) (kernel u) B
@@ -62,17 +62,17 @@ module _ (w : ℕ) (S : Scope) (h : ℕ) (p : Place) where
   two_laid b (t ∷ u ∷ v ∷ z ∷ ts) lp B x y e et eu = absurd cc
 
   pub two_done : (b : BuiltinName) (ts : List Term) (t u : Term) (m slot slot2 : ℕ) (o : Option ℤ) (S1 : Scope) (B B1 B2 B3 : Builder) → layout_of b (length ts) ≡ Layout.Two → t ≡ get_or ts 0 t → u ≡ get_or ts 1 u
-      → S1 ≡ S → m ≡ next_slot h (kernel t) → slot ≡ operand_slot S h (kernel t) → slot2 ≡ operand_slot S1 m (kernel u) → o ≡ integer_of (kernel u)
-      → B1 ≡ operand (kernel t) (emit w None S h (kernel t) B) B → B2 ≡ second (integer_of (kernel u)) (operand (kernel u) (emit w None S1 m (kernel u) B1) B1) B1 → B3 ≡ add (paired b h slot o slot2 p ∷ []) B2
+      → S1 ≡ S → m ≡ next_slot h (kernel t) → slot ≡ operand_slot S h (kernel t) → slot2 ≡ operand_slot S1 m (kernel u) → o ≡ written_integer (kernel u)
+      → B1 ≡ operand (kernel t) (emit w None S h (kernel t) B) B → B2 ≡ second (written_integer (kernel u)) (operand (kernel u) (emit w None S1 m (kernel u) B1) B1) B1 → B3 ≡ add (paired_instruction b h slot o slot2 p ∷ []) B2
       → (lp : Option Target) → B3 ≡ emit w lp S h (apply (Builtin b) (kernels ts) p) B
   two_done b ts t u m slot slot2 o S1 B B1 B2 B3 e et eu es em ea ec eo e1 e2 e3 lp =
-      let z = integer_of (kernel u) in
+      let z = written_integer (kernel u) in
       let n = next_slot h (kernel t) in
       let F = operand (kernel t) (emit w None S h (kernel t) B) B in
       let ec2 : slot2 ≡ operand_slot S n (kernel u) = ec ∙ ap₂ (λ s k. operand_slot s k (kernel u)) es em in
       let e4 : B2 ≡ second z (operand (kernel u) (emit w None S n (kernel u) F) F) F =
       e2 ∙ ap₂ (λ s k. second z (operand (kernel u) (emit w None s k (kernel u) B1) B1) B1) es em ∙ ap (λ d. second z (operand (kernel u) (emit w None S n (kernel u) d) d) d) e1 in
-      e3 ∙ ap₂ (λ a c. add (paired b h a o c p ∷ []) B2) ea ec2 ∙ ap₂ (λ k d. add (paired b h (operand_slot S h (kernel t)) k (operand_slot S n (kernel u)) p ∷ []) d) eo e4 ∙ sym (two_laid b ts lp B t u e et eu)
+      e3 ∙ ap₂ (λ a c. add (paired_instruction b h a o c p ∷ []) B2) ea ec2 ∙ ap₂ (λ k d. add (paired_instruction b h (operand_slot S h (kernel t)) k (operand_slot S n (kernel u)) p ∷ []) d) eo e4 ∙ sym (two_laid b ts lp B t u e et eu)
 
   abbrev push_of : Kernel → Kernel → Builder → Builder
   push_of t u B =

@@ -8,15 +8,15 @@ use Rattle.ca_term.specs.declared.head.Head.{Head}
 use Rattle.ca_term.specs.declared.head.Head.TheVariants.{Recur, Builtin, Take, Put, Alts, Make, Spawn, Close, Register, Print, Post}
 use Rattle.ca_term.specs.declared.head.Head.TheVariants as head
 use Rattle.ca_term.specs.Kernel.{Kernel, Kernels, Bindings, const, var, branch, bind, loop, seq, frame, turn, apply, none, item, empty, binding}
-use Rattle.ca_term.specs.Closed.{IsIn, behind, behind_found, IsClosed, AreClosed, AreClosedBindings}
+use Rattle.ca_term.specs.Closed.{IsIn, names_behind, behind_found, IsClosed, AreClosed, AreClosedBindings}
 use Rattle.ca_term.specs.Fits.{Known, Takes, Suits, Fits, FitTerms, FitInOrder, FitBindings, count_terms, count_bindings}
 use Rattle.ca_states.specs.declared.code.Exit.{Exit}
 use Rattle.ca_states.specs.declared.code.Exit.TheVariants.{Jump, Branch, Return, Cut}
 use Rattle.ca_states.specs.declared.code.Exit.TheVariants as exit
 use Rattle.ca_states.specs.Code.{Instruction, constant, copying, moving, one, pushing, putting, many, BlockView, CodeView, no_block, block_at, function_at}
 use Rattle.ca_term.specs.Source.{IsSource, AreSource, AreSourceBindings}
-use Rattle.ca_lower.specs.Implements.{Position, position, start_of, before, Scope, slot_of, IsInScope, in_slots, names_bound, Target, moves, LeadsByCut, operand_slot, next_slot, integer_of, paired, Operand, Second, LeadsBy, Implements, ImplementsInOrder, ImplementsBindings, ImplementsAll}
-use Rattle.ca_lower.specs.Emit.{Builder, building, at_work, block_of, add, close, nowhere, blocks_by, blocks, blocks_all, blocks_bound, recur_code, recur_exit, finish_by_cut, finish, no_side, both_ends, operand, second, emit, emit_in_order, emit_bindings, emit_all}
+use Rattle.ca_lower.specs.Implements.{CodePosition, position, start_of, before, Scope, slot_of, IsInScope, in_slots, names_bound, Target, moves, LeadsByCut, operand_slot, next_slot, written_integer, paired_instruction, Operand, Second, LeadsBy, Implements, ImplementsInOrder, ImplementsBindings, ImplementsAll}
+use Rattle.ca_lower.specs.Emit.{Builder, building, at_work, block_of, add, close, without_place, blocks_by, blocks, blocks_all, blocks_bound, recur_code, recur_exit, finish_by_cut, finish, no_side, both_ends, operand, second, emit, emit_in_order, emit_bindings, emit_all}
 
 -- the code goes on from the builder, where the block at work goes on with these instructions and this exit
 abbrev pub Ends : CodeView → ℕ → Builder → List Instruction → Exit → Type 0
@@ -63,7 +63,7 @@ pub operand_at : (t : Kernel) (own B : Builder) → at_work own ≡ at_work B + 
 operand_at (var x) own B e = omega arith
 operand_at t own B e = e
 
-pub second_at : (t : Kernel) (own B : Builder) → at_work own ≡ at_work B + blocks t → at_work (second (integer_of t) own B) ≡ at_work B + blocks t
+pub second_at : (t : Kernel) (own B : Builder) → at_work own ≡ at_work B + blocks t → at_work (second (written_integer t) own B) ≡ at_work B + blocks t
 second_at (const (int z)) own B e = omega arith
 second_at t own B e = e
 
@@ -78,14 +78,14 @@ module _ (w : ℕ) where
         let to = both_ends a b n in
         let B2 = close w (Branch h (n + 1) (no_side a n)) h B1 in
         let B3 = emit w lp names h a B2 in
-        let B4 = close w (Jump to nowhere) h B3 in
+        let B4 = close w (Jump to without_place) h B3 in
         let B5 = emit w lp names h b B4 in
         let e1 = emit_at None names h c B in
         let e2 = closed_at w (Branch h (n + 1) (no_side a n)) h B1 in
         let e3 = emit_at lp names h a B2 in
-        let e4 = closed_at w (Jump to nowhere) h B3 in
+        let e4 = closed_at w (Jump to without_place) h B3 in
         let e5 = emit_at lp names h b B4 in
-        closed_at w (Jump to nowhere) (suc h) B5 ∙ omega (arith, e1, e2, e3, e4, e5)
+        closed_at w (Jump to without_place) (suc h) B5 ∙ omega (arith, e1, e2, e3, e4, e5)
     emit_at lp names h (bind bs body) B =
         let c = count_bindings bs in
         let B1 = emit_bindings w names h bs B in
@@ -95,11 +95,11 @@ module _ (w : ℕ) where
         let B1 = emit_bindings w names h bs B in
         let c = count_bindings bs in
         let n = at_work B1 in
-        let B2 = close w (Jump (n + 1) nowhere) (h + c) B1 in
+        let B2 = close w (Jump (n + 1) without_place) (h + c) B1 in
         let lp2 : Option Target = Some (record { first = h; count = c; head = n + 1 }) in
         let names2 = names ++ in_slots (names_bound bs) h in
         added_at (moving h (h + c) ∷ []) (emit w lp2 names2 (h + c) body B2) ∙ emit_at lp2 names2 (h + c) body B2
-        ∙ omega (arith, closed_at w (Jump (n + 1) nowhere) (h + c) B1, emit_bindings_at names h bs B)
+        ∙ omega (arith, closed_at w (Jump (n + 1) without_place) (h + c) B1, emit_bindings_at names h bs B)
     emit_at lp names h (seq ts) B = emit_order_at lp names h ts B
     emit_at lp names h (frame body) B = omega arith
     emit_at lp names h (turn ns text now) B = omega arith
@@ -114,8 +114,8 @@ module _ (w : ℕ) where
         let B1 = operand t (emit w None names h t B) B in
         let m = next_slot h t in
         let own = operand u (emit w None names m u B1) B1 in
-        let B2 = second (integer_of u) own B1 in
-        added_at (paired b h (operand_slot names h t) (integer_of u) (operand_slot names m u) p ∷ []) B2
+        let B2 = second (written_integer u) own B1 in
+        added_at (paired_instruction b h (operand_slot names h t) (written_integer u) (operand_slot names m u) p ∷ []) B2
         ∙ omega (arith, second_at u own B1 (operand_at u (emit w None names m u B1) B1 (emit_at None names m u B1)), operand_at t (emit w None names h t B) B (emit_at None names h t B))
     emit_at lp names h (apply (Builtin Assoc) (item t (item u (item v none))) p) B =
         let m = next_slot (suc h) u in
@@ -158,7 +158,7 @@ scope_right x (p ∷ a) b i = inr (scope_right x a b i)
 pub covers_one : (ns : List ℕ) (names : Scope) (n h : ℕ) → Covers ns names → Covers (n ∷ ns) (names ++ (n, h) ∷ [])
 covers_one ns names n h c x i = ⊎_elim (λ e. scope_right x names ((n, h) ∷ []) (inl e)) (λ j. scope_left x names ((n, h) ∷ []) (c x j)) i
 
-pub covers_bound : (bs : Bindings) (ns : List ℕ) (names : Scope) (h : ℕ) → Covers ns names → Covers (behind bs ns) (names ++ in_slots (names_bound bs) h)
+pub covers_bound : (bs : Bindings) (ns : List ℕ) (names : Scope) (h : ℕ) → Covers ns names → Covers (names_behind bs ns) (names ++ in_slots (names_bound bs) h)
 covers_bound empty ns names h c x i = scope_left x names [] (c x i)
 covers_bound (binding n t bs) ns names h c x i =
     subst (IsInScope x) (append_assoc names ((n, h) ∷ []) (in_slots (names_bound bs) (suc h)))
@@ -182,7 +182,7 @@ module _ (C : CodeView) (w : ℕ) where
   behind_close : (B : Builder) (x0 : Exit) (next : ℕ) (more : List Instruction) (x : Exit) → Ends C w (close w x0 next B) more x → position (at_work (close w x0 next B)) more x ≡ start_of C (at_work B + 1)
   behind_close B x0 next more x ends = ap (λ k. position k more x) (closed_at w x0 next B) ∙ sym (started_at C w B x0 next more x (at_work B + 1) refl ends)
 
-  abbrev LaysBy : Head → Option Target → ℕ → ℕ → Place → Builder → Position → Type 0
+  abbrev LaysBy : Head → Option Target → ℕ → ℕ → Place → Builder → CodePosition → Type 0
   LaysBy f lp h k p B q = (is : List Instruction) × (x : Exit) × Ends C w B is x × LeadsBy f C lp h k p (position (at_work B) is x) q
 
   cuts : (f : Head) (h k : ℕ) (p : Place) (B : Builder) (more : List Instruction) (x : Exit) → Ends C w (finish_by_cut w f h k p B) more x
@@ -224,14 +224,14 @@ module _ (C : CodeView) (w : ℕ) where
     leads Print lp target h k p B more x fit ins ends = cuts Print h k p B more x ends
     leads Post lp target h k p B more x fit ins ends = cuts Post h k p B more x ends
 
-    abbrev LaysInOrder : Option Target → Scope → ℕ → Kernels → Builder → Position → Type 0
+    abbrev LaysInOrder : Option Target → Scope → ℕ → Kernels → Builder → CodePosition → Type 0
     LaysInOrder lp names h ts B q = (is : List Instruction) × (x : Exit) × Ends C w B is x × ImplementsInOrder C lp names h ts (position (at_work B) is x) q
 
-    abbrev LaysBindings : Scope → ℕ → Bindings → Builder → Position → Type 0
+    abbrev LaysBindings : Scope → ℕ → Bindings → Builder → CodePosition → Type 0
     LaysBindings names h bs B q = (is : List Instruction) × (x : Exit) × Ends C w B is x × ImplementsBindings C names h bs (position (at_work B) is x) q
 
     -- where the code begins that comes to the rest of a block
-    abbrev Lays : Option Target → Scope → ℕ → Kernel → Builder → Position → Type 0
+    abbrev Lays : Option Target → Scope → ℕ → Kernel → Builder → CodePosition → Type 0
     Lays lp names h t B q = (is : List Instruction) × (x : Exit) × Ends C w B is x × Implements C lp names h t (position (at_work B) is x) q
 
     -- an operand, by what is laid out for it where it is no name
@@ -264,7 +264,7 @@ module _ (C : CodeView) (w : ℕ) where
     behind_add : (B : Builder) (i : Instruction) (more : List Instruction) (x : Exit) → position (at_work B) (i ∷ more) x ≡ before i (position (at_work (add (i ∷ []) B)) more x)
     behind_add B i more x = ap (λ k. position k (i ∷ more) x) (sym (added_at (i ∷ []) B))
 
-    abbrev LaysAll : Scope → ℕ → Kernels → Builder → Position → Type 0
+    abbrev LaysAll : Scope → ℕ → Kernels → Builder → CodePosition → Type 0
     LaysAll names h ts B q = (is : List Instruction) × (x : Exit) × Ends C w B is x × ImplementsAll C names h ts (position (at_work B) is x) q
 
     mutual
@@ -281,7 +281,7 @@ module _ (C : CodeView) (w : ℕ) where
           let n = at_work B1 in
           let to = both_ends a b n in
           let X = Branch h (n + 1) (no_side a n) in
-          let J = Jump to nowhere in
+          let J = Jump to without_place in
           let B2 = close w X h B1 in
           let B3 = emit w lp names h a B2 in
           let B4 = close w J h B3 in
@@ -303,14 +303,14 @@ module _ (C : CodeView) (w : ℕ) where
           let st : position (at_work (close w J (suc h) B5)) more x ≡ start_of C to = ap (λ k. position k more x) nt ∙ sym (started_at C w B5 J (suc h) more x to end ends) in
           let ia2 = subst (λ z. Implements C lp names h a z (position (at_work B3) [] J)) sa ia.3 in
           let ib2 = subst (λ z. Implements C lp names h b z (position (at_work B5) [] J)) sb ib.3 in
-          (ic.0, ic.1, ic.2, (n, n + 1, no_side a n, at_work B3, at_work B5, to, nowhere, nowhere, ic.3, ia2, ib2, omega (arith, e4, e5, end), omega (arith, end), st))
+          (ic.0, ic.1, ic.2, (n, n + 1, no_side a n, at_work B3, at_work B5, to, without_place, without_place, ic.3, ia2, ib2, omega (arith, e4, e5, end), omega (arith, end), st))
       lays lp target ns names h (bind bs body) B more x src bound fit cov ins ends =
           let B1 = emit_bindings w names h bs B in
           let c = count_bindings bs in
           let names2 = names ++ in_slots (names_bound bs) h in
           let B2 = emit w lp names2 (h + c) body B1 in
           let I = moving h (h + c) in
-          let ib = lays lp target (behind bs ns) names2 (h + c) body B1 (I ∷ more) x src.1 bound.1 fit.1 (covers_bound bs ns names h cov) (inside_more lp target (at_work B) (at_work B1) (omega (arith, emit_bindings_at w names h bs B)) ins) (ends_add C w B2 (I ∷ []) more x ends) in
+          let ib = lays lp target (names_behind bs ns) names2 (h + c) body B1 (I ∷ more) x src.1 bound.1 fit.1 (covers_bound bs ns names h cov) (inside_more lp target (at_work B) (at_work B1) (omega (arith, emit_bindings_at w names h bs B)) ins) (ends_add C w B2 (I ∷ []) more x ends) in
           let its = lays_bindings ns names h bs B ib.0 ib.1 src.0 bound.0 fit.0 cov ib.2 in
           let q : position (at_work B2) (I ∷ more) x ≡ before I (position (at_work (add (I ∷ []) B2)) more x) = ap (λ k. position k (I ∷ more) x) (sym (added_at (I ∷ []) B2)) in
           (its.0, its.1, its.2, (position (at_work B1) ib.0 ib.1, its.3, subst (Implements C lp names2 (h + c) body (position (at_work B1) ib.0 ib.1)) q ib.3))
@@ -320,20 +320,20 @@ module _ (C : CodeView) (w : ℕ) where
           let c = count_bindings bs in
           let t : Target = record { first = h; count = c; head = n + 1 } in
           let names2 = names ++ in_slots (names_bound bs) h in
-          let X = Jump (n + 1) nowhere in
+          let X = Jump (n + 1) without_place in
           let B2 = close w X (h + c) B1 in
           let B3 = emit w (Some t) names2 (h + c) body B2 in
           let I = moving h (h + c) in
           let e2 = closed_at w X (h + c) B1 in
           let none_found : 0 + c ≡ c = omega arith in
           let fit2 : Fits (Suits known) (Some c) body = subst (λ k. Fits (Suits known) (Some k) body) none_found (subst (λ gs. Fits (Suits known) (Some (length gs + c)) body) src.0 fit.1) in
-          let bound2 : IsClosed (behind bs ns) body = subst (λ gs. IsClosed (behind bs (behind_found gs ns)) body) src.0 bound.1 in
-          let ib = lays (Some t) (Some c) (behind bs ns) names2 (h + c) body B2 (I ∷ more) x src.2 bound2 fit2 (covers_bound bs ns names h cov) (refl, omega (arith, e2)) (ends_add C w B3 (I ∷ []) more x ends) in
+          let bound2 : IsClosed (names_behind bs ns) body = subst (λ gs. IsClosed (names_behind bs (behind_found gs ns)) body) src.0 bound.1 in
+          let ib = lays (Some t) (Some c) (names_behind bs ns) names2 (h + c) body B2 (I ∷ more) x src.2 bound2 fit2 (covers_bound bs ns names h cov) (refl, omega (arith, e2)) (ends_add C w B3 (I ∷ []) more x ends) in
           let its = lays_bindings ns names h bs B [] X src.1 bound.0 fit.0 cov (ends_close C w B1 X (h + c) ib.0 ib.1 ib.2) in
           let sb : position (at_work B2) ib.0 ib.1 ≡ start_of C (n + 1) = ap (λ k. position k ib.0 ib.1) e2 ∙ sym (started_at C w B1 X (h + c) ib.0 ib.1 (n + 1) refl ib.2) in
           let q : position (at_work B3) (I ∷ more) x ≡ before I (position (at_work (add (I ∷ []) B3)) more x) = ap (λ k. position k (I ∷ more) x) (sym (added_at (I ∷ []) B3)) in
           let ib2 = subst (Implements C (Some t) names2 (h + c) body (position (at_work B2) ib.0 ib.1)) q ib.3 in
-          (its.0, its.1, its.2, (n, n + 1, nowhere, src.0, its.3, omega arith, subst (λ z. Implements C (Some t) names2 (h + c) body z (before I (position (at_work (add (I ∷ []) B3)) more x))) sb ib2))
+          (its.0, its.1, its.2, (n, n + 1, without_place, src.0, its.3, omega arith, subst (λ z. Implements C (Some t) names2 (h + c) body z (before I (position (at_work (add (I ∷ []) B3)) more x))) sb ib2))
       lays lp target ns names h (seq ts) B more x src bound fit cov ins ends = lays_order lp target ns names h ts B more x src bound fit cov ins ends
       lays lp target ns names h (frame body) B more x src bound fit cov ins ends = absurd src
       lays lp target ns names h (turn ms text now) B more x src bound fit cov ins ends = absurd src
@@ -352,9 +352,9 @@ module _ (C : CodeView) (w : ℕ) where
       lays lp target ns names h (apply (Builtin b) (item t (item u none)) p) B more x src bound fit cov ins ends =
           let m = next_slot h t in
           let B1 = operand t (emit w None names h t B) B in
-          let B2 = second (integer_of u) (operand u (emit w None names m u B1) B1) B1 in
-          let i = paired b h (operand_slot names h t) (integer_of u) (operand_slot names m u) p in
-          let iu = lays_second (integer_of u) names m u B1 (i ∷ more) x
+          let B2 = second (written_integer u) (operand u (emit w None names m u B1) B1) B1 in
+          let i = paired_instruction b h (operand_slot names h t) (written_integer u) (operand_slot names m u) p in
+          let iu = lays_second (written_integer u) names m u B1 (i ∷ more) x
           (λ d. lays_operand ns names m u B1 (i ∷ more) x bound.1.0 cov (λ e. lays None None ns names m u B1 (i ∷ more) x src.1.1.0 bound.1.0 fit.1.1.0 cov tt e) d) (ends_add C w B2 (i ∷ []) more x ends) in
           let it = lays_operand ns names h t B iu.0 iu.1 bound.0 cov (λ e. lays None None ns names h t B iu.0 iu.1 src.1.0 bound.0 fit.1.0 cov tt e) iu.2 in
           (it.0, it.1, it.2, (position (at_work B1) iu.0 iu.1, position (at_work B2) (i ∷ more) x, it.3, iu.3, behind_add B2 i more x))

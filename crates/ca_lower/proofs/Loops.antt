@@ -10,11 +10,11 @@ use Rattle.ca_term.specs.Fits.{count_bindings}
 use Rattle.ca_term.specs.Program.{ProgramView}
 use Rattle.ca_meaning.specs.Body.{local, faulted, turns_after}
 use Rattle.ca_meaning.specs.Rest.{LocalSteps, here}
-use Rattle.ca_meaning.specs.Started.{named, names_of}
+use Rattle.ca_meaning.specs.Started.{named, names_found}
 use Rattle.ca_states.specs.declared.code.Exit.TheVariants.{Jump}
 use Rattle.ca_states.specs.Code.{moving, CodeView}
 use Rattle.ca_states.specs.Machine.{Frame, goes, faults, read, reads, slots_from, turned}
-use Rattle.ca_lower.specs.Implements.{Position, position, start_of, before, Scope, in_slots, names_bound, Target, Implements, ImplementsInOrder, ImplementsBindings}
+use Rattle.ca_lower.specs.Implements.{CodePosition, position, start_of, before, Scope, in_slots, names_bound, Target, Implements, ImplementsInOrder, ImplementsBindings}
 use Rattle.ca_lower.specs.Lowered.{After, AreAlike}
 use Rattle.ca_lower.proofs.Puts.{puts_items, puts_bindings, puts-const, puts-loop, puts-seq, puts_items-none, puts_items-item, puts_bindings-empty, puts_bindings-binding, puts-append, puts_bindings-append, consts, all-consts, operands-consts}
 use Rattle.ca_meaning.proofs.Contexts.{Context, inside, in_loop, in_seq, in_turn}
@@ -24,7 +24,7 @@ use Rattle.ca_lower.proofs.Goes.{Under, Calls, Then, Again, Gen, GenBindings, ca
 use Rattle.ca_lower.proofs.Leaves.{turn_redex, turn_replace}
 use Rattle.ca_lower.proofs.Heads.{GenEach, gen_apply}
 
-names_at : (s : List Tree) (xs : List ℕ) (a : ℕ) → names_of (founds_at s xs a) ≡ xs
+names_at : (s : List Tree) (xs : List ℕ) (a : ℕ) → names_found (founds_at s xs a) ≡ xs
 names_at s [] a = refl
 names_at s (x ∷ xs) a = ap (λ l. x ∷ l) (names_at s xs (suc a))
 
@@ -32,7 +32,7 @@ module _ (P : ProgramView) (C : CodeView) where
   -- IN ORDER
   abbrev pub GenInOrder : Kernels → Type 0
   GenInOrder ts =
-      (n : ℕ) (lp : Option Target) (names : Scope) (fs : Founds) (h : ℕ) (p q : Position) (s : List Tree) (K : List Frame) (E : Kernel → Kernel) (turns : ℕ)
+      (n : ℕ) (lp : Option Target) (names : Scope) (fs : Founds) (h : ℕ) (p q : CodePosition) (s : List Tree) (K : List Frame) (E : Kernel → Kernel) (turns : ℕ)
       → Calls P C n → ImplementsInOrder C lp names h ts p q → Holds names fs s h → Under lp h → Context E → Again P C n lp s K E → Then P C n q h s K E
       → AlikeAt P C n p s K turns (E (seq (puts_items fs ts)))
 
@@ -72,7 +72,7 @@ module _ (P : ProgramView) (C : CodeView) where
   -- a loop's first values, in order
   abbrev pub GenFirst : Bindings → Type 0
   GenFirst bs =
-      (n : ℕ) (names : Scope) (fs : Founds) (h : ℕ) (gs : Founds) (p q : Position) (s : List Tree) (K : List Frame) (E : Kernel → Kernel) (inner : Kernel) (turns : ℕ)
+      (n : ℕ) (names : Scope) (fs : Founds) (h : ℕ) (gs : Founds) (p q : CodePosition) (s : List Tree) (K : List Frame) (E : Kernel → Kernel) (inner : Kernel) (turns : ℕ)
       → Calls P C n → ImplementsBindings C names h bs p q → Holds names fs s h → Context E
       → ((m : ℕ) → m ≤ n → (s' : List Tree) (turns' : ℕ) → Same h s s' → AlikeAt P C m q s' K turns' (E (loop (gs ++ founds_at s' (names_bound bs) h) empty inner)))
       → AlikeAt P C n p s K turns (E (loop gs (puts_bindings fs bs) inner))
@@ -122,7 +122,7 @@ module _ (P : ProgramView) (C : CodeView) where
       (body (E r) turns (length K), here, stands P E r turns (length K) ctx refl refl (turn_redex ns text ws pl) ∙ ap (λ o. cond o (faulted Spun pl) local) ea, refl)
 
   -- the head of a loop, at any turn
-  loop_head : (fuel : ℕ) (bs : Bindings) (to h : ℕ) (inner : Kernel) → Gen P C inner → (names : Scope) (fs : Founds) (q : Position) (s : List Tree) (K : List Frame) (E : Kernel → Kernel) → Holds names fs s h → Context E
+  loop_head : (fuel : ℕ) (bs : Bindings) (to h : ℕ) (inner : Kernel) → Gen P C inner → (names : Scope) (fs : Founds) (q : CodePosition) (s : List Tree) (K : List Frame) (E : Kernel → Kernel) → Holds names fs s h → Context E
       → Implements C (Some (record { first = h; count = count_bindings bs; head = to })) (names ++ in_slots (names_bound bs) h) (h + count_bindings bs) inner (start_of C to) (before (moving h (h + count_bindings bs)) q)
       → (n : ℕ) → n ≤ fuel → Calls P C n → Then P C n q h s K E → (s' : List Tree) (turns : ℕ) → Same h s s'
       → AreAlike P C n (state to s' K turns) (body (E (turn (names_bound bs) (puts fs inner) (puts (founds_at s' (names_bound bs) h) (puts fs inner)))) turns (length K))
@@ -167,7 +167,7 @@ module _ (P : ProgramView) (C : CodeView) where
       (λ m le s1 turns1 same1.
       let gs = founds_at s1 ns h in
       let r = loop gs empty text in
-      let u = turn (names_of gs) text (puts gs text) in
+      let u = turn (names_found gs) text (puts gs text) in
       let e : nat_lt b to ≡ true = lt-ltb b to lt in
       subst (λ o. After P (AreAlike P C m) (cond o (goes (state to s1 K turns1)) (turned turns1 pl (goes (state to s1 K (suc turns1))))) (body (E r) turns1 (length K))) (sym e)
       (alike_back P C m (state to s1 K turns1) (body (E r) turns1 (length K)) (body (E u) turns1 (length K))

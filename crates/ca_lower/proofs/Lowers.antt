@@ -13,8 +13,8 @@ use Rattle.ca_meaning.specs.Started.{named, procedure_at, started as started_tex
 use Rattle.ca_meaning.proofs.Rests.{one_rest}
 use Rattle.ca_states.specs.declared.code.EntryPoint.{EntryPoint}
 use Rattle.ca_states.specs.declared.code.Exit.TheVariants.{Return}
-use Rattle.ca_states.specs.Code.{CodeView, block_at, function_at, body_at}
-use Rattle.ca_states.specs.Machine.{Frame, State, Move, goes, ends, faults, waits, read, begun, begun_at, returned, move, started, outermost, calling, resumed, IsHalt, ComesTo, halts, goes_on}
+use Rattle.ca_states.specs.Code.{CodeView, block_at, function_at, body_entry}
+use Rattle.ca_states.specs.Machine.{Frame, RunnerState, Move, goes, ends, faults, waits, read, begun, begun_at, returned, move, runner_started, outermost, calling, resumed, IsHalt, ComesTo, halts, goes_on}
 use Rattle.ca_states.specs.declared.runner.Start.TheVariants.{Function}
 use Rattle.ca_states.specs.Valid.{main_entry}
 use Rattle.ca_states.specs.Standing.{IsStart}
@@ -47,10 +47,10 @@ module _ (P : ProgramView) (C : CodeView) where
         text_alike (procedure_at P.functions f) (function_at C f) (all.functions f (omega (arith, ltf, count))) m (calls fuel m (omega (arith, le, le2))) vs K E turns len ctx
         (λ k le3 v turns2. ret k (omega (arith, le3)) v turns2)
 
-    text_stands : (t : ProcedureView) (e : EntryPoint) → ImplementsText C t e → (vs : List Tree) → length vs ≡ arity t → StandsFor P C (started C e vs) (new_body (started_text t vs))
+    text_stands : (t : ProcedureView) (e : EntryPoint) → ImplementsText C t e → (vs : List Tree) → length vs ≡ arity t → StandsFor P C (runner_started C e vs) (new_body (started_text t vs))
     text_stands t e im vs len = record { alike = by }
       where
-        by : (n : ℕ) → AreAlike P C n (started C e vs) (new_body (started_text t vs))
+        by : (n : ℕ) → AreAlike P C n (runner_started C e vs) (new_body (started_text t vs))
         by zero = tt
         by (suc n) = text_alike t e im n (calls n n (omega arith)) vs [] (λ u. u) 0 (len ∙ im.1) whole (λ m le v turns. (body (const v) turns 0, here, refl, refl))
 
@@ -79,7 +79,7 @@ module _ (P : ProgramView) (C : CodeView) where
     pub lowered : Lowered P C
     lowered = record {
       main = text_stands (record { parameters = []; body = P.main }) (main_entry C) all.main [] refl;
-      bodies = λ n vs lt len. text_stands (procedure_at P.bodies n) (body_at C n) (all.bodies n lt) vs len;
+      bodies = λ n vs lt len. text_stands (procedure_at P.bodies n) (body_entry C n) (all.bodies n lt) vs len;
       functions = λ n vs lt len. text_stands (procedure_at P.functions n) (function_at C n) (all.functions n lt) vs len;
       calls = λ n v p start. let there = starts_there n start in call_stands n v p there.0 there.1;
     }
@@ -105,6 +105,6 @@ module _ (P : ProgramView) (C : CodeView) where
         },
       )
 
-  pub comes : {c : State} {m : Move} (b : BodyView) → StandsFor P C c b → ComesTo C c m → After P (StandsFor P C) m b
+  pub comes : {c : RunnerState} {m : Move} (b : BodyView) → StandsFor P C c b → ComesTo C c m → After P (StandsFor P C) m b
   comes b g (goes_on c d m e r) = comes b (record { alike = λ n. subst (λ x. After P (AreAlike P C n) x b) e (g.alike (suc n)) }) r
   comes b g (halts {c} h) = ended (move C c) b h (λ n. g.alike (suc n))

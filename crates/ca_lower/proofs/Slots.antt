@@ -5,17 +5,17 @@ use Rattle.ca_value.specs.Tree.{Tree, nil}
 use Rattle.ca_term.specs.Kernel.{Bindings, Founds, const, var, empty, binding, puts}
 use Rattle.ca_term.specs.Fits.{count_bindings}
 use Rattle.ca_meaning.specs.Started.{named}
-use Rattle.ca_states.specs.Machine.{read, write, reads, taken, taken_all, left_by, slots_from, begun}
+use Rattle.ca_states.specs.Machine.{read, slot_written, reads, slot_taken, taken_all, left_in_slot, slots_from, begun}
 use Rattle.ca_lower.specs.Implements.{Scope, slot_of, IsInScope, in_slots, names_bound}
 use Rattle.ca_lower.proofs.Puts.{puts-const}
 
-pub read-write_same : (s : List Tree) (d : ℕ) (v : Tree) → read (write s d v) d ≡ v
+pub read-write_same : (s : List Tree) (d : ℕ) (v : Tree) → read (slot_written s d v) d ≡ v
 read-write_same [] zero v = refl
 read-write_same [] (suc d) v = read-write_same [] d v
 read-write_same (x ∷ s) zero v = refl
 read-write_same (x ∷ s) (suc d) v = read-write_same s d v
 
-pub read-write_other : (s : List Tree) (d : ℕ) (v : Tree) (k : ℕ) → (k ≡ d → ⊥) → read (write s d v) k ≡ read s k
+pub read-write_other : (s : List Tree) (d : ℕ) (v : Tree) (k : ℕ) → (k ≡ d → ⊥) → read (slot_written s d v) k ≡ read s k
 read-write_other [] zero v zero ne = absurd (ne refl)
 read-write_other [] zero v (suc k) ne = refl
 read-write_other [] (suc d) v zero ne = refl
@@ -35,18 +35,18 @@ same_trans g h s t u le a b k lt = let lt' : k < h = omega (arith, lt, le) in b 
 pub same_less : (g h : ℕ) (s t : List Tree) → g ≤ h → Same h s t → Same g s t
 same_less g h s t le a k lt = let lt' : k < h = omega (arith, lt, le) in a k lt'
 
-pub same_write : (h d : ℕ) (v : Tree) (s : List Tree) → h ≤ d → Same h s (write s d v)
+pub same_write : (h d : ℕ) (v : Tree) (s : List Tree) → h ≤ d → Same h s (slot_written s d v)
 same_write h d v s le k lt = read-write_other s d v k (λ e. omega (arith, le, lt, e))
 
-pub same_then_write : (h d : ℕ) (v : Tree) (s t : List Tree) → h ≤ d → Same h s t → Same h s (write t d v)
+pub same_then_write : (h d : ℕ) (v : Tree) (s t : List Tree) → h ≤ d → Same h s t → Same h s (slot_written t d v)
 same_then_write h d v s t le a k lt = read-write_other t d v k (λ e. omega (arith, le, lt, e)) ∙ a k lt
 
-pub same_taken : (h a : ℕ) (s : List Tree) → h ≤ a → Same h s (taken s a)
-same_taken h a s le = same_write h a (left_by (read s a)) s le
+pub same_taken : (h a : ℕ) (s : List Tree) → h ≤ a → Same h s (slot_taken s a)
+same_taken h a s le = same_write h a (left_in_slot (read s a)) s le
 
 pub same_taken_all : (h a n : ℕ) (s : List Tree) → h ≤ a → Same h s (taken_all s (slots_from a n))
 same_taken_all h a zero s le = λ k lt. refl
-same_taken_all h a (suc n) s le = same_trans h h s (taken s a) (taken_all (taken s a) (slots_from (suc a) n)) (omega arith) (same_taken h a s le) (same_taken_all h (suc a) n (taken s a) (omega (arith, le)))
+same_taken_all h a (suc n) s le = same_trans h h s (slot_taken s a) (taken_all (slot_taken s a) (slots_from (suc a) n)) (omega arith) (same_taken h a s le) (same_taken_all h (suc a) n (slot_taken s a) (omega (arith, le)))
 
 -- each name's slot is below h and holds the name's value
 abbrev pub Holds : Scope → Founds → List Tree → ℕ → Type 0
@@ -130,21 +130,21 @@ length-reads s a (suc n) = ap suc (length-reads s (suc a) n)
 
 -- slots after so many moves, from a on to d on
 abbrev pub moved : List Tree → ℕ → ℕ → List Tree
-moved s d a = write (taken s a) d (read s a)
+moved s d a = slot_written (slot_taken s a) d (read s a)
 
 abbrev pub move_slots : List Tree → ℕ → ℕ → ℕ → List Tree
 move_slots s d a zero = s
 move_slots s d a (suc n) = move_slots (moved s d a) (suc d) (suc a) n
 
 pub same_moved : (h d a : ℕ) (s : List Tree) → h ≤ d → h ≤ a → Same h s (moved s d a)
-same_moved h d a s le la = same_then_write h d (read s a) s (taken s a) le (same_taken h a s la)
+same_moved h d a s le la = same_then_write h d (read s a) s (slot_taken s a) le (same_taken h a s la)
 
 pub same_moves : (h : ℕ) (s : List Tree) (d a n : ℕ) → h ≤ d → h ≤ a → Same h s (move_slots s d a n)
 same_moves h s d a zero le la = λ k lt. refl
 same_moves h s d a (suc n) le la =
     same_trans h h s (moved s d a) (move_slots (moved s d a) (suc d) (suc a) n) (omega arith) (same_moved h d a s le la) (same_moves h (moved s d a) (suc d) (suc a) n (omega (arith, le)) (omega (arith, la)))
 
-reads-write : (s : List Tree) (d : ℕ) (v : Tree) (a n : ℕ) → d < a → reads (write s d v) (slots_from a n) ≡ reads s (slots_from a n)
+reads-write : (s : List Tree) (d : ℕ) (v : Tree) (a n : ℕ) → d < a → reads (slot_written s d v) (slots_from a n) ≡ reads s (slots_from a n)
 reads-write s d v a zero lt = refl
 reads-write s d v a (suc n) lt =
     ap₂ (λ x xs. x ∷ xs) (read-write_other s d v a (λ e. omega (arith, lt, e))) (reads-write s d v (suc a) n (omega (arith, lt)))
@@ -156,9 +156,9 @@ reads_moved s d a (suc n) le =
     let le1 : suc d + n ≤ suc a = omega (arith, le) in
     let la : suc d ≤ suc a = omega (arith, le) in
     let lt : d < suc a = omega (arith, le) in
-    let first : read (move_slots s' (suc d) (suc a) n) d ≡ read s a = same_moves (suc d) s' (suc d) (suc a) n (omega arith) la d (omega arith) ∙ read-write_same (taken s a) d (read s a) in
+    let first : read (move_slots s' (suc d) (suc a) n) d ≡ read s a = same_moves (suc d) s' (suc d) (suc a) n (omega arith) la d (omega arith) ∙ read-write_same (slot_taken s a) d (read s a) in
     let rest : reads s' (slots_from (suc a) n) ≡ reads s (slots_from (suc a) n) =
-    reads-write (taken s a) d (read s a) (suc a) n lt ∙ reads-write s a (left_by (read s a)) (suc a) n (omega arith) in
+    reads-write (slot_taken s a) d (read s a) (suc a) n lt ∙ reads-write s a (left_in_slot (read s a)) (suc a) n (omega arith) in
     ap₂ (λ x xs. x ∷ xs) first (reads_moved s' (suc d) (suc a) n le1 ∙ rest)
 
 -- a text's values in its first slots

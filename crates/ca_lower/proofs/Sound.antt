@@ -5,22 +5,22 @@ use Rattle.std.specs.Prelude.{◌==◌, nat_lt}
 use Rattle.ca_value.specs.Tree.{nil}
 use Rattle.ca_value.specs.declared.builtin.Builtin.{Builtin as BuiltinName}
 use Rattle.ca_value.specs.declared.builtin.Builtin.TheVariants.{Conj, Assoc}
-use Rattle.ca_value.specs.Builtins.{admits}
+use Rattle.ca_value.specs.Builtins.{admits_arguments}
 use Rattle.ca_term.specs.declared.place.Place.{Place}
 use Rattle.ca_term.specs.declared.head.Head.{Head}
 use Rattle.ca_term.specs.declared.head.Head.TheVariants.{Recur, Builtin, Take, Put, Alts, Make, Spawn, Close, Register, Print, Post}
 use Rattle.ca_term.specs.declared.head.Head.TheVariants as head
 use Rattle.ca_term.specs.Kernel.{Kernel, Kernels, Bindings, const, var, branch, bind, loop, seq, frame, turn, apply, none, item, empty, binding}
-use Rattle.ca_term.specs.Closed.{behind, behind_found, IsClosed, AreClosed, AreClosedBindings}
+use Rattle.ca_term.specs.Closed.{names_behind, behind_found, IsClosed, AreClosed, AreClosedBindings}
 use Rattle.ca_term.specs.Fits.{Known, Takes, Suits, Fits, FitTerms, FitInOrder, FitBindings, count_terms, count_bindings}
 use Rattle.ca_states.specs.declared.code.Exit.{Exit}
 use Rattle.ca_states.specs.declared.code.Exit.TheVariants.{Jump, Branch, Return, Cut}
 use Rattle.ca_states.specs.declared.code.Exit.TheVariants as exit
-use Rattle.ca_states.specs.Code.{has_slot, Instruction, constant, copying, moving, one, two, two_int, pushing, putting, many, BlockView, CodeView, size, block_at, function_at}
-use Rattle.ca_states.specs.Valid.{Known as Tells, takes, is_operation, is_valid_block, noted}
+use Rattle.ca_states.specs.Code.{has_slot, Instruction, constant, copying, moving, one, two, two_int, pushing, putting, many, BlockView, CodeView, block_count, block_at, function_at}
+use Rattle.ca_states.specs.Valid.{KnownSlots as Tells, takes, is_operation, is_valid_block, slot_noted}
 use Rattle.ca_term.specs.Source.{IsSource, AreSource, AreSourceBindings}
-use Rattle.ca_lower.specs.Implements.{Scope, slot_of, operand_slot, next_slot, integer_of, paired, IsInScope, in_slots, names_bound, Target, moves}
-use Rattle.ca_lower.specs.Emit.{Builder, building, at_work, block_of, add, close, nowhere, finish_by_cut, finish, no_side, both_ends, operand, second, emit, emit_in_order, emit_bindings, emit_all, greater, slots_for, slots_in_order, slots_for_bound, slots_for_all}
+use Rattle.ca_lower.specs.Implements.{Scope, slot_of, operand_slot, next_slot, written_integer, paired_instruction, IsInScope, in_slots, names_bound, Target, moves}
+use Rattle.ca_lower.specs.Emit.{Builder, building, at_work, block_of, add, close, without_place, finish_by_cut, finish, no_side, both_ends, operand, second, emit, emit_in_order, emit_bindings, emit_all, greater, slots_for, slots_in_order, slots_for_bound, slots_for_all}
 use Rattle.ca_lower.proofs.Goes.{Under, from_next}
 use Rattle.ca_lower.proofs.Slots.{length-bound}
 use Rattle.ca_lower.proofs.Lays.{Ends, ends_add, ends_close, closed_at, added_at, opened_at, Covers, covers_one, covers_bound, Inside, inside_more, emit_at, emit_bindings_at, emit_all_at, lays}
@@ -111,8 +111,8 @@ second_next (Some z) h n = h
 second_next None h n = n
 
 -- a builtin of two
-valid_pair : (o : Option ℤ) (C : CodeView) (w n h a h2 c g : ℕ) (b : BuiltinName) (p : Place) (K : Tells) (is : List Instruction) (x : Exit) → admits b 2 ≡ true
-    → h < w → h ≤ h2 → h2 ≤ g → g ≤ w → a < h2 → c < g → Up (second_next o h2 g) K → ((L : Tells) → Up (suc h) L → Valid C w n L is x) → Valid C w n K (paired b h a o c p ∷ is) x
+valid_pair : (o : Option ℤ) (C : CodeView) (w n h a h2 c g : ℕ) (b : BuiltinName) (p : Place) (K : Tells) (is : List Instruction) (x : Exit) → admits_arguments b 2 ≡ true
+    → h < w → h ≤ h2 → h2 ≤ g → g ≤ w → a < h2 → c < g → Up (second_next o h2 g) K → ((L : Tells) → Up (suc h) L → Valid C w n L is x) → Valid C w n K (paired_instruction b h a o c p ∷ is) x
 valid_pair (Some z) C w n h a h2 c g b p K is x counted lt le le2 lg la lc up go =
     valid_reading C w n h h2 (a ∷ []) (two_int b h a z p) K is x refl refl refl counted lt le (omega (arith, le2, lg)) (la, tt) up go
 valid_pair None C w n h a h2 c g b p K is x counted lt le le2 lg la lc up go =
@@ -175,7 +175,7 @@ module _ (C : CodeView) where
         let o = opened_at C w B x0 next more x n e ends in
         record { there = within B ends e; wide = ap (λ (b : BlockView). b.width) o; entry = ap (λ (b : BlockView). b.entry) o }
       where
-        within : (B : Builder) → Ends C w (close w x0 next B) more x → at_work B + 1 ≡ n → n < size C
+        within : (B : Builder) → Ends C w (close w x0 next B) more x → at_work B + 1 ≡ n → n < block_count C
         within (building done below is) h e =
             let len : length (done ++ block_of w below is x0 ∷ []) ≡ n = length-append done (block_of w below is x0 ∷ []) ∙ e in
             let all : length C.blocks ≡ length (done ++ block_of w below is x0 ∷ []) + suc (length h.0) = ap length h.1 ∙ length-append (done ++ block_of w below is x0 ∷ []) (block_of w next more x ∷ h.0) in
@@ -281,16 +281,16 @@ module _ (C : CodeView) where
             → IsSource t → IsClosed ns t → Fits (Suits known) target t → Covers ns names → Inside lp target (at_work B) → Below names h → Under lp h → IsHead lp → slots_for h t ≤ w → Ends C w (emit w lp names h t B) more x
             → Sound h (suc h) B (emit w lp names h t B) more x
         sound lp target ns names h (const v) B more x src bound fit cov ins bel und head fits ends =
-            sound_add h (suc h) (constant h v) B more x ends (λ n go K up. valid_constant C w n h v K more x fits (go (noted true h K) (up_written h K up)))
+            sound_add h (suc h) (constant h v) B more x ends (λ n go K up. valid_constant C w n h v K more x fits (go (slot_noted true h K) (up_written h K up)))
         sound lp target ns names h (var y) B more x src bound fit cov ins bel und head fits ends =
             let lt = below_slot names h y bel (cov y bound) in
-            sound_add h (suc h) (copying h (slot_of names y)) B more x ends (λ n go K up. valid_copying C w n h (slot_of names y) K more x fits (omega (arith, lt, fits)) (up (slot_of names y) lt) (go (noted true h K) (up_written h K up)))
+            sound_add h (suc h) (copying h (slot_of names y)) B more x ends (λ n go K up. valid_copying C w n h (slot_of names y) K more x fits (omega (arith, lt, fits)) (up (slot_of names y) lt) (go (slot_noted true h K) (up_written h K up)))
         sound lp target ns names h (branch c a b) B more x src bound fit cov ins bel und head fits ends = λ go.
             let B1 = emit w None names h c B in
             let n = at_work B1 in
             let to = both_ends a b n in
             let X = Branch h (n + 1) (no_side a n) in
-            let J = Jump to nowhere in
+            let J = Jump to without_place in
             let B2 = close w X h B1 in
             let B3 = emit w lp names h a B2 in
             let B4 = close w J h B3 in
@@ -311,7 +311,7 @@ module _ (C : CodeView) where
             let lh : suc h ≤ w = omega (arith, own, fc) in
             let ends5 = ends_close C w B5 J (suc h) more x ends in
             let bt = begins_close B5 J (suc h) more x to end ends in
-            let jump : (m : ℕ) (K : Tells) → Up (suc h) K → Valid C w m K [] J = λ m K up. valid_jump C w m to (suc h) nowhere K bt up in
+            let jump : (m : ℕ) (K : Tells) → Up (suc h) K → Valid C w m K [] J = λ m K up. valid_jump C w m to (suc h) without_place K bt up in
             let sb = sound lp target ns names h b B4 [] J src.2 bound.2 fit.2 cov (inside_more lp target (at_work B) (at_work B4) (omega (arith, e1, e2, e3, e4)) ins) bel und head f2.1 ends5 (jump (at_work B5)) in
             let ends3 = ends_close C w B3 J h sb.0 sb.1 sb.2 in
             let sa = sound lp target ns names h a B2 [] J src.1 bound.1 fit.1 cov (inside_more lp target (at_work B) (at_work B2) (omega (arith, e1, e2)) ins) bel und head f2.0 ends3 (jump (at_work B3)) in
@@ -335,7 +335,7 @@ module _ (C : CodeView) where
             let fb = f.1 in
             let bel2 = below_append names (in_slots (names_bound bs) h) (h + c) (below_more names h (h + c) (omega arith) bel) (below_range (names_bound bs) h (h + c) (omega (arith, len))) in
             let si = sound_add (suc (h + c)) (suc h) I B2 more x ends (λ n g K up. valid_down C w n h (h + c) K more x (omega arith) (omega (arith, own, fb)) up g) go in
-            let sb = sound lp target (behind bs ns) names2 (h + c) body B1 si.0 si.1 src.1 bound.1 fit.1 (covers_bound bs ns names h cov) (inside_more lp target (at_work B) (at_work B1) (omega (arith, emit_bindings_at w names h bs B)) ins) bel2 (under_more lp h (h + c) (omega arith) und) head f.1 si.2 si.3 in
+            let sb = sound lp target (names_behind bs ns) names2 (h + c) body B1 si.0 si.1 src.1 bound.1 fit.1 (covers_bound bs ns names h cov) (inside_more lp target (at_work B) (at_work B1) (omega (arith, emit_bindings_at w names h bs B)) ins) bel2 (under_more lp h (h + c) (omega arith) und) head f.1 si.2 si.3 in
             let ss = sound_bindings ns names h bs B sb.0 sb.1 src.0 bound.0 fit.0 cov bel f.0 sb.2 sb.3 in
             (ss.0, ss.1, ss.2, ss.3, between (at_work B) (at_work B1) (at_work (add (I ∷ []) B2)) ss.4 (between (at_work B1) (at_work B2) (at_work (add (I ∷ []) B2)) sb.4 si.4))
         sound lp target ns names h (loop fs bs body) B more x src bound fit cov ins bel und head fits ends = λ go.
@@ -345,7 +345,7 @@ module _ (C : CodeView) where
             let len : length (names_bound bs) ≡ c = length-bound bs in
             let t : Target = record { first = h; count = c; head = n + 1 } in
             let names2 = names ++ in_slots (names_bound bs) h in
-            let X = Jump (n + 1) nowhere in
+            let X = Jump (n + 1) without_place in
             let B2 = close w X (h + c) B1 in
             let B3 = emit w (Some t) names2 (h + c) body B2 in
             let I = moving h (h + c) in
@@ -355,15 +355,15 @@ module _ (C : CodeView) where
             let fb = f.1 in
             let none_found : 0 + c ≡ c = omega arith in
             let fit2 : Fits (Suits known) (Some c) body = subst (λ k. Fits (Suits known) (Some k) body) none_found (subst (λ gs. Fits (Suits known) (Some (length gs + c)) body) src.0 fit.1) in
-            let bound2 : IsClosed (behind bs ns) body = subst (λ gs. IsClosed (behind bs (behind_found gs ns)) body) src.0 bound.1 in
+            let bound2 : IsClosed (names_behind bs ns) body = subst (λ gs. IsClosed (names_behind bs (behind_found gs ns)) body) src.0 bound.1 in
             let cov2 = covers_bound bs ns names h cov in
             let ends3 = ends_add C w B3 (I ∷ []) more x ends in
-            let lb = lays C w known there (Some t) (Some c) (behind bs ns) names2 (h + c) body B2 (I ∷ more) x src.2 bound2 fit2 cov2 (refl, omega (arith, e2)) ends3 in
+            let lb = lays C w known there (Some t) (Some c) (names_behind bs ns) names2 (h + c) body B2 (I ∷ more) x src.2 bound2 fit2 cov2 (refl, omega (arith, e2)) ends3 in
             let begins = begins_close B1 X (h + c) lb.0 lb.1 (n + 1) refl lb.2 in
             let bel2 = below_append names (in_slots (names_bound bs) h) (h + c) (below_more names h (h + c) (omega arith) bel) (below_range (names_bound bs) h (h + c) (omega (arith, len))) in
             let si = sound_add (suc (h + c)) (suc h) I B3 more x ends (λ m g K up. valid_down C w m h (h + c) K more x (omega arith) (omega (arith, own, fb)) up g) go in
-            let sb = sound (Some t) (Some c) (behind bs ns) names2 (h + c) body B2 si.0 si.1 src.2 bound2 fit2 cov2 (refl, omega (arith, e2)) bel2 (omega arith) begins f.1 si.2 si.3 in
-            let sx = sound_exit (h + c) (h + c) X B1 sb.0 sb.1 (omega (arith, own, fb)) sb.2 (λ b K up. valid_jump C w n (n + 1) (h + c) nowhere K b up) sb.3 in
+            let sb = sound (Some t) (Some c) (names_behind bs ns) names2 (h + c) body B2 si.0 si.1 src.2 bound2 fit2 cov2 (refl, omega (arith, e2)) bel2 (omega arith) begins f.1 si.2 si.3 in
+            let sx = sound_exit (h + c) (h + c) X B1 sb.0 sb.1 (omega (arith, own, fb)) sb.2 (λ b K up. valid_jump C w n (n + 1) (h + c) without_place K b up) sb.3 in
             let ss = sound_bindings ns names h bs B sx.0 sx.1 src.1 bound.0 fit.0 cov bel f.0 sx.2 sx.3 in
             (ss.0, ss.1, ss.2, ss.3, between (at_work B) n (at_work (add (I ∷ []) B3)) ss.4 (between n (at_work B2) (at_work (add (I ∷ []) B3)) sx.4 (between (at_work B2) (at_work B3) (at_work (add (I ∷ []) B3)) sb.4 si.4)))
         sound lp target ns names h (seq ts) B more x src bound fit cov ins bel und head fits ends = sound_order lp target ns names h ts B more x src bound fit cov ins bel und head fits ends
@@ -405,11 +405,11 @@ module _ (C : CodeView) where
             let B1 = operand t (emit w None names h t B) B in
             let a = operand_slot names h t in
             let h2 = next_slot h t in
-            let o = integer_of u in
+            let o = written_integer u in
             let B2 = second o (operand u (emit w None names h2 u B1) B1) B1 in
             let c = operand_slot names h2 u in
             let g = next_slot h2 u in
-            let i = paired b h a o c p in
+            let i = paired_instruction b h a o c p in
             let f0 = enough (suc h) (slots_for_all h (item t (item u none))) w fits in
             let f = enough (slots_for h t) (slots_for_all (suc h) (item u none)) w f0.1 in
             let f2 = enough (slots_for (suc h) u) (suc (suc h)) w f.1 in
@@ -470,7 +470,7 @@ module _ (C : CodeView) where
             → AreSource ts → AreClosed ns ts → FitInOrder (Suits known) target ts → Covers ns names → Inside lp target (at_work B) → Below names h → Under lp h → IsHead lp → slots_in_order h ts ≤ w → Ends C w (emit_in_order w lp names h ts B) more x
             → Sound h (suc h) B (emit_in_order w lp names h ts B) more x
         sound_order lp target ns names h none B more x src bound fit cov ins bel und head fits ends =
-            sound_add h (suc h) (constant h nil) B more x ends (λ n go K up. valid_constant C w n h nil K more x fits (go (noted true h K) (up_written h K up)))
+            sound_add h (suc h) (constant h nil) B more x ends (λ n go K up. valid_constant C w n h nil K more x fits (go (slot_noted true h K) (up_written h K up)))
         sound_order lp target ns names h (item t none) B more x src bound fit cov ins bel und head fits ends =
             sound lp target ns names h t B more x src.0 bound.0 fit cov ins bel und head (enough (slots_for h t) (suc h) w fits).0 ends
         sound_order lp target ns names h (item t (item u us)) B more x src bound fit cov ins bel und head fits ends = λ go.

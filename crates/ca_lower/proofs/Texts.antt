@@ -8,12 +8,12 @@ use Rattle.ca_states.specs.declared.code.Exit.{Exit}
 use Rattle.ca_states.specs.declared.code.Exit.TheVariants.{Return}
 use Rattle.ca_states.specs.Code.{Instruction, BlockView, CodeView, no_block, block_at, no_entry, function_at}
 use Rattle.ca_lower.specs.Implements.{position, start_of, in_slots, Implements, ImplementsText, identity_text, ImplementsProgram}
-use Rattle.ca_lower.specs.Emit.{Builder, building, at_work, finished, block_of, close, emit, opened, width_of, emit_text, emit_texts, entries, main_text, nothing_built, code_of}
+use Rattle.ca_lower.specs.Emit.{Builder, building, at_work, blocks_finished, block_of, close, emit, text_opened, width_of, emit_text, emit_texts, text_entries, main_procedure, nothing_built, code_of}
 use Rattle.ca_lower.proofs.Lays.{Ends, Covers, lays}
 
 -- the code's blocks begin with those that are finished
 abbrev pub Has : CodeView → Builder → Type 0
-Has C B = (rest : List BlockView) × (C.blocks ≡ finished B ++ rest)
+Has C B = (rest : List BlockView) × (C.blocks ≡ blocks_finished B ++ rest)
 
 pub has_close : (C : CodeView) (w : ℕ) (B : Builder) (x : Exit) (next : ℕ) → Has C (close w x next B) → Ends C w B [] x
 has_close C w (building done below is) x next h =
@@ -22,14 +22,14 @@ has_close C w (building done below is) x next h =
 pub has_ends : (C : CodeView) (w : ℕ) (B : Builder) (is : List Instruction) (x : Exit) → Ends C w B is x → Has C B
 has_ends C w (building done below is0) is x h = (block_of w below (is0 ++ is) x ∷ h.0, h.1)
 
-pub has_opened : (C : CodeView) (k : ℕ) (B : Builder) → Has C (opened k B) → Has C B
+pub has_opened : (C : CodeView) (k : ℕ) (B : Builder) → Has C (text_opened k B) → Has C B
 has_opened C k (building done below is) h = h
 
-pub opened_work : (k : ℕ) (B : Builder) → at_work (opened k B) ≡ at_work B
+pub opened_work : (k : ℕ) (B : Builder) → at_work (text_opened k B) ≡ at_work B
 opened_work k (building done below is) = refl
 
 -- the first block of a text
-pub first_block : (C : CodeView) (w k : ℕ) (B : Builder) (is : List Instruction) (x : Exit) → Ends C w (opened k B) is x → block_at C (at_work B) ≡ block_of w k is x
+pub first_block : (C : CodeView) (w k : ℕ) (B : Builder) (is : List Instruction) (x : Exit) → Ends C w (text_opened k B) is x → block_at C (at_work B) ≡ block_of w k is x
 first_block C w k (building done below is0) is x h =
     ap (λ l. get_or l (length done) no_block) h.1 ∙ get_or_at done (block_of w k is x) h.0 no_block (length done) refl
 
@@ -42,7 +42,7 @@ module _ (C : CodeView) (known : Known) (there : (f k : ℕ) → Takes known.fun
   text_implemented t B text has =
       let w = width_of t in
       let k = arity t in
-      let O = opened k B in
+      let O = text_opened k B in
       let S = in_slots t.parameters 0 in
       let E = emit w None S k t.body O in
       let e = has_close C w E (Return k) 0 has in
@@ -52,23 +52,23 @@ module _ (C : CodeView) (known : Known) (there : (f k : ℕ) → Takes known.fun
       ((at_work E, refl, subst (λ z. Implements C None S k t.body z (position (at_work E) [] (Return k))) s l.3), has_opened C k B (has_ends C w O l.0 l.1 l.2))
 
   texts_implemented : (ts : List ProcedureView) (B : Builder) → All (IsProcedure known) ts → Has C (emit_texts ts B)
-      → ((n : ℕ) → n < length ts → ImplementsText C (procedure_at ts n) (get_or (entries ts B) n no_entry)) × Has C B
+      → ((n : ℕ) → n < length ts → ImplementsText C (procedure_at ts n) (get_or (text_entries ts B) n no_entry)) × Has C B
   texts_implemented [] B fit has = (λ n lt. absurd (omega (arith, lt)), has)
   texts_implemented (t ∷ ts) B fit has =
       let rest = texts_implemented ts (emit_text t B) (λ n d lt. fit (suc n) d (omega (arith, lt))) has in
       let here = text_implemented t B (fit 0 t (omega arith)) rest.1 in
       (choose rest.0 here.0, here.1)
     where
-      choose : ((n : ℕ) → n < length ts → ImplementsText C (procedure_at ts n) (get_or (entries ts (emit_text t B)) n no_entry)) → ImplementsText C t (record { block = at_work B; values = arity t })
-          → (n : ℕ) → n < suc (length ts) → ImplementsText C (procedure_at (t ∷ ts) n) (get_or (entries (t ∷ ts) B) n no_entry)
+      choose : ((n : ℕ) → n < length ts → ImplementsText C (procedure_at ts n) (get_or (text_entries ts (emit_text t B)) n no_entry)) → ImplementsText C t (record { block = at_work B; values = arity t })
+          → (n : ℕ) → n < suc (length ts) → ImplementsText C (procedure_at (t ∷ ts) n) (get_or (text_entries (t ∷ ts) B) n no_entry)
       choose more here zero lt = here
       choose more here (suc n) lt = more n (omega (arith, lt))
 
-pub length_entries : (ts : List ProcedureView) (B : Builder) → length (entries ts B) ≡ length ts
+pub length_entries : (ts : List ProcedureView) (B : Builder) → length (text_entries ts B) ≡ length ts
 length_entries [] B = refl
 length_entries (t ∷ ts) B = ap suc (length_entries ts (emit_text t B))
 
-pub takes_entry : (ts : List ProcedureView) (B : Builder) (n k : ℕ) → Takes (map arity ts) n k → (n < length (entries ts B)) × (k ≡ (get_or (entries ts B) n no_entry).values)
+pub takes_entry : (ts : List ProcedureView) (B : Builder) (n k : ℕ) → Takes (map arity ts) n k → (n < length (text_entries ts B)) × (k ≡ (get_or (text_entries ts B) n no_entry).values)
 takes_entry [] B n k h = absurd h
 takes_entry (t ∷ ts) B zero k h = (omega arith, sym h)
 takes_entry (t ∷ ts) B (suc n) k h = let r = takes_entry ts (emit_text t B) n k h in (let lt = r.0 in omega (arith, lt), r.1)
@@ -83,9 +83,9 @@ code_implements P fit =
     let F = emit_texts P.functions nothing_built in
     let G = emit_texts P.bodies F in
     let there : (f k : ℕ) → Takes known.functions f k → (f < length C.functions) × (k ≡ (function_at C f).values) = takes_entry P.functions nothing_built in
-    let M = emit_text (main_text P) G in
+    let M = emit_text (main_procedure P) G in
     let identity = text_implemented C known there identity_text M (identity_fits known) ([], sym (append-nil C.blocks)) in
-    let main = text_implemented C known there (main_text P) G fit.main_fits identity.1 in
+    let main = text_implemented C known there (main_procedure P) G fit.main_fits identity.1 in
     let bodies = texts_implemented C known there P.bodies F fit.bodies_fit main.1 in
     let functions = texts_implemented C known there P.functions nothing_built fit.functions_fit bodies.1 in
     record {

@@ -9,20 +9,20 @@ use Rattle.ca_term.specs.declared.head.SeedKind.{SeedKind}
 use Rattle.ca_term.specs.declared.head.SystemTask.{SystemTask}
 use Rattle.ca_term.specs.declared.head.SystemTask.TheVariants as task
 use Rattle.ca_term.specs.declared.head.PlainFunction.{PlainFunction}
-use Rattle.ca_term.specs.Fits.{Known, Takes, Suits, SuitsSystem, IsApplied}
+use Rattle.ca_term.specs.Fits.{Known, Takes, Suits, SuitsSystem, IsApplicable}
 use Rattle.ca_term.specs.Program.{ProgramView, ProcedureView, arity, known_in, IsProcedure, IsProgram}
 use Rattle.ca_states.specs.declared.code.Exit.{Exit}
 use Rattle.ca_states.specs.declared.code.Exit.TheVariants.{Return}
-use Rattle.ca_states.specs.Code.{has_slot, Instruction, BlockView, CodeView, size, no_block, block_at, no_entry, function_at}
+use Rattle.ca_states.specs.Code.{has_slot, Instruction, BlockView, CodeView, block_count, no_block, block_at, no_entry, function_at}
 use Rattle.ca_states.specs.Valid.{each, takes, is_applied, is_task, is_operation, is_valid_block, are_valid_blocks, are_just, begins_well, main_entry, identity_entry, is_valid}
 use Rattle.ca_lower.specs.Implements.{in_slots, identity_text}
-use Rattle.ca_lower.specs.Emit.{Builder, building, at_work, finished, block_of, emit, opened, width_of, emit_text, emit_texts, entries, widest, greater, main_text, nothing_built, code_of}
+use Rattle.ca_lower.specs.Emit.{Builder, building, at_work, blocks_finished, block_of, emit, text_opened, width_of, emit_text, emit_texts, text_entries, widest, greater, main_procedure, nothing_built, code_of}
 use Rattle.ca_lower.proofs.Lays.{Ends, closed_at}
 use Rattle.ca_lower.proofs.Texts.{Has, has_close, has_ends, has_opened, opened_work, first_block, covers_parameters, takes_entry, identity_fits}
 use Rattle.ca_lower.proofs.Knows.{both_true, up_first, first_slots, just_first, Valid, valid_block, valid_return}
 use Rattle.ca_lower.proofs.Sound.{enough, own_slot, below_range, sound}
 
-within : (C : CodeView) (w k : ℕ) (B : Builder) (is : List Instruction) (x : Exit) → Ends C w (opened k B) is x → at_work B < size C
+within : (C : CodeView) (w k : ℕ) (B : Builder) (is : List Instruction) (x : Exit) → Ends C w (text_opened k B) is x → at_work B < block_count C
 within C w k (building done below is0) is x h =
     let all : length C.blocks ≡ length done + suc (length h.0) = ap length h.1 ∙ length-append done (block_of w k is x ∷ h.0) in omega (arith, all)
 
@@ -33,7 +33,7 @@ module _ (C : CodeView) (known : Known) (there : (f k : ℕ) → Takes known.fun
       let r = there f k t in
       both_true (nat_lt f (length C.functions)) ((slice_index_or C.functions f no_entry).values == k) (lt-ltb f (length C.functions) r.0) (eq-eqb (slice_index_or C.functions f no_entry).values k (sym r.1))
 
-  applies : (f : PlainFunction) → IsApplied known f → is_applied C f ≡ true
+  applies : (f : PlainFunction) → IsApplicable known f → is_applied C f ≡ true
   applies (PlainFunction.Defined n) h = called n 1 h.0
   applies (PlainFunction.Builtin b) h = h
   applies PlainFunction.Keyword h = refl
@@ -74,7 +74,7 @@ module _ (C : CodeView) (known : Known) (there : (f k : ℕ) → Takes known.fun
   text_valid t B text wide has =
       let w = width_of t in
       let k = arity t in
-      let O = opened k B in
+      let O = text_opened k B in
       let S = in_slots t.parameters 0 in
       let E = emit w None S k t.body O in
       let e = has_close C w E (Return k) 0 has in
@@ -88,7 +88,7 @@ module _ (C : CodeView) (known : Known) (there : (f k : ℕ) → Takes known.fun
       let end = closed_at w (Return k) 0 E in
       let just : are_just k (block_at C (at_work B)).entry ≡ true = ap (λ (b : BlockView). are_just k b.entry) first ∙ just_first k in (
         (λ j le lt. ⊎_elim (λ l. s.4 j (omega (arith, l, at_b)) (omega (arith, lt, end))) (λ g. let f : at_work B ≡ j = omega (arith, le, g) in subst (λ n. is_valid_block C n (block_at C n) ≡ true) f v0) (cases_lt (at_work B) j)),
-        both_true (nat_lt (at_work B) (size C)) (are_just k (block_at C (at_work B)).entry) (lt-ltb (at_work B) (size C) (within C w k B s.0 s.1 s.2)) just,
+        both_true (nat_lt (at_work B) (block_count C)) (are_just k (block_at C (at_work B)).entry) (lt-ltb (at_work B) (block_count C) (within C w k B s.0 s.1 s.2)) just,
         has_opened C k B (has_ends C w O s.0 s.1 s.2),
       )
 
@@ -96,14 +96,14 @@ module _ (C : CodeView) (known : Known) (there : (f k : ℕ) → Takes known.fun
   joined l m n a b j le lt = ⊎_elim (λ g. a j le g) (λ g. b j g lt) (cases_lt j m)
 
   texts_valid : (ts : List ProcedureView) (B : Builder) → All (IsProcedure known) ts → widest ts ≤ C.width → Has C (emit_texts ts B)
-      → Valids (at_work B) (at_work (emit_texts ts B)) × (each (begins_well C) (entries ts B) ≡ true) × Has C B
+      → Valids (at_work B) (at_work (emit_texts ts B)) × (each (begins_well C) (text_entries ts B) ≡ true) × Has C B
   texts_valid [] B fit wide has = ((λ j le lt. absurd (omega (arith, le, lt))), refl, has)
   texts_valid (t ∷ ts) B fit wide has =
       let f = enough (width_of t) (widest ts) C.width wide in
       let rest = texts_valid ts (emit_text t B) (λ n d lt. fit (suc n) d (omega (arith, lt))) f.1 has in
       let one = text_valid t B (fit 0 t (omega arith)) f.0 rest.2 in (
         joined (at_work B) (at_work (emit_text t B)) (at_work (emit_texts ts (emit_text t B))) one.0 rest.0,
-        both_true (begins_well C (record { block = at_work B; values = arity t })) (each (begins_well C) (entries ts (emit_text t B))) one.1 rest.1,
+        both_true (begins_well C (record { block = at_work B; values = arity t })) (each (begins_well C) (text_entries ts (emit_text t B))) one.1 rest.1,
         one.2,
       )
 
@@ -114,13 +114,13 @@ module _ (C : CodeView) (known : Known) (there : (f k : ℕ) → Takes known.fun
       both_true (is_valid_block C n b) (are_valid_blocks C (suc n) bs) (subst (λ m. is_valid_block C m b ≡ true) e (h 0 (omega arith)))
       (all_valid (suc n) bs (λ k lt. let f : n + suc k ≡ suc n + k = omega arith in subst (λ m. is_valid_block C m (get_or bs k no_block) ≡ true) f (h (suc k) (omega (arith, lt)))))
 
-finished_count : (B : Builder) → length (finished B) ≡ at_work B
+finished_count : (B : Builder) → length (blocks_finished B) ≡ at_work B
 finished_count (building done below is) = refl
 
-takes_entries : (ts : List ProcedureView) (B : Builder) (n k : ℕ) → Takes (map arity ts) n k → takes (entries ts B) n k ≡ true
+takes_entries : (ts : List ProcedureView) (B : Builder) (n k : ℕ) → Takes (map arity ts) n k → takes (text_entries ts B) n k ≡ true
 takes_entries ts B n k h =
     let r = takes_entry ts B n k h in
-    both_true (nat_lt n (length (entries ts B))) ((slice_index_or (entries ts B) n no_entry).values == k) (lt-ltb n (length (entries ts B)) r.0) (eq-eqb (slice_index_or (entries ts B) n no_entry).values k (sym r.1))
+    both_true (nat_lt n (length (text_entries ts B))) ((slice_index_or (text_entries ts B) n no_entry).values == k) (lt-ltb n (length (text_entries ts B)) r.0) (eq-eqb (slice_index_or (text_entries ts B) n no_entry).values k (sym r.1))
 
 pub code_valid : (P : ProgramView) → IsProgram P → is_valid (code_of P) ≡ true
 code_valid P fit =
@@ -128,15 +128,15 @@ code_valid P fit =
     let known = known_in fit.plain P in
     let F = emit_texts P.functions nothing_built in
     let G = emit_texts P.bodies F in
-    let M = emit_text (main_text P) G in
+    let M = emit_text (main_procedure P) G in
     let I = emit_text identity_text M in
     let there : (f k : ℕ) → Takes known.functions f k → (f < length C.functions) × (k ≡ (function_at C f).values) = takes_entry P.functions nothing_built in
     let bodies_there : (f k : ℕ) → Takes known.bodies f k → takes C.bodies f k ≡ true = takes_entries P.bodies F in
-    let w0 = enough (width_of identity_text) (greater (width_of (main_text P)) (greater (widest P.functions) (widest P.bodies))) C.width (omega arith) in
-    let w1 = enough (width_of (main_text P)) (greater (widest P.functions) (widest P.bodies)) C.width w0.1 in
+    let w0 = enough (width_of identity_text) (greater (width_of (main_procedure P)) (greater (widest P.functions) (widest P.bodies))) C.width (omega arith) in
+    let w1 = enough (width_of (main_procedure P)) (greater (widest P.functions) (widest P.bodies)) C.width w0.1 in
     let w2 = enough (widest P.functions) (widest P.bodies) C.width w1.1 in
     let identity = text_valid C known there bodies_there identity_text M (identity_fits known) w0.0 ([], sym (append-nil C.blocks)) in
-    let main = text_valid C known there bodies_there (main_text P) G fit.main_fits w1.0 identity.2 in
+    let main = text_valid C known there bodies_there (main_procedure P) G fit.main_fits w1.0 identity.2 in
     let bodies = texts_valid C known there bodies_there P.bodies F fit.bodies_fit w2.1 main.2 in
     let functions = texts_valid C known there bodies_there P.functions nothing_built fit.functions_fit w2.0 bodies.2 in
     let all =

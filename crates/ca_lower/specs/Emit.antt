@@ -14,7 +14,7 @@ use Rattle.ca_states.specs.declared.code.Exit.{Exit}
 use Rattle.ca_states.specs.declared.code.Exit.TheVariants.{Jump, Branch, Return, Cut}
 use Rattle.ca_states.specs.declared.code.Exit.TheVariants as exit
 use Rattle.ca_states.specs.Code.{Instruction, constant, copying, moving, one, pushing, putting, many, BlockView, CodeView}
-use Rattle.ca_lower.specs.Implements.{Scope, slot_of, in_slots, names_bound, Target, moves, operand_slot, next_slot, integer_of, paired, identity_text}
+use Rattle.ca_lower.specs.Implements.{Scope, slot_of, in_slots, names_bound, Target, moves, operand_slot, next_slot, written_integer, paired_instruction, identity_text}
 
 -- the finished blocks, and the block at work: how many slots it begins with, and its instructions so far
 pub data Builder : Type 0 where
@@ -23,8 +23,8 @@ pub data Builder : Type 0 where
 abbrev pub at_work : Builder → ℕ
 at_work (building done below is) = length done
 
-abbrev pub finished : Builder → List BlockView
-finished (building done below is) = done
+abbrev pub blocks_finished : Builder → List BlockView
+blocks_finished (building done below is) = done
 
 abbrev pub block_of : ℕ → ℕ → List Instruction → Exit → BlockView
 block_of w below is x = record { width = w; entry = record { below = below; holes = [] }; instrs = is; exit = x }
@@ -37,8 +37,8 @@ abbrev pub close : ℕ → Exit → ℕ → Builder → Builder
 close w x next (building done below is) = building (done ++ block_of w below is x ∷ []) next []
 
 -- a jump to a greater number is no turn, and has no place
-abbrev pub nowhere : Place
-nowhere = record { line = 0; column = 0 }
+abbrev pub without_place : Place
+without_place = record { line = 0; column = 0 }
 
 -- how many blocks a head finishes, and a term
 abbrev pub blocks_by : Head → ℕ
@@ -128,7 +128,7 @@ abbrev mutual
       let B1 = emit w None names h c B in
       let n = at_work B1 in
       let to = both_ends a b n in
-      close w (Jump to nowhere) (suc h) (emit w lp names h b (close w (Jump to nowhere) h (emit w lp names h a (close w (Branch h (n + 1) (no_side a n)) h B1))))
+      close w (Jump to without_place) (suc h) (emit w lp names h b (close w (Jump to without_place) h (emit w lp names h a (close w (Branch h (n + 1) (no_side a n)) h B1))))
   emit w lp names h (bind bs body) B =
       let c = count_bindings bs in
       add (moving h (h + c) ∷ []) (emit w lp (names ++ in_slots (names_bound bs) h) (h + c) body (emit_bindings w names h bs B))
@@ -137,7 +137,7 @@ abbrev mutual
       let c = count_bindings bs in
       let n = at_work B1 in
       add (moving h (h + c) ∷ [])
-      (emit w (Some (record { first = h; count = c; head = n + 1 })) (names ++ in_slots (names_bound bs) h) (h + c) body (close w (Jump (n + 1) nowhere) (h + c) B1))
+      (emit w (Some (record { first = h; count = c; head = n + 1 })) (names ++ in_slots (names_bound bs) h) (h + c) body (close w (Jump (n + 1) without_place) (h + c) B1))
   emit w lp names h (seq ts) B = emit_in_order w lp names h ts B
   emit w lp names h (frame body) B = B
   emit w lp names h (turn ns text now) B = B
@@ -148,7 +148,7 @@ abbrev mutual
       add (pushing h h (operand_slot names (suc h) u) p ∷ []) (operand u (emit w None names (suc h) u B1) B1)
   emit w lp names h (apply (Builtin b) (item t (item u none)) p) B =
       let B1 = operand t (emit w None names h t B) B in
-      add (paired b h (operand_slot names h t) (integer_of u) (operand_slot names (next_slot h t) u) p ∷ []) (second (integer_of u) (operand u (emit w None names (next_slot h t) u B1) B1) B1)
+      add (paired_instruction b h (operand_slot names h t) (written_integer u) (operand_slot names (next_slot h t) u) p ∷ []) (second (written_integer u) (operand u (emit w None names (next_slot h t) u B1) B1) B1)
   emit w lp names h (apply (Builtin Assoc) (item t (item u (item v none))) p) B =
       let B1 = emit w None names h t B in
       let B2 = operand u (emit w None names (suc h) u B1) B1 in
@@ -198,31 +198,31 @@ abbrev mutual
   slots_for_all h (item t ts) = greater (slots_for h t) (slots_for_all (suc h) ts)
 
 -- a text, from a new block on that begins with its values
-abbrev pub opened : ℕ → Builder → Builder
-opened k (building done below is) = building done k []
+abbrev pub text_opened : ℕ → Builder → Builder
+text_opened k (building done below is) = building done k []
 
 abbrev pub width_of : ProcedureView → ℕ
 width_of t = slots_for (arity t) t.body
 
 abbrev pub emit_text : ProcedureView → Builder → Builder
-emit_text t B = close (width_of t) (Return (arity t)) 0 (emit (width_of t) None (in_slots t.parameters 0) (arity t) t.body (opened (arity t) B))
+emit_text t B = close (width_of t) (Return (arity t)) 0 (emit (width_of t) None (in_slots t.parameters 0) (arity t) t.body (text_opened (arity t) B))
 
 abbrev pub emit_texts : List ProcedureView → Builder → Builder
 emit_texts [] B = B
 emit_texts (t ∷ ts) B = emit_texts ts (emit_text t B)
 
 -- where the texts begin
-abbrev pub entries : List ProcedureView → Builder → List EntryPoint
-entries [] B = []
-entries (t ∷ ts) B = record { block = at_work B; values = arity t } ∷ entries ts (emit_text t B)
+abbrev pub text_entries : List ProcedureView → Builder → List EntryPoint
+text_entries [] B = []
+text_entries (t ∷ ts) B = record { block = at_work B; values = arity t } ∷ text_entries ts (emit_text t B)
 
 -- how many slots the widest of them needs
 abbrev pub widest : List ProcedureView → ℕ
 widest [] = 0
 widest (t ∷ ts) = greater (width_of t) (widest ts)
 
-abbrev pub main_text : ProgramView → ProcedureView
-main_text P = record { parameters = []; body = P.main }
+abbrev pub main_procedure : ProgramView → ProcedureView
+main_procedure P = record { parameters = []; body = P.main }
 
 abbrev pub nothing_built : Builder
 nothing_built = building [] 0 []
@@ -233,12 +233,12 @@ abbrev pub code_of : ProgramView → CodeView
 code_of P =
     let F = emit_texts P.functions nothing_built in
     let G = emit_texts P.bodies F in
-    let M = emit_text (main_text P) G in
+    let M = emit_text (main_procedure P) G in
     record {
-      blocks = finished (emit_text identity_text M);
+      blocks = blocks_finished (emit_text identity_text M);
       main = at_work G;
       identity = at_work M;
-      bodies = entries P.bodies F;
-      functions = entries P.functions nothing_built;
-      width = greater (width_of identity_text) (greater (width_of (main_text P)) (greater (widest P.functions) (widest P.bodies)));
+      bodies = text_entries P.bodies F;
+      functions = text_entries P.functions nothing_built;
+      width = greater (width_of identity_text) (greater (width_of (main_procedure P)) (greater (widest P.functions) (widest P.bodies)));
     }

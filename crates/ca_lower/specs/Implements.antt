@@ -15,17 +15,17 @@ use Rattle.ca_states.specs.declared.code.EntryPoint.{EntryPoint}
 use Rattle.ca_states.specs.declared.code.Exit.{Exit}
 use Rattle.ca_states.specs.declared.code.Exit.TheVariants.{Jump, Branch, Return, Cut}
 use Rattle.ca_states.specs.declared.code.Exit.TheVariants as exit
-use Rattle.ca_states.specs.Code.{Instruction, constant, copying, moving, one, two, two_int, pushing, putting, many, CodeView, block_at, function_at, body_at}
+use Rattle.ca_states.specs.Code.{Instruction, constant, copying, moving, one, two, two_int, pushing, putting, many, CodeView, block_at, function_at, body_entry}
 use Rattle.ca_states.specs.Valid.{main_entry, identity_entry}
 
 -- a place in the code: the block's number, and what is left of it
-pub data Position : Type 0 where
-  position : ℕ → List Instruction → Exit → Position
+pub data CodePosition : Type 0 where
+  position : ℕ → List Instruction → Exit → CodePosition
 
-abbrev pub start_of : CodeView → ℕ → Position
+abbrev pub start_of : CodeView → ℕ → CodePosition
 start_of C n = position n (block_at C n).instrs (block_at C n).exit
 
-abbrev pub before : Instruction → Position → Position
+abbrev pub before : Instruction → CodePosition → CodePosition
 before i (position n is x) = position n (i ∷ is) x
 
 -- the names in scope, each with its slot
@@ -70,31 +70,31 @@ next_slot h (var x) = h
 next_slot h t = suc h
 
 -- for a name no code stands, since its value is in its slot already; for any other operand its own does
-abbrev pub Operand : Scope → Kernel → Type 0 → Position → Position → Type 0
+abbrev pub Operand : Scope → Kernel → Type 0 → CodePosition → CodePosition → Type 0
 Operand names (var x) own p q = IsInScope x names × (p ≡ q)
 Operand names t own p q = own
 
 -- the integer that a term is, where it is one of the text
-abbrev pub integer_of : Kernel → Option ℤ
-integer_of (const (int z)) = Some z
-integer_of t = None
+abbrev pub written_integer : Kernel → Option ℤ
+written_integer (const (int z)) = Some z
+written_integer t = None
 
 -- a builtin of a slot and an integer of the text, or of two slots
-abbrev pub paired : BuiltinName → ℕ → ℕ → Option ℤ → ℕ → Place → Instruction
-paired b h a (Some z) c p = two_int b h a z p
-paired b h a None c p = two b h a c p
+abbrev pub paired_instruction : BuiltinName → ℕ → ℕ → Option ℤ → ℕ → Place → Instruction
+paired_instruction b h a (Some z) c p = two_int b h a z p
+paired_instruction b h a None c p = two b h a c p
 
 -- for a second operand that is an integer of the text no code stands
-abbrev pub Second : Option ℤ → Type 0 → Position → Position → Type 0
+abbrev pub Second : Option ℤ → Type 0 → CodePosition → CodePosition → Type 0
 Second (Some z) own p q = p ≡ q
 Second None own p q = own
 
 -- by a Cut over so many operands from slot h on
-abbrev pub LeadsByCut : Head → CodeView → ℕ → ℕ → Place → Position → Position → Type 0
+abbrev pub LeadsByCut : Head → CodeView → ℕ → ℕ → Place → CodePosition → CodePosition → Type 0
 LeadsByCut f C h k pl r q = (n to : ℕ) × (r ≡ position n [] (Cut f h k h to pl)) × (q ≡ start_of C to)
 
 -- where the operands' values are in so many slots from h on, the head's value comes into slot h; a recur goes back
-abbrev pub LeadsBy : Head → CodeView → Option Target → ℕ → ℕ → Place → Position → Position → Type 0
+abbrev pub LeadsBy : Head → CodeView → Option Target → ℕ → ℕ → Place → CodePosition → CodePosition → Type 0
 LeadsBy Recur C None h k pl r q = ⊥
 LeadsBy Recur C (Some t) h k pl r q = (n : ℕ) × (k ≡ t.count) × (t.head ≤ n) × (r ≡ position n (moves t.first h t.count) (Jump t.head pl))
 LeadsBy (Builtin b) C target h k pl r q = r ≡ before (many b h h k pl) q
@@ -112,7 +112,7 @@ LeadsBy Post C target h k pl r q = LeadsByCut Post C h k pl r q
 
 abbrev mutual
   -- from p the code leads to q with the term's value in slot h; the names stand in slots below h
-  pub Implements : CodeView → Option Target → Scope → ℕ → Kernel → Position → Position → Type 0
+  pub Implements : CodeView → Option Target → Scope → ℕ → Kernel → CodePosition → CodePosition → Type 0
   Implements C target names h (const v) p q = p ≡ before (constant h v) q
   Implements C target names h (var x) p q = IsInScope x names × (p ≡ before (copying h (slot_of names x)) q)
   Implements C target names h (branch c a b) p q =
@@ -120,7 +120,7 @@ abbrev mutual
       × Implements C target names h a (start_of C yes_to) (position na [] (Jump to pa)) × Implements C target names h b (start_of C no_to) (position nb [] (Jump to pb))
       × (na < to) × (nb < to) × (q ≡ start_of C to)
   Implements C target names h (bind bs body) p q =
-      (r : Position) × ImplementsBindings C names h bs p r
+      (r : CodePosition) × ImplementsBindings C names h bs p r
       × Implements C target (names ++ in_slots (names_bound bs) h) (h + count_bindings bs) body r (before (moving h (h + count_bindings bs)) q)
   Implements C target names h (loop fs bs body) p q =
       (n to : ℕ) × (pl : Place) × (fs ≡ []) × ImplementsBindings C names h bs p (position n [] (Jump to pl)) × (n < to)
@@ -131,38 +131,38 @@ abbrev mutual
   Implements C target names h (turn ns text now) p q = ⊥
   -- one operand or two of a builtin are read where they are, the second in the instruction if it is an integer of the text
   Implements C target names h (apply (Builtin b) (item t none) pl) p q =
-      (r : Position) × Operand names t (Implements C None names h t p r) p r × (r ≡ before (one b h (operand_slot names h t) pl) q)
+      (r : CodePosition) × Operand names t (Implements C None names h t p r) p r × (r ≡ before (one b h (operand_slot names h t) pl) q)
   -- a collection that grows is taken out of slot h
   Implements C target names h (apply (Builtin Conj) (item t (item u none)) pl) p q =
-      (r r2 : Position) × Implements C None names h t p r × Operand names u (Implements C None names (suc h) u r r2) r r2
+      (r r2 : CodePosition) × Implements C None names h t p r × Operand names u (Implements C None names (suc h) u r r2) r r2
       × (r2 ≡ before (pushing h h (operand_slot names (suc h) u) pl) q)
   Implements C target names h (apply (Builtin b) (item t (item u none)) pl) p q =
-      (r r2 : Position) × Operand names t (Implements C None names h t p r) p r × Second (integer_of u) (Operand names u (Implements C None names (next_slot h t) u r r2) r r2) r r2
-      × (r2 ≡ before (paired b h (operand_slot names h t) (integer_of u) (operand_slot names (next_slot h t) u) pl) q)
+      (r r2 : CodePosition) × Operand names t (Implements C None names h t p r) p r × Second (written_integer u) (Operand names u (Implements C None names (next_slot h t) u r r2) r r2) r r2
+      × (r2 ≡ before (paired_instruction b h (operand_slot names h t) (written_integer u) (operand_slot names (next_slot h t) u) pl) q)
   Implements C target names h (apply (Builtin Assoc) (item t (item u (item v none))) pl) p q =
-      (r r2 r3 : Position) × Implements C None names h t p r × Operand names u (Implements C None names (suc h) u r r2) r r2
+      (r r2 r3 : CodePosition) × Implements C None names h t p r × Operand names u (Implements C None names (suc h) u r r2) r r2
       × Operand names v (Implements C None names (next_slot (suc h) u) v r2 r3) r2 r3
       × (r3 ≡ before (putting h h (operand_slot names (suc h) u) (operand_slot names (next_slot (suc h) u) v) pl) q)
   -- all else takes its operands out of a row of slots
-  Implements C target names h (apply f ts pl) p q = (r : Position) × ImplementsAll C names h ts p r × LeadsBy f C target h (count_terms ts) pl r q
+  Implements C target names h (apply f ts pl) p q = (r : CodePosition) × ImplementsAll C names h ts p r × LeadsBy f C target h (count_terms ts) pl r q
 
   -- one after another, for the last one's value
-  pub ImplementsInOrder : CodeView → Option Target → Scope → ℕ → Kernels → Position → Position → Type 0
+  pub ImplementsInOrder : CodeView → Option Target → Scope → ℕ → Kernels → CodePosition → CodePosition → Type 0
   ImplementsInOrder C target names h none p q = p ≡ before (constant h nil) q
   ImplementsInOrder C target names h (item t none) p q = Implements C target names h t p q
   ImplementsInOrder C target names h (item t (item u us)) p q =
-      (r : Position) × Implements C None names h t p r × ImplementsInOrder C target names h (item u us) r q
+      (r : CodePosition) × Implements C None names h t p r × ImplementsInOrder C target names h (item u us) r q
 
   -- one after another, each in scope of those before it
-  pub ImplementsBindings : CodeView → Scope → ℕ → Bindings → Position → Position → Type 0
+  pub ImplementsBindings : CodeView → Scope → ℕ → Bindings → CodePosition → CodePosition → Type 0
   ImplementsBindings C names h empty p q = p ≡ q
   ImplementsBindings C names h (binding n t bs) p q =
-      (r : Position) × Implements C None names h t p r × ImplementsBindings C (names ++ (n, h) ∷ []) (suc h) bs r q
+      (r : CodePosition) × Implements C None names h t p r × ImplementsBindings C (names ++ (n, h) ∷ []) (suc h) bs r q
 
   -- one after another, with their values in the slots from h on
-  pub ImplementsAll : CodeView → Scope → ℕ → Kernels → Position → Position → Type 0
+  pub ImplementsAll : CodeView → Scope → ℕ → Kernels → CodePosition → CodePosition → Type 0
   ImplementsAll C names h none p q = p ≡ q
-  ImplementsAll C names h (item t ts) p q = (r : Position) × Implements C None names h t p r × ImplementsAll C names (suc h) ts r q
+  ImplementsAll C names h (item t ts) p q = (r : CodePosition) × Implements C None names h t p r × ImplementsAll C names (suc h) ts r q
 
 -- from the entry point the code leads to the text's value, which it returns
 abbrev pub ImplementsText : CodeView → ProcedureView → EntryPoint → Type 0
@@ -177,6 +177,6 @@ identity_text = record { parameters = 0 ∷ []; body = var 0 }
 pub record ImplementsProgram (C : CodeView) (P : ProgramView) : Type 0 where
   pub main : ImplementsText C (record { parameters = []; body = P.main }) (main_entry C)
   pub identity : ImplementsText C identity_text (identity_entry C)
-  pub bodies : (n : ℕ) → n < length P.bodies → ImplementsText C (procedure_at P.bodies n) (body_at C n)
+  pub bodies : (n : ℕ) → n < length P.bodies → ImplementsText C (procedure_at P.bodies n) (body_entry C n)
   pub as_many : length P.functions ≡ length C.functions
   pub functions : (n : ℕ) → n < length P.functions → ImplementsText C (procedure_at P.functions n) (function_at C n)

@@ -39,5 +39,5 @@ pub record IsOnTop (these : List Split → List Split) (s : List Split) : Type 0
   pub is : s ≡ these rest
 
 -- they are taken from it, and what is below them stays
-pub record Takes (these : List Split → List Split) (s left : List Split) : Type 0 where
+pub record TakesSplits (these : List Split → List Split) (s left : List Split) : Type 0 where
   pub leaves : (rest : List Split) → s ≡ these rest → left ≡ rest

@@ -5,7 +5,7 @@ ghost use Rattle.ca_value.specs.View.{view};
 ghost use Rattle.ca_states.specs.Code.{constant, instruction};
 ghost use Rattle.ca_states.specs.declared.code.Exit.TheVariants.{Jump, Branch};
 ghost use Rattle.ca_lower.specs.Implements.{moves, slot_of};
-ghost use Rattle.ca_lower.specs.Emit.{add, at_work, close, finish, nowhere, recur_code, recur_exit};
+ghost use Rattle.ca_lower.specs.Emit.{add, at_work, close, finish, without_place, recur_code, recur_exit};
 ghost use Rattle.ca_lower.specs.Views.{builder_view, scope_view, target_view};
 
 use crate::sizes::Split;
@@ -54,7 +54,7 @@ pub(crate) fn sum(a: u64, b: u64) -> Result<u64, OutOfMemory>
 
 /// The place of a jump that is no turn.
 pub(crate) fn no_place() -> Place
-    ensures { result ≡ nowhere }
+    ensures { result ≡ without_place }
 {
     Place { line: 0, column: 0 }
 }
@@ -147,7 +147,7 @@ impl Builder {
         to: u64,
         next: u64,
     ) -> Result<(), OutOfMemory>
-        ensures { OnOk result (builder_view self.new ≡ close width (Jump to nowhere) next (builder_view self.old)) }
+        ensures { OnOk result (builder_view self.new ≡ close width (Jump to without_place) next (builder_view self.old)) }
     {
         let place = no_place();
         self.close(alloc, width, Exit::Jump { next: to, place }, next)
@@ -180,7 +180,7 @@ impl Builder {
         first: u64,
         count: u64,
     ) -> Result<Loop, OutOfMemory>
-        ensures code { OnOk result (builder_view self.new ≡ close width (Jump (at_work (builder_view self.old) + 1) nowhere) (first + count) (builder_view self.old)) }
+        ensures code { OnOk result (builder_view self.new ≡ close width (Jump (at_work (builder_view self.old) + 1) without_place) (first + count) (builder_view self.old)) }
         ensures target { IfOk result (λ l. target_view (Some l) ≡ Some (record { first = first; count = count; head = at_work (builder_view self.old) + 1 })) }
     {
         let head = sum(self.number(), 1)?;

@@ -4,7 +4,7 @@ ghost use Rattle.ca_value.specs.Seq.{list};
 ghost use Rattle.ca_term.specs.Program.{procedure_view, program_view};
 ghost use Rattle.ca_states.specs.Code.{code_view};
 ghost use Rattle.ca_lower.specs.Implements.{identity_text};
-ghost use Rattle.ca_lower.specs.Emit.{code_of, emit_text, emit_texts, entries, widest, width_of};
+ghost use Rattle.ca_lower.specs.Emit.{code_of, emit_text, emit_texts, text_entries, widest, width_of};
 ghost use Rattle.ca_lower.specs.Views.{builder_view, texts_of};
 
 use crate::builder::{Builder, sum};
@@ -49,7 +49,7 @@ fn emit_texts(
     texts: Texts,
 ) -> Result<Laid, OutOfMemory>
     ensures code { OnOk result (builder_view builder.new ≡ emit_texts (texts_of (program_view program.now) texts) (builder_view builder.old)) }
-    ensures begin { IfOk result (λ l. list l.entries ≡ entries (texts_of (program_view program.now) texts) (builder_view builder.old)) }
+    ensures begin { IfOk result (λ l. list l.entries ≡ text_entries (texts_of (program_view program.now) texts) (builder_view builder.old)) }
     ensures wide { IfOk result (λ l. l.widest ≡ widest (texts_of (program_view program.now) texts)) }
 {
     let mut laid = Laid {

@@ -5,10 +5,10 @@ ghost use Rattle.ca_term.specs.View.{bindings as bindings_view, kernel, kernels}
 ghost use Rattle.ca_term.specs.declared.head.Head.TheVariants as heads;
 ghost use Rattle.ca_term.specs.Kernel.{apply};
 ghost use Rattle.ca_states.specs.Code.{instruction};
-ghost use Rattle.ca_lower.specs.Implements.{Target, in_slots, integer_of, names_bound, next_slot, operand_slot, paired};
+ghost use Rattle.ca_lower.specs.Implements.{Target, in_slots, written_integer, names_bound, next_slot, operand_slot, paired_instruction};
 ghost use Rattle.ca_lower.specs.Emit.{emit, emit_all, emit_bindings, emit_in_order, operand, second};
 ghost use Rattle.ca_lower.specs.Layouts.{layout_of};
-ghost use Rattle.ca_lower.specs.Splits.{stacked, stacked_all, stacked_bound, IsOnTop, Takes};
+ghost use Rattle.ca_lower.specs.Splits.{stacked, stacked_all, stacked_bound, IsOnTop, TakesSplits};
 ghost use Rattle.ca_lower.specs.declared.emit.Layout.TheVariants.{Push, Put};
 ghost use Rattle.ca_lower.specs.Views.{builder_view, scope_view, target_view};
 
@@ -39,7 +39,7 @@ pub(crate) fn emit_term(
     requires { IsOnTop (stacked (kernel term.now)) (list splits.old) }
     ensures code { OnOk result (builder_view b.new ≡ emit width (target_view target) (scope_view (list names.old)) h (kernel term.now) (builder_view b.old)) }
     ensures names { OnOk result (list names.new ≡ list names.old) }
-    ensures splits { OnOk result (Takes (stacked (kernel term.now)) (list splits.old) (list splits.new)) }
+    ensures splits { OnOk result (TakesSplits (stacked (kernel term.now)) (list splits.old) (list splits.new)) }
 {
     match term {
         Term::Const(value) => b.put_constant(alloc, h, value),
@@ -97,7 +97,7 @@ fn emit_apply(
     requires { IsOnTop (stacked_all (kernels (list operands.now))) (list splits.old) }
     ensures code { OnOk result (builder_view b.new ≡ emit width (target_view target) (scope_view (list names.old)) h (apply head (kernels (list operands.now)) place) (builder_view b.old)) }
     ensures names { OnOk result (list names.new ≡ list names.old) }
-    ensures splits { OnOk result (Takes (stacked_all (kernels (list operands.now))) (list splits.old) (list splits.new)) }
+    ensures splits { OnOk result (TakesSplits (stacked_all (kernels (list operands.now))) (list splits.old) (list splits.new)) }
 {
     match head {
         Head::Builtin(builtin) => {
@@ -133,7 +133,7 @@ fn emit_operand(
     ensures names { OnOk result (list names.new ≡ list names.old) }
     ensures slot { IfOk result (λ o. o.slot ≡ operand_slot (scope_view (list names.old)) h (kernel term.now)) }
     ensures next { IfOk result (λ o. o.next ≡ next_slot h (kernel term.now)) }
-    ensures splits { OnOk result (Takes (stacked (kernel term.now)) (list splits.old) (list splits.new)) }
+    ensures splits { OnOk result (TakesSplits (stacked (kernel term.now)) (list splits.old) (list splits.new)) }
 {
     match term {
         Term::Var(name) => Ok(Operand {
@@ -159,7 +159,7 @@ struct Second {
 
 // The integer that the term is, where it is one of the text.
 fn integer_of(term: &Term) -> Option<i64>
-    ensures { result ≡ integer_of (kernel term.now) }
+    ensures { result ≡ written_integer (kernel term.now) }
 {
     match term {
         Term::Const(value) => match value {
@@ -183,11 +183,11 @@ fn emit_second(
     term: &Term,
 ) -> Result<Second, OutOfMemory>
     requires { IsOnTop (stacked (kernel term.now)) (list splits.old) }
-    ensures code { OnOk result (builder_view b.new ≡ second (integer_of (kernel term.now)) (operand (kernel term.now) (emit width None (scope_view (list names.old)) h (kernel term.now) (builder_view b.old)) (builder_view b.old)) (builder_view b.old)) }
+    ensures code { OnOk result (builder_view b.new ≡ second (written_integer (kernel term.now)) (operand (kernel term.now) (emit width None (scope_view (list names.old)) h (kernel term.now) (builder_view b.old)) (builder_view b.old)) (builder_view b.old)) }
     ensures names { OnOk result (list names.new ≡ list names.old) }
-    ensures integer { IfOk result (λ s. s.integer ≡ integer_of (kernel term.now)) }
+    ensures integer { IfOk result (λ s. s.integer ≡ written_integer (kernel term.now)) }
     ensures slot { IfOk result (λ s. s.slot ≡ operand_slot (scope_view (list names.old)) h (kernel term.now)) }
-    ensures splits { OnOk result (Takes (stacked (kernel term.now)) (list splits.old) (list splits.new)) }
+    ensures splits { OnOk result (TakesSplits (stacked (kernel term.now)) (list splits.old) (list splits.new)) }
 {
     match integer_of(term) {
         Some(n) => Ok(Second {
@@ -206,7 +206,7 @@ fn emit_second(
 
 // A builtin of a slot and a second operand.
 fn paired(builtin: Builtin, to: u64, left: u64, right: Second, place: Place) -> Instr
-    ensures { instruction result ≡ paired builtin to left right.integer right.slot place }
+    ensures { instruction result ≡ paired_instruction builtin to left right.integer right.slot place }
 {
     match right.integer {
         Some(right) => Instr::TwoInt {
@@ -242,7 +242,7 @@ fn emit_builtin(
     requires { IsOnTop (stacked_all (kernels (list operands.now))) (list splits.old) }
     ensures code { OnOk result ((lp : Option Target) → builder_view b.new ≡ emit width lp (scope_view (list names.old)) h (apply (heads.Builtin builtin) (kernels (list operands.now)) place) (builder_view b.old)) }
     ensures names { OnOk result (list names.new ≡ list names.old) }
-    ensures splits { OnOk result (Takes (stacked_all (kernels (list operands.now))) (list splits.old) (list splits.new)) }
+    ensures splits { OnOk result (TakesSplits (stacked_all (kernels (list operands.now))) (list splits.old) (list splits.new)) }
 {
     match layout_of(builtin, operands.len()) {
         Layout::One => {
@@ -299,7 +299,7 @@ fn emit_push(
     requires on_top { IsOnTop (stacked_all (kernels (list operands.now))) (list splits.old) }
     ensures code { OnOk result ((lp : Option Target) → builder_view b.new ≡ emit width lp (scope_view (list names.old)) h (apply (heads.Builtin builtin) (kernels (list operands.now)) place) (builder_view b.old)) }
     ensures names { OnOk result (list names.new ≡ list names.old) }
-    ensures splits { OnOk result (Takes (stacked_all (kernels (list operands.now))) (list splits.old) (list splits.new)) }
+    ensures splits { OnOk result (TakesSplits (stacked_all (kernels (list operands.now))) (list splits.old) (list splits.new)) }
 {
     emit_term(
         alloc,
@@ -346,7 +346,7 @@ fn emit_put(
     requires on_top { IsOnTop (stacked_all (kernels (list operands.now))) (list splits.old) }
     ensures code { OnOk result ((lp : Option Target) → builder_view b.new ≡ emit width lp (scope_view (list names.old)) h (apply (heads.Builtin builtin) (kernels (list operands.now)) place) (builder_view b.old)) }
     ensures names { OnOk result (list names.new ≡ list names.old) }
-    ensures splits { OnOk result (Takes (stacked_all (kernels (list operands.now))) (list splits.old) (list splits.new)) }
+    ensures splits { OnOk result (TakesSplits (stacked_all (kernels (list operands.now))) (list splits.old) (list splits.new)) }
 {
     emit_term(
         alloc,
@@ -427,7 +427,7 @@ fn emit_all(
     requires { IsOnTop (stacked_all (kernels (list terms.now))) (list splits.old) }
     ensures code { OnOk result (builder_view b.new ≡ emit_all width (scope_view (list names.old)) h (kernels (list terms.now)) (builder_view b.old)) }
     ensures names { OnOk result (list names.new ≡ list names.old) }
-    ensures splits { OnOk result (Takes (stacked_all (kernels (list terms.now))) (list splits.old) (list splits.new)) }
+    ensures splits { OnOk result (TakesSplits (stacked_all (kernels (list terms.now))) (list splits.old) (list splits.new)) }
 {
     let mut slot = h;
     for term in terms.as_slice() {
@@ -458,7 +458,7 @@ fn emit_in_order(
     requires { IsOnTop (stacked_all (kernels (list terms.now))) (list splits.old) }
     ensures code { OnOk result (builder_view b.new ≡ emit_in_order width (target_view target) (scope_view (list names.old)) h (kernels (list terms.now)) (builder_view b.old)) }
     ensures names { OnOk result (list names.new ≡ list names.old) }
-    ensures splits { OnOk result (Takes (stacked_all (kernels (list terms.now))) (list splits.old) (list splits.new)) }
+    ensures splits { OnOk result (TakesSplits (stacked_all (kernels (list terms.now))) (list splits.old) (list splits.new)) }
 {
     if terms.is_empty() {
         return b.put_constant(alloc, h, &Value::Nil);
@@ -486,7 +486,7 @@ fn emit_bindings(
     ensures code { OnOk result (builder_view b.new ≡ emit_bindings width (scope_view (list names.old)) h (bindings_view (list bindings.now)) (builder_view b.old)) }
     ensures scope { OnOk result (scope_view (list names.new) ≡ scope_view (list names.old) ++ in_slots (names_bound (bindings_view (list bindings.now))) h) }
     ensures kept { OnOk result (take (length (list names.old)) (list names.new) ≡ list names.old) }
-    ensures splits { OnOk result (Takes (stacked_bound (bindings_view (list bindings.now))) (list splits.old) (list splits.new)) }
+    ensures splits { OnOk result (TakesSplits (stacked_bound (bindings_view (list bindings.now))) (list splits.old) (list splits.new)) }
 {
     let mut slot = h;
     for binding in bindings.as_slice() {

@@ -3,7 +3,7 @@ ghost use Rattle.std.specs.Prelude.{◌≡◌, true};
 ghost use Rattle.ca_term.specs.Program.{IsProgram, ProgramView};
 ghost use Rattle.ca_meaning.specs.Body.{BodyView};
 ghost use Rattle.ca_states.specs.Code.{CodeView};
-ghost use Rattle.ca_states.specs.Machine.{State, Move, ComesTo};
+ghost use Rattle.ca_states.specs.Machine.{RunnerState, Move, ComesTo};
 ghost use Rattle.ca_states.specs.Valid.{is_valid};
 ghost use Rattle.ca_lower.specs.Emit.{code_of};
 ghost use Rattle.ca_lower.specs.Implements.{ImplementsProgram};
@@ -28,5 +28,5 @@ pub fn code_is_valid()
 /// What a runner that stands for a body comes to, the body comes to; after any answer it stands for the body
 /// with that answer filled in.
 pub fn runners_halt_as_their_bodies()
-    ensures { (P : ProgramView) (C : CodeView) (c : State) (b : BodyView) (m : Move) → StandsFor P C c b → ComesTo C c m → After P (StandsFor P C) m b }
+    ensures { (P : ProgramView) (C : CodeView) (c : RunnerState) (b : BodyView) (m : Move) → StandsFor P C c b → ComesTo C c m → After P (StandsFor P C) m b }
 {}

@@ -3,7 +3,7 @@ ghost use Rattle.std.specs.Prelude.{◌≡◌, IfOk, OnOk};
 ghost use Rattle.ca_value.specs.Seq.{list};
 ghost use Rattle.ca_term.specs.View.{kernel};
 ghost use Rattle.ca_lower.specs.Implements.{in_slots};
-ghost use Rattle.ca_lower.specs.Emit.{emit_text, opened, width_of};
+ghost use Rattle.ca_lower.specs.Emit.{emit_text, text_opened, width_of};
 ghost use Rattle.ca_lower.specs.Views.{builder_view, scope_view};
 
 use crate::builder::{Builder, Name, sum};
@@ -32,7 +32,7 @@ fn parameters_in_slots(alloc: Global, parameters: &[u64]) -> Result<Seq<Name>, O
 
 // A new block is at work, with so many slots from the beginning.
 fn open(alloc: Global, builder: &mut Builder, count: u64)
-    ensures { builder_view builder.new ≡ opened count (builder_view builder.old) }
+    ensures { builder_view builder.new ≡ text_opened count (builder_view builder.old) }
 {
     builder.below = count;
     builder.instrs = Seq::new(alloc);

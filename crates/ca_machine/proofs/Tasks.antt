@@ -18,8 +18,8 @@ use Rattle.ca_states.specs.declared.runner.Halt.{Halt}
 use Rattle.ca_states.specs.declared.runner.Halt.TheVariants as halt
 use Rattle.ca_states.specs.declared.runner.Runner.{Runner}
 use Rattle.ca_states.specs.Code.{Instruction, CodeView, block_at, function_at}
-use Rattle.ca_states.specs.Machine.{ComesTo, Effect, Frame, Move, State, applied, at_block, done, effect, ends, entered, failed, faults, goes, goes_on, halts, leaves, move, read, reads, returned, runs, slots_from, taken_all, tested, turned, waiting, waits, went}
-use Rattle.ca_states.specs.Standing.{HaltedAs, HaltsAs, Stands}
+use Rattle.ca_states.specs.Machine.{ComesTo, Effect, Frame, Move, RunnerState, builtin_applied, at_block, done, effect, ends, entered, failed, faults, goes, goes_on, halts, leaves, move, read, reads, returned, runs_block, slots_from, taken_all, test_answered, turned, waits_or_faults, waits, went}
+use Rattle.ca_states.specs.Standing.{HaltedAs, HaltsAs, RunnerStands}
 use Rattle.ca_states.specs.Valid.{is_counted_exit, is_operation, is_valid, takes}
 use Rattle.ca_states.proofs.SlotLaws.{length_reads}
 use Rattle.ca_states.proofs.StandingLaws.{ValidParts, exit_parts, goes_standing, valid_parts}
@@ -76,7 +76,7 @@ module _ (C : CodeView) where
   either true x y h k = h
   either false x y h k = k
 
-  tested_has : (p : Place) (c : State) (yes_to no_to : ℕ) (o : Outcome) → HasIts (tested p c yes_to no_to o)
+  tested_has : (p : Place) (c : RunnerState) (yes_to no_to : ℕ) (o : Outcome) → HasIts (test_answered p c yes_to no_to o)
   tested_has p c yes_to no_to (Ok v) = tt
   tested_has p c yes_to no_to (Err f) = tt
 
@@ -84,17 +84,17 @@ module _ (C : CodeView) where
   returned_has v [] turns = tt
   returned_has v (f ∷ fs) turns = tt
 
-  waiting_has : (p : Place) (answer : ℕ) (c : State) (o : Result OpView Fault) → ((op : OpView) → o ≡ Ok op → HasTask C op) → HasIts (waiting p answer c o)
+  waiting_has : (p : Place) (answer : ℕ) (c : RunnerState) (o : Result OpView Fault) → ((op : OpView) → o ≡ Ok op → HasTask C op) → HasIts (waits_or_faults p answer c o)
   waiting_has p answer c (Ok op) h = h op refl
   waiting_has p answer c (Err f) h = tt
 
-  leaves_has : (x : Exit) (c : State) → IsTrue (is_counted_exit C x) → HasIts (leaves C x c)
+  leaves_has : (x : Exit) (c : RunnerState) → IsTrue (is_counted_exit C x) → HasIts (leaves C x c)
   leaves_has (Jump next p) c is =
       let turn = goes (record c { block = next; turns = suc c.turns }) in
       either (nat_lt c.block next) (goes (at_block next c)) (turned c.turns p turn) tt (either (nat_le 999_999 c.turns) (faults Spun p c.turns) turn tt tt)
   leaves_has (Branch a yes_to no_to) c is = tt
-  leaves_has (Test b to left_at right_at yes_to no_to p) c is = tested_has p c yes_to no_to (applied b (read c.slots left_at ∷ read c.slots right_at ∷ []))
-  leaves_has (TestInt b to left_at z yes_to no_to p) c is = tested_has p c yes_to no_to (applied b (read c.slots left_at ∷ int z ∷ []))
+  leaves_has (Test b to left_at right_at yes_to no_to p) c is = tested_has p c yes_to no_to (builtin_applied b (read c.slots left_at ∷ read c.slots right_at ∷ []))
+  leaves_has (TestInt b to left_at z yes_to no_to p) c is = tested_has p c yes_to no_to (builtin_applied b (read c.slots left_at ∷ int z ∷ []))
   leaves_has (Call f a k answer next p) c is =
       let frame : Frame = record { next = next; answer = answer; slots = taken_all c.slots (slots_from a k) } in
       let d = goes (entered C (function_at C f) (reads c.slots (slots_from a k)) frame c) in
@@ -107,18 +107,18 @@ module _ (C : CodeView) where
       waiting_has p answer (record c { block = next; slots = taken_all c.slots (slots_from a k) }) (asked h (trees_of vs) p)
       (λ op. asked_has h (trees_of vs) p op (subst (λ m. IsTrue (is_operation C m h)) (sym many) is))
 
-  went_has : (e : Effect) (c : State) (m : State → Move) → ((d : State) → HasIts (m d)) → HasIts (went e c m)
+  went_has : (e : Effect) (c : RunnerState) (m : RunnerState → Move) → ((d : RunnerState) → HasIts (m d)) → HasIts (went e c m)
   went_has (done s) c m h = h (record c { slots = s })
   went_has (failed f p) c m h = tt
 
-  runs_has : (is : List Instruction) (x : Exit) (c : State) → IsTrue (is_counted_exit C x) → HasIts (runs C is x c)
+  runs_has : (is : List Instruction) (x : Exit) (c : RunnerState) → IsTrue (is_counted_exit C x) → HasIts (runs_block C is x c)
   runs_has [] x c ok = leaves_has x c ok
-  runs_has (i ∷ is) x c ok = went_has (effect i c.slots) c (runs C is x) (λ d. runs_has is x d ok)
+  runs_has (i ∷ is) x c ok = went_has (effect i c.slots) c (runs_block C is x) (λ d. runs_has is x d ok)
 
-  move_has : ValidParts C → (c : State) → Stands C c → HasIts (move C c)
+  move_has : ValidParts C → (c : RunnerState) → RunnerStands C c → HasIts (move C c)
   move_has v c s = runs_has (block_at C c.block).instrs (block_at C c.block).exit c (exit_parts C v c.block s.slots.0).counted
 
-  comes_has : {c : State} {m : Move} → ValidParts C → Stands C c → ComesTo C c m → HasIts m
+  comes_has : {c : RunnerState} {m : Move} → ValidParts C → RunnerStands C c → ComesTo C c m → HasIts m
   comes_has v s (goes_on c d m e r) = comes_has v (goes_standing C v c d s e).0 r
   comes_has v s (halts {c} h) = move_has v c s
 
@@ -127,5 +127,5 @@ module _ (C : CodeView) where
   halted_has m (halt.Ended v) r has e = tt
   halted_has m (halt.Faulted f p) r has e = tt
 
-  pub halts_has : is_valid C ≡ true → (c : State) (h : Halt) (r : Runner) → Stands C c → HaltsAs C c h r → HasTaskAt C (halted_at h)
+  pub halts_has : is_valid C ≡ true → (c : RunnerState) (h : Halt) (r : Runner) → RunnerStands C c → HaltsAs C c h r → HasTaskAt C (halted_at h)
   halts_has valid c h r s (m, comes, e) = halted_has m h r (comes_has (valid_parts C valid) s comes) e

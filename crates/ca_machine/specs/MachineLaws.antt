@@ -13,7 +13,7 @@ use Rattle.ca_states.specs.Code.{CodeView}
 use Rattle.ca_states.specs.Machine.{Move, resumed}
 use Rattle.ca_lower.specs.Lowered.{After, StandsFor}
 use Rattle.ca_lower.proofs.Lowers.{comes}
-use Rattle.ca_machine.specs.Machines.{MachineView, GoesAs, StandsAs, HaltsIn, Runs, AdvancesFrom, Advances, Gives, Begins, Starts, IsOver}
+use Rattle.ca_machine.specs.Machines.{MachineView, GoesAs, MachineStandsAs, HaltsIn, RunsToHalt, AdvancesFrom, Advances, MachineGives, MachineBegins, Starts, IsOver}
 use Rattle.ca_machine.specs.Tasks.{HasTaskAt}
 
 -- anywhere but at a local step
@@ -52,42 +52,42 @@ module _ (P : ProgramView) where
       ((stands, subst (λ (x : BodyView). x.turns ≡ n.state.turns) s z.3), sym stands)
   halted n k begun b r a nowhere e h = absurd h
 
-  runs : (m n : MachineView) (b begun : BodyView) → StandsFor P m.code m.state begun → Rest P begun b → Runs m n → GoesAs P n n.place b × (n.place ≡ at b)
-  runs m n b begun g r (same, k, c, h) =
+  machine_run_stands : (m n : MachineView) (b begun : BodyView) → StandsFor P m.code m.state begun → Rest P begun b → RunsToHalt m n → GoesAs P n n.place b × (n.place ≡ at b)
+  machine_run_stands m n b begun g r (same, k, c, h) =
       halted n k begun b r (subst (λ C. After P (StandsFor P C) k begun) (sym same) (comes P m.code begun g c)) n.place refl h
 
   -- paused, it stays
-  stays : (m n : MachineView) (b : BodyView) → GoesAs P m m.place b → m.place ≡ at b → n ≡ m → GoesAs P n n.place b × (n.place ≡ at b)
-  stays m n b g e same = (subst (λ (x : MachineView). GoesAs P x x.place b) (sym same) g, subst (λ (x : MachineView). x.place ≡ at b) (sym same) e)
+  machine_stays : (m n : MachineView) (b : BodyView) → GoesAs P m m.place b → m.place ≡ at b → n ≡ m → GoesAs P n n.place b × (n.place ≡ at b)
+  machine_stays m n b g e same = (subst (λ (x : MachineView). GoesAs P x x.place b) (sym same) g, subst (λ (x : MachineView). x.place ≡ at b) (sym same) e)
 
-  from : (m n : MachineView) (b : BodyView) (p : At) → m.place ≡ p → GoesAs P m p b → AdvancesFrom p m n → GoesAs P n n.place b × (n.place ≡ at b)
-  from m n b local e (begun, g, r) go_on = runs m n b begun g r go_on
-  from m n b (at_op w) e g same = stays m n b (subst (λ p. GoesAs P m p b) (sym e) g) (e ∙ sym g.0) same
-  from m n b (ended v) e g same = stays m n b (subst (λ p. GoesAs P m p b) (sym e) g) (e ∙ sym g.0) same
-  from m n b (faulted f q) e g same = stays m n b (subst (λ p. GoesAs P m p b) (sym e) g) (e ∙ sym g.0) same
-  from m n b nowhere e g same = absurd g
+  machine_advanced_from : (m n : MachineView) (b : BodyView) (p : At) → m.place ≡ p → GoesAs P m p b → AdvancesFrom p m n → GoesAs P n n.place b × (n.place ≡ at b)
+  machine_advanced_from m n b local e (begun, g, r) go_on = machine_run_stands m n b begun g r go_on
+  machine_advanced_from m n b (at_op w) e g same = machine_stays m n b (subst (λ p. GoesAs P m p b) (sym e) g) (e ∙ sym g.0) same
+  machine_advanced_from m n b (ended v) e g same = machine_stays m n b (subst (λ p. GoesAs P m p b) (sym e) g) (e ∙ sym g.0) same
+  machine_advanced_from m n b (faulted f q) e g same = machine_stays m n b (subst (λ p. GoesAs P m p b) (sym e) g) (e ∙ sym g.0) same
+  machine_advanced_from m n b nowhere e g same = absurd g
 
-pub advanced : (P : ProgramView) (m n : MachineView) (b : TaskBody) → StandsAs P m b → Advances m n → StandsAs P n b × (n.place ≡ body_at b)
-advanced P m n (script b) g go_on = from P m n b m.place refl g go_on
-advanced P m n (system_task b) g go_on = absurd g
+pub machine_advanced : (P : ProgramView) (m n : MachineView) (b : TaskBody) → MachineStandsAs P m b → Advances m n → MachineStandsAs P n b × (n.place ≡ body_at b)
+machine_advanced P m n (script b) g go_on = machine_advanced_from P m n b m.place refl g go_on
+machine_advanced P m n (system_task b) g go_on = absurd g
 
 -- a machine that begins as a body stands for it at rest
-pub begun : (P : ProgramView) (m : MachineView) (b c : BodyView) → Begins P m b → Rest P b c → StandsAs P m (script c)
-begun P m b c (e, g) r = subst (λ p. GoesAs P m p c) (sym e) (b, g, r)
+pub machine_begun : (P : ProgramView) (m : MachineView) (b c : BodyView) → MachineBegins P m b → Rest P b c → MachineStandsAs P m (script c)
+machine_begun P m b c (e, g) r = subst (λ p. GoesAs P m p c) (sym e) (b, g, r)
 
-pub answered : (P : ProgramView) (m n : MachineView) (b : TaskBody) (w : WantView) (v : Tree) → StandsAs P m b → m.place ≡ at_op w → Gives m v n → (d : TaskBody) × BodyRest P (body_fill v b) d × StandsAs P n d
-answered P m n (script b) w v g e (same, goes, new) =
+pub machine_answered : (P : ProgramView) (m n : MachineView) (b : TaskBody) (w : WantView) (v : Tree) → MachineStandsAs P m b → m.place ≡ at_op w → MachineGives m v n → (d : TaskBody) × BodyRest P (body_fill v b) d × MachineStandsAs P n d
+machine_answered P m n (script b) w v g e (same, goes, new) =
     let at_it = subst (λ p. GoesAs P m p b) e g in
     let d = rests P (fill v b) in
     let over_same = subst (λ C. StandsFor P C (resumed v m.answer m.state) (fill v b)) (sym same) (at_it.2 v) in
-    (script d.0, (d.0, d.1, refl), begun P n (fill v b) d.0 (new, subst (λ c. StandsFor P n.code c (fill v b)) (sym goes) over_same) d.1)
-answered P m n (system_task b) w v g e h = absurd g
+    (script d.0, (d.0, d.1, refl), machine_begun P n (fill v b) d.0 (new, subst (λ c. StandsFor P n.code c (fill v b)) (sym goes) over_same) d.1)
+machine_answered P m n (system_task b) w v g e h = absurd g
 
-pub started : (P : ProgramView) (seed : SeedView) (m : MachineView) → Starts P seed m → (b : TaskBody) × BodyRest P (new_task P seed) b × StandsAs P m b
-started P (go n values result place) m s =
+pub machine_started : (P : ProgramView) (seed : SeedView) (m : MachineView) → Starts P seed m → (b : TaskBody) × BodyRest P (new_task P seed) b × MachineStandsAs P m b
+machine_started P (go n values result place) m s =
     let d = rests P (go_body P n values result) in
-    (script d.0, (d.0, d.1, refl), begun P m (go_body P n values result) d.0 s d.1)
-started P (system kind values place) m s = absurd s
+    (script d.0, (d.0, d.1, refl), machine_begun P m (go_body P n values result) d.0 s d.1)
+machine_started P (system kind values place) m s = absurd s
 
 abbrev IsSomewhere : At → Type 0
 IsSomewhere local = Unit {0}
@@ -97,9 +97,9 @@ IsSomewhere (faulted f p) = Unit {0}
 IsSomewhere nowhere = ⊥
 
 -- one that got its answer is over the same code, and goes on
-pub stays_over : (C : CodeView) (m n : MachineView) (v : Tree) → Gives m v n → IsOver C m → IsOver C n
-stays_over C m n v (same, goes, new) (is, some, has) = (same ∙ is, λ e. subst IsSomewhere (sym new ∙ e) tt, subst (HasTaskAt C) (sym new) tt)
+pub machine_stays_over : (C : CodeView) (m n : MachineView) (v : Tree) → MachineGives m v n → IsOver C m → IsOver C n
+machine_stays_over C m n v (same, goes, new) (is, some, has) = (same ∙ is, λ e. subst IsSomewhere (sym new ∙ e) tt, subst (HasTaskAt C) (sym new) tt)
 
 -- it asks for no task but its code's
-pub asked : (C : CodeView) (m : MachineView) (seed : SeedView) (p : Place) → IsOver C m → m.place ≡ at_op (record { op = spawning seed; place = p }) → HasSeed C seed
-asked C m seed p (is, some, has) e = subst (HasTaskAt C) e has
+pub machine_asked : (C : CodeView) (m : MachineView) (seed : SeedView) (p : Place) → IsOver C m → m.place ≡ at_op (record { op = spawning seed; place = p }) → HasSeed C seed
+machine_asked C m seed p (is, some, has) e = subst (HasTaskAt C) e has

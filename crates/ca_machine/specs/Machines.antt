@@ -10,14 +10,14 @@ use Rattle.ca_meaning.specs.Started.{procedure_at, started as started_text}
 use Rattle.ca_meaning.specs.Task.{TaskBody, script, system_task}
 use Rattle.ca_agent.specs.Seeds.{go_body}
 use Rattle.ca_states.specs.Code.{CodeView}
-use Rattle.ca_states.specs.Machine.{State, Move, ends, faults, waits, resumed, ComesTo}
+use Rattle.ca_states.specs.Machine.{RunnerState, Move, ends, faults, waits, resumed, ComesTo}
 use Rattle.ca_lower.specs.Lowered.{StandsFor}
 use Rattle.ca_machine.specs.Tasks.{HasTaskAt}
 
 pub record MachineView : Type 0 where
   -- the code that it was made over
   pub code : CodeView
-  pub state : State
+  pub state : RunnerState
   -- the slot that the answer to its operation comes into
   pub answer : ℕ
   pub place : At
@@ -32,9 +32,9 @@ GoesAs P m (faulted f p) b = (at b ≡ faulted f p) × (b.turns ≡ m.state.turn
 GoesAs P m nowhere b = ⊥
 
 -- a machine stands for a script's text, never for a system task
-abbrev pub StandsAs : ProgramView → MachineView → TaskBody → Type 0
-StandsAs P m (script b) = GoesAs P m m.place b
-StandsAs P m (system_task b) = ⊥
+abbrev pub MachineStandsAs : ProgramView → MachineView → TaskBody → Type 0
+MachineStandsAs P m (script b) = GoesAs P m m.place b
+MachineStandsAs P m (system_task b) = ⊥
 
 -- what its runner came to is told by where it is paused
 abbrev pub HaltsIn : Move → MachineView → At → Type 0
@@ -45,12 +45,12 @@ HaltsIn k m (faulted f p) = k ≡ faults f p m.state.turns
 HaltsIn k m nowhere = ⊥
 
 -- its runner goes on to a halt
-abbrev pub Runs : MachineView → MachineView → Type 0
-Runs m n = (n.code ≡ m.code) × (k : Move) × ComesTo m.code m.state k × HaltsIn k n n.place
+abbrev pub RunsToHalt : MachineView → MachineView → Type 0
+RunsToHalt m n = (n.code ≡ m.code) × (k : Move) × ComesTo m.code m.state k × HaltsIn k n n.place
 
 -- to its next pause; where it is paused it stays
 abbrev pub AdvancesFrom : At → MachineView → MachineView → Type 0
-AdvancesFrom local m n = Runs m n
+AdvancesFrom local m n = RunsToHalt m n
 AdvancesFrom (at_op w) m n = n ≡ m
 AdvancesFrom (ended v) m n = n ≡ m
 AdvancesFrom (faulted f p) m n = n ≡ m
@@ -60,16 +60,16 @@ abbrev pub Advances : MachineView → MachineView → Type 0
 Advances m n = AdvancesFrom m.place m n
 
 -- the answer comes into its slot, and the machine goes on
-abbrev pub Gives : MachineView → Tree → MachineView → Type 0
-Gives m v n = (n.code ≡ m.code) × (n.state ≡ resumed v m.answer m.state) × (n.place ≡ local)
+abbrev pub MachineGives : MachineView → Tree → MachineView → Type 0
+MachineGives m v n = (n.code ≡ m.code) × (n.state ≡ resumed v m.answer m.state) × (n.place ≡ local)
 
 -- it is new, and goes as that body does
-abbrev pub Begins : ProgramView → MachineView → BodyView → Type 0
-Begins P m b = (m.place ≡ local) × StandsFor P m.code m.state b
+abbrev pub MachineBegins : ProgramView → MachineView → BodyView → Type 0
+MachineBegins P m b = (m.place ≡ local) × StandsFor P m.code m.state b
 
 -- a new machine of a go block's seed, none of another
 abbrev pub Starts : ProgramView → SeedView → MachineView → Type 0
-Starts P (go n values result place) m = Begins P m (go_body P n values result)
+Starts P (go n values result place) m = MachineBegins P m (go_body P n values result)
 Starts P (system kind values place) m = ⊥
 
 -- made over that code, not refused memory, and at no operation that starts a task which the code hasn't

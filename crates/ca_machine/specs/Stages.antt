@@ -6,7 +6,7 @@ use Rattle.ca_states.specs.declared.runner.Halt.{Halt}
 use Rattle.ca_states.specs.declared.runner.Halt.TheVariants.{Cut, Ended, Faulted}
 use Rattle.ca_states.specs.declared.runner.Runner.{Runner}
 use Rattle.ca_states.specs.Code.{CodeView}
-use Rattle.ca_states.specs.Standing.{state_view, Stands, WaitsAt}
+use Rattle.ca_states.specs.Standing.{state_view, RunnerStands, RunnerWaitsAt}
 use Rattle.ca_machine.specs.declared.stage.Stage.{Stage}
 use Rattle.ca_machine.specs.declared.stage.Stage.TheVariants.{Going, Halted, Spent}
 
@@ -16,13 +16,13 @@ halted_at (Ended v) = ended (view v)
 halted_at (Faulted f p) = faulted f p
 
 -- where it is paused; a machine that goes on is at a local step
-abbrev pub place_of : Stage → Halt → At
-place_of Going h = local
-place_of Halted h = halted_at h
-place_of Spent h = nowhere
+abbrev pub stage_place : Stage → Halt → At
+stage_place Going h = local
+stage_place Halted h = halted_at h
+stage_place Spent h = nowhere
 
 -- over that code the runner can go on, or be answered
-abbrev pub IsReady : CodeView → Runner → Stage → Halt → Type 0
-IsReady C r Going h = Stands C (state_view r)
-IsReady C r Halted h = WaitsAt C h r
-IsReady C r Spent h = Unit {0}
+abbrev pub IsStageReady : CodeView → Runner → Stage → Halt → Type 0
+IsStageReady C r Going h = RunnerStands C (state_view r)
+IsStageReady C r Halted h = RunnerWaitsAt C h r
+IsStageReady C r Spent h = Unit {0}

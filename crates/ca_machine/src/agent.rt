@@ -3,10 +3,10 @@ ghost use Rattle.std.specs.Prelude.{◌≡◌, IfOk, OnOk};
 ghost use Rattle.ca_meaning.specs.Body.{local};
 ghost use Rattle.ca_states.specs.ValidCode.{valid_code};
 ghost use Rattle.ca_agent.specs.Agents.{PausesAt};
-ghost use Rattle.ca_machine.specs.Machines.{StandsAs, Runs, Advances, Gives, Starts, IsOver};
+ghost use Rattle.ca_machine.specs.Machines.{MachineStandsAs, RunsToHalt, Advances, MachineGives, Starts, IsOver};
 ghost use Rattle.ca_machine.specs.Stages.{halted_at};
 ghost use Rattle.ca_machine.specs.View.{machine_view};
-ghost use Rattle.ca_machine.specs.MachineLaws.{advanced, answered, asked, started, stays_over};
+ghost use Rattle.ca_machine.specs.MachineLaws.{machine_advanced, machine_answered, machine_asked, machine_started, machine_stays_over};
 ghost use Rattle.ca_machine.specs.Tasks.{HasTaskAt};
 
 use crate::machine::Machine;
@@ -34,7 +34,7 @@ impl Machine {
     fn run(&mut self, alloc: Global, code: &ValidCode) -> Result<Pause, OutOfMemory>
         requires code { (machine_view self.old).code ≡ valid_code code.now }
         requires going { (machine_view self.old).place ≡ local }
-        ensures runs { OnOk result (Runs (machine_view self.old) (machine_view self.new)) }
+        ensures runs { OnOk result (RunsToHalt (machine_view self.old) (machine_view self.new)) }
         ensures pauses { IfOk result (λ p. PausesAt p (machine_view self.new).place) }
         ensures has { OnOk result (HasTaskAt (valid_code code.now) (machine_view self.new).place) }
     {
@@ -54,13 +54,13 @@ impl Machine {
 impl Agent for Machine {
     ghost over = { λ code m. IsOver code (machine_view m) };
 
-    ghost stands = { λ program m b. StandsAs program (machine_view m) b };
+    ghost stands = { λ program m b. MachineStandsAs program (machine_view m) b };
 
     ghost place = { λ m. (machine_view m).place };
 
     ghost advances = { λ program m n. Advances (machine_view m) (machine_view n) };
 
-    ghost gives = { λ m v n. Gives (machine_view m) v (machine_view n) };
+    ghost gives = { λ m v n. MachineGives (machine_view m) v (machine_view n) };
 
     ghost starts = { λ program seed m. Starts program seed (machine_view m) };
 
@@ -88,13 +88,13 @@ impl Agent for Machine {
         }
     }
 
-    ghost advanced = { λ program m n b. advanced program (machine_view m) (machine_view n) b };
+    ghost advanced = { λ program m n b. machine_advanced program (machine_view m) (machine_view n) b };
 
-    ghost answered = { λ program m n b w v st _. answered program (machine_view m) (machine_view n) b w v st };
+    ghost answered = { λ program m n b w v st _. machine_answered program (machine_view m) (machine_view n) b w v st };
 
-    ghost stays = { λ code m n v. stays_over code (machine_view m) (machine_view n) v };
+    ghost stays = { λ code m n v. machine_stays_over code (machine_view m) (machine_view n) v };
 
-    ghost asked = { λ code m seed at. asked code (machine_view m) seed at };
+    ghost asked = { λ code m seed at. machine_asked code (machine_view m) seed at };
 
-    ghost started = { λ program seed m. started program seed (machine_view m) };
+    ghost started = { λ program seed m. machine_started program seed (machine_view m) };
 }

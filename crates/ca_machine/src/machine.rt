@@ -1,6 +1,6 @@
 ghost use Rattle.ca_states.specs.ValidCode.{valid_code};
-ghost use Rattle.ca_machine.specs.Stages.{IsReady};
-ghost use Rattle.ca_machine.specs.Props.{IsReady-prop};
+ghost use Rattle.ca_machine.specs.Stages.{IsStageReady};
+ghost use Rattle.ca_machine.specs.Props.{IsStageReady-prop};
 
 use crate::stage::Stage;
 use ca_states::runner::{Halt, Runner};
@@ -15,5 +15,5 @@ pub struct Machine {
     pub(crate) stage: Stage,
     pub(crate) halt: Halt,
     pub(crate) code: Snapshot<ValidCode>,
-    ghost ready: { IsReady (valid_code code.value) runner stage halt } by { IsReady-prop (valid_code code.value) runner stage halt },
+    ghost ready: { IsStageReady (valid_code code.value) runner stage halt } by { IsStageReady-prop (valid_code code.value) runner stage halt },
 }

@@ -7,12 +7,12 @@ ghost use Rattle.ca_term.specs.Program.{ProgramView};
 ghost use Rattle.ca_meaning.specs.Body.{BodyView, new_body};
 ghost use Rattle.ca_meaning.specs.Task.{TaskBody, BodyRest, script};
 ghost use Rattle.ca_states.specs.declared.runner.Start.TheVariants.{Go};
-ghost use Rattle.ca_states.specs.Machine.{started};
+ghost use Rattle.ca_states.specs.Machine.{runner_started};
 ghost use Rattle.ca_states.specs.Standing.{IsStart, entry_at};
 ghost use Rattle.ca_states.specs.ValidCode.{valid_code};
 ghost use Rattle.ca_lower.specs.Lowered.{Lowered, StandsFor};
 ghost use Rattle.ca_agent.specs.Seeds.{HasGo};
-ghost use Rattle.ca_machine.specs.Machines.{IsOver, Begins, StandsAs, Starts};
+ghost use Rattle.ca_machine.specs.Machines.{IsOver, MachineBegins, MachineStandsAs, Starts};
 ghost use Rattle.ca_machine.specs.View.{machine_view};
 
 use crate::machine::Machine;
@@ -34,7 +34,7 @@ impl Machine {
         values: Items,
     ) -> Result<Machine, OutOfMemory>
         requires { IsStart (valid_code code.now) start (length (list values)) }
-        ensures begins { IfOk result (λ m. (program : ProgramView) (b : BodyView) → StandsFor program (valid_code code.now) (started (valid_code code.now) (entry_at (valid_code code.now) start) (views (list values))) b → Begins program (machine_view m) b) }
+        ensures begins { IfOk result (λ m. (program : ProgramView) (b : BodyView) → StandsFor program (valid_code code.now) (runner_started (valid_code code.now) (entry_at (valid_code code.now) start) (views (list values))) b → MachineBegins program (machine_view m) b) }
         ensures over { IfOk result (λ m. IsOver (valid_code code.now) (machine_view m)) }
     {
         let runner = Runner::start(alloc, code, start, values)?;
@@ -48,8 +48,8 @@ impl Machine {
 
     /// A new machine at the main text.
     pub fn main(alloc: Global, code: &ValidCode) -> Result<Machine, OutOfMemory>
-        ensures begins { IfOk result (λ m. (program : ProgramView) → Lowered program (valid_code code.now) → Begins program (machine_view m) (new_body program.main)) }
-        ensures stands { IfOk result (λ m. (program : ProgramView) (b : TaskBody) → Lowered program (valid_code code.now) → BodyRest program (script (new_body program.main)) b → StandsAs program (machine_view m) b) }
+        ensures begins { IfOk result (λ m. (program : ProgramView) → Lowered program (valid_code code.now) → MachineBegins program (machine_view m) (new_body program.main)) }
+        ensures stands { IfOk result (λ m. (program : ProgramView) (b : TaskBody) → Lowered program (valid_code code.now) → BodyRest program (script (new_body program.main)) b → MachineStandsAs program (machine_view m) b) }
         ensures over { IfOk result (λ m. IsOver (valid_code code.now) (machine_view m)) }
     {
         Machine::start(alloc, code, Start::Main, Items::new(alloc))

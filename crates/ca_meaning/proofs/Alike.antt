@@ -23,7 +23,7 @@ use Rattle.ca_meaning.specs.Task.{body_at}
 use Rattle.ca_meaning.specs.State.{State, Task}
 use Rattle.ca_meaning.specs.Choice.{branches_of, has_priority, default_of, parks, row, is_ready, any_ready, Picks}
 use Rattle.ca_meaning.specs.Refusal.{refusal, registering_gives, fault_at}
-use Rattle.ca_meaning.specs.Going.{IsAtOp, Stands}
+use Rattle.ca_meaning.specs.Going.{IsAtOp, RunsAtOperation}
 use Rattle.ca_meaning.specs.TaskSteps.{IsMoment, kind_of, result_of}
 use Rattle.ca_meaning.specs.Steps.{Step}
 use Rattle.ca_meaning.specs.EndsLaw.{is_of}
@@ -74,7 +74,7 @@ class_at s local = ends
 class_at s nowhere = ends
 
 -- a task that stands at an operation
-stands_class : (s : State) (t : ℕ) (op : OpView) (x : Task) (b : Bool) → Stands s t op x → any_ready s (branches_of op) ≡ b → class_at s (body_at x.body) ≡ cond b takes_branch (plain_class op)
+stands_class : (s : State) (t : ℕ) (op : OpView) (x : Task) (b : Bool) → RunsAtOperation s t op x → any_ready s (branches_of op) ≡ b → class_at s (body_at x.body) ≡ cond b takes_branch (plain_class op)
 stands_class s t op x b st e = ap (class_at s) st.2.1 ∙ ap (class_op s op) st.3 ∙ ap (λ c. cond c takes_branch (plain_class op)) e
 
 ready_any : (s : State) (bs : List BranchView) (k : ℕ) (b : BranchView) → slice_get bs k ≡ Some b → is_ready (row s b) ≡ true → any_ready s bs ≡ true
@@ -232,7 +232,7 @@ op_once : (s : State) (a b : ℕ) (x y : Task) (o p : OpView) → a ≡ b → s.
 op_once s a b x y o p e ax by' xo yp = same_op x.body y.body o p (ap (λ (z : Task). z.body) (same_task s.tasks a x y ax (ap s.tasks e ∙ by'))) xo yp
 
 -- the chosen branch at two events of one task
-pick_once : (s : State) (d : Desk) (a b j k : ℕ) (x y : Task) (o p : OpView) (c e : BranchView) → a ≡ b → Stands s a o x → Stands s b p y → Picks s o j c → Picks s p k e → is_ready (row s c) ≡ true → is_ready (row s e) ≡ true
+pick_once : (s : State) (d : Desk) (a b j k : ℕ) (x y : Task) (o p : OpView) (c e : BranchView) → a ≡ b → RunsAtOperation s a o x → RunsAtOperation s b p y → Picks s o j c → Picks s p k e → is_ready (row s c) ≡ true → is_ready (row s e) ≡ true
     → Chooses s d a j → Chooses s d b k → (j ≡ k) × (c ≡ e)
 pick_once s d a b j k x y o p c e ab sx sy px py rc re cj ck =
     let op : o ≡ p = op_once s a b x y o p ab sx.0 sy.0 sx.2 sy.2 in

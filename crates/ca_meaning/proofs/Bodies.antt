@@ -13,7 +13,7 @@ use Rattle.ca_term.specs.declared.head.SystemTask.TheVariants.{Mult, Deliver, Mi
 use Rattle.ca_term.specs.Kernel.{Kernel, const, var, branch, bind, loop, seq, frame, turn, apply}
 use Rattle.ca_term.specs.Operation.{WantView, OpView, WhatView}
 use Rattle.ca_term.specs.Closed.{IsClosed}
-use Rattle.ca_term.specs.Fits.{Known, Takes, IsApplied, SuitsSystem, IsOrderly, Suits, Fits}
+use Rattle.ca_term.specs.Fits.{Known, Takes, IsApplicable, SuitsSystem, IsOrderly, Suits, Fits}
 use Rattle.ca_term.specs.Program.{ProgramView, ProcedureView, IsProcedure, arity, known_in}
 use Rattle.ca_meaning.specs.declared.body.FaultAt.{FaultAt}
 use Rattle.ca_meaning.specs.declared.body.Stand.TheVariants.{Local, AtOp}
@@ -163,7 +163,7 @@ known_body program t b = record { bound = b.suits.bound; fits = fits-gentler (Su
 abbrev all_plain : ℕ → Bool
 all_plain n = true
 
-applied_all : (plain : ℕ → Bool) (program : ProgramView) (f : PlainFunction) → IsApplied (known_in plain program) f → IsApplied (known_in all_plain program) f
+applied_all : (plain : ℕ → Bool) (program : ProgramView) (f : PlainFunction) → IsApplicable (known_in plain program) f → IsApplicable (known_in all_plain program) f
 applied_all plain program (PlainFunction.Defined n) h = (h.0, refl)
 applied_all plain program (PlainFunction.Builtin b) h = h
 applied_all plain program PlainFunction.Keyword h = tt

@@ -16,7 +16,7 @@ use Rattle.ca_meaning.specs.Steps.{Step, Steps}
 use Rattle.ca_meaning.specs.Legal.{Reaches, Legal}
 use Rattle.ca_meaning.specs.Sound.{Each, IsNotNil}
 use Rattle.ca_meaning.specs.History.{Mark, accept, give, give_none, pass, no_mark, mark_of_take, mark_of_put, mark_of_done, mark_of_settled, mark_on, channel_in, branch_on, MakesBranch, completed_by}
-use Rattle.ca_meaning.specs.ChannelLaw.{Tells, OfferedWhileOpen, KeepsOrder, ChannelLaw}
+use Rattle.ca_meaning.specs.ChannelLaw.{TellsChannel, OfferedWhileOpen, KeepsOrder, ChannelLaw}
 use Rattle.ca_meaning.proofs.Waits.{each-head}
 use Rattle.ca_meaning.proofs.Rows.{TakeDone, gave, nothing_left, take_done, PutDone, refused, promised, accepted, put_done, take_meets, put_meets, Settled, moved_in, served, served_nil, settle_does, row_channel}
 use Rattle.ca_meaning.proofs.Soundness.{opening_sound}
@@ -96,14 +96,14 @@ first_not_nil : (c : Channel) (a : Tree) (vs : List Tree) → Each IsNotNil c.he
 first_not_nil c a vs n e = (subst (Each IsNotNil) e n).0
 
 module _ (before : List EventView) (s : State) (known : Known before s) (p : ℕ) (e : EventView) where
-  told : (c : Channel) → s.channels p ≡ Some c → Tells before p c
+  told : (c : Channel) → s.channels p ≡ Some c → TellsChannel before p c
   told c at = sym (known.tells p) ∙ at
 
-  same_channel : (c d : Channel) → s.channels p ≡ Some c → Tells before p d → c ≡ d
+  same_channel : (c d : Channel) → s.channels p ≡ Some c → TellsChannel before p d → c ≡ d
   same_channel c d at tells = let k : Some c ≡ Some d = sym at ∙ known.tells p ∙ tells in cc
 
   abbrev Gives : Tree → Type 0
-  Gives v = (c : Channel) × (vs : List Tree) × Tells before p c × (c.held ≡ v ∷ vs)
+  Gives v = (c : Channel) × (vs : List Tree) × TellsChannel before p c × (c.held ≡ v ∷ vs)
 
   gives : (v : Tree) → MarkCase s p e (give v) → Gives v
   gives v (by_done (take_of q) a c d at r m) = ⊎_elim
@@ -123,7 +123,7 @@ module _ (before : List EventView) (s : State) (known : Known before s) (p : ℕ
     by n uv (served_nil sd b held cl vn k) = absurd (let j : true ≡ false = sym (ap is_nil vn) ∙ n in cc)
 
   abbrev Passes : Type 0
-  Passes = (c : Channel) × Tells before p c × (c.held ≡ [])
+  Passes = (c : Channel) × TellsChannel before p c × (c.held ≡ [])
 
   passes : (v : Tree) → MarkCase s p e (pass v) → Passes
   passes v (by_done (take_of q) a c d at r m) = absurd (⊎_elim (λ n. let k : give_none ≡ pass v = n.1 in cc) (λ g. let k : give a ≡ pass v = g.1 in cc) (take_mark a (pass v) m))
@@ -134,7 +134,7 @@ module _ (before : List EventView) (s : State) (known : Known before s) (p : ℕ
   passes v (by_settle Take u c d h at r m is) = absurd (⊎_elim (λ n. let k : give_none ≡ pass v = n.1 in cc) (λ g. let k : give u ≡ pass v = g.1 in cc) (take_mark u (pass v) m))
 
   abbrev Ends : Type 0
-  Ends = (c : Channel) × Tells before p c × (c.closed ≡ true) × (c.held ≡ [])
+  Ends = (c : Channel) × TellsChannel before p c × (c.closed ≡ true) × (c.held ≡ [])
 
   ends : MarkCase s p e give_none → Ends
   ends (by_done (take_of q) a c d at r m) = ⊎_elim (λ n. by n.0 (take_done c (front Put p s.waits) a d r)) (λ g. absurd (let k : give a ≡ give_none = g.1 in cc)) (take_mark a give_none m) where
@@ -157,10 +157,10 @@ module _ (before : List EventView) (s : State) (known : Known before s) (p : ℕ
       let hv : h.value ≡ v = sym uh ∙ uv in
       (h.wait, h.branch, is ∙ ap (λ z. Some (h.wait, h.branch, put_of p z)) uv, (n.0, n.1, n.2, n.3, subst (λ z. MakesBranch h.wait h.branch (put_of p z) n.1) hv n.4, n.5))
 
-  open_not_closed : {G : Type 0} (c d : Channel) → s.channels p ≡ Some c → Tells before p d → d.closed ≡ true → c.closed ≡ false → G
+  open_not_closed : {G : Type 0} (c d : Channel) → s.channels p ≡ Some c → TellsChannel before p d → d.closed ≡ true → c.closed ≡ false → G
   open_not_closed c d at tells cl op = absurd (let k : true ≡ false = sym cl ∙ ap (λ (z : Channel). z.closed) (sym (same_channel c d at tells)) ∙ op in cc)
 
-  late_accept : (v : Tree) (d : Channel) → MarkCase s p e (accept v) → Tells before p d → d.closed ≡ true → OfferedWhileOpen before p e v
+  late_accept : (v : Tree) (d : Channel) → MarkCase s p e (accept v) → TellsChannel before p d → d.closed ≡ true → OfferedWhileOpen before p e v
   late_accept v d (by_done (take_of q) a c x at r m) tells cl = absurd (⊎_elim (λ n. let k : give_none ≡ accept v = n.1 in cc) (λ g. let k : give a ≡ accept v = g.1 in cc) (take_mark a (accept v) m))
   late_accept v d (by_done (put_of q u) a c x at r m) tells cl = ⊎_elim (λ y. by y.0 (put_done c (front Take p s.waits) (front Put p s.waits) u a x r)) (λ y. absurd (let k : no_mark ≡ accept v = y.1 in cc)) (put_mark u a (accept v) m) where
     by : truth a ≡ true → PutDone c (front Take p s.waits) (front Put p s.waits) u a x → OfferedWhileOpen before p e v
@@ -175,7 +175,7 @@ module _ (before : List EventView) (s : State) (known : Known before s) (p : ℕ
     by (served sd b vs held k) = absurd (let j : Put ≡ Take = sd in cc)
     by (served_nil sd b held k un i) = absurd (let j : Put ≡ Take = sd in cc)
 
-  late_pass : (v : Tree) (d : Channel) → MarkCase s p e (pass v) → Tells before p d → d.closed ≡ true → OfferedWhileOpen before p e v
+  late_pass : (v : Tree) (d : Channel) → MarkCase s p e (pass v) → TellsChannel before p d → d.closed ≡ true → OfferedWhileOpen before p e v
   late_pass v d (by_done (take_of q) a c x at r m) tells cl = absurd (⊎_elim (λ n. let k : give_none ≡ pass v = n.1 in cc) (λ g. let k : give a ≡ pass v = g.1 in cc) (take_mark a (pass v) m))
   late_pass v d (by_done (put_of q u) a c x at r m) tells cl = absurd (⊎_elim (λ y. let k : accept u ≡ pass v = y.1 in cc) (λ y. let k : no_mark ≡ pass v = y.1 in cc) (put_mark u a (pass v) m))
   late_pass v d (by_meet (take_of q) u c h at r m is) tells cl = let k = take_meets c (front Put p s.waits) h u r in offered h u v k.in_front k.value (let j : pass u ≡ pass v = m in let i : u ≡ v = cc in i) is

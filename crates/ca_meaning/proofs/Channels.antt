@@ -12,7 +12,7 @@ use Rattle.ca_meaning.specs.Wait.{Wait, Handler, is_on, port_of, handlers, queue
 use Rattle.ca_meaning.specs.Row.{Row, not_ready, completes, meets, row_on, row_at}
 use Rattle.ca_meaning.specs.State.{State, Channels, shut_at, shut_all}
 use Rattle.ca_meaning.specs.Choice.{row, is_ready, any_ready}
-use Rattle.ca_meaning.specs.Sound.{Each, Fits, Idle, IsNotNil, AllFit, AllIdle, NoneHeldIsNil}
+use Rattle.ca_meaning.specs.Sound.{Each, ChannelFits, Idle, IsNotNil, ChannelsFit, AllIdle, NoneHeldIsNil}
 use Rattle.ca_meaning.proofs.Waits.{each-append, each-filter, each-head, queue_without, queue_joined, other, no_head, head_filter, head_append, headless, from_branch, none_joins, on_port, takes_there, puts_there, live-append, live_else, not_live}
 use Rattle.ca_meaning.proofs.Rows.{TakeDone, gave, nothing_left, take_done, PutDone, refused, promised, accepted, put_done, TakeWaits, take_waits, PutWaits, put_waits, Settled, moved_in, served, served_nil, settle_does, promise_has_room}
 use Rattle.ca_meaning.proofs.Fits.{keeping_fits, giving_fits, fixed_has_room, keeping_not_nil, giving_not_nil, plain_fits, promise_fits, fixed_fits, dropping_fits, sliding_fits}
@@ -67,21 +67,21 @@ none_is_ready s (o ∷ bs) e j b at = by (row s o) refl e (λ f k. none_is_ready
   by (meets h v) is e more j at = absurd (let k : true ≡ false = e in cc)
 
 -- Fits
-done_fits : (c : Channel) (b : BranchView) (ts ps : Option Handler) (a : Tree) (d : Channel) → row_on c ts ps b ≡ completes a d → Fits c → Fits d
+done_fits : (c : Channel) (b : BranchView) (ts ps : Option Handler) (a : Tree) (d : Channel) → row_on c ts ps b ≡ completes a d → ChannelFits c → ChannelFits d
 done_fits c (take_of p) ts ps a d e f = by (take_done c ps a d e) where
-  by : TakeDone c a d → Fits d
-  by (gave vs is k) = subst Fits (sym k) (giving_fits c f)
-  by (nothing_left is cl n k) = subst Fits (sym k) f
+  by : TakeDone c a d → ChannelFits d
+  by (gave vs is k) = subst ChannelFits (sym k) (giving_fits c f)
+  by (nothing_left is cl n k) = subst ChannelFits (sym k) f
 done_fits c (put_of p v) ts ps a d e f = by (put_done c ts ps v a d e) where
-  by : PutDone c ts ps v a d → Fits d
-  by (refused cl n k) = subst Fits (sym k) f
-  by (promised cl pr n k) = subst Fits (sym k) (keeping_fits c v (promise_has_room c.policy (is_full c.capacity c.held) pr) f)
-  by (accepted cl pr r t o n k) = subst Fits (sym k) (keeping_fits c v r f)
+  by : PutDone c ts ps v a d → ChannelFits d
+  by (refused cl n k) = subst ChannelFits (sym k) f
+  by (promised cl pr n k) = subst ChannelFits (sym k) (keeping_fits c v (promise_has_room c.policy (is_full c.capacity c.held) pr) f)
+  by (accepted cl pr r t o n k) = subst ChannelFits (sym k) (keeping_fits c v r f)
 
-settle_fits : (c : Channel) (ts ps : Option Handler) (side : Side) (h : Handler) (v : Tree) (d : Channel) → Settled c ts ps side h v d → Fits c → Fits d
-settle_fits c ts ps side h v d (moved_in a b n k fx r) f = subst Fits (sym k) (keeping_fits c v r f)
-settle_fits c ts ps side h v d (served a b vs is k) f = subst Fits (sym k) (giving_fits c f)
-settle_fits c ts ps side h v d (served_nil a b is cl n k) f = subst Fits (sym k) f
+settle_fits : (c : Channel) (ts ps : Option Handler) (side : Side) (h : Handler) (v : Tree) (d : Channel) → Settled c ts ps side h v d → ChannelFits c → ChannelFits d
+settle_fits c ts ps side h v d (moved_in a b n k fx r) f = subst ChannelFits (sym k) (keeping_fits c v r f)
+settle_fits c ts ps side h v d (served a b vs is k) f = subst ChannelFits (sym k) (giving_fits c f)
+settle_fits c ts ps side h v d (served_nil a b is cl n k) f = subst ChannelFits (sym k) f
 
 from_some : (P : Channel → Type 0) (c d : Channel) → Some c ≡ Some d → P c → P d
 from_some P c d e pc = subst P (let k : c ≡ d = cc in k) pc
@@ -89,13 +89,13 @@ from_some P c d e pc = subst P (let k : c ≡ d = cc in k) pc
 from_none : {G : Type 0} (d : Channel) → None ≡ Some d → G
 from_none d e = absurd cc
 
-pub made_fits : (what : WhatView) (d : Channel) → channel_made what ≡ Some d → Fits d
-made_fits unbuffered d e = from_some Fits (new_channel no_buffer 0) d e plain_fits
-made_fits (fixed n) d e = from_some Fits (with_buffer fixed_buffer n) d e (fixed_fits n)
-made_fits (dropping n) d e = from_some Fits (with_buffer dropping_buffer n) d e (dropping_fits n)
-made_fits (sliding n) d e = from_some Fits (with_buffer sliding_buffer n) d e (sliding_fits n)
-made_fits promise d e = from_some Fits (new_channel promise_buffer 1) d e promise_fits
-made_fits (timeout n) d e = from_some Fits (new_channel no_buffer 0) d e plain_fits
+pub made_fits : (what : WhatView) (d : Channel) → channel_made what ≡ Some d → ChannelFits d
+made_fits unbuffered d e = from_some ChannelFits (new_channel no_buffer 0) d e plain_fits
+made_fits (fixed n) d e = from_some ChannelFits (with_buffer fixed_buffer n) d e (fixed_fits n)
+made_fits (dropping n) d e = from_some ChannelFits (with_buffer dropping_buffer n) d e (dropping_fits n)
+made_fits (sliding n) d e = from_some ChannelFits (with_buffer sliding_buffer n) d e (sliding_fits n)
+made_fits promise d e = from_some ChannelFits (new_channel promise_buffer 1) d e promise_fits
+made_fits (timeout n) d e = from_some ChannelFits (new_channel no_buffer 0) d e plain_fits
 made_fits (mult source) d e = from_none d e
 made_fits (mix out changes) d e = from_none d e
 made_fits (publication source) d e = from_none d e
@@ -115,14 +115,14 @@ made_empty (mult source) d e = from_none d e
 made_empty (mix out changes) d e = from_none d e
 made_empty (publication source) d e = from_none d e
 
-pub fits_kept : (s s2 : State) → Effect s s2 → AllFit s.channels → AllFit s2.channels
-fits_kept s s2 (still a b c) all = subst AllFit (sym a) all
-fits_kept s s2 (done_there b c d v at good r x y z) all = subst AllFit (sym x) (one_more (λ p c. Fits c) s.channels (port_of b) d all (done_fits c b (front Take (port_of b) s.waits) (front Put (port_of b) s.waits) v d r (all (port_of b) c at)))
-fits_kept s s2 (met_there w live a b c) all = subst AllFit (sym a) all
-fits_kept s s2 (joined x fresh nr good a b c) all = subst AllFit (sym a) all
-fits_kept s s2 (settled_there p c d side h v at r live x y z) all = subst AllFit (sym x) (one_more (λ p c. Fits c) s.channels p d all (settle_fits c (front Take p s.waits) (front Put p s.waits) side h v d (settle_does c (front Take p s.waits) (front Put p s.waits) side h v d r) (all p c at)))
-fits_kept s s2 (made_there p what none x y z) all = subst AllFit (sym x) (maybe_more (λ p c. Fits c) s.channels p (channel_made what) all (made_fits what))
-fits_kept s s2 (shut_there ports x y z) all = subst AllFit (sym x) (shut_each (λ p c. Fits c) ports s.channels (λ q c f. f) all)
+pub fits_kept : (s s2 : State) → Effect s s2 → ChannelsFit s.channels → ChannelsFit s2.channels
+fits_kept s s2 (still a b c) all = subst ChannelsFit (sym a) all
+fits_kept s s2 (done_there b c d v at good r x y z) all = subst ChannelsFit (sym x) (one_more (λ p c. ChannelFits c) s.channels (port_of b) d all (done_fits c b (front Take (port_of b) s.waits) (front Put (port_of b) s.waits) v d r (all (port_of b) c at)))
+fits_kept s s2 (met_there w live a b c) all = subst ChannelsFit (sym a) all
+fits_kept s s2 (joined x fresh nr good a b c) all = subst ChannelsFit (sym a) all
+fits_kept s s2 (settled_there p c d side h v at r live x y z) all = subst ChannelsFit (sym x) (one_more (λ p c. ChannelFits c) s.channels p d all (settle_fits c (front Take p s.waits) (front Put p s.waits) side h v d (settle_does c (front Take p s.waits) (front Put p s.waits) side h v d r) (all p c at)))
+fits_kept s s2 (made_there p what none x y z) all = subst ChannelsFit (sym x) (maybe_more (λ p c. ChannelFits c) s.channels p (channel_made what) all (made_fits what))
+fits_kept s s2 (shut_there ports x y z) all = subst ChannelsFit (sym x) (shut_each (λ p c. ChannelFits c) ports s.channels (λ q c f. f) all)
 
 -- no held value is nil
 done_held : (c : Channel) (b : BranchView) (ts ps : Option Handler) (a : Tree) (d : Channel) → row_on c ts ps b ≡ completes a d → Brings b → Each IsNotNil c.held → Each IsNotNil d.held
@@ -238,7 +238,7 @@ settle_idle c ts ps side h v d (served a b vs is k) i = subst (λ (z : Channel).
 settle_idle c ts ps side h v d (served_nil a b is cl n k) i = subst (λ (z : Channel). Idle z ts ps) (sym k) i
 
 -- branches that aren't ready join
-joins_idle : (c : Channel) (p w : ℕ) (bs : List BranchView) (ts ps : List Handler) → Fits c → ((j : ℕ) (b : BranchView) → slice_get bs j ≡ Some b → p ≡ port_of b → row_on c (head ts) (head ps) b ≡ not_ready) → Idle c ts ps
+joins_idle : (c : Channel) (p w : ℕ) (bs : List BranchView) (ts ps : List Handler) → ChannelFits c → ((j : ℕ) (b : BranchView) → slice_get bs j ≡ Some b → p ≡ port_of b → row_on c (head ts) (head ps) b ≡ not_ready) → Idle c ts ps
     → Idle c (ts ++ handlers Take p w 0 bs) (ps ++ handlers Put p w 0 bs)
 joins_idle c p w bs ts ps fits unready i np h e = ⊎_elim
     (λ old. let k = i np old.0 old.1 in (
@@ -256,11 +256,11 @@ joins_idle c p w bs ts ps fits unready i np h e = ⊎_elim
       taker_there : (j : ℕ) (b : BranchView) → slice_get bs j ≡ Some b → is_on Take p b ≡ true → TakeWaits c (head ps)
       taker_there j b at on = take_waits c (head ps) (ap (row_on c (head ts) (head ps)) (sym (takes_there p b on)) ∙ unready j b at (on_port Take p b on))
 
-joins_all : (f : Channels) (ws : List Wait) (x : Wait) → AllFit f → AllIdle f ws → ((j : ℕ) (b : BranchView) → slice_get x.branches j ≡ Some b → row_at (f (port_of b)) (front Take (port_of b) ws) (front Put (port_of b) ws) b ≡ not_ready) → AllIdle f (ws ++ x ∷ [])
+joins_all : (f : Channels) (ws : List Wait) (x : Wait) → ChannelsFit f → AllIdle f ws → ((j : ℕ) (b : BranchView) → slice_get x.branches j ≡ Some b → row_at (f (port_of b)) (front Take (port_of b) ws) (front Put (port_of b) ws) b ≡ not_ready) → AllIdle f (ws ++ x ∷ [])
 joins_all f ws x fits all unready p c e = subst (λ (a : List Handler). Idle c a (queue Put p (ws ++ x ∷ []))) (sym (queue_joined Take p ws x)) (subst (λ (a : List Handler). Idle c (queue Take p ws ++ handlers Take p x.number 0 x.branches) a) (sym (queue_joined Put p ws x))
     (joins_idle c p x.number x.branches (queue Take p ws) (queue Put p ws) (fits p c e) (λ j b at is. ap₂ (λ t u. row_on c t u b) (ap (λ q. front Take q ws) is) (ap (λ q. front Put q ws) is) ∙ sym (ap (λ (o : Option Channel). row_at o (front Take (port_of b) ws) (front Put (port_of b) ws) b) (ap f (sym is) ∙ e)) ∙ unready j b at) (all p c e)))
 
-pub idle_kept : (s s2 : State) → Effect s s2 → AllFit s.channels → AllHome s.channels s.waits → AllIdle s.channels s.waits → AllIdle s2.channels s2.waits
+pub idle_kept : (s s2 : State) → Effect s s2 → ChannelsFit s.channels → AllHome s.channels s.waits → AllIdle s.channels s.waits → AllIdle s2.channels s2.waits
 idle_kept s s2 e fits home all = by e where
   moved : (f : Channels) (ws : List Wait) → s2.channels ≡ f → s2.waits ≡ ws → AllIdle f ws → AllIdle s2.channels s2.waits
   moved f ws a b h = subst (λ (z : Channels). AllIdle z s2.waits) (sym a) (subst (AllIdle f) (sym b) h)

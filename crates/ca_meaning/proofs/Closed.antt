@@ -3,9 +3,9 @@ use Rattle.std.proofs.Common.{◌≡◌, ℕ, ◌≤◌, List, [], ◌∷◌, �
 use Rattle.std.proofs.lemmas.Bool.{false≢true}
 use Rattle.ca_value.specs.Tree.{Tree}
 use Rattle.ca_term.specs.Kernel.{Kernel, Kernels, Bindings, Founds, const, var, branch, bind, loop, seq, frame, turn, apply, none, item, empty, binding, put, put_items, put_bindings, puts}
-use Rattle.ca_term.specs.Closed.{IsIn, behind, behind_found, IsClosed, AreClosed, AreClosedBindings}
+use Rattle.ca_term.specs.Closed.{IsIn, names_behind, behind_found, IsClosed, AreClosed, AreClosedBindings}
 use Rattle.ca_meaning.specs.Redex.{redex, redex_items, replace, replace_items, is_value, value_of, all_values, is_ready_recur}
-use Rattle.ca_meaning.specs.Started.{named, names_of}
+use Rattle.ca_meaning.specs.Started.{named, names_found}
 
 -- the names of ms but n are in ns
 abbrev Covers : ℕ → List ℕ → List ℕ → Type 0
@@ -19,7 +19,7 @@ covers_more n k ms ns c m (inr i) = by (c m i)
     by (inl e) = inl e
     by (inr j) = inr (inr j)
 
-covers_behind : (n : ℕ) (v : Tree) (bs : Bindings) (ms ns : List ℕ) → Covers n ms ns → Covers n (behind bs ms) (behind (put_bindings n v bs) ns)
+covers_behind : (n : ℕ) (v : Tree) (bs : Bindings) (ms ns : List ℕ) → Covers n ms ns → Covers n (names_behind bs ms) (names_behind (put_bindings n v bs) ns)
 covers_behind n v empty ms ns c = c
 covers_behind n v (binding k t bs) ms ns c = covers_behind n v bs (k ∷ ms) (k ∷ ns) (covers_more n k ms ns c)
 
@@ -37,8 +37,8 @@ mutual
   put-closed n v (const w) ms ns c h = tt
   put-closed n v (var m) ms ns c h = put-var n v m ns (m == n) refl (c m h)
   put-closed n v (branch t a b) ms ns c h = (put-closed n v t ms ns c h.0, put-closed n v a ms ns c h.1, put-closed n v b ms ns c h.2)
-  put-closed n v (bind bs body) ms ns c h = (put-bindings n v bs ms ns c h.0, put-closed n v body (behind bs ms) (behind (put_bindings n v bs) ns) (covers_behind n v bs ms ns c) h.1)
-  put-closed n v (loop fs bs body) ms ns c h = (put-bindings n v bs ms ns c h.0, put-closed n v body (behind bs (behind_found fs ms)) (behind (put_bindings n v bs) (behind_found fs ns)) (covers_behind n v bs (behind_found fs ms) (behind_found fs ns) (covers_found n fs ms ns c)) h.1)
+  put-closed n v (bind bs body) ms ns c h = (put-bindings n v bs ms ns c h.0, put-closed n v body (names_behind bs ms) (names_behind (put_bindings n v bs) ns) (covers_behind n v bs ms ns c) h.1)
+  put-closed n v (loop fs bs body) ms ns c h = (put-bindings n v bs ms ns c h.0, put-closed n v body (names_behind bs (behind_found fs ms)) (names_behind (put_bindings n v bs) (behind_found fs ns)) (covers_behind n v bs (behind_found fs ms) (behind_found fs ns) (covers_found n fs ms ns c)) h.1)
   put-closed n v (seq ts) ms ns c h = put-items n v ts ms ns c h
   put-closed n v (frame body) ms ns c h = h
   put-closed n v (turn names text now) ms ns c h = h
@@ -89,7 +89,7 @@ within_more : (k : ℕ) (ms ns : List ℕ) → Within ms ns → Within (k ∷ ms
 within_more k ms ns w m (inl e) = inl e
 within_more k ms ns w m (inr i) = inr (w m i)
 
-within_behind : (bs : Bindings) (ms ns : List ℕ) → Within ms ns → Within (behind bs ms) (behind bs ns)
+within_behind : (bs : Bindings) (ms ns : List ℕ) → Within ms ns → Within (names_behind bs ms) (names_behind bs ns)
 within_behind empty ms ns w = w
 within_behind (binding k t bs) ms ns w = within_behind bs (k ∷ ms) (k ∷ ns) (within_more k ms ns w)
 
@@ -102,8 +102,8 @@ mutual
   closed-among (const v) ms ns w h = tt
   closed-among (var n) ms ns w h = w n h
   closed-among (branch c a b) ms ns w h = (closed-among c ms ns w h.0, closed-among a ms ns w h.1, closed-among b ms ns w h.2)
-  closed-among (bind bs body) ms ns w h = (bindings-among bs ms ns w h.0, closed-among body (behind bs ms) (behind bs ns) (within_behind bs ms ns w) h.1)
-  closed-among (loop fs bs body) ms ns w h = (bindings-among bs ms ns w h.0, closed-among body (behind bs (behind_found fs ms)) (behind bs (behind_found fs ns)) (within_behind bs (behind_found fs ms) (behind_found fs ns) (within_found fs ms ns w)) h.1)
+  closed-among (bind bs body) ms ns w h = (bindings-among bs ms ns w h.0, closed-among body (names_behind bs ms) (names_behind bs ns) (within_behind bs ms ns w) h.1)
+  closed-among (loop fs bs body) ms ns w h = (bindings-among bs ms ns w h.0, closed-among body (names_behind bs (behind_found fs ms)) (names_behind bs (behind_found fs ns)) (within_behind bs (behind_found fs ms) (behind_found fs ns) (within_found fs ms ns w)) h.1)
   closed-among (seq ts) ms ns w h = items-among ts ms ns w h
   closed-among (frame body) ms ns w h = h
   closed-among (turn names text now) ms ns w h = h
@@ -118,22 +118,22 @@ mutual
   bindings-among (binding k t bs) ms ns w h = (closed-among t ms ns w h.0, bindings-among bs (k ∷ ms) (k ∷ ns) (within_more k ms ns w) h.1)
 
 -- with a value for each of its names a term is closed
-pub puts-closed : (fs : Founds) (t : Kernel) (ms : List ℕ) → ((m : ℕ) → IsIn m ms → IsIn m (names_of fs)) → IsClosed ms t → IsClosed [] (puts fs t)
+pub puts-closed : (fs : Founds) (t : Kernel) (ms : List ℕ) → ((m : ℕ) → IsIn m ms → IsIn m (names_found fs)) → IsClosed ms t → IsClosed [] (puts fs t)
 puts-closed [] t ms w h = closed-among t ms [] w h
-puts-closed (f ∷ fs) t ms w h = puts-closed fs (put f.0 f.1 t) (names_of fs) (λ m i. i) (put-closed f.0 f.1 t ms (names_of fs) w h)
+puts-closed (f ∷ fs) t ms w h = puts-closed fs (put f.0 f.1 t) (names_found fs) (λ m i. i) (put-closed f.0 f.1 t ms (names_found fs) w h)
 
 -- the names that have their values are those behind them
-found_in : (fs : Founds) (ns : List ℕ) (m : ℕ) → IsIn m (behind_found fs ns) → IsIn m (names_of fs) ⊎ IsIn m ns
+found_in : (fs : Founds) (ns : List ℕ) (m : ℕ) → IsIn m (behind_found fs ns) → IsIn m (names_found fs) ⊎ IsIn m ns
 found_in [] ns m i = inr i
 found_in (f ∷ fs) ns m i = by (found_in fs (f.0 ∷ ns) m i) where
-  by : IsIn m (names_of fs) ⊎ IsIn m (f.0 ∷ ns) → IsIn m (names_of (f ∷ fs)) ⊎ IsIn m ns
+  by : IsIn m (names_found fs) ⊎ IsIn m (f.0 ∷ ns) → IsIn m (names_found (f ∷ fs)) ⊎ IsIn m ns
   by (inl j) = inl (inr j)
   by (inr (inl e)) = inl (inl e)
   by (inr (inr j)) = inr j
 
-found_names : (fs : Founds) (m : ℕ) → IsIn m (behind_found fs []) → IsIn m (names_of fs)
+found_names : (fs : Founds) (m : ℕ) → IsIn m (behind_found fs []) → IsIn m (names_found fs)
 found_names fs m i = by (found_in fs [] m i) where
-  by : IsIn m (names_of fs) ⊎ IsIn m [] → IsIn m (names_of fs)
+  by : IsIn m (names_found fs) ⊎ IsIn m [] → IsIn m (names_found fs)
   by (inl j) = j
   by (inr j) = absurd j
 
@@ -141,7 +141,7 @@ behind_found-append : (fs : Founds) (n : ℕ) (v : Tree) (ns : List ℕ) → beh
 behind_found-append [] n v ns = refl
 behind_found-append (f ∷ fs) n v ns = behind_found-append fs n v (f.0 ∷ ns)
 
-behind-put : (n : ℕ) (v : Tree) (bs : Bindings) (ns : List ℕ) → behind (put_bindings n v bs) ns ≡ behind bs ns
+behind-put : (n : ℕ) (v : Tree) (bs : Bindings) (ns : List ℕ) → names_behind (put_bindings n v bs) ns ≡ names_behind bs ns
 behind-put n v empty ns = refl
 behind-put n v (binding k t bs) ns = behind-put n v bs (k ∷ ns)
 
@@ -151,19 +151,19 @@ bound-loop fs n t bs body h =
     let v = value_of t in
     let c : Covers n (n ∷ []) [] = λ m i. i in (
       put-bindings n v bs (n ∷ []) [] c h.0.1,
-      subst (λ ns. IsClosed ns body) (sym (behind-put n v bs (behind_found (fs ++ (n, v) ∷ []) []) ∙ ap (behind bs) (behind_found-append fs n v []))) h.1,
+      subst (λ ns. IsClosed ns body) (sym (behind-put n v bs (behind_found (fs ++ (n, v) ∷ []) []) ∙ ap (names_behind bs) (behind_found-append fs n v []))) h.1,
     )
 
-pub bound-turn : (fs : Founds) (body : Kernel) → IsClosed [] (loop fs empty body) → IsClosed [] (turn (names_of fs) body (puts fs body))
-bound-turn fs body h = (closed-among body (behind_found fs []) (names_of fs) (found_names fs) h.1, puts-closed fs body (behind_found fs []) (found_names fs) h.1)
+pub bound-turn : (fs : Founds) (body : Kernel) → IsClosed [] (loop fs empty body) → IsClosed [] (turn (names_found fs) body (puts fs body))
+bound-turn fs body h = (closed-among body (behind_found fs []) (names_found fs) (found_names fs) h.1, puts-closed fs body (behind_found fs []) (found_names fs) h.1)
 
 pub bound-let : (n : ℕ) (t : Kernel) (bs : Bindings) (body : Kernel) → IsClosed [] (bind (binding n t bs) body) → IsClosed [] (bind (put_bindings n (value_of t) bs) (put n (value_of t) body))
 bound-let n t bs body h =
     let c : Covers n (n ∷ []) [] = λ m i. i in
-    (put-bindings n (value_of t) bs (n ∷ []) [] c h.0.1, put-closed n (value_of t) body (behind bs (n ∷ [])) (behind (put_bindings n (value_of t) bs) []) (covers_behind n (value_of t) bs (n ∷ []) [] c) h.1)
+    (put-bindings n (value_of t) bs (n ∷ []) [] c h.0.1, put-closed n (value_of t) body (names_behind bs (n ∷ [])) (names_behind (put_bindings n (value_of t) bs) []) (covers_behind n (value_of t) bs (n ∷ []) [] c) h.1)
 
 -- a text with enough values for its names
-names-named : (ns : List ℕ) (vs : List Tree) → length ns ≤ length vs → names_of (named ns vs) ≡ ns
+names-named : (ns : List ℕ) (vs : List Tree) → length ns ≤ length vs → names_found (named ns vs) ≡ ns
 names-named [] vs h = refl
 names-named (n ∷ ns) [] h = absurd (omega arith)
 names-named (n ∷ ns) (v ∷ vs) h = ap (λ k. n ∷ k) (names-named ns vs (omega (arith, h)))

@@ -10,7 +10,7 @@ use Rattle.ca_term.specs.Fits.{count_terms, count_bindings, Fits}
 use Rattle.ca_term.specs.Program.{ProgramView}
 use Rattle.ca_meaning.specs.Redex.{is_value, value_of, values_of, is_ready_recur}
 use Rattle.ca_meaning.specs.Operands.{truth, values_in}
-use Rattle.ca_meaning.specs.Started.{named, names_of, procedure_at}
+use Rattle.ca_meaning.specs.Started.{named, names_found, procedure_at}
 use Rattle.ca_meaning.specs.Body.{contract, after_turn}
 use Rattle.ca_meaning.specs.Parts.{is_whole}
 use Rattle.ca_meaning.proofs.Closed.{choose, named-closed, bound-loop, bound-turn, bound-let}
@@ -127,10 +127,10 @@ module _ (program : ProgramView) (S : Option ℕ → Head → ℕ → Type 0) (j
       let e : length fs + suc (count_bindings bs) ≡ length (fs ++ (n, v) ∷ []) + count_bindings (put_bindings n v bs) = omega (arith, a, b) in
       subst (λ k. Fits S (Some k) body) e h
 
-  turn-fits : (fs : Founds) (body : Kernel) → Fits S (Some (length fs + 0)) body → Fits S (Some (length (names_of fs))) body
+  turn-fits : (fs : Founds) (body : Kernel) → Fits S (Some (length fs + 0)) body → Fits S (Some (length (names_found fs))) body
   turn-fits fs body h =
       let a = length-map fs (λ (f : ℕ × Tree). f.0) in
-      let e : length fs + 0 ≡ length (names_of fs) = omega (arith, a) in
+      let e : length fs + 0 ≡ length (names_found fs) = omega (arith, a) in
       subst (λ k. Fits S (Some k) body) e h
 
   pub contract-fits : (target : Option ℕ) (t : Kernel) → is_whole t ≡ true → Fits S target t → Fits S target (contract program t)
@@ -139,7 +139,7 @@ module _ (program : ProgramView) (S : Option ℕ → Head → ℕ → Type 0) (j
   contract-fits target (branch c a b) w f = choose-fits target (truth (value_of c)) a b f.1 f.2
   contract-fits target (bind empty body) w f = f.1
   contract-fits target (bind (binding n t bs) body) w f = (put-bindings S n (value_of t) bs f.0.1, put-fits S n (value_of t) target body f.1)
-  contract-fits target (loop fs empty body) w f = let k = turn-fits fs body f.1 in (k, puts-fits S fs (Some (length (names_of fs))) body k)
+  contract-fits target (loop fs empty body) w f = let k = turn-fits fs body f.1 in (k, puts-fits S fs (Some (length (names_found fs))) body k)
   contract-fits target (loop fs (binding n t bs) body) w f = (put-bindings S n (value_of t) bs f.0.1, loop-fits fs n (value_of t) bs body f.1)
   contract-fits target (seq none) w f = tt
   contract-fits target (seq (item t none)) w f = f

@@ -6,14 +6,14 @@ use Rattle.ca_meaning.specs.Channel.{Channel}
 use Rattle.ca_meaning.specs.Wait.{front}
 use Rattle.ca_meaning.specs.Row.{unsettled, settle_row}
 use Rattle.ca_meaning.specs.State.{State}
-use Rattle.ca_meaning.specs.Solo.{Desk, CanSettle, NoneSettles, IsFree, AsksBefore, IsTurnOf, patience, alts_of}
+use Rattle.ca_meaning.specs.Solo.{Desk, CanSettle, NoneSettles, IsFree, AsksBefore, IsTurnOf, patience, alts_counted}
 
 -- the desk with a task picked, and with an operation of its counted
 abbrev pub picked : Desk → ℕ → List ℕ → Desk
 picked d t rest = record d { ready = rest; lane = Some (record { task = t; events = 0 }) }
 
 abbrev pub told : OpView → ℕ → Desk → Desk
-told op t d = record d { alts = λ u. cond (eqb t u) (alts_of op (d.alts u)) (d.alts u) }
+told op t d = record d { alts = λ u. cond (eqb t u) (alts_counted op (d.alts u)) (d.alts u) }
 
 -- no channel but 1 and 2 is there
 abbrev pub Others : State → Type 0

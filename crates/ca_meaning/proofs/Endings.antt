@@ -11,10 +11,10 @@ use Rattle.ca_term.specs.Kernel.{Kernel, const, var, branch, bind, loop, seq, fr
 use Rattle.ca_term.specs.Operation.{OpView, WhatView}
 use Rattle.ca_meaning.specs.Asking.{bad_alts, made_of, bad_operands, bad_arguments, too_large}
 use Rattle.ca_meaning.specs.Body.{At, local, at_op, faulted, asking, asking_to_make, at_turn, at_call, standing_with, standing_turn}
-use Rattle.ca_meaning.specs.BodyViews.{value_at}
+use Rattle.ca_meaning.specs.BodyViews.{ended_value}
 
 abbrev NoValue : At → Type 0
-NoValue a = None ≡ value_at a
+NoValue a = None ≡ ended_value a
 
 either : (b : Bool) (x y : At) → NoValue x → NoValue y → NoValue (cond b x y)
 either true x y e f = e

@@ -9,7 +9,7 @@ use Rattle.std.proofs.lemmas.Fmt.{decimal_injective, decimal_is_IsNumeral}
 use Rattle.std.proofs.lemmas.Str.Parse.{digit_from_value}
 use Rattle.ca_value.specs.Tree.{Tree, Trees, none, item}
 use Rattle.ca_value.specs.declared.print.Style.TheVariants.{Readable}
-use Rattle.ca_value.specs.Printed.{printed, printed_more, readable_text, readable_items}
+use Rattle.ca_value.specs.Printed.{printed_value, printed_more, readable_text, readable_items}
 use Rattle.ca_term.specs.declared.place.Place.{Place}
 use Rattle.ca_term.specs.declared.fault.Fault.{Fault}
 use Rattle.ca_term.specs.declared.event.Side.{Side}
@@ -20,21 +20,21 @@ use Rattle.ca_term.specs.Event.{BranchView, take_of, put_of}
 use Rattle.ca_meaning.specs.Sound.{Each}
 use Rattle.ca_meaning.specs.Texts.{◌⋅◌, fault_text, place_text}
 use Rattle.ca_meaning.specs.Journal.{port_text, maybe_port_text, side_text, kind_text, name_text, branch_text, branches_text, ports_text}
-use Rattle.ca_meaning.specs.Shown.{stops, Solid, IsNumber, IsShown, AreShown, SomeShown, MaybeNumber, BranchShown}
+use Rattle.ca_meaning.specs.Shown.{ends_word, Solid, IsNumber, IsShown, AreShown, SomeShown, MaybeNumber, BranchShown}
 use Rattle.ca_meaning.proofs.LineWords.{Ends, split, cut, decimal_solid}
 use Rattle.ca_meaning.proofs.LineValues.{apart, head_of, behind_one, told}
 
 -- a number behind a letter
-tagged_solid : (c n : ℕ) → stops c ≡ false → IsNumber n → Solid (c ∷ decimal n)
+tagged_solid : (c n : ℕ) → ends_word c ≡ false → IsNumber n → Solid (c ∷ decimal n)
 tagged_solid c n s h = (s, decimal_solid n h)
 
 same_number : (c m n : ℕ) → IsNumber m → IsNumber n → c ∷ decimal m ≡ c ∷ decimal n → m ≡ n
 same_number c m n g h e = decimal_injective m n g h (behind_one c c (decimal m) (decimal n) e)
 
-pub cut_number : (c m n : ℕ) (x y r s : List ℕ) → stops c ≡ false → IsNumber m → IsNumber n → ((c ∷ decimal m) ++ (32 ∷ x)) ++ r ≡ ((c ∷ decimal n) ++ (32 ∷ y)) ++ s → (m ≡ n) × (x ++ r ≡ y ++ s)
+pub cut_number : (c m n : ℕ) (x y r s : List ℕ) → ends_word c ≡ false → IsNumber m → IsNumber n → ((c ∷ decimal m) ++ (32 ∷ x)) ++ r ≡ ((c ∷ decimal n) ++ (32 ∷ y)) ++ s → (m ≡ n) × (x ++ r ≡ y ++ s)
 cut_number c m n x y r s f g h e = let k = cut (c ∷ decimal m) (c ∷ decimal n) x y r s (tagged_solid c m f g) (tagged_solid c n f h) e in (same_number c m n g h k.0, k.1)
 
-pub end_number : (c m n : ℕ) (r s : List ℕ) → stops c ≡ false → IsNumber m → IsNumber n → Ends r → Ends s → (c ∷ decimal m) ++ r ≡ (c ∷ decimal n) ++ s → (m ≡ n) × (r ≡ s)
+pub end_number : (c m n : ℕ) (r s : List ℕ) → ends_word c ≡ false → IsNumber m → IsNumber n → Ends r → Ends s → (c ∷ decimal m) ++ r ≡ (c ∷ decimal n) ++ s → (m ≡ n) × (r ≡ s)
 end_number c m n r s f g h x y e = let k = split (c ∷ decimal m) (c ∷ decimal n) r s (tagged_solid c m f g) (tagged_solid c n f h) x y e in (same_number c m n g h k.0, k.1)
 
 pub cut_decimal : (m n : ℕ) (x y r s : List ℕ) → IsNumber m → IsNumber n → (decimal m ++ (32 ∷ x)) ++ r ≡ (decimal n ++ (32 ∷ y)) ++ s → (m ≡ n) × (x ++ r ≡ y ++ s)
@@ -52,12 +52,12 @@ cut_value v w x y r s g h e =
 -- words of a list
 abbrev is_solid : List ℕ → Bool
 is_solid [] = true
-is_solid (b ∷ s) = cond (stops b) false (is_solid s)
+is_solid (b ∷ s) = cond (ends_word b) false (is_solid s)
 
 solid : (w : List ℕ) → is_solid w ≡ true → Solid w
 solid [] e = tt
-solid (b ∷ s) e = by (stops b) refl e (λ k. solid s k) where
-  by : (t : Bool) → stops b ≡ t → cond t false (is_solid s) ≡ true → (is_solid s ≡ true → Solid s) → (stops b ≡ false) × Solid s
+solid (b ∷ s) e = by (ends_word b) refl e (λ k. solid s k) where
+  by : (t : Bool) → ends_word b ≡ t → cond t false (is_solid s) ≡ true → (is_solid s ≡ true → Solid s) → (ends_word b ≡ false) × Solid s
   by true is e f = absurd (let k : false ≡ true = e in cc)
   by false is e f = (is, f e)
 
@@ -355,7 +355,7 @@ ends_args (item t ts) v r = refl
 more_args : (ts us : Trees) (v w : Tree) (r s : List ℕ) → AreShown ts → AreShown us → IsShown v → IsShown w → after_args ts v r ≡ after_args us w s → (ts ≡ us) × (v ≡ w) × (r ≡ s)
 more_args none none v w r s g h i j e = let m = told v w (10 ∷ r) (10 ∷ s) i j refl refl (behind_one 32 32 _ _ e) in (refl, m.0, behind_one 10 10 r s m.1)
 more_args none (item u us) v w r s g h i j e =
-    let f : readable_text v ++ (10 ∷ r) ≡ printed Readable u ++ after_args us w s = behind_one 32 32 _ _ e ∙ append_assoc (printed Readable u) (printed_more Readable us) (32 ∷ (readable_text w ++ (10 ∷ s))) in
+    let f : readable_text v ++ (10 ∷ r) ≡ printed_value Readable u ++ after_args us w s = behind_one 32 32 _ _ e ∙ append_assoc (printed_value Readable u) (printed_more Readable us) (32 ∷ (readable_text w ++ (10 ∷ s))) in
     let m = told v u (10 ∷ r) (after_args us w s) i h.0 refl (ends_args us w s) f in
     no_more us m.1
   where
@@ -363,7 +363,7 @@ more_args none (item u us) v w r s g h i j e =
     no_more none e = apart 10 32 refl (ap head_of e)
     no_more (item x xs) e = apart 10 32 refl (ap head_of e)
 more_args (item t ts) none v w r s g h i j e =
-    let f : readable_text w ++ (10 ∷ s) ≡ printed Readable t ++ after_args ts v r = behind_one 32 32 _ _ (sym e) ∙ append_assoc (printed Readable t) (printed_more Readable ts) (32 ∷ (readable_text v ++ (10 ∷ r))) in
+    let f : readable_text w ++ (10 ∷ s) ≡ printed_value Readable t ++ after_args ts v r = behind_one 32 32 _ _ (sym e) ∙ append_assoc (printed_value Readable t) (printed_more Readable ts) (32 ∷ (readable_text v ++ (10 ∷ r))) in
     let m = told w t (10 ∷ s) (after_args ts v r) j g.0 refl (ends_args ts v r) f in
     no_more ts m.1
   where
@@ -371,7 +371,7 @@ more_args (item t ts) none v w r s g h i j e =
     no_more none e = apart 10 32 refl (ap head_of e)
     no_more (item x xs) e = apart 10 32 refl (ap head_of e)
 more_args (item t ts) (item u us) v w r s g h i j e =
-    let f : printed Readable t ++ after_args ts v r ≡ printed Readable u ++ after_args us w s = sym (append_assoc (printed Readable t) (printed_more Readable ts) (32 ∷ (readable_text v ++ (10 ∷ r)))) ∙ behind_one 32 32 _ _ e ∙ append_assoc (printed Readable u) (printed_more Readable us) (32 ∷ (readable_text w ++ (10 ∷ s))) in
+    let f : printed_value Readable t ++ after_args ts v r ≡ printed_value Readable u ++ after_args us w s = sym (append_assoc (printed_value Readable t) (printed_more Readable ts) (32 ∷ (readable_text v ++ (10 ∷ r)))) ∙ behind_one 32 32 _ _ e ∙ append_assoc (printed_value Readable u) (printed_more Readable us) (32 ∷ (readable_text w ++ (10 ∷ s))) in
     let m = told t u (after_args ts v r) (after_args us w s) g.0 h.0 (ends_args ts v r) (ends_args us w s) f in
     let n = more_args ts us v w r s g.1 h.1 i j m.1 in
     (ap₂ (λ z zs. item z zs) m.0 n.0, n.1, n.2)
@@ -380,10 +380,10 @@ pub args_told : (ts us : Trees) (v w : Tree) (r s : List ℕ) → SomeShown ts �
 args_told none us v w r s g h i j e = absurd g
 args_told (item t ts) none v w r s g h i j e = absurd h
 args_told (item t ts) (item u us) v w r s g h i j e =
-    let f : printed Readable t ++ after_args ts v r ≡ printed Readable u ++ after_args us w s = sym (whole t ts v r) ∙ e ∙ whole u us w s in
+    let f : printed_value Readable t ++ after_args ts v r ≡ printed_value Readable u ++ after_args us w s = sym (whole t ts v r) ∙ e ∙ whole u us w s in
     let m = told t u (after_args ts v r) (after_args us w s) g.0 h.0 (ends_args ts v r) (ends_args us w s) f in
     let n = more_args ts us v w r s g.1 h.1 i j m.1 in
     (ap₂ (λ z zs. item z zs) m.0 n.0, n.1, n.2)
   where
-    whole : (t : Tree) (ts : Trees) (v : Tree) (r : List ℕ) → (readable_items (item t ts) ⋅ readable_text v) ++ (10 ∷ r) ≡ printed Readable t ++ after_args ts v r
-    whole t ts v r = append_assoc (printed Readable t ++ printed_more Readable ts) (32 ∷ readable_text v) (10 ∷ r) ∙ append_assoc (printed Readable t) (printed_more Readable ts) (32 ∷ (readable_text v ++ (10 ∷ r)))
+    whole : (t : Tree) (ts : Trees) (v : Tree) (r : List ℕ) → (readable_items (item t ts) ⋅ readable_text v) ++ (10 ∷ r) ≡ printed_value Readable t ++ after_args ts v r
+    whole t ts v r = append_assoc (printed_value Readable t ++ printed_more Readable ts) (32 ∷ readable_text v) (10 ∷ r) ∙ append_assoc (printed_value Readable t) (printed_more Readable ts) (32 ∷ (readable_text v ++ (10 ∷ r)))

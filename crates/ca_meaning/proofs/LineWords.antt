@@ -9,16 +9,16 @@ use Rattle.std.specs.Prelude.{codes}
 use Rattle.std.specs.Str.Parse.{AllDigits}
 use Rattle.ca_value.specs.Tree.{Tree, nil, bool, int, text, key, vector, map, port}
 use Rattle.ca_value.specs.declared.print.Style.TheVariants.{Readable}
-use Rattle.ca_value.specs.Printed.{escaped, all_escaped, quoted, printed}
-use Rattle.ca_meaning.specs.Shown.{stops, Solid, IsNumber, IsInteger, IsShown}
+use Rattle.ca_value.specs.Printed.{escaped, all_escaped, quoted, printed_value}
+use Rattle.ca_meaning.specs.Shown.{ends_word, Solid, IsNumber, IsShownInteger, IsShown}
 
 -- what may follow a word
 abbrev pub Ends : List ℕ → Type 0
 Ends [] = Unit {0}
-Ends (b ∷ s) = stops b ≡ true
+Ends (b ∷ s) = ends_word b ≡ true
 
-clash : {P : Type 0} (b c : ℕ) → b ≡ c → stops b ≡ true → stops c ≡ false → P
-clash b c e t f = absurd (let k : true ≡ false = sym t ∙ ap stops e ∙ f in cc)
+clash : {P : Type 0} (b c : ℕ) → b ≡ c → ends_word b ≡ true → ends_word c ≡ false → P
+clash b c e t f = absurd (let k : true ≡ false = sym t ∙ ap ends_word e ∙ f in cc)
 
 pub split : (w v r s : List ℕ) → Solid w → Solid v → Ends r → Ends s → w ++ r ≡ v ++ s → (w ≡ v) × (r ≡ s)
 split [] [] r s a b x y e = (refl, e)
@@ -44,7 +44,7 @@ or_false : (a b : Bool) → a ≡ false → b ≡ false → a || b ≡ false
 or_false false b p q = q
 or_false true b p q = cc
 
-digit_goes_on : (b : ℕ) → 48 ≤ b → b ≤ 57 → stops b ≡ false
+digit_goes_on : (b : ℕ) → 48 ≤ b → b ≤ 57 → ends_word b ≡ false
 digit_goes_on b l h =
     or_false (b == 32) _ (ne_eqb b 32 (λ e. omega (arith, e, l)))
     (or_false (b == 10) _ (ne_eqb b 10 (λ e. omega (arith, e, l)))
@@ -173,11 +173,11 @@ digits_class : (ds x : List ℕ) → AllDigits 10 ds → 0 < length ds → first
 digits_class [] x d l = absurd (omega (arith, l))
 digits_class (c ∷ cs) x d l = let k = digit_from_value c d.0 in digit_class c (omega (arith, k)) (omega (arith, k))
 
-int_class : (z : ℤ) (x : List ℕ) → IsInteger z → first_class (signed_decimal z ++ x) ≡ 3
+int_class : (z : ℤ) (x : List ℕ) → IsShownInteger z → first_class (signed_decimal z ++ x) ≡ 3
 int_class (pos n) x h = digits_class (decimal n) x (decimal_is_IsNumeral n (omega (arith, h))).0.1 (decimal_nonempty n (omega (arith, h)))
 int_class (negsuc n) x h = refl
 
-pub starts_with : (t : Tree) (x : List ℕ) → IsShown t → first_class (printed Readable t ++ x) ≡ tag t
+pub starts_with : (t : Tree) (x : List ℕ) → IsShown t → first_class (printed_value Readable t ++ x) ≡ tag t
 starts_with nil x h = refl
 starts_with (bool true) x h = refl
 starts_with (bool false) x h = refl

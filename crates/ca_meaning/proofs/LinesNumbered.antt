@@ -11,7 +11,7 @@ use Rattle.ca_term.specs.Operation.{WhatView, unbuffered, fixed, dropping, slidi
 use Rattle.ca_term.specs.Event.{EventView, BranchView, take_of, put_of, made, spawned, done, met, parked, posted, settled, defaulted, closed, registered, printed, ticked, over}
 use Rattle.ca_meaning.specs.Sound.{Each}
 use Rattle.ca_meaning.specs.RunValues.{OffersIn, EventHas}
-use Rattle.ca_meaning.specs.Shown.{stops, Solid, IsInteger, IsShown, AreShown, PairsShown, IsPort, WhatShown, BranchShown, SomeShown, EventShown, IsSomePort, WhatTold, HasFirst, EventTold, PortsFit, AllPortsFit, PairsPortsFit, WhatNumbered, BranchNumbered, IsNumbered, IsWrittenRun}
+use Rattle.ca_meaning.specs.Shown.{ends_word, Solid, IsShownInteger, IsShown, AreShown, PairsShown, IsPort, WhatShown, BranchShown, SomeShown, EventShown, IsSomePort, WhatTold, HasFirst, EventTold, PortsFit, AllPortsFit, PairsPortsFit, WhatNumbered, BranchNumbered, IsEventNumbered, IsWrittenRun}
 use Rattle.ca_meaning.specs.Journal.{journal_text}
 use Rattle.ca_meaning.proofs.ValueRuns.{run_holds}
 use Rattle.ca_meaning.proofs.ValuesWritten.{written_of}
@@ -29,7 +29,7 @@ neither : (a b : Bool) → a ≡ false → b ≡ false → (a || b) ≡ false
 neither false b p q = q
 neither true b p q = cc
 
-goes_on_word : (b : ℕ) → is_keyword_byte b ≡ true → stops b ≡ false
+goes_on_word : (b : ℕ) → is_keyword_byte b ≡ true → ends_word b ≡ false
 goes_on_word b h =
     neither (b == 32) _ (differs b 32 refl h)
     (neither (b == 10) _ (differs b 10 refl h) (neither (b == 44) _ (differs b 44 refl h) (neither (b == 93) _ (differs b 93 refl h) (differs b 125 refl h))))
@@ -46,7 +46,7 @@ solid_keyword : (s : List ℕ) → is_keyword s ≡ true → Solid s
 solid_keyword [] e = tt
 solid_keyword (b ∷ s) e = all_solid (b ∷ s) e
 
-integer_shown : (z : ℤ) → fits_64 z ≡ true → IsInteger z
+integer_shown : (z : ℤ) → fits_64 z ≡ true → IsShownInteger z
 integer_shown (pos n) e = grind (arith, ints)
 integer_shown (negsuc n) e = grind (arith, ints)
 
@@ -106,7 +106,7 @@ branches_shown : (bs : List BranchView) → Each (OffersIn written) bs → Each 
 branches_shown [] o n = tt
 branches_shown (b ∷ bs) o n = (branch_shown b o.0 n.0, branches_shown bs o.1 n.1)
 
-event_shown : (e : EventView) → EventHas written e → EventTold e → IsNumbered e → EventShown e
+event_shown : (e : EventView) → EventHas written e → EventTold e → IsEventNumbered e → EventShown e
 event_shown (made t p what moment) h d n = (n.0, n.1, what_shown what moment d n.2)
 event_shown (spawned t u kind result) h d n = n
 event_shown (done t k b a) h d n = (n.0, n.1, branch_shown b h.0 n.2, value_shown a h.1.regular n.3)
@@ -122,7 +122,7 @@ event_shown (ticked m ports) h d n = n
 event_shown (over t Ended) h d n = n
 event_shown (over t (Faulted fault place result)) h d n = n
 
-events_shown : (es : List EventView) → Each (EventHas written) es → Each EventTold es → Each IsNumbered es → Each EventShown es
+events_shown : (es : List EventView) → Each (EventHas written) es → Each EventTold es → Each IsEventNumbered es → Each EventShown es
 events_shown [] h d n = tt
 events_shown (e ∷ es) h d n = (event_shown e h.0 d.0 n.0, events_shown es h.1 d.1 n.1)
 

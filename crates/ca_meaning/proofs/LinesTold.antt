@@ -10,7 +10,7 @@ use Rattle.ca_term.specs.declared.event.Ending.{Ending}
 use Rattle.ca_term.specs.declared.event.Ending.TheVariants.{Ended, Faulted}
 use Rattle.ca_term.specs.Operation.{WhatView, unbuffered, fixed, dropping, sliding, promise, timeout, mult, mix, publication}
 use Rattle.ca_term.specs.Event.{EventView, BranchView, take_of, put_of, made, spawned, done, met, parked, posted, settled, defaulted, closed, registered, printed, ticked, over, port_number as number_of}
-use Rattle.ca_meaning.specs.Operands.{port_number}
+use Rattle.ca_meaning.specs.Operands.{port_of_value}
 use Rattle.ca_meaning.specs.Sound.{Each}
 use Rattle.ca_meaning.specs.Texts.{◌⋅◌}
 use Rattle.ca_meaning.specs.Journal.{port_text, moment_text, what_text, branch_text, done_text, ports_text, event_text, event_line, lines_from, journal_text}
@@ -52,7 +52,7 @@ what_marks (mult source) m r = refl
 what_marks (mix out changes) m r = refl
 what_marks (publication source) m r = refl
 
-port_there : (v : Tree) → IsPort v → (v ≡ port (port_number v)) × IsNumber (port_number v)
+port_there : (v : Tree) → IsPort v → (v ≡ port (port_of_value v)) × IsNumber (port_of_value v)
 port_there (port n) h = (refl, h)
 port_there nil h = absurd h
 port_there (bool b) h = absurd h
@@ -62,7 +62,7 @@ port_there (key s) h = absurd h
 port_there (vector ts) h = absurd h
 port_there (map ps) h = absurd h
 
-same_port : (v w : Tree) → IsPort v → IsPort w → port_number v ≡ port_number w → v ≡ w
+same_port : (v w : Tree) → IsPort v → IsPort w → port_of_value v ≡ port_of_value w → v ≡ w
 same_port v w g h e = (port_there v g).0 ∙ ap (λ n. port n) e ∙ sym (port_there w h).0
 
 abbrev Made : WhatView → WhatView → Option ℕ → Option ℕ → List ℕ → List ℕ → Type 0
@@ -81,14 +81,14 @@ what_told (timeout a) (timeout b) (Some m) (Some n) r s g h e k =
 what_told (timeout a) (timeout b) None n r s g h e k = absurd g
 what_told (timeout a) (timeout b) (Some m) None r s g h e k = absurd h
 what_told (mult a) (mult b) m n r s g h e k =
-    let j = end_number 112 (port_number a) (port_number b) (10 ∷ r) (10 ∷ s) refl (port_there a g.0).1 (port_there b h.0).1 refl refl (ap (drop 5) e) in
+    let j = end_number 112 (port_of_value a) (port_of_value b) (10 ∷ r) (10 ∷ s) refl (port_there a g.0).1 (port_there b h.0).1 refl refl (ap (drop 5) e) in
     (ap (λ z. mult z) (same_port a b g.0 h.0 j.0), g.1 ∙ sym h.1, behind_one 10 10 r s j.1)
 what_told (mix a c) (mix b d) m n r s g h e k =
-    let j = cut_number 112 (port_number a) (port_number b) (port_text (port_number c)) (port_text (port_number d)) (10 ∷ r) (10 ∷ s) refl (port_there a g.0).1 (port_there b h.0).1 (ap (drop 4) e) in
-    let i = end_number 112 (port_number c) (port_number d) (10 ∷ r) (10 ∷ s) refl (port_there c g.1).1 (port_there d h.1).1 refl refl j.1 in
+    let j = cut_number 112 (port_of_value a) (port_of_value b) (port_text (port_of_value c)) (port_text (port_of_value d)) (10 ∷ r) (10 ∷ s) refl (port_there a g.0).1 (port_there b h.0).1 (ap (drop 4) e) in
+    let i = end_number 112 (port_of_value c) (port_of_value d) (10 ∷ r) (10 ∷ s) refl (port_there c g.1).1 (port_there d h.1).1 refl refl j.1 in
     (ap₂ (λ z w. mix z w) (same_port a b g.0 h.0 j.0) (same_port c d g.1 h.1 i.0), g.2 ∙ sym h.2, behind_one 10 10 r s i.1)
 what_told (publication a) (publication b) m n r s g h e k =
-    let j = end_number 112 (port_number a) (port_number b) (10 ∷ r) (10 ∷ s) refl (port_there a g.0).1 (port_there b h.0).1 refl refl (ap (drop 4) e) in
+    let j = end_number 112 (port_of_value a) (port_of_value b) (10 ∷ r) (10 ∷ s) refl (port_there a g.0).1 (port_there b h.0).1 refl refl (ap (drop 4) e) in
     (ap (λ z. publication z) (same_port a b g.0 h.0 j.0), g.1 ∙ sym h.1, behind_one 10 10 r s j.1)
 what_told a b m n r s g h e k = apart (what_tag a) (what_tag b) refl k
 

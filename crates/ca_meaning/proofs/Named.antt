@@ -15,7 +15,7 @@ use Rattle.ca_meaning.specs.Choice.{row, any_ready}
 use Rattle.ca_meaning.specs.Steps.{Step, Steps}
 use Rattle.ca_meaning.specs.Sound.{Each, Sound}
 use Rattle.ca_meaning.specs.History.{channel_in, branch_on, MakesBranch, channel_after, channel_from}
-use Rattle.ca_meaning.specs.ChannelLaw.{Tells}
+use Rattle.ca_meaning.specs.ChannelLaw.{TellsChannel}
 use Rattle.ca_meaning.proofs.Waits.{each-append, each-weaker, each-filter, queue_without, queue_joined, other, takes_there, puts_there}
 use Rattle.ca_meaning.proofs.Rows.{put_waits}
 use Rattle.ca_meaning.proofs.Refusals.{GoodBranch, good_branches, each-get}
@@ -27,7 +27,7 @@ use Rattle.ca_meaning.proofs.Histories.{step_tells}
 -- where the handler stands on a put, its channel was open when the put began to wait
 abbrev pub OpenThen : Side → List EventView → ℕ → Type 0
 OpenThen Take early p = Unit {0}
-OpenThen Put early p = (c : Channel) × Tells early p c × (c.closed ≡ false)
+OpenThen Put early p = (c : Channel) × TellsChannel early p c × (c.closed ≡ false)
 
 abbrev pub NamedIn : List EventView → Side → ℕ → Handler → Type 0
 NamedIn journal side p h =

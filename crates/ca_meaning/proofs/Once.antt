@@ -8,7 +8,7 @@ use Rattle.ca_meaning.specs.Wait.{Wait, front, port_of, without, is_live, is_amo
 use Rattle.ca_meaning.specs.Row.{meets}
 use Rattle.ca_meaning.specs.State.{State}
 use Rattle.ca_meaning.specs.Steps.{Step, Steps}
-use Rattle.ca_meaning.specs.History.{completes, makes, count}
+use Rattle.ca_meaning.specs.History.{completes_wait, makes, count}
 use Rattle.ca_meaning.proofs.Waits.{not_live, live_else, live-append}
 use Rattle.ca_meaning.proofs.Rows.{row_channel, settle_does}
 use Rattle.ca_meaning.proofs.Effects.{waits_of, used_of, met_live, settled_live}
@@ -17,25 +17,25 @@ use Rattle.ca_meaning.proofs.Effects.{waits_of, used_of, met_live, settled_live}
 record Numbers (s : State) (e : EventView) (s2 : State) : Type 0 where
   grows : (w : ℕ) → is_among w s.used ≡ true → is_among w s2.used ≡ true
   born : (w : ℕ) → is_live w s2.waits ≡ true → (is_live w s.waits ≡ true) ⊎ ((is_among w s.used ≡ false) × (is_among w s2.used ≡ true))
-  ends : (w : ℕ) → completes w e ≡ true → (is_live w s.waits ≡ true) × (is_live w s2.waits ≡ false)
+  ends : (w : ℕ) → completes_wait w e ≡ true → (is_live w s.waits ≡ true) × (is_live w s2.waits ≡ false)
   new : (w : ℕ) → makes w e ≡ true → (is_among w s.used ≡ false) × (is_among w s2.used ≡ true)
 
 not_so : {G : Type 0} (b : Bool) → b ≡ false → b ≡ true → G
 not_so b f t = let k : false ≡ true = sym f ∙ t in absurd cc
 
-same_waits : (s s2 : State) (e : EventView) → s2.waits ≡ s.waits → s2.used ≡ s.used → ((w : ℕ) → completes w e ≡ false) → ((w : ℕ) → makes w e ≡ false) → Numbers s e s2
+same_waits : (s s2 : State) (e : EventView) → s2.waits ≡ s.waits → s2.used ≡ s.used → ((w : ℕ) → completes_wait w e ≡ false) → ((w : ℕ) → makes w e ≡ false) → Numbers s e s2
 same_waits s s2 e a b n m = record {
   grows = λ w h. ap (is_among w) b ∙ h;
   born = λ w h. inl (sym (ap (is_live w) a) ∙ h);
-  ends = λ w h. not_so (completes w e) (n w) h;
+  ends = λ w h. not_so (completes_wait w e) (n w) h;
   new = λ w h. not_so (makes w e) (m w) h;
 }
 
-new_wait : (s s2 : State) (e : EventView) (x : Wait) → is_among x.number s.used ≡ false → s2.waits ≡ s.waits ++ x ∷ [] → s2.used ≡ x.number ∷ s.used → ((w : ℕ) → completes w e ≡ false) → ((w : ℕ) → makes w e ≡ eqb w x.number) → Numbers s e s2
+new_wait : (s s2 : State) (e : EventView) (x : Wait) → is_among x.number s.used ≡ false → s2.waits ≡ s.waits ++ x ∷ [] → s2.used ≡ x.number ∷ s.used → ((w : ℕ) → completes_wait w e ≡ false) → ((w : ℕ) → makes w e ≡ eqb w x.number) → Numbers s e s2
 new_wait s s2 e x fresh a b n m = record {
   grows = λ w h. ap (is_among w) b ∙ more (eqb w x.number) (is_among w s.used) h;
   born = λ w h. is (eqb w x.number) w refl (sym (live-append w s.waits x) ∙ sym (ap (is_live w) a) ∙ h);
-  ends = λ w h. not_so (completes w e) (n w) h;
+  ends = λ w h. not_so (completes_wait w e) (n w) h;
   new = λ w h. here w (sym (m w) ∙ h);
 } where
   more : (c d : Bool) → d ≡ true → cond c true d ≡ true
@@ -49,7 +49,7 @@ new_wait s s2 e x fresh a b n m = record {
   is true w e h = inr (here w e)
   is false w e h = inl h
 
-less_wait : (s s2 : State) (e : EventView) (x : ℕ) → is_live x s.waits ≡ true → s2.waits ≡ without x s.waits → s2.used ≡ s.used → ((w : ℕ) → completes w e ≡ eqb w x) → ((w : ℕ) → makes w e ≡ false) → Numbers s e s2
+less_wait : (s s2 : State) (e : EventView) (x : ℕ) → is_live x s.waits ≡ true → s2.waits ≡ without x s.waits → s2.used ≡ s.used → ((w : ℕ) → completes_wait w e ≡ eqb w x) → ((w : ℕ) → makes w e ≡ false) → Numbers s e s2
 less_wait s s2 e x live a b n m = record {
   grows = λ w h. ap (is_among w) b ∙ h;
   born = λ w h. is (eqb x w) w refl (sym (ap (is_live w) a) ∙ h);
@@ -95,9 +95,9 @@ made_once program (e ∷ es) s s2 w x = by (makes w e) refl (made_once program e
   by false is ih = ih
 
 -- a wait that was given and is gone is never completed
-none_more : (program : ProgramView) (es : List EventView) (s s2 : State) (w : ℕ) → Steps program s es s2 → is_among w s.used ≡ true → is_live w s.waits ≡ false → count (completes w) es ≡ 0
+none_more : (program : ProgramView) (es : List EventView) (s s2 : State) (w : ℕ) → Steps program s es s2 → is_among w s.used ≡ true → is_live w s.waits ≡ false → count (completes_wait w) es ≡ 0
 none_more program [] s s2 w x was gone = refl
-none_more program (e ∷ es) s s2 w x was gone = by (completes w e) refl (none_more program es x.0 s2 w x.2 (k.grows w was) (still (is_live w x.0.waits) refl)) where
+none_more program (e ∷ es) s s2 w x was gone = by (completes_wait w e) refl (none_more program es x.0 s2 w x.2 (k.grows w was) (still (is_live w x.0.waits) refl)) where
   k : Numbers s e x.0
   k = step_numbers program s x.0 e x.1
 
@@ -105,16 +105,16 @@ none_more program (e ∷ es) s s2 w x was gone = by (completes w e) refl (none_m
   still false e = e
   still true is = ⊎_elim (λ l. absurd (let j : true ≡ false = sym l ∙ gone in cc)) (λ f. absurd (let j : true ≡ false = sym was ∙ f.0 in cc)) (k.born w is)
 
-  by : (b : Bool) → completes w e ≡ b → count (completes w) es ≡ 0 → cond b (suc (count (completes w) es)) (count (completes w) es) ≡ 0
+  by : (b : Bool) → completes_wait w e ≡ b → count (completes_wait w) es ≡ 0 → cond b (suc (count (completes_wait w) es)) (count (completes_wait w) es) ≡ 0
   by true is ih = absurd (let j : true ≡ false = sym (k.ends w is).0 ∙ gone in cc)
   by false is ih = ih
 
-pub completed_once : (program : ProgramView) (es : List EventView) (s s2 : State) (w : ℕ) → ((v : ℕ) → is_live v s.waits ≡ true → is_among v s.used ≡ true) → Steps program s es s2 → count (completes w) es ≤ 1
+pub completed_once : (program : ProgramView) (es : List EventView) (s s2 : State) (w : ℕ) → ((v : ℕ) → is_live v s.waits ≡ true → is_among v s.used ≡ true) → Steps program s es s2 → count (completes_wait w) es ≤ 1
 completed_once program [] s s2 w given x = omega arith
-completed_once program (e ∷ es) s s2 w given x = by (completes w e) refl (completed_once program es x.0 s2 w (λ v l. ⊎_elim (λ a. k.grows v (given v a)) (λ a. a.1) (k.born v l)) x.2) where
+completed_once program (e ∷ es) s s2 w given x = by (completes_wait w e) refl (completed_once program es x.0 s2 w (λ v l. ⊎_elim (λ a. k.grows v (given v a)) (λ a. a.1) (k.born v l)) x.2) where
   k : Numbers s e x.0
   k = step_numbers program s x.0 e x.1
 
-  by : (b : Bool) → completes w e ≡ b → count (completes w) es ≤ 1 → cond b (suc (count (completes w) es)) (count (completes w) es) ≤ 1
-  by true is ih = let d = k.ends w is in let z : count (completes w) es ≡ 0 = none_more program es x.0 s2 w x.2 (k.grows w (given w d.0)) d.1 in omega (arith, z)
+  by : (b : Bool) → completes_wait w e ≡ b → count (completes_wait w) es ≤ 1 → cond b (suc (count (completes_wait w) es)) (count (completes_wait w) es) ≤ 1
+  by true is ih = let d = k.ends w is in let z : count (completes_wait w) es ≡ 0 = none_more program es x.0 s2 w x.2 (k.grows w (given w d.0)) d.1 in omega (arith, z)
   by false is ih = ih

@@ -10,7 +10,7 @@ use Rattle.ca_term.specs.Fits.{count_terms}
 use Rattle.ca_term.specs.Program.{ProcedureView}
 use Rattle.ca_term.specs.declared.term.Found.{Found}
 use Rattle.ca_asking.specs.Asked.{trees_by}
-use Rattle.ca_term.specs.View.{kernel, kernels, found, founds}
+use Rattle.ca_term.specs.View.{kernel, kernels, view_of_found, founds}
 use Rattle.ca_meaning.specs.Redex.{value_of, values_of}
 use Rattle.ca_meaning.specs.Operands.{values_in}
 use Rattle.ca_meaning.specs.Started.{named, procedure_at}
@@ -48,9 +48,9 @@ text-step names ops i o now next lt is e =
 pub text-done : (names : List ℕ) (ops : List Term) (i : ℕ) (now : Kernel) → slice_get ops i ≡ None → now ≡ puts (named names (values_in (values_of (kernels (drop i ops))))) now
 text-done names ops i now is = sym (ap (λ (ts : List Term). puts (named names (values_in (values_of (kernels ts)))) now) (drop-none ops i is) ∙ ap (λ fs. puts fs now) (named-none names))
 
-pub founds_append : (fs : List Found) (f : Found) → founds (fs ++ f ∷ []) ≡ founds fs ++ found f ∷ []
+pub founds_append : (fs : List Found) (f : Found) → founds (fs ++ f ∷ []) ≡ founds fs ++ view_of_found f ∷ []
 founds_append [] f = refl
-founds_append (g ∷ fs) f = ap (λ k. found g ∷ k) (founds_append fs f)
+founds_append (g ∷ fs) f = ap (λ k. view_of_found g ∷ k) (founds_append fs f)
 
 -- the function of that number
 pub procedure-none : (ps : List ProcedureView) (n : ℕ) → slice_get ps n ≡ None → procedure_at ps n ≡ record { parameters = []; body = const nil }

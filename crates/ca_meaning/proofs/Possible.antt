@@ -18,11 +18,11 @@ use Rattle.ca_meaning.specs.Channel.{Channel}
 use Rattle.ca_meaning.specs.Registry.{Registered, answers, refuses}
 use Rattle.ca_meaning.specs.Wait.{Handler, side_of, port_of, front, without, owner_of, told, is_among}
 use Rattle.ca_meaning.specs.Row.{Row, not_ready, completes, meets, Settling, unsettled, settles, settle_row}
-use Rattle.ca_meaning.specs.Task.{TaskBody, script, system_task, body_at, body_fill, BodyRest, new_task, reply}
+use Rattle.ca_meaning.specs.Task.{TaskBody, script, system_task, body_at, body_fill, BodyRest, new_task, body_reply}
 use Rattle.ca_meaning.specs.State.{State, Task, Tasks, Deadline, running, waiting, over, runs, shut_at, shut_all, shut_result, due, open_after}
 use Rattle.ca_meaning.specs.Choice.{branches_of, default_of, parks, row, is_ready, any_ready, Picks}
 use Rattle.ca_meaning.specs.Refusal.{is_channel, not_a_channel, nil_put, unfit, too_many, refusal, registering_gives, fault_of_registered, unmet, needs_to_register, fault_at}
-use Rattle.ca_meaning.specs.Going.{Stands, Goes, Wakes}
+use Rattle.ca_meaning.specs.Going.{RunsAtOperation, Goes, Wakes}
 use Rattle.ca_meaning.specs.ChannelSteps.{other_side, with_default}
 use Rattle.ca_meaning.specs.TaskSteps.{moments, IsMoment, kind_of, result_of}
 use Rattle.ca_meaning.specs.Steps.{Step}
@@ -61,7 +61,7 @@ some_task x y e = cc
 -- the owner of a wait can be woken, also after a running task went on
 wakes_there : (program : ProgramView) (s : State) → AllOwned s.tasks s.waits → (tasks : Tasks) → ((u w : ℕ) (y : Task) → s.tasks u ≡ Some y → y.mode ≡ waiting w → tasks u ≡ Some y) → (w p : ℕ) (v : Tree) (o : Option ℕ) → owner_of w s.waits ≡ o → (after : Tasks) × Wakes program o tasks w p v after
 wakes_there program s own tasks kept w p v None e = (tasks, refl)
-wakes_there program s own tasks kept w p v (Some u) e = let o = own w u e in let g = goes_there program tasks u o.0 (reply o.0.body p v) in (g.0, (o.0, kept u w o.0 o.1 o.2, o.2, g.1))
+wakes_there program s own tasks kept w p v (Some u) e = let o = own w u e in let g = goes_there program tasks u o.0 (body_reply o.0.body p v) in (g.0, (o.0, kept u w o.0 o.1 o.2, o.2, g.1))
 
 pub waiters_kept : (s : State) (t : ℕ) (x z : Task) → s.tasks t ≡ Some x → x.mode ≡ running → (u w : ℕ) (y : Task) → s.tasks u ≡ Some y → y.mode ≡ waiting w → update eqb s.tasks t (Some z) u ≡ Some y
 waiters_kept s t x z at r u w y is m = update_apart s.tasks t (Some z) u (λ (e : u ≡ t). waits_not_runs x y w (some_task x y (sym at ∙ ap s.tasks (sym e) ∙ is)) r m) ∙ is
@@ -124,21 +124,21 @@ module _ (program : ProgramView) (s : State) (sound : Sound s) (t : ℕ) (x : Ta
   ends : (v : Tree) → body_at x.body ≡ ended v → HasEvent program s t
   ends v e = (is_over t Ended, record s { tasks = update eqb s.tasks t (Some (record x { mode = over })) }, (x, v, (there, goes), e, refl), self t)
 
-  ready : (op : OpView) → Stands s t op x → First s (branches_of op) → HasEvent program s t
+  ready : (op : OpView) → RunsAtOperation s t op x → First s (branches_of op) → HasEvent program s t
   ready op st f = by (row s f.1) refl f.3 where
     picks : Picks s op f.0 f.1
     picks = (f.2, λ pr. f.4)
 
     by : (r : Row) → row s f.1 ≡ r → is_ready r ≡ true → HasEvent program s t
     by not_ready e r = absurd (let k : false ≡ true = r in cc)
-    by (completes a d) e r = let g = goes_there program s.tasks t x (reply x.body (port_of f.1) a) in (
+    by (completes a d) e r = let g = goes_there program s.tasks t x (body_reply x.body (port_of f.1) a) in (
       done t f.0 f.1 a,
       record s { tasks = g.0; channels = update eqb s.channels (port_of f.1) (Some d) },
       (x, op, g.0, d, st, picks, e, g.1, refl),
       self t,
     )
     by (meets h v) e r =
-        let g = goes_there program s.tasks t x (reply x.body (port_of f.1) (told (side_of f.1) v)) in
+        let g = goes_there program s.tasks t x (body_reply x.body (port_of f.1) (told (side_of f.1) v)) in
         let w = wakes_there program s sound.owned g.0 (λ u w y is m. ap (λ (z : Tasks). z u) g.1.2 ∙ waiters_kept s t x (runs x.result g.1.0) there goes u w y is m) h.wait (port_of f.1) (told (other_side (side_of f.1)) v) (owner_of h.wait s.waits) refl in (
           met t f.0 (side_of f.1) (port_of f.1) v h.wait h.branch,
           record s { tasks = w.0; waits = without h.wait s.waits },
@@ -146,13 +146,13 @@ module _ (program : ProgramView) (s : State) (sound : Sound s) (t : ℕ) (x : Ta
           self t,
         )
 
-  choice : (op : OpView) → Stands s t op x → (any_ready s (branches_of op) ≡ false → HasEvent program s t) → HasEvent program s t
+  choice : (op : OpView) → RunsAtOperation s t op x → (any_ready s (branches_of op) ≡ false → HasEvent program s t) → HasEvent program s t
   choice op st otherwise = by (any_ready s (branches_of op)) refl where
     by : (b : Bool) → any_ready s (branches_of op) ≡ b → HasEvent program s t
     by true e = ready op st (first_ready s (branches_of op) e)
     by false e = otherwise e
 
-  park : (op : OpView) → Stands s t op x → parks op ≡ true → default_of op ≡ None → any_ready s (branches_of op) ≡ false → HasEvent program s t
+  park : (op : OpView) → RunsAtOperation s t op x → parks op ≡ true → default_of op ≡ None → any_ready s (branches_of op) ≡ false → HasEvent program s t
   park op st p d n = let w = above s.used in (
     parked t w (branches_of op),
     record s {
@@ -164,17 +164,17 @@ module _ (program : ProgramView) (s : State) (sound : Sound s) (t : ℕ) (x : Ta
     self t,
   )
 
-  default : (op : OpView) (v : Tree) → Stands s t op x → default_of op ≡ Some v → any_ready s (branches_of op) ≡ false → HasEvent program s t
+  default : (op : OpView) (v : Tree) → RunsAtOperation s t op x → default_of op ≡ Some v → any_ready s (branches_of op) ≡ false → HasEvent program s t
   default op v st d n = let g = goes_there program s.tasks t x (with_default v) in (defaulted t v, record s { tasks = g.0 }, (x, op, g.0, st, d, n, g.1, refl), self t)
 
-  post : (c v : Tree) → Stands s t (posting c v) x → any_ready s (branches_of (posting c v)) ≡ false → HasEvent program s t
+  post : (c v : Tree) → RunsAtOperation s t (posting c v) x → any_ready s (branches_of (posting c v)) ≡ false → HasEvent program s t
   post c v st n =
       let q = is_port s c (or_none (not_a_channel s c) (nil_put v) (or_none (unfit s (posting c v)) (too_many s (posting c v)) st.3).0).0 in
       let w = above s.used in
       let g = goes_there program s.tasks t x (bool true) in (
         posted t w q.0 v,
         record s { tasks = g.0; waits = s.waits ++ record { number = w; owner = None; branches = put_of q.0 v ∷ [] } ∷ []; used = w ∷ s.used },
-        (x, g.0, subst (λ z. Stands s t (posting z v) x) q.1 st, subst (λ z. any_ready s (branches_of (posting z v)) ≡ false) q.1 n, new_wait s.used, g.1, refl),
+        (x, g.0, subst (λ z. RunsAtOperation s t (posting z v) x) q.1 st, subst (λ z. any_ready s (branches_of (posting z v)) ≡ false) q.1 n, new_wait s.used, g.1, refl),
         self t,
       )
 
@@ -189,27 +189,27 @@ module _ (program : ProgramView) (s : State) (sound : Sound s) (t : ℕ) (x : Ta
   is_moment (mix out changes) = (None, refl)
   is_moment (publication source) = (None, refl)
 
-  make : (what : WhatView) → Stands s t (making what) x → HasEvent program s t
+  make : (what : WhatView) → RunsAtOperation s t (making what) x → HasEvent program s t
   make what st =
       let p = sound.channels_end.0 + sound.registries_end.0 in
       let m = is_moment what in
       let g = goes_there program s.tasks t x (port p) in
       (made t p what m.0, _, (x, g.0, st, sound.channels_end.1 p (omega arith), sound.registries_end.1 p (omega arith), m.1, g.1, refl), self t)
 
-  spawn : (seed : SeedView) → Stands s t (spawning seed) x → HasEvent program s t
+  spawn : (seed : SeedView) → RunsAtOperation s t (spawning seed) x → HasEvent program s t
   spawn seed st =
       let u = sound.tasks_end.0 in
       let g = goes_there program s.tasks t x nil in
       let b = body_rests program (new_task program seed) in
       (spawned t u (kind_of seed) (result_of seed), record s { tasks = update eqb g.0 u (Some (runs (result_of seed) b.0)) }, (x, seed, g.0, b.0, st, sound.tasks_end.1 u (omega arith), refl, refl, g.1, b.1, refl), self t)
 
-  close : (c : Tree) → Stands s t (closing c) x → HasEvent program s t
+  close : (c : Tree) → RunsAtOperation s t (closing c) x → HasEvent program s t
   close c st =
       let q = is_port s c (or_none (unfit s (closing c)) (too_many s (closing c)) st.3).0 in
       let g = goes_there program s.tasks t x nil in
-      (closed t q.0, record s { tasks = g.0; channels = shut_at q.0 s.channels }, (x, g.0, subst (λ z. Stands s t (closing z) x) q.1 st, g.1, refl), self t)
+      (closed t q.0, record s { tasks = g.0; channels = shut_at q.0 s.channels }, (x, g.0, subst (λ z. RunsAtOperation s t (closing z) x) q.1 st, g.1, refl), self t)
 
-  register_it : (name : RegisterName) (args : Trees) → Stands s t (registering name args) x → HasEvent program s t
+  register_it : (name : RegisterName) (args : Trees) → RunsAtOperation s t (registering name args) x → HasEvent program s t
   register_it name args st = by (registering_gives s name args) refl where
     none_wrong : fault_of_registered (registering_gives s name args) ≡ None
     none_wrong = (or_none (unmet s (needs_to_register name) args) (fault_of_registered (registering_gives s name args)) (or_none (unfit s (registering name args)) (too_many s (registering name args)) st.3).0).1
@@ -218,14 +218,14 @@ module _ (program : ProgramView) (s : State) (sound : Sound s) (t : ℕ) (x : Ta
     by (refuses f) e = absurd (let k : Some f ≡ None = sym (ap fault_of_registered e) ∙ none_wrong in cc)
     by (answers v r) e = let g = goes_there program s.tasks t x v in (registered t name args v, _, (x, r, g.0, st, e, g.1, refl), self t)
 
-  print_it : (line : List ℕ) → Stands s t (printing line) x → HasEvent program s t
+  print_it : (line : List ℕ) → RunsAtOperation s t (printing line) x → HasEvent program s t
   print_it line st = let g = goes_there program s.tasks t x nil in (printed t line, record s { tasks = g.0 }, (x, g.0, st, g.1, refl), self t)
 
-  choose : (ports : Trees) (priority : Bool) (d : Option Tree) → Stands s t (choosing ports priority d) x → HasEvent program s t
+  choose : (ports : Trees) (priority : Bool) (d : Option Tree) → RunsAtOperation s t (choosing ports priority d) x → HasEvent program s t
   choose ports priority None st = choice (choosing ports priority None) st (park (choosing ports priority None) st refl refl)
   choose ports priority (Some v) st = choice (choosing ports priority (Some v)) st (default (choosing ports priority (Some v)) v st refl)
 
-  does : (op : OpView) → Stands s t op x → HasEvent program s t
+  does : (op : OpView) → RunsAtOperation s t op x → HasEvent program s t
   does (taking c) st = choice (taking c) st (park (taking c) st refl refl)
   does (putting c v) st = choice (putting c v) st (park (putting c v) st refl refl)
   does (choosing ports priority d) st = choose ports priority d st
@@ -293,7 +293,7 @@ stuck_quiet program s sound somewhere stuck = record {
 runs_not : {G : Type 0} (s : State) → IsQuiet s → (t : ℕ) (x : Task) → s.tasks t ≡ Some x → x.mode ≡ running → G
 runs_not s q t x there goes = absurd (q.no_task t x there goes)
 
-stands_not : {G : Type 0} (s : State) → IsQuiet s → (t : ℕ) (op : OpView) (x : Task) → Stands s t op x → G
+stands_not : {G : Type 0} (s : State) → IsQuiet s → (t : ℕ) (op : OpView) (x : Task) → RunsAtOperation s t op x → G
 stands_not s q t op x st = runs_not s q t x st.0 st.1
 
 pub quiet_stuck : (program : ProgramView) (s s2 : State) (e : EventView) → IsQuiet s → Step program s e s2 → ⊥

@@ -11,7 +11,7 @@ use Rattle.ca_meaning.specs.Channel.{Channel, new_channel, shut}
 use Rattle.ca_meaning.specs.Body.{BodyView, fill, new_body}
 use Rattle.ca_meaning.specs.Task.{script}
 use Rattle.ca_meaning.specs.State.{State, over, Opening, opening_state, shut_at}
-use Rattle.ca_meaning.specs.Going.{Stands}
+use Rattle.ca_meaning.specs.Going.{RunsAtOperation}
 use Rattle.ca_meaning.specs.Steps.{Step}
 use Rattle.ca_meaning.specs.Legal.{Reaches, Legal}
 use Rattle.ca_meaning.specs.Worked.{line, put_late, Never}
@@ -71,7 +71,7 @@ makes = (main_task main0, s1.tasks, (refl, refl, (at_column 8, refl), refl), ref
 pub closes : Step putting_late s1 (closed 0 1) s2
 closes = (main_task main1, s2.tasks, (refl, refl, (at_column 16, refl), refl), goes putting_late s1.tasks 0 (main_task main1) main1 nil 1 refl (refl, refl), refl)
 
-pub puts_there : Stands s2 0 op (main_task main2)
+pub puts_there : RunsAtOperation s2 0 op (main_task main2)
 puts_there = (refl, refl, (at_column 36, refl), refl)
 
 pub puts_it : Step putting_late s2 (done 0 0 put (bool false)) s3

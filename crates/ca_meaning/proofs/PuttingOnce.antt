@@ -15,7 +15,7 @@ use Rattle.ca_meaning.specs.Body.{BodyView, fill, new_body}
 use Rattle.ca_meaning.specs.Task.{script, new_task}
 use Rattle.ca_meaning.specs.Wait.{Handler}
 use Rattle.ca_meaning.specs.State.{State, waiting, over, Opening, opening_state, shut_at}
-use Rattle.ca_meaning.specs.Going.{Stands}
+use Rattle.ca_meaning.specs.Going.{RunsAtOperation}
 use Rattle.ca_meaning.specs.Steps.{Step}
 use Rattle.ca_meaning.specs.Legal.{Reaches, Legal}
 use Rattle.ca_meaning.specs.Worked.{line, put_and_take, Never}
@@ -193,7 +193,7 @@ legal = record {
 until_wait : Reaches putting_once (take 4 put_and_take) s4
 until_wait = record { opening = s0; opens = opens; steps = (s1, makes_c, (s2, makes_r, (s3, starts, (s4, waits, refl)))) }
 
-pub puts_there : Stands s4 1 (putting (port 1) (int (pos 42))) (go_task 2 task0)
+pub puts_there : RunsAtOperation s4 1 (putting (port 1) (int (pos 42))) (go_task 2 task0)
 puts_there = (refl, refl, (at_column 20, refl), refl)
 
 abbrev pub put : BranchView

@@ -5,7 +5,7 @@ use Rattle.ca_term.specs.declared.fault.Fault.{Fault}
 use Rattle.ca_term.specs.declared.fault.Fault.TheVariants.{NotAPort, NilPut, NoPorts, TooManyPorts}
 use Rattle.ca_term.specs.Operation.{OpView, taking, putting, choosing, making, spawning, closing, registering, printing, posting}
 use Rattle.ca_term.specs.Event.{BranchView, take_of, put_of}
-use Rattle.ca_meaning.specs.Operands.{or_else, port_number, is_nil, first_of, second_of, values_in, count_of, is_pair}
+use Rattle.ca_meaning.specs.Operands.{or_else, port_of_value, is_nil, first_of, second_of, values_in, count_of, is_pair}
 use Rattle.ca_meaning.specs.Channel.{Channel}
 use Rattle.ca_meaning.specs.Wait.{port_of}
 use Rattle.ca_meaning.specs.State.{State, Channels}
@@ -29,7 +29,7 @@ pub some_of : {A : Type 0} (o : Option A) → is_some o ≡ true → (x : A) × 
 some_of (Some x) e = (x, refl)
 some_of None e = absurd (let k : false ≡ true = e in cc)
 
-channel_there : (s : State) (v : Tree) → is_channel s v ≡ true → (c : Channel) × (s.channels (port_number v) ≡ Some c)
+channel_there : (s : State) (v : Tree) → is_channel s v ≡ true → (c : Channel) × (s.channels (port_of_value v) ≡ Some c)
 channel_there s (port n) e = some_of (s.channels n) e
 channel_there s nil e = absurd (let k : false ≡ true = e in cc)
 channel_there s (bool b) e = absurd (let k : false ≡ true = e in cc)
@@ -39,9 +39,9 @@ channel_there s (key t) e = absurd (let k : false ≡ true = e in cc)
 channel_there s (vector vs) e = absurd (let k : false ≡ true = e in cc)
 channel_there s (map_of ps) e = absurd (let k : false ≡ true = e in cc)
 
-pub a_channel_there : (s : State) (v : Tree) → not_a_channel s v ≡ None → (c : Channel) × (s.channels (port_number v) ≡ Some c)
+pub a_channel_there : (s : State) (v : Tree) → not_a_channel s v ≡ None → (c : Channel) × (s.channels (port_of_value v) ≡ Some c)
 a_channel_there s v e = by (is_channel s v) refl e where
-  by : (b : Bool) → is_channel s v ≡ b → cond b None (Some NotAPort) ≡ None → (c : Channel) × (s.channels (port_number v) ≡ Some c)
+  by : (b : Bool) → is_channel s v ≡ b → cond b None (Some NotAPort) ≡ None → (c : Channel) × (s.channels (port_of_value v) ≡ Some c)
   by true is e = channel_there s v is
   by false is e = absurd (let k : Some NotAPort ≡ None = e in cc)
 

@@ -16,7 +16,7 @@ use Rattle.ca_meaning.specs.Rest.{Rest}
 use Rattle.ca_meaning.specs.Task.{script}
 use Rattle.ca_meaning.specs.State.{State, Task, over, runs, opening_state, shut_result}
 use Rattle.ca_meaning.specs.Steps.{Step, Steps}
-use Rattle.ca_meaning.specs.Legal.{Reaches, Legal, GoesOn, is_end_of_main}
+use Rattle.ca_meaning.specs.Legal.{Reaches, Legal, EndsLast, is_end_of_main}
 use Rattle.ca_meaning.specs.Ends.{IsEnded}
 
 -- none of the events is the end of the main text
@@ -42,7 +42,7 @@ no_end_more : (es : List EventView) (e : EventView) → NoEnd es → is_end_of_m
 no_end_more [] e h g = (g, tt)
 no_end_more (f ∷ es) e h g = (h.0, no_end_more es e h.1 g)
 
-goes_on : (es : List EventView) (e : EventView) → NoEnd es → GoesOn (es ++ e ∷ [])
+goes_on : (es : List EventView) (e : EventView) → NoEnd es → EndsLast (es ++ e ∷ [])
 goes_on [] e h = tt
 goes_on (f ∷ []) e h = (h.0, tt)
 goes_on (f ∷ (g ∷ es)) e h = (h.0, goes_on (g ∷ es) e h.1)

@@ -12,7 +12,7 @@ use Rattle.ca_meaning.specs.Channel.{Channel}
 use Rattle.ca_meaning.specs.Registry.{Registry, answers}
 use Rattle.ca_meaning.specs.Wait.{Handler, owner_of, port_of}
 use Rattle.ca_meaning.specs.Row.{Row, Settling, completes, settles, settle_row}
-use Rattle.ca_meaning.specs.Task.{TaskBody, script, system_task, body_at, body_fill, BodyRest, new_task, reply}
+use Rattle.ca_meaning.specs.Task.{TaskBody, script, system_task, body_at, body_fill, BodyRest, new_task, body_reply}
 use Rattle.ca_meaning.specs.State.{State, Task, Tasks, Opening, runs, opening_state}
 use Rattle.ca_meaning.specs.Going.{IsAtOp, Goes, Wakes}
 use Rattle.ca_meaning.specs.Steps.{Step, Steps}
@@ -37,7 +37,7 @@ wakes_once program None w p v m n f g e a b = a ∙ e ∙ sym b
 wakes_once program (Some u) w p v m n f g e a b =
     let r : Wakes program (Some u) n w p v f = subst (λ z. Wakes program (Some u) z w p v f) e a in
     let same = same_task n u r.0 b.0 r.1 b.1 in
-    goes_once program n u r.0 b.0 (reply r.0.body p v) (reply b.0.body p v) f g same (ap (λ (z : Task). reply z.body p v) same) r.3 b.3
+    goes_once program n u r.0 b.0 (body_reply r.0.body p v) (body_reply b.0.body p v) f g same (ap (λ (z : Task). body_reply z.body p v) same) r.3 b.3
 
 same_completes : (r : Row) (a : Tree) (c d : Channel) → r ≡ completes a c → r ≡ completes a d → c ≡ d
 same_completes r a c d e h = let k : completes a c ≡ completes a d = sym e ∙ h in cc
@@ -74,11 +74,11 @@ step_once program s f g (spawned t u kind result) x y =
     x.10 ∙ ap₂ (λ (z : Tasks) (b : TaskBody). record s { tasks = update eqb z u (Some (runs result b)) }) k b ∙ sym y.10
 step_once program s f g (done t k b a) x y =
     let same = same_task s.tasks t x.0 y.0 x.4.0 y.4.0 in
-    let m = goes_once program s.tasks t x.0 y.0 (reply x.0.body (port_of b) a) (reply y.0.body (port_of b) a) x.2 y.2 same (ap (λ (z : Task). reply z.body (port_of b) a) same) x.7 y.7 in
+    let m = goes_once program s.tasks t x.0 y.0 (body_reply x.0.body (port_of b) a) (body_reply y.0.body (port_of b) a) x.2 y.2 same (ap (λ (z : Task). body_reply z.body (port_of b) a) same) x.7 y.7 in
     x.8 ∙ ap₂ (λ (z : Tasks) (c : Channel). record s { tasks = z; channels = update eqb s.channels (port_of b) (Some c) }) m (same_completes _ a x.3 y.3 x.6 y.6) ∙ sym y.8
 step_once program s f g (met t k side p v w o) x y =
     let same = same_task s.tasks t x.0 y.0 x.6.0 y.6.0 in
-    let m = goes_once program s.tasks t x.0 y.0 _ _ x.4 y.4 same (ap (λ (z : Task). reply z.body p _) same) x.13 y.13 in
+    let m = goes_once program s.tasks t x.0 y.0 _ _ x.4 y.4 same (ap (λ (z : Task). body_reply z.body p _) same) x.13 y.13 in
     let n = wakes_once program (owner_of w s.waits) w p _ x.4 y.4 x.5 y.5 m x.14 y.14 in
     x.15 ∙ ap (λ (z : Tasks). record s { tasks = z; waits = _ }) n ∙ sym y.15
 step_once program s f g (parked t w bs) x y =

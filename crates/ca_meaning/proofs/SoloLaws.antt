@@ -12,10 +12,10 @@ use Rattle.ca_meaning.specs.Row.{unsettled, settles, settle_row}
 use Rattle.ca_meaning.specs.State.{State, Task, Deadline, due}
 use Rattle.ca_meaning.specs.Cost.{cost}
 use Rattle.ca_meaning.specs.Steps.{Step, Steps}
-use Rattle.ca_meaning.specs.Legal.{Reaches, Legal, GoesOn, is_end_of_main}
+use Rattle.ca_meaning.specs.Legal.{Reaches, Legal, EndsLast, is_end_of_main}
 use Rattle.ca_meaning.specs.Ends.{HasEnd, RunEnd, ended, faulted, limit, stuck, but_last}
 use Rattle.ca_meaning.specs.EndsLaw.{is_of}
-use Rattle.ca_meaning.specs.Solo.{Lane, Desk, opening_desk, CanSettle, NoneSettles, SettlesFirst, patience, IsFree, AsksBefore, AsksAfter, IsTurnOf, TicksAtPick, TicksIdle, CountsAlts, alts_of, joined_by, made_one, left, ReadsMoment, Leaves, TaskTurn, IsNext, SoloSteps, Solo}
+use Rattle.ca_meaning.specs.Solo.{Lane, Desk, opening_desk, CanSettle, NoneSettles, SettlesFirst, patience, IsFree, AsksBefore, AsksAfter, IsTurnOf, TicksAtPick, TicksIdle, CountsAlts, alts_counted, joined_by, made_one, left, ReadsMoment, Leaves, TaskTurn, IsNext, SoloSteps, Solo}
 use Rattle.ca_meaning.proofs.Single.{same_task, same_op, step_once, opening_once, reached_once}
 use Rattle.ca_meaning.proofs.Alike.{one_of, same_class, same_event}
 
@@ -86,7 +86,7 @@ counts_once : (s : State) (d : Desk) (t : ℕ) (f g : Desk) → CountsAlts s d t
 counts_once s d t f g x y =
     let same = same_task s.tasks t x.0 y.0 x.2 y.2 in
     let op = same_op x.0.body y.0.body x.1 y.1 (ap (λ (z : Task). z.body) same) x.3 y.3 in
-    x.4 ∙ ap (λ o. record d { alts = λ u. cond (eqb t u) (alts_of o (d.alts u)) (d.alts u) }) op ∙ sym y.4
+    x.4 ∙ ap (λ o. record d { alts = λ u. cond (eqb t u) (alts_counted o (d.alts u)) (d.alts u) }) op ∙ sym y.4
 
 reads_once : (m : Option ℕ) (d f g : Desk) → ReadsMoment m d f → ReadsMoment m d g → f ≡ g
 reads_once None d f g x y = x ∙ sym y
@@ -190,7 +190,7 @@ compare program (e ∷ es) (h ∷ hs) s f g d i j x y =
     (compare program es hs y.0 f g y.1 i j rest y.4)
 
 -- an end stands last
-ends_last : (before : List EventView) (e x : EventView) (xs : List EventView) → is_end_of_main e ≡ true → GoesOn ((before ++ e ∷ []) ++ x ∷ xs) → ⊥
+ends_last : (before : List EventView) (e x : EventView) (xs : List EventView) → is_end_of_main e ≡ true → EndsLast ((before ++ e ∷ []) ++ x ∷ xs) → ⊥
 ends_last [] e x xs is g = let k : true ≡ false = sym is ∙ g.0 in cc
 ends_last (b ∷ []) e x xs is g = ends_last [] e x xs is g.1
 ends_last (b ∷ (c ∷ bs)) e x xs is g = ends_last (c ∷ bs) e x xs is g.1
@@ -204,9 +204,9 @@ steps_of : (program : ProgramView) (es : List EventView) (s f : State) (d i : De
 steps_of program [] s f d i x = x.0
 steps_of program (e ∷ es) s f d i x = (x.0, x.2, steps_of program es x.0 f x.1 i x.4)
 
-no_further : (program : ProgramView) (budget : ℕ) (es hs : List EventView) (f : State) (a b : RunEnd) → Reaches program es f → GoesOn hs → HasEnd program budget es a → HasEnd program budget hs b → GoesFurther program f es hs → ⊥
-no_further program budget es hs f ended b r g x y l = ends_last x.1.0 _ l.0 l.1 refl (subst GoesOn (l.3 ∙ ap (λ z. z ++ l.0 ∷ l.1) x.1.1) g)
-no_further program budget es hs f faulted b r g x y l = ends_last x.1.3.0 _ l.0 l.1 refl (subst GoesOn (l.3 ∙ ap (λ z. z ++ l.0 ∷ l.1) x.1.3.1) g)
+no_further : (program : ProgramView) (budget : ℕ) (es hs : List EventView) (f : State) (a b : RunEnd) → Reaches program es f → EndsLast hs → HasEnd program budget es a → HasEnd program budget hs b → GoesFurther program f es hs → ⊥
+no_further program budget es hs f ended b r g x y l = ends_last x.1.0 _ l.0 l.1 refl (subst EndsLast (l.3 ∙ ap (λ z. z ++ l.0 ∷ l.1) x.1.1) g)
+no_further program budget es hs f faulted b r g x y l = ends_last x.1.3.0 _ l.0 l.1 refl (subst EndsLast (l.3 ∙ ap (λ z. z ++ l.0 ∷ l.1) x.1.3.1) g)
 no_further program budget es hs f limit b r g x y l =
     let w : cost (but_last hs) < budget = within b y in
     let k : cost es ≤ cost (but_last hs) = subst (λ z. cost es ≤ cost (but_last z)) (sym l.3) (cost_before es l.0 l.1) in

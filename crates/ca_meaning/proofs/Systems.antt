@@ -13,8 +13,8 @@ use Rattle.ca_term.specs.Operation.{OpView, taking, putting, choosing, making, s
 use Rattle.ca_term.specs.Program.{ProgramView}
 use Rattle.ca_meaning.specs.Asking.{too_large_branches}
 use Rattle.ca_meaning.specs.Body.{At, local, at_op, ended, faulted, nowhere, at, asking, new_body}
-use Rattle.ca_meaning.specs.Asks.{pair_of, Ask, too_large_here, puts, chooses, Next, stands_at, to, stop, fail}
-use Rattle.ca_meaning.specs.Applied.{Returned, returned, Applied, Work, Outputs, outputs, no_outputs, outputs_by, Outs}
+use Rattle.ca_meaning.specs.Asks.{pair_of, Ask, too_large_here, ask_to_put, ask_to_choose, Next, stands_at, to, stop, fail}
+use Rattle.ca_meaning.specs.Applied.{Returned, returned_at, Applied, Work, Outputs, outputs, no_outputs, outputs_by, Outs}
 use Rattle.ca_meaning.specs.MultTable.{MultPorts, mult_asks, mult_takes, mult_reads, mult_spawns, mult_waits, mult_reads_last, mult_closes, Delivery, deliver_asks, deliver_puts, deliver_untaps, deliver_answers}
 use Rattle.ca_meaning.specs.MixTable.{port_trees, MixPorts, mix_asks, mix_reads, mix_chooses, mix_drops, mix_puts}
 use Rattle.ca_meaning.specs.PubTable.{PubPorts, pub_takes, pub_sorts, pub_finds, pub_puts, pub_reads_last, pub_closes, sorted_by}
@@ -55,10 +55,10 @@ stands_firm p asks all (to x) = all x p
 stands_firm p asks all stop = refl
 stands_firm p asks all (fail f) = refl
 
-puts_firm : (c : ℕ) (v : Tree) (p : Place) → is_firm (puts c v p) ≡ true
+puts_firm : (c : ℕ) (v : Tree) (p : Place) → is_firm (ask_to_put c v p) ≡ true
 puts_firm c v p = asks_firmly p (too_large_here v) (putting (port c) v) refl
 
-chooses_firm : (vs : Trees) (p : Place) → is_firm (chooses vs p) ≡ true
+chooses_firm : (vs : Trees) (p : Place) → is_firm (ask_to_choose vs p) ≡ true
 chooses_firm vs p = asks_firmly p (too_large_branches vs) (choosing vs false None) refl
 
 mult_firm : (t : MultPorts) → AllFirm (mult_asks t)
@@ -153,12 +153,12 @@ never_nowhere program b c r e = let k : false ≡ true = sym (ap is_firm e) ∙ 
 
 -- a function that is applied comes to one thing
 applies : (program : ProgramView) (f : PlainFunction) (keyword : Tree) (p : Place) (v : Tree) → (r : Returned) × Applied program f keyword p v r
-applies program (Defined n) keyword p v = let r = rests program (new_body (apply (Call n) (term_item (const v) no_terms) p)) in (returned (at r.0), (r.0, r.1, refl))
+applies program (Defined n) keyword p v = let r = rests program (new_body (apply (Call n) (term_item (const v) no_terms) p)) in (returned_at (at r.0), (r.0, r.1, refl))
 applies program (PlainFunction.Builtin b) keyword p v = (_, refl)
 applies program Keyword keyword p v = (_, refl)
 
 applies_once : (program : ProgramView) (f : PlainFunction) (keyword : Tree) (p : Place) (v : Tree) (r s : Returned) → Applied program f keyword p v r → Applied program f keyword p v s → r ≡ s
-applies_once program (Defined n) keyword p v r s a b = a.2 ∙ ap (λ c. returned (at c)) (one_rest program _ a.0 b.0 a.1 b.1) ∙ sym b.2
+applies_once program (Defined n) keyword p v r s a b = a.2 ∙ ap (λ c. returned_at (at c)) (one_rest program _ a.0 b.0 a.1 b.1) ∙ sym b.2
 applies_once program (PlainFunction.Builtin c) keyword p v r s a b = a ∙ sym b
 applies_once program Keyword keyword p v r s a b = a ∙ sym b
 

@@ -15,7 +15,7 @@ use Rattle.ca_meaning.specs.MultTable.{mult_takes, mult_reads, mult_next}
 use Rattle.ca_meaning.specs.PipeTable.{merge_closes, onto_closes}
 use Rattle.ca_meaning.specs.PipelineTable.{feed_next, feed_makes}
 use Rattle.ca_meaning.specs.System.{new_system, a_merge, an_onto}
-use Rattle.ca_meaning.specs.WorkedTables.{Works, yes, seven, eight, list_of, mult_rows, deliver_rows, mix_rows, pub_rows, pipe_rows, merge_rows, onto_rows, feed_rows, job_rows, collect_rows}
+use Rattle.ca_meaning.specs.WorkedTables.{Works, true_value, seven, eight, list_of, mult_rows, deliver_rows, mix_rows, pub_rows, pipe_rows, merge_rows, onto_rows, feed_rows, job_rows, collect_rows}
 
 -- without taps a value is dropped
 mult-no-taps : mult_next (vector none) (mult_reads seven) ≡ to mult_takes
@@ -25,11 +25,11 @@ mult-no-taps = refl
 mult-wrong : mult_next seven (mult_reads eight) ≡ fail WrongKind
 mult-wrong = refl
 
-feed-wrong : feed_next yes (feed_makes seven) ≡ fail WrongKind
+feed-wrong : feed_next true_value (feed_makes seven) ≡ fail WrongKind
 feed-wrong = refl
 
 -- an empty collection closes at once
-onto-empty : (p : Place) → new_system SystemTask.Onto (item (port 1) (item (vector none) (item yes (item (port 2) none)))) p ≡ an_onto (record { target = 1; closes = true; result = 2 }) p (to onto_closes)
+onto-empty : (p : Place) → new_system SystemTask.Onto (item (port 1) (item (vector none) (item true_value (item (port 2) none)))) p ≡ an_onto (record { target = 1; closes = true; result = 2 }) p (to onto_closes)
 onto-empty p = refl
 
 -- no inputs: the output closes at once
@@ -61,13 +61,13 @@ pub pub_worked : (program : ProgramView) (p : Place) → Works program p (System
 unfolding builtin_result
 pub_worked program p = (refl, _, (_, refl, refl), (refl, _, refl, (refl, _, refl, (refl, _, (_, refl, refl), (refl, _, refl, (refl, _, refl, (refl, _, refl, (refl, _, refl, refl))))))))
 
-pub pipe_worked : (program : ProgramView) (p : Place) → Works program p SystemTask.Pipe (port 1 ∷ port 2 ∷ yes ∷ []) pipe_rows
+pub pipe_worked : (program : ProgramView) (p : Place) → Works program p SystemTask.Pipe (port 1 ∷ port 2 ∷ true_value ∷ []) pipe_rows
 pipe_worked program p = (refl, _, refl, (refl, _, refl, (refl, _, refl, (refl, _, refl, refl))))
 
 pub merge_worked : (program : ProgramView) (p : Place) → Works program p SystemTask.Merge (list_of (port 3 ∷ port 4 ∷ port 3 ∷ []) ∷ port 2 ∷ []) merge_rows
 merge_worked program p = (refl, _, refl, (refl, _, refl, (refl, _, refl, (refl, _, refl, (refl, _, refl, refl)))))
 
-pub onto_worked : (program : ProgramView) (p : Place) → Works program p SystemTask.Onto (port 1 ∷ list_of (seven ∷ eight ∷ seven ∷ []) ∷ yes ∷ port 2 ∷ []) onto_rows
+pub onto_worked : (program : ProgramView) (p : Place) → Works program p SystemTask.Onto (port 1 ∷ list_of (seven ∷ eight ∷ seven ∷ []) ∷ true_value ∷ port 2 ∷ []) onto_rows
 onto_worked program p = (refl, _, refl, (refl, _, refl, (refl, _, refl, (refl, _, refl, refl))))
 
 pub feed_worked : (program : ProgramView) (p : Place) → Works program p SystemTask.Feed (port 1 ∷ port 2 ∷ port 3 ∷ []) feed_rows
@@ -77,5 +77,5 @@ pub job_worked : (program : ProgramView) (p : Place) → Works program p (System
 unfolding builtin_result
 job_worked program p = (refl, _, (_, (_, refl, refl), refl), (refl, _, refl, (refl, _, (_, (_, refl, refl), refl), (refl, _, refl, (refl, _, refl, refl)))))
 
-pub collect_worked : (program : ProgramView) (p : Place) → Works program p SystemTask.Collect (port 1 ∷ port 2 ∷ yes ∷ port 3 ∷ []) collect_rows
+pub collect_worked : (program : ProgramView) (p : Place) → Works program p SystemTask.Collect (port 1 ∷ port 2 ∷ true_value ∷ port 3 ∷ []) collect_rows
 collect_worked program p = (refl, _, refl, (refl, _, refl, (refl, _, refl, (refl, _, refl, (refl, _, refl, (refl, _, refl, (refl, _, refl, (refl, _, refl, (refl, _, refl, refl)))))))))

@@ -15,7 +15,7 @@ use Rattle.ca_meaning.specs.Body.{BodyView, fill, new_body}
 use Rattle.ca_meaning.specs.Task.{script, new_task}
 use Rattle.ca_meaning.specs.Wait.{Handler}
 use Rattle.ca_meaning.specs.State.{State, waiting, over, Opening, opening_state}
-use Rattle.ca_meaning.specs.Going.{Stands}
+use Rattle.ca_meaning.specs.Going.{RunsAtOperation}
 use Rattle.ca_meaning.specs.Steps.{Step}
 use Rattle.ca_meaning.specs.Legal.{Reaches, Legal}
 use Rattle.ca_meaning.specs.Worked.{takes_one, first_taker, Never}
@@ -154,7 +154,7 @@ waits_one = (go_task 2 first0, taking (port 1), (refl, refl, (at_column 20, refl
 waits_two : Step taking_twice s6 (parked 2 2 (take_of 1 ∷ [])) s7
 waits_two = (go_task 3 second0, taking (port 1), (refl, refl, (at_column 32, refl), refl), refl, refl, refl, refl, refl, refl)
 
-puts_there : Stands s7 0 op (main_task main5)
+puts_there : RunsAtOperation s7 0 op (main_task main5)
 puts_there = (refl, refl, (at_column 40, refl), refl)
 
 meets_it : Step taking_twice s7 (met 0 0 Put 1 (int (pos 42)) 1 0) s8

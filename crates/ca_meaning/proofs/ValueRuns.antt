@@ -4,7 +4,7 @@ use Rattle.std.specs.Map.{update}
 use Rattle.std.specs.Prelude.{codes}
 use Rattle.ca_value.specs.Tree.{Tree, Trees, nil, bool, vector, port, none as no_values, item as value_item}
 use Rattle.ca_value.specs.IsValue.{Scalars, IsValue}
-use Rattle.ca_value.specs.Buffer.{Policy, no_buffer, fixed_buffer, dropping_buffer, sliding_buffer, promise_buffer, is_full, without_first, only_first, keep_by, give}
+use Rattle.ca_value.specs.Buffer.{Policy, no_buffer, fixed_buffer, dropping_buffer, sliding_buffer, promise_buffer, is_full, without_first, only_first, keep_by, give_first}
 use Rattle.ca_term.specs.declared.fault.Fault.TheVariants.{NotAPort, TooManyPorts}
 use Rattle.ca_term.specs.declared.event.Side.{Side}
 use Rattle.ca_term.specs.declared.event.Side.TheVariants.{Take, Put}
@@ -20,10 +20,10 @@ use Rattle.ca_meaning.specs.Row.{completes, meets, not_ready, row_on}
 use Rattle.ca_meaning.specs.Choice.{branch_of, branches_of, default_of}
 use Rattle.ca_meaning.specs.Refusal.{not_a_channel, nil_put, bad_port, bad_ports, bad_choice, unfit, too_many, refusal}
 use Rattle.ca_meaning.specs.Registry.{Registry, registry_made}
-use Rattle.ca_meaning.specs.Task.{TaskBody, script, system_task, body_at, body_fill, BodyRest, new_task, reply_to, reply_at, reply}
+use Rattle.ca_meaning.specs.Task.{TaskBody, script, system_task, body_at, body_fill, BodyRest, new_task, reply_to, reply_at, body_reply}
 use Rattle.ca_meaning.specs.State.{State, Task, Tasks, Channels, waiting, over, runs, Opening, shut_all, shut_result}
 use Rattle.ca_meaning.specs.ChannelSteps.{with_default, other_side}
-use Rattle.ca_meaning.specs.Going.{Stands, Goes, Wakes}
+use Rattle.ca_meaning.specs.Going.{RunsAtOperation, Goes, Wakes}
 use Rattle.ca_meaning.specs.Steps.{Step, Steps}
 use Rattle.ca_meaning.specs.Legal.{Reaches}
 use Rattle.ca_meaning.specs.Sound.{Each}
@@ -65,7 +65,7 @@ module _ (scalars : Scalars) where
   reply_at_value (at_op want) p v h = reply_to_value want.op p v h
   reply_at_value a p v h = offered_is_value scalars v h
 
-  reply_value : (b : TaskBody) (p : ℕ) (v : Tree) → IsOffered scalars v → IsValue scalars (reply b p v)
+  reply_value : (b : TaskBody) (p : ℕ) (v : Tree) → IsOffered scalars v → IsValue scalars (body_reply b p v)
   reply_value b p v h = reply_at_value (body_at b) p v h
 
   -- what an operation's branches bring
@@ -138,7 +138,7 @@ module _ (scalars : Scalars) where
   keep_held sliding_buffer full vs v h i = either_held full (without_first (vs ++ v ∷ [])) (vs ++ v ∷ []) (less_held (vs ++ v ∷ []) (each-append (IsOffered scalars) vs (v ∷ []) h (i, tt))) (each-append (IsOffered scalars) vs (v ∷ []) h (i, tt))
   keep_held promise_buffer full vs v h i = first_held vs v h i
 
-  give_held : (policy : Policy) (vs : List Tree) → Held vs → Held (give policy vs)
+  give_held : (policy : Policy) (vs : List Tree) → Held vs → Held (give_first policy vs)
   give_held no_buffer vs h = less_held vs h
   give_held fixed_buffer vs h = less_held vs h
   give_held dropping_buffer vs h = less_held vs h
@@ -226,10 +226,10 @@ module _ (scalars : Scalars) where
   body_asking (script b) h = at_has scalars b h
   body_asking (system_task b) h = system_asking scalars b h
 
-  asked_with : (s : State) (t : ℕ) (op : OpView) (x : Task) → Holds scalars s → Stands s t op x → OpHas scalars op
+  asked_with : (s : State) (t : ℕ) (op : OpView) (x : Task) → Holds scalars s → RunsAtOperation s t op x → OpHas scalars op
   asked_with s t op x h st = subst (AtHas scalars) st.2.1 (body_asking x.body (h.bodies t x st.0))
 
-  stands_brought : (s : State) (t : ℕ) (op : OpView) (x : Task) → Holds scalars s → Stands s t op x → Brought (branches_of op)
+  stands_brought : (s : State) (t : ℕ) (op : OpView) (x : Task) → Holds scalars s → RunsAtOperation s t op x → Brought (branches_of op)
   stands_brought s t op x h st = brought s op (asked_with s t op x h st) st.3
 
   module _ (program : ProgramView) (written : IsWritten scalars program) where

@@ -19,11 +19,11 @@ use Rattle.ca_term.specs.declared.head.Head.TheVariants.{Call}
 use Rattle.ca_term.specs.Kernel.{const, apply, none as no_terms, item as term}
 use Rattle.ca_term.specs.Operation.{putting, choosing}
 use Rattle.ca_term.specs.Program.{ProgramView}
-use Rattle.ca_meaning.specs.Operands.{is_nil, truth, first_of, second_of, third_of, port_number, values_in}
+use Rattle.ca_meaning.specs.Operands.{is_nil, truth, first_of, second_of, third_of, port_of_value, values_in}
 use Rattle.ca_meaning.specs.Asking.{too_large_branches}
 use Rattle.ca_meaning.specs.Body.{At, local, at_op, ended, faulted, nowhere, at, new_body}
-use Rattle.ca_meaning.specs.Asks.{Ask, Next, to, stop, fail, stands_at, follows, needing, closes_due, port_in, items_in, ports_in, value_and_port, taps_in, trees_in, one_of, two_of, pair_of, puts, chooses, too_large_here}
-use Rattle.ca_meaning.specs.Applied.{Returned, Applied, returned, of_builtin, Outputs, outputs, no_outputs, has_nil, without_nil, items_output, outputs_of, outputs_by}
+use Rattle.ca_meaning.specs.Asks.{Ask, Next, to, stop, fail, stands_at, follows, needing, closes_due, port_in, items_in, ports_in, value_and_port, taps_in, trees_in, one_of, two_of, pair_of, ask_to_put, ask_to_choose, too_large_here}
+use Rattle.ca_meaning.specs.Applied.{Returned, Applied, returned_at, of_builtin, Outputs, outputs, no_outputs, has_nil, without_nil, items_output, outputs_of, outputs_by}
 use Rattle.ca_meaning.specs.Registry.{TapView}
 use Rattle.ca_meaning.specs.MultTable.{MultPorts, MultState, mult_takes, mult_reads, mult_spawns, mult_waits, mult_reads_last, mult_closes, acks_due, spawns_due, closing_of, mult_asks, mult_next, Delivery, DeliverState, deliver_puts, deliver_untaps, deliver_answers, deliver_asks}
 use Rattle.ca_meaning.specs.MixTable.{MixPorts, MixState, mix_reads, mix_chooses, mix_drops, mix_puts, mix_asks, mix_next, modes_in, port_trees, any_of}
@@ -74,10 +74,10 @@ module _ (scalars : Scalars) where
   due_has P state [] k = tt
   due_has P state (c ∷ cs) k = k c cs
 
-  puts_here : (c : ℕ) (v : Tree) (p : Place) → IsRegular scalars v → AtHas scalars (puts c v p)
+  puts_here : (c : ℕ) (v : Tree) (p : Place) → IsRegular scalars v → AtHas scalars (ask_to_put c v p)
   puts_here c v p d = asks_with scalars p (too_large_here v) (putting (port c) v) (here_offered scalars v d)
 
-  chooses_here : (vs : Trees) (p : Place) → AreRegular scalars vs → AreLight (each_of branch_of (values_in vs)) → AtHas scalars (chooses vs p)
+  chooses_here : (vs : Trees) (p : Place) → AreRegular scalars vs → AreLight (each_of branch_of (values_in vs)) → AtHas scalars (ask_to_choose vs p)
   chooses_here vs p d l = asks_with scalars p (too_large_branches vs) (choosing vs false None) (λ e. (ports_judged scalars vs d e, l, tt))
 
   pub port_is_value : (n : ℕ) → IsValue scalars (port n)
@@ -304,7 +304,7 @@ module _ (scalars : Scalars) where
   new_system_has (Pub f) vs p h = (third_is scalars vs h, tt)
   new_system_has Pipe vs p h = tt
   new_system_has Merge vs p h = inputs_has (trees_in (first_of vs)) (all_inputs (first_of vs) (first_is scalars vs h))
-  new_system_has Onto vs p h = items_has (record { target = port_number (first_of vs); closes = truth (third_of vs); result = port_number (fourth_of vs) }) (trees_in (second_of vs)) (trees_in_are (second_of vs) (second_is scalars vs h))
+  new_system_has Onto vs p h = items_has (record { target = port_of_value (first_of vs); closes = truth (third_of vs); result = port_of_value (fourth_of vs) }) (trees_in (second_of vs)) (trees_in_are (second_of vs) (second_is scalars vs h))
   new_system_has Feed vs p h = tt
   new_system_has (Job x f) vs p h = (second_is scalars vs h, tt)
   new_system_has Collect vs p h = tt
@@ -314,7 +314,7 @@ module _ (scalars : Scalars) where
   ReturnedHas (Ok v) = IsValue scalars v
   ReturnedHas (Err f) = Unit {0}
 
-  returned_has : (a : At) → AtHas scalars a → ReturnedHas (returned a)
+  returned_has : (a : At) → AtHas scalars a → ReturnedHas (returned_at a)
   returned_has (ended v) h = h
   returned_has (faulted f q) h = tt
   returned_has (at_op w) h = tt

@@ -20,7 +20,7 @@ use Rattle.ca_term.specs.Operation.{OpView, WhatView, fixed, dropping, sliding, 
 use Rattle.ca_meaning.specs.declared.body.FaultAt.{FaultAt}
 use Rattle.ca_meaning.specs.Redex.{redex, values_of}
 use Rattle.ca_meaning.specs.Operands.{first_of, rest_of, second_of, third_of, without_last, count_of, is_pair, values_in}
-use Rattle.ca_meaning.specs.Asking.{fault_in, too_large, too_large_branch, too_large_branches, ports_in, not_a_vector, bad_branches, default_in, too_large_default, bad_alts, alts_of, ranged, sized, made_of, seed_of}
+use Rattle.ca_meaning.specs.Asking.{fault_in, too_large, too_large_branch, too_large_branches, alts_ports, not_a_vector, bad_branches, default_in, too_large_default, bad_alts, alts_of, ranged, sized, made_of, seed_of}
 use Rattle.ca_meaning.specs.Body.{BodyView, At, local, faulted, line_of, asking, asking_to_make, standing_with, standing_turn, standing, at_or, at}
 use Rattle.ca_meaning.specs.Asks.{too_large_here}
 use Rattle.ca_meaning.specs.Choice.{branch_of}
@@ -115,11 +115,11 @@ module _ (scalars : Scalars) where
   branches_light (value_item (vector us) vs) = let k = branches_light vs in let s = second_weighs us in omega (arith, k, s)
   branches_light (value_item v vs) = let k = branches_light vs in omega (arith, k)
 
-  ports_light : (v : Tree) → IsValue scalars v → weight_of_items (ports_in v) ≤ 131_071
+  ports_light : (v : Tree) → IsValue scalars v → weight_of_items (alts_ports v) ≤ 131_071
   ports_light (vector vs) h = let a = h.light in omega (arith, a)
   ports_light v h = omega arith
 
-  ports_distinct : (v : Tree) → IsRegular scalars v → AreRegular scalars (ports_in v)
+  ports_distinct : (v : Tree) → IsRegular scalars v → AreRegular scalars (alts_ports v)
   ports_distinct (vector vs) d = d
   ports_distinct v d = tt
 
@@ -140,10 +140,10 @@ module _ (scalars : Scalars) where
   alts_judged : (options : AltsOptions) (vs : Trees) → AreValues scalars vs → bad_alts options vs ≡ None → OpHas scalars (alts_of options vs)
   alts_judged options vs h e =
       let k = or_none (bad_branches (first_of vs)) (too_large_default (default_in options vs)) e in
-      let j = or_none (not_a_vector (first_of vs)) (too_large_branches (ports_in (first_of vs))) k.0 in
-      let light = branches_light (ports_in (first_of vs)) in
+      let j = or_none (not_a_vector (first_of vs)) (too_large_branches (alts_ports (first_of vs))) k.0 in
+      let light = branches_light (alts_ports (first_of vs)) in
       let vector_light = ports_light (first_of vs) (first_is vs h) in
-      (ports_judged (ports_in (first_of vs)) (ports_distinct (first_of vs) (first_is vs h).regular) j.1, omega (arith, light, vector_light), default_judged (default_in options vs) (default_distinct options vs h) k.1)
+      (ports_judged (alts_ports (first_of vs)) (ports_distinct (first_of vs) (first_is vs h).regular) j.1, omega (arith, light, vector_light), default_judged (default_in options vs) (default_distinct options vs h) k.1)
 
   -- asking
   pub asks_with : (p : Place) (f : Option Fault) (op : OpView) → (f ≡ None → OpHas scalars op) → AtHas scalars (asking p f op)

@@ -7,9 +7,9 @@ use Rattle.std.specs.Ordering.{int_eq}
 use Rattle.std.proofs.lemmas.Bool.Decides.{Decides-int_eq}
 use Rattle.std.proofs.lemmas.Slice.Eq.{bytes_eq-Decides}
 use Rattle.ca_value.specs.Tree.{Tree, Trees, TreePairs, nil, bool, int, text, key, vector, map, port, none, item, empty, pair, entries_of}
-use Rattle.ca_value.specs.Equality.{equals, equal_items, within, has_pair, pair_count}
+use Rattle.ca_value.specs.Equality.{equals, equal_items, is_map_within, has_pair, pair_count}
 use Rattle.ca_value.specs.IsValue.{Scalars, IsRegular, AreRegular, ArePairsRegular, KeysDiffer}
-use Rattle.ca_meaning.specs.Operands.{port_number}
+use Rattle.ca_meaning.specs.Operands.{port_of_value}
 use Rattle.ca_meaning.specs.State.{State}
 use Rattle.ca_meaning.specs.Registry.{all_channels, names_channel, channels_differ}
 use Rattle.ca_meaning.specs.Refusal.{is_channel}
@@ -42,9 +42,9 @@ both true true p q = refl
 both true false p q = q
 both false b p q = p
 
-found_within : (a b : TreePairs) → AllFound a b → within a b ≡ true
+found_within : (a b : TreePairs) → AllFound a b → is_map_within a b ≡ true
 found_within empty b h = refl
-found_within (pair k v a) b h = both (has_pair (equals k) (equals v) b) (within a b) h.0 (found_within a b h.1)
+found_within (pair k v a) b h = both (has_pair (equals k) (equals v) b) (is_map_within a b) h.0 (found_within a b h.1)
 
 behind_one : (t : Bool) (x y : Bool) → t ≡ false → y ≡ true → cond t x y ≡ true
 behind_one true x y p q = cc
@@ -79,7 +79,7 @@ mutual
   equals_self scalars (text s) h = bytes_self s
   equals_self scalars (key s) h = bytes_self s
   equals_self scalars (vector ts) h = items_self scalars ts h
-  equals_self scalars (map ps) h = both (pair_count ps == pair_count ps) (within ps ps) (count_self (pair_count ps)) (found_within ps ps (pairs_self scalars ps h.0 h.1))
+  equals_self scalars (map ps) h = both (pair_count ps == pair_count ps) (is_map_within ps ps) (count_self (pair_count ps)) (found_within ps ps (pairs_self scalars ps h.0 h.1))
   equals_self scalars (port n) h = count_self n
 
   items_self : (scalars : Scalars) (ts : Trees) → AreRegular scalars ts → equal_items ts ts ≡ true
@@ -91,7 +91,7 @@ mutual
   pairs_self scalars (pair k v ps) d h = (at_one (equals k k) (equals v v) (has_pair (equals k) (equals v) ps) (equals_self scalars k h.0) (equals_self scalars v h.1), shifted ps ps k v (head_others k v ps d) (pairs_self scalars ps (tail_differ k v ps d) h.2))
 
 -- the keys of a toggle
-port_there : (s : State) (v : Tree) → is_channel s v ≡ true → v ≡ port (port_number v)
+port_there : (s : State) (v : Tree) → is_channel s v ≡ true → v ≡ port (port_of_value v)
 port_there s (port n) e = refl
 port_there s nil e = cc
 port_there s (bool b) e = cc
@@ -115,14 +115,14 @@ flipped m n e = by (eqb n m) refl where
   by false is = is
   by true is = let k : true ≡ false = sym (eq-eqb m n (sym (eqb-true n m is))) ∙ e in cc
 
-not_named : (s : State) (k : Tree) (ps : TreePairs) → is_channel s k ≡ true → all_channels (is_channel s) ps ≡ true → Others k ps → names_channel (port_number k) ps ≡ false
+not_named : (s : State) (k : Tree) (ps : TreePairs) → is_channel s k ≡ true → all_channels (is_channel s) ps ≡ true → Others k ps → names_channel (port_of_value k) ps ≡ false
 not_named s k empty c all o = refl
 not_named s k (pair l w ps) c all o =
     let cl = left_of (is_channel s l) (all_channels (is_channel s) ps) all in
-    let e : port_number l == port_number k ≡ false = sym (ap (λ v. equals v (port (port_number k))) (port_there s l cl)) ∙ sym (ap (equals l) (port_there s k c)) ∙ o.0 in
-    otherwise (eqb (port_number k) (port_number l)) (flipped (port_number l) (port_number k) e) (not_named s k ps c (right_of (is_channel s l) (all_channels (is_channel s) ps) all) o.1)
+    let e : port_of_value l == port_of_value k ≡ false = sym (ap (λ v. equals v (port (port_of_value k))) (port_there s l cl)) ∙ sym (ap (equals l) (port_there s k c)) ∙ o.0 in
+    otherwise (eqb (port_of_value k) (port_of_value l)) (flipped (port_of_value l) (port_of_value k) e) (not_named s k ps c (right_of (is_channel s l) (all_channels (is_channel s) ps) all) o.1)
   where
-    otherwise : (b : Bool) → b ≡ false → names_channel (port_number k) ps ≡ false → cond b true (names_channel (port_number k) ps) ≡ false
+    otherwise : (b : Bool) → b ≡ false → names_channel (port_of_value k) ps ≡ false → cond b true (names_channel (port_of_value k) ps) ≡ false
     otherwise false e h = h
     otherwise true e h = cc
 
@@ -135,4 +135,4 @@ pub apart : (s : State) (ps : TreePairs) → KeysDiffer (entries_of ps) → all_
 apart s empty d all = refl
 apart s (pair k v ps) d all =
     let r = right_of (is_channel s k) (all_channels (is_channel s) ps) all in
-    none_named (names_channel (port_number k) ps) (channels_differ ps) (not_named s k ps (left_of (is_channel s k) (all_channels (is_channel s) ps) all) r (head_others k v ps d)) (apart s ps (tail_differ k v ps d) r)
+    none_named (names_channel (port_of_value k) ps) (channels_differ ps) (not_named s k ps (left_of (is_channel s k) (all_channels (is_channel s) ps) all) r (head_others k v ps d)) (apart s ps (tail_differ k v ps d) r)

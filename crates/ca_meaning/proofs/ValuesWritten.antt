@@ -7,7 +7,7 @@ use Rattle.ca_term.specs.Kernel.{Kernel, Kernels, Bindings, const, var, branch, 
 use Rattle.ca_term.specs.Fits.{Known}
 use Rattle.ca_term.specs.Source.{IsLiteral, IsSource, AreSource, AreSourceBindings}
 use Rattle.ca_term.specs.Program.{ProgramView, ProcedureView, IsProcedure, IsProgram, known_in}
-use Rattle.ca_term.specs.Constants.{IsScalar, HasScalars, HaveScalars, BindingsHaveScalars, ProgramHasScalars}
+use Rattle.ca_term.specs.Constants.{IsScalar, HasScalars, TermsHaveScalars, BindingsHaveScalars, ProgramHasScalars}
 use Rattle.ca_meaning.specs.RunValues.{HasValues, HaveValues, BindingsHaveValues}
 use Rattle.ca_meaning.proofs.ValueTerms.{AllHaveValues, IsWritten, nil_is_value}
 
@@ -35,7 +35,7 @@ module _ (scalars : Scalars) where
     source_has (turn names whole now) h k = absurd h
     source_has (apply f ts p) h k = (h.0, sources_have ts h.1 k)
 
-    sources_have : (ts : Kernels) → AreSource ts → HaveScalars scalars ts → HaveValues scalars ts
+    sources_have : (ts : Kernels) → AreSource ts → TermsHaveScalars scalars ts → HaveValues scalars ts
     sources_have none h k = tt
     sources_have (item t ts) h k = (source_has t h.0 k.0, sources_have ts h.1 k.1)
 
@@ -78,7 +78,7 @@ mutual
   any_has (turn names whole now) = (any_has whole, any_has now)
   any_has (apply f ts p) = any_have ts
 
-  any_have : (ts : Kernels) → HaveScalars any ts
+  any_have : (ts : Kernels) → TermsHaveScalars any ts
   any_have none = tt
   any_have (item t ts) = (any_has t, any_have ts)
 

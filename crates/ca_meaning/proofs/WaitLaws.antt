@@ -11,7 +11,7 @@ use Rattle.ca_term.specs.Program.{ProgramView}
 use Rattle.ca_term.specs.Event.{BranchView, take_of, put_of, EventView, made, spawned, done, met, parked, posted, settled, defaulted, closed, registered, printed, ticked, over as is_over}
 use Rattle.ca_meaning.specs.Wait.{Handler, side_of, port_of, front, queue, owner_of}
 use Rattle.ca_meaning.specs.Row.{meets, row_on}
-use Rattle.ca_meaning.specs.Task.{TaskBody, body_at, body_fill, BodyRest, reply}
+use Rattle.ca_meaning.specs.Task.{TaskBody, body_at, body_fill, BodyRest, body_reply}
 use Rattle.ca_meaning.specs.State.{State, Task, Tasks, Mode, running, waiting, over, runs}
 use Rattle.ca_meaning.specs.Choice.{branches_of, default_of, parks}
 use Rattle.ca_meaning.specs.Going.{IsAtOp, Goes, Wakes}
@@ -19,7 +19,7 @@ use Rattle.ca_meaning.specs.ChannelSteps.{other_side}
 use Rattle.ca_meaning.specs.Steps.{Step, Steps}
 use Rattle.ca_meaning.specs.Legal.{Legal}
 use Rattle.ca_meaning.specs.Sound.{Sound}
-use Rattle.ca_meaning.specs.History.{branch_on, MakesBranch, completed_by, completes}
+use Rattle.ca_meaning.specs.History.{branch_on, MakesBranch, completed_by, completes_wait}
 use Rattle.ca_meaning.specs.EndsLaw.{is_of}
 use Rattle.ca_meaning.specs.WaitLaw.{chooses_op, chooses, WentOn, OwnEvent, Told, Lives, WaitLaw}
 use Rattle.ca_meaning.proofs.Waits.{each-head}
@@ -79,7 +79,7 @@ module _ (program : ProgramView) (s s2 : State) (sound : Sound s) (e : EventView
   is_running m a b = a ∙ b
 
   -- the event of task u, which is z and runs, and which leaves task u as y
-  own : (u : ℕ) (z y : Task) (rest : Tasks) → is_of t e ≡ eqb u t → ((w : ℕ) → completes w e ≡ false) → s.tasks u ≡ Some z → z.mode ≡ running → OwnEvent program z e y → s2.tasks ≡ rest → rest u ≡ Some y → ((v : ℕ) (k : Task) → (v ≡ u → ⊥) → s.tasks v ≡ Some k → rest v ≡ Some k) → After
+  own : (u : ℕ) (z y : Task) (rest : Tasks) → is_of t e ≡ eqb u t → ((w : ℕ) → completes_wait w e ≡ false) → s.tasks u ≡ Some z → z.mode ≡ running → OwnEvent program z e y → s2.tasks ≡ rest → rest u ≡ Some y → ((v : ℕ) (k : Task) → (v ≡ u → ⊥) → s.tasks v ≡ Some k → rest v ≡ Some k) → After
   own u z y rest of none at runs does is here apart = by (eqb u t) refl where
     mine : u ≡ t → Task
     mine ut = y
@@ -99,11 +99,11 @@ module _ (program : ProgramView) (s s2 : State) (sound : Sound s) (e : EventView
     by false ut = (x, ap (λ (z : Tasks). z t) is ∙ apart t x (λ k. let j : true ≡ false = sym (eq-eqb u t (sym k)) ∙ ut in cc) there, told_other ut x.mode)
 
   -- the event of a task that changes it alone
-  alone : (u : ℕ) (z y : Task) → is_of t e ≡ eqb u t → ((w : ℕ) → completes w e ≡ false) → s.tasks u ≡ Some z → z.mode ≡ running → OwnEvent program z e y → s2.tasks ≡ update eqb s.tasks u (Some y) → After
+  alone : (u : ℕ) (z y : Task) → is_of t e ≡ eqb u t → ((w : ℕ) → completes_wait w e ≡ false) → s.tasks u ≡ Some z → z.mode ≡ running → OwnEvent program z e y → s2.tasks ≡ update eqb s.tasks u (Some y) → After
   alone u z y of none at runs does is = own u z y (update eqb s.tasks u (Some y)) of none at runs does is (update_here s.tasks u (Some y)) (λ v k ne a. update_apart s.tasks u (Some y) v ne ∙ a)
 
   -- an event of no task that changes no task
-  silent : is_of t e ≡ false → ((w : ℕ) → completes w e ≡ false) → s2.tasks ≡ s.tasks → After
+  silent : is_of t e ≡ false → ((w : ℕ) → completes_wait w e ≡ false) → s2.tasks ≡ s.tasks → After
   silent of none is = (x, ap (λ (z : Tasks). z t) is ∙ there, by x.mode) where
     by : (m : Mode) → Told program t m x e x
     by running = (λ f. refl, λ f. absurd (let k : false ≡ true = sym of ∙ f in cc))
@@ -111,7 +111,7 @@ module _ (program : ProgramView) (s s2 : State) (sound : Sound s) (e : EventView
     by over = (of, refl)
 
   -- a wait is completed, where task t stood as before
-  woken : (o : Option ℕ) (w p : ℕ) (v : Tree) (tasks after : Tasks) → is_of t e ≡ false → ((n : ℕ) → completes n e ≡ eqb n w) → owner_of w s.waits ≡ o → tasks t ≡ Some x → Wakes program o tasks w p v after → s2.tasks ≡ after → After
+  woken : (o : Option ℕ) (w p : ℕ) (v : Tree) (tasks after : Tasks) → is_of t e ≡ false → ((n : ℕ) → completes_wait n e ≡ eqb n w) → owner_of w s.waits ≡ o → tasks t ≡ Some x → Wakes program o tasks w p v after → s2.tasks ≡ after → After
   woken o w p v tasks after of completing ow at wakes is = by o ow wakes where
     stays : ((n : ℕ) → x.mode ≡ waiting n → eqb n w ≡ true → ⊥) → (m : Mode) → x.mode ≡ m → Told program t m x e x
     stays not running m = (λ f. refl, λ f. absurd (let k : false ≡ true = sym of ∙ f in cc))
@@ -121,10 +121,10 @@ module _ (program : ProgramView) (s s2 : State) (sound : Sound s) (e : EventView
     owner_there : (n : ℕ) → x.mode ≡ waiting n → eqb n w ≡ true → owner_of w s.waits ≡ Some t
     owner_there n m nw = ap (λ k. owner_of k s.waits) (sym (eqb-true n w nw)) ∙ sound.waited n t x there m
 
-    wakes_it : (y : Task) → y ≡ x → (b : TaskBody) → y.mode ≡ waiting w → BodyRest program (body_fill (reply y.body p v) y.body) b → Told program t x.mode x e (runs y.result b)
+    wakes_it : (y : Task) → y ≡ x → (b : TaskBody) → y.mode ≡ waiting w → BodyRest program (body_fill (body_reply y.body p v) y.body) b → Told program t x.mode x e (runs y.result b)
     wakes_it y yx b m r =
         subst (λ n. Told program t n x e (runs y.result b)) (sym m ∙ ap (λ (z : Task). z.mode) yx)
-        (of, λ f. absurd (let k : true ≡ false = sym (eq-eqb w w refl) ∙ sym (completing w) ∙ f in cc), λ f. subst (λ (z : Task). WentOn program z (runs y.result b)) yx (reply y.body p v, b, r, refl))
+        (of, λ f. absurd (let k : true ≡ false = sym (eq-eqb w w refl) ∙ sym (completing w) ∙ f in cc), λ f. subst (λ (z : Task). WentOn program z (runs y.result b)) yx (body_reply y.body p v, b, r, refl))
 
     by : (o : Option ℕ) → owner_of w s.waits ≡ o → Wakes program o tasks w p v after → After
     by None ow k = (x, ap (λ (z : Tasks). z t) (is ∙ k) ∙ at, stays (λ n m nw. let j : None ≡ Some t = sym ow ∙ owner_there n m nw in cc) x.mode refl)

@@ -21,7 +21,7 @@ use Rattle.ca_meaning.specs.Rest.{here, after, Rest}
 use Rattle.ca_meaning.specs.Task.{TaskBody, script, system_task, body_at, body_fill, BodyRest}
 use Rattle.ca_meaning.specs.State.{State, Task, Tasks, runs, due}
 use Rattle.ca_meaning.specs.Refusal.{fault_at}
-use Rattle.ca_meaning.specs.Going.{Runs, Stands, Goes}
+use Rattle.ca_meaning.specs.Going.{Runs, RunsAtOperation, Goes}
 use Rattle.ca_meaning.specs.TaskSteps.{TickStep}
 use Rattle.ca_meaning.specs.Steps.{Step}
 use Rattle.ca_meaning.specs.Legal.{Reaches, Legal}
@@ -92,11 +92,11 @@ pub other_number : (m n : ℕ) → eqb m n ≡ false → int (pos m) ≡ int (po
 other_number m n ne e = let k : m ≡ n = cc in let j : true ≡ false = sym (eq-eqb m n k) ∙ ne in cc
 
 -- Which events are possible where task t stands at an operation, whose branch j is b.
-module _ (program : ProgramView) (s z : State) (t : ℕ) (op : OpView) (x : Task) (stands : Stands s t op x) where
-  same_operation : (y : Task) (o : OpView) → Stands s t o y → op ≡ o
+module _ (program : ProgramView) (s z : State) (t : ℕ) (op : OpView) (x : Task) (stands : RunsAtOperation s t op x) where
+  same_operation : (y : Task) (o : OpView) → RunsAtOperation s t o y → op ≡ o
   same_operation y o st = same_op x.body y.body op o (ap (λ (q : Task). q.body) (same_task s.tasks t x y stands.0 st.0)) stands.2 st.2
 
-  same_branch : (y : Task) (o : OpView) (j : ℕ) (b c : BranchView) → Stands s t o y → slice_get (branches_of op) j ≡ Some b → slice_get (branches_of o) j ≡ Some c → b ≡ c
+  same_branch : (y : Task) (o : OpView) (j : ℕ) (b c : BranchView) → RunsAtOperation s t o y → slice_get (branches_of op) j ≡ Some b → slice_get (branches_of o) j ≡ Some c → b ≡ c
   same_branch y o j b c st mine there = let k : Some b ≡ Some c = sym mine ∙ ap (λ q. slice_get (branches_of q) j) (same_operation y o st) ∙ there in cc
 
   -- where the branch meets a wait, a Meet is with that wait and that value

@@ -10,7 +10,7 @@ use Rattle.ca_meaning.specs.Channel.{Channel, shut, new_channel}
 use Rattle.ca_value.specs.Buffer.{no_buffer}
 use Rattle.ca_meaning.specs.Wait.{Wait, Handler, front, without, owner_of}
 use Rattle.ca_meaning.specs.Row.{meets, settles, settle_row, row_at}
-use Rattle.ca_meaning.specs.Task.{reply}
+use Rattle.ca_meaning.specs.Task.{body_reply}
 use Rattle.ca_value.specs.declared.value.PortId.{PortId}
 use Rattle.ca_term.specs.declared.fault.Fault.{Fault}
 use Rattle.ca_term.specs.declared.place.Place.{Place}
@@ -30,9 +30,9 @@ two_takers = takes_one 1 0 ∷ takes_one 2 3 ∷ []
 
 pub meeting : (program : ProgramView) (s : State) (x : Task) → AtMeeting s x → (s2 : State) × Step program s (met 1 0 Put 1 (int (pos 42)) 1 0) s2
 meeting program s x m =
-    let g = goes_there program s.tasks 1 x (reply x.body 1 (bool true)) in
+    let g = goes_there program s.tasks 1 x (body_reply x.body 1 (bool true)) in
     let y = m.taker in
-    let v = goes_there program g.0 0 y.0 (reply y.0.body 1 (int (pos 42))) in
+    let v = goes_there program g.0 0 y.0 (body_reply y.0.body 1 (int (pos 42))) in
     let h : Handler = record { wait = 1; branch = 0; value = nil } in
     let there : g.0 0 ≡ Some y.0 = ap (λ (z : Tasks). z 0) g.1.2 ∙ waiters_kept s 1 x (runs x.result g.1.0) m.stands.0 m.stands.1 0 1 y.0 y.1 y.2 in
     let wakes : Wakes program (owner_of 1 s.waits) g.0 1 1 (int (pos 42)) v.0 = subst (λ o. Wakes program o g.0 1 1 (int (pos 42)) v.0) (sym (ap (owner_of 1) m.waits)) (y.0, there, y.2, v.1) in
@@ -42,7 +42,7 @@ meeting program s x m =
 pub timeout_settles : (program : ProgramView) (s : State) → AtTimeout s → (s2 : State) × Step program s (settled 1 1 Take 1 nil) s2
 timeout_settles program s m =
     let y = m.taker in
-    let v = goes_there program s.tasks 0 y.0 (reply y.0.body 1 nil) in
+    let v = goes_there program s.tasks 0 y.0 (body_reply y.0.body 1 nil) in
     let h : Handler = record { wait = 1; branch = 1; value = nil } in
     let c : Channel = shut (new_channel no_buffer 0) in
     let wakes : Wakes program (owner_of 1 s.waits) s.tasks 1 1 nil v.0 = subst (λ o. Wakes program o s.tasks 1 1 nil v.0) (sym (ap (owner_of 1) m.waits)) (y.0, y.1, y.2, v.1) in

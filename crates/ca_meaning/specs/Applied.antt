@@ -26,12 +26,12 @@ abbrev pub Returned : Type 0
 Returned = Result Tree Fault
 
 -- a plain function has no operations, and its text no free names
-abbrev pub returned : At → Returned
-returned (ended v) = Ok v
-returned (faulted f q) = Err f
-returned (at_op w) = Err WrongKind
-returned local = Err WrongKind
-returned nowhere = Err WrongKind
+abbrev pub returned_at : At → Returned
+returned_at (ended v) = Ok v
+returned_at (faulted f q) = Err f
+returned_at (at_op w) = Err WrongKind
+returned_at local = Err WrongKind
+returned_at nowhere = Err WrongKind
 
 abbrev pub of_builtin : Outcome → Returned
 of_builtin (Ok v) = Ok v
@@ -40,7 +40,7 @@ of_builtin (Err f) = Err (task_fault f)
 -- The function applied to v by a form at the place comes to r: a function of the program is called by itself, its turns
 -- and its depth counted from 0; a keyword gets from a map.
 abbrev pub Applied : ProgramView → PlainFunction → Tree → Place → Tree → Returned → Type 0
-Applied program (Defined n) keyword p v r = (c : BodyView) × Rest program (new_body (apply (Call n) (term (const v) no_terms) p)) c × (r ≡ returned (at c))
+Applied program (Defined n) keyword p v r = (c : BodyView) × Rest program (new_body (apply (Call n) (term (const v) no_terms) p)) c × (r ≡ returned_at (at c))
 Applied program (PlainFunction.Builtin b) keyword p v r = r ≡ of_builtin (builtin_result b (one_of v))
 Applied program Keyword keyword p v r = r ≡ of_builtin (builtin_result Builtin.Get (two_of v keyword))
 

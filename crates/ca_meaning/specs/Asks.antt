@@ -17,31 +17,31 @@ use Rattle.ca_meaning.specs.Registry.{TapView}
 abbrev pub Ask : Type 0
 Ask = Place → At
 
-abbrev pub takes : ℕ → Ask
-takes c p = asking p None (taking (port c))
+abbrev pub ask_to_take : ℕ → Ask
+ask_to_take c p = asking p None (taking (port c))
 
 -- a value that a system task puts weighs at most 131,000 and is at most 78 deep, the weight being judged first
 abbrev pub too_large_here : Tree → Option Fault
 too_large_here v = cond (nat_le (weight_of v) 131_000) (cond (nat_le (depth_of v) 78) None (Some TooNested)) (Some TooHeavy)
 
-abbrev pub puts : ℕ → Tree → Ask
-puts c v p = asking p (too_large_here v) (putting (port c) v)
+abbrev pub ask_to_put : ℕ → Tree → Ask
+ask_to_put c v p = asking p (too_large_here v) (putting (port c) v)
 
 -- without priority and without a default; a pair among the ports is a put, judged as in any alts
-abbrev pub chooses : Trees → Ask
-chooses ports p = asking p (too_large_branches ports) (choosing ports false None)
+abbrev pub ask_to_choose : Trees → Ask
+ask_to_choose ports p = asking p (too_large_branches ports) (choosing ports false None)
 
-abbrev pub makes : WhatView → Ask
-makes what p = asking p None (making what)
+abbrev pub ask_to_make : WhatView → Ask
+ask_to_make what p = asking p None (making what)
 
-abbrev pub spawns : SystemTask → Trees → Ask
-spawns kind values p = asking p None (spawning (system kind values p))
+abbrev pub ask_to_spawn : SystemTask → Trees → Ask
+ask_to_spawn kind values p = asking p None (spawning (system kind values p))
 
-abbrev pub closes : ℕ → Ask
-closes c p = asking p None (closing (port c))
+abbrev pub ask_to_close : ℕ → Ask
+ask_to_close c p = asking p None (closing (port c))
 
-abbrev pub registers : RegisterName → Trees → Ask
-registers name args p = asking p None (registering name args)
+abbrev pub ask_to_register : RegisterName → Trees → Ask
+ask_to_register name args p = asking p None (registering name args)
 
 -- it applies its function before it asks for more
 abbrev pub applies : Ask

@@ -14,7 +14,7 @@ use Rattle.ca_term.specs.Operation.{WantView, OpView, taking, putting, making, s
 use Rattle.ca_term.specs.Program.{ProgramView}
 use Rattle.ca_meaning.specs.declared.body.FaultAt.{FaultAt}
 use Rattle.ca_meaning.specs.Redex.{redex, replace, value_of, values_of, is_ready_recur}
-use Rattle.ca_meaning.specs.Started.{named, names_of, procedure_at, started}
+use Rattle.ca_meaning.specs.Started.{named, names_found, procedure_at, started}
 use Rattle.ca_meaning.specs.Operands.{truth, first_of, second_of, values_in}
 use Rattle.ca_meaning.specs.Asking.{task_fault, too_large, bad_alts, alts_of, made_of, bad_operands, seed_of, bad_arguments}
 pub use Rattle.ca_term.specs.Asking.{line_of}
@@ -106,7 +106,7 @@ after_let (binding n t bs) body = bind (put_bindings n (value_of t) bs) (put n (
 
 -- a loop: the first binding's value is put into the others, and kept for the text; with no binding left it runs
 abbrev pub after_loop : Founds → Bindings → Kernel → Kernel
-after_loop fs empty body = turn (names_of fs) body (puts fs body)
+after_loop fs empty body = turn (names_found fs) body (puts fs body)
 after_loop fs (binding n t bs) body = loop (fs ++ (n, value_of t) ∷ []) (put_bindings n (value_of t) bs) body
 
 -- a `do`: the first term is left behind, and the last one stands alone
@@ -150,13 +150,13 @@ depth_after (apply (Call n) ts p) depth = suc depth
 depth_after (frame body) depth = depth - 1
 depth_after t depth = depth
 
-abbrev pub failed : Place → Outcome → Option FaultAt
-failed p (Ok v) = None
-failed p (Err f) = Some (record { fault = task_fault f; place = p })
+abbrev pub outcome_fault : Place → Outcome → Option FaultAt
+outcome_fault p (Ok v) = None
+outcome_fault p (Err f) = Some (record { fault = task_fault f; place = p })
 
 -- the fault of a builtin
 abbrev pub fault_of : Kernel → Option FaultAt
-fault_of (apply (Builtin b) ts p) = failed p (builtin_result b (values_of ts))
+fault_of (apply (Builtin b) ts p) = outcome_fault p (builtin_result b (values_of ts))
 fault_of t = None
 
 -- one local step

@@ -22,12 +22,12 @@ is_at_op (at_op w) = true
 is_at_op a = false
 
 -- the value of a body that is at its end
-abbrev pub value_at : At → Option Tree
-value_at local = None
-value_at (at_op w) = None
-value_at (ended v) = Some v
-value_at (faulted f p) = None
-value_at nowhere = None
+abbrev pub ended_value : At → Option Tree
+ended_value local = None
+ended_value (at_op w) = None
+ended_value (ended v) = Some v
+ended_value (faulted f p) = None
+ended_value nowhere = None
 
 -- where it is at an operation, it is at that one
 abbrev pub AtNoOther : At → WantView → Type 0

@@ -2,7 +2,7 @@
 use Rattle.std.specs.Prelude.{◌≡◌, ℕ, ◌<◌, zero, suc, List, [], Option, Some, None, Bool, true, false}
 use Rattle.ca_value.specs.Tree.{Tree}
 pub use Rattle.ca_value.specs.Buffer.{is_promise}
-use Rattle.ca_value.specs.Buffer.{Policy, no_buffer, fixed_buffer, dropping_buffer, sliding_buffer, promise_buffer, is_full, room_by, keep, give}
+use Rattle.ca_value.specs.Buffer.{Policy, no_buffer, fixed_buffer, dropping_buffer, sliding_buffer, promise_buffer, is_full, room_by, keep, give_first}
 use Rattle.ca_term.specs.Operation.{WhatView, unbuffered, fixed, dropping, sliding, promise, timeout, mult, mix, publication}
 
 pub record Channel : Type 0 where
@@ -21,7 +21,7 @@ keeping c v = record c { held = keep c.policy c.capacity c.held v }
 
 -- the channel after it gave its first value
 abbrev pub giving : Channel → Channel
-giving c = record c { held = give c.policy c.held }
+giving c = record c { held = give_first c.policy c.held }
 
 -- closed; what it holds stays
 abbrev pub shut : Channel → Channel

@@ -12,10 +12,10 @@ use Rattle.ca_term.specs.Program.{ProgramView}
 use Rattle.ca_meaning.specs.Channel.{Channel}
 use Rattle.ca_meaning.specs.Wait.{Handler, side_of, port_of, front, without, owner_of, told, is_among}
 use Rattle.ca_meaning.specs.Row.{completes, meets, settles, settle_row}
-use Rattle.ca_meaning.specs.Task.{reply}
+use Rattle.ca_meaning.specs.Task.{body_reply}
 use Rattle.ca_meaning.specs.State.{State, Task, Tasks, waiting, shut_at}
 use Rattle.ca_meaning.specs.Choice.{branches_of, default_of, parks, row, NoneReady, Picks}
-use Rattle.ca_meaning.specs.Going.{Stands, Goes, Wakes}
+use Rattle.ca_meaning.specs.Going.{RunsAtOperation, Goes, Wakes}
 
 abbrev pub other_side : Side → Side
 other_side Take = Put
@@ -25,10 +25,10 @@ other_side Put = Take
 abbrev pub DoneStep : ProgramView → State → ℕ → ℕ → BranchView → Tree → State → Type 0
 DoneStep program s t k b a s2 =
     (x : Task) × (op : OpView) × (tasks : Tasks) × (after : Channel)
-    × Stands s t op x
+    × RunsAtOperation s t op x
     × Picks s op k b
     × (row s b ≡ completes a after)
-    × Goes program s.tasks t x (reply x.body (port_of b) a) tasks
+    × Goes program s.tasks t x (body_reply x.body (port_of b) a) tasks
     × (s2 ≡ record s { tasks = tasks; channels = update eqb s.channels (port_of b) (Some after) })
 
 -- branch k of task t's operation, on this side of channel p, meets the first wait of the other side at
@@ -36,14 +36,14 @@ DoneStep program s t k b a s2 =
 abbrev pub MeetStep : ProgramView → State → ℕ → ℕ → Side → ℕ → Tree → ℕ → ℕ → State → Type 0
 MeetStep program s t k side p v w o s2 =
     (x : Task) × (op : OpView) × (b : BranchView) × (h : Handler) × (tasks woken : Tasks)
-    × Stands s t op x
+    × RunsAtOperation s t op x
     × Picks s op k b
     × (side_of b ≡ side)
     × (port_of b ≡ p)
     × (row s b ≡ meets h v)
     × (h.wait ≡ w)
     × (h.branch ≡ o)
-    × Goes program s.tasks t x (reply x.body p (told side v)) tasks
+    × Goes program s.tasks t x (body_reply x.body p (told side v)) tasks
     × Wakes program (owner_of w s.waits) tasks w p (told (other_side side) v) woken
     × (s2 ≡ record s { tasks = woken; waits = without w s.waits })
 
@@ -51,7 +51,7 @@ MeetStep program s t k side p v w o s2 =
 abbrev pub ParkStep : State → ℕ → ℕ → List BranchView → State → Type 0
 ParkStep s t w bs s2 =
     (x : Task) × (op : OpView)
-    × Stands s t op x
+    × RunsAtOperation s t op x
     × (parks op ≡ true)
     × (branches_of op ≡ bs)
     × (default_of op ≡ None)
@@ -67,7 +67,7 @@ ParkStep s t w bs s2 =
 abbrev pub PostStep : ProgramView → State → ℕ → ℕ → ℕ → Tree → State → Type 0
 PostStep program s t w p v s2 =
     (x : Task) × (tasks : Tasks)
-    × Stands s t (posting (port p) v) x
+    × RunsAtOperation s t (posting (port p) v) x
     × NoneReady s (put_of p v ∷ [])
     × (is_among w s.used ≡ false)
     × Goes program s.tasks t x (bool true) tasks
@@ -96,7 +96,7 @@ with_default v = vector (item v (item (key (codes "default")) none))
 abbrev pub DefaultStep : ProgramView → State → ℕ → Tree → State → Type 0
 DefaultStep program s t v s2 =
     (x : Task) × (op : OpView) × (tasks : Tasks)
-    × Stands s t op x
+    × RunsAtOperation s t op x
     × (default_of op ≡ Some v)
     × NoneReady s (branches_of op)
     × Goes program s.tasks t x (with_default v) tasks
@@ -106,6 +106,6 @@ DefaultStep program s t v s2 =
 abbrev pub CloseStep : ProgramView → State → ℕ → ℕ → State → Type 0
 CloseStep program s t p s2 =
     (x : Task) × (tasks : Tasks)
-    × Stands s t (closing (port p)) x
+    × RunsAtOperation s t (closing (port p)) x
     × Goes program s.tasks t x nil tasks
     × (s2 ≡ record s { tasks = tasks; channels = shut_at p s.channels })

@@ -5,20 +5,20 @@ use Rattle.ca_value.specs.Tree.{Tree, vector}
 use Rattle.ca_term.specs.declared.event.Side.TheVariants.{Take, Put}
 use Rattle.ca_term.specs.Operation.{OpView, taking, putting, choosing, posting}
 use Rattle.ca_term.specs.Event.{BranchView, take_of, put_of}
-use Rattle.ca_meaning.specs.Operands.{port_number, first_of, second_of, values_in}
+use Rattle.ca_meaning.specs.Operands.{port_of_value, first_of, second_of, values_in}
 use Rattle.ca_meaning.specs.Wait.{front, port_of}
 use Rattle.ca_meaning.specs.Row.{Row, not_ready, completes, meets, row_at}
 use Rattle.ca_meaning.specs.State.{State}
 
 -- a port is a take, a pair of a port and a value is a put
 abbrev pub branch_of : Tree → BranchView
-branch_of (vector vs) = put_of (port_number (first_of vs)) (second_of vs)
-branch_of v = take_of (port_number v)
+branch_of (vector vs) = put_of (port_of_value (first_of vs)) (second_of vs)
+branch_of v = take_of (port_of_value v)
 
 abbrev pub branches_of : OpView → List BranchView
-branches_of (taking c) = take_of (port_number c) ∷ []
-branches_of (putting c v) = put_of (port_number c) v ∷ []
-branches_of (posting c v) = put_of (port_number c) v ∷ []
+branches_of (taking c) = take_of (port_of_value c) ∷ []
+branches_of (putting c v) = put_of (port_of_value c) v ∷ []
+branches_of (posting c v) = put_of (port_of_value c) v ∷ []
 branches_of (choosing ports priority default) = map branch_of (values_in ports)
 branches_of op = []
 

@@ -7,7 +7,7 @@ use Rattle.ca_term.specs.declared.place.Place.{Place}
 use Rattle.ca_term.specs.Operation.{OpView}
 use Rattle.ca_term.specs.Program.{ProgramView}
 use Rattle.ca_meaning.specs.Body.{at_op}
-use Rattle.ca_meaning.specs.Task.{TaskBody, body_at, body_fill, BodyRest, reply}
+use Rattle.ca_meaning.specs.Task.{TaskBody, body_at, body_fill, BodyRest, body_reply}
 use Rattle.ca_meaning.specs.State.{State, Task, Tasks, running, waiting, runs}
 use Rattle.ca_meaning.specs.Refusal.{refusal}
 
@@ -20,8 +20,8 @@ abbrev pub IsAtOp : TaskBody → OpView → Type 0
 IsAtOp b op = (p : Place) × (body_at b ≡ at_op (record { op = op; place = p }))
 
 -- task t, which is x, runs, stands at the operation and doesn't fault there
-abbrev pub Stands : State → ℕ → OpView → Task → Type 0
-Stands s t op x = (s.tasks t ≡ Some x) × (x.mode ≡ running) × IsAtOp x.body op × (refusal s op ≡ None)
+abbrev pub RunsAtOperation : State → ℕ → OpView → Task → Type 0
+RunsAtOperation s t op x = (s.tasks t ≡ Some x) × (x.mode ≡ running) × IsAtOp x.body op × (refusal s op ≡ None)
 
 -- the tasks after task t, which was x, got the answer and went on
 abbrev pub Goes : ProgramView → Tasks → ℕ → Task → Tree → Tasks → Type 0
@@ -31,4 +31,4 @@ Goes program tasks t x answer after = (b : TaskBody) × BodyRest program (body_f
 abbrev pub Wakes : ProgramView → Option ℕ → Tasks → ℕ → ℕ → Tree → Tasks → Type 0
 Wakes program None tasks w p answer after = after ≡ tasks
 Wakes program (Some u) tasks w p answer after =
-    (x : Task) × (tasks u ≡ Some x) × (x.mode ≡ waiting w) × Goes program tasks u x (reply x.body p answer) after
+    (x : Task) × (tasks u ≡ Some x) × (x.mode ≡ waiting w) × Goes program tasks u x (body_reply x.body p answer) after

@@ -100,10 +100,10 @@ completed_by (met t j side p v w k) = Some (w, k, branch_on (other_side side) p 
 completed_by (settled w k side p v) = Some (w, k, branch_on side p v)
 completed_by e = None
 
-abbrev pub completes : ℕ → EventView → Bool
-completes w (met t j side p v x k) = eqb w x
-completes w (settled x k side p v) = eqb w x
-completes w e = false
+abbrev pub completes_wait : ℕ → EventView → Bool
+completes_wait w (met t j side p v x k) = eqb w x
+completes_wait w (settled x k side p v) = eqb w x
+completes_wait w e = false
 
 abbrev pub makes : ℕ → EventView → Bool
 makes w (parked t x bs) = eqb w x

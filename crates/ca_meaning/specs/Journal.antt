@@ -11,7 +11,7 @@ use Rattle.ca_term.specs.declared.head.RegisterName.{RegisterName}
 use Rattle.ca_term.specs.declared.head.RegisterName.TheVariants.{Tap, Untap, UntapAll, Taps, Admix, Unmix, UnmixAll, Toggle, SoloMode, Modes, Find, Place, Drop, Clear, Topics}
 use Rattle.ca_term.specs.Operation.{WhatView, unbuffered, fixed, dropping, sliding, promise, timeout, mult, mix, publication}
 use Rattle.ca_term.specs.Event.{BranchView, take_of, put_of, EventView, made, spawned, done, met, parked, posted, settled, defaulted, closed, registered, printed, ticked, over, port_number as number_of}
-use Rattle.ca_meaning.specs.Operands.{port_number}
+use Rattle.ca_meaning.specs.Operands.{port_of_value}
 use Rattle.ca_meaning.specs.Texts.{◌⋅◌, fault_text, place_text}
 
 abbrev pub task_text : ℕ → List ℕ
@@ -42,9 +42,9 @@ what_text (dropping n) moment = codes "chan dropping" ⋅ decimal n
 what_text (sliding n) moment = codes "chan sliding" ⋅ decimal n
 what_text promise moment = codes "chan promise"
 what_text (timeout n) moment = codes "timeout" ⋅ decimal n ⋅ codes "at" ⋅ moment_text moment
-what_text (mult source) moment = codes "mult" ⋅ port_text (port_number source)
-what_text (mix out changes) moment = codes "mix" ⋅ port_text (port_number out) ⋅ port_text (port_number changes)
-what_text (publication source) moment = codes "pub" ⋅ port_text (port_number source)
+what_text (mult source) moment = codes "mult" ⋅ port_text (port_of_value source)
+what_text (mix out changes) moment = codes "mix" ⋅ port_text (port_of_value out) ⋅ port_text (port_of_value changes)
+what_text (publication source) moment = codes "pub" ⋅ port_text (port_of_value source)
 
 abbrev pub kind_text : TaskKind → List ℕ
 kind_text Go = codes "go"

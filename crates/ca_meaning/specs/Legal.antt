@@ -11,10 +11,10 @@ is_end_of_main (over t how) = t == 0
 is_end_of_main e = false
 
 -- no event but the last is the end of the main text
-abbrev pub GoesOn : List EventView → Type 0
-GoesOn [] = Unit {0}
-GoesOn (e ∷ []) = Unit {0}
-GoesOn (e ∷ (f ∷ es)) = (is_end_of_main e ≡ false) × GoesOn (f ∷ es)
+abbrev pub EndsLast : List EventView → Type 0
+EndsLast [] = Unit {0}
+EndsLast (e ∷ []) = Unit {0}
+EndsLast (e ∷ (f ∷ es)) = (is_end_of_main e ≡ false) × EndsLast (f ∷ es)
 
 -- the events lead from the opening of the program to the state
 pub record Reaches (program : ProgramView) (journal : List EventView) (s : State) : Type 0 where
@@ -26,4 +26,4 @@ pub record Reaches (program : ProgramView) (journal : List EventView) (s : State
 pub record Legal (program : ProgramView) (journal : List EventView) : Type 0 where
   pub state : State
   pub reaches : Reaches program journal state
-  pub goes_on : GoesOn journal
+  pub goes_on : EndsLast journal

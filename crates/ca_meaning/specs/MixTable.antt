@@ -6,7 +6,7 @@ use Rattle.ca_value.specs.Tree.{Tree, Trees, bool, key, vector, port, none, item
 use Rattle.ca_term.specs.declared.head.RegisterName.TheVariants.{Modes, Unmix}
 use Rattle.ca_meaning.specs.Operands.{is_nil, truth}
 use Rattle.ca_meaning.specs.Registry.{Source}
-use Rattle.ca_meaning.specs.Asks.{Ask, puts, chooses, registers, Next, to, stop, needing, value_and_port, one_of, two_of}
+use Rattle.ca_meaning.specs.Asks.{Ask, ask_to_put, ask_to_choose, ask_to_register, Next, to, stop, needing, value_and_port, one_of, two_of}
 
 -- the mix, its output, and the channel that tells of a change of its modes
 pub record MixPorts : Type 0 where
@@ -65,10 +65,10 @@ abbrev pub port_trees : List ℕ → Trees
 port_trees ns = trees_of (each_of (λ n. port n) ns)
 
 abbrev pub mix_asks : MixPorts → MixState → Ask
-mix_asks x mix_reads = registers Modes (one_of (port x.mix))
-mix_asks x (mix_chooses reads heard) = chooses (port_trees (reads ++ x.changes ∷ []))
-mix_asks x (mix_drops c) = registers Unmix (two_of (port x.mix) (port c))
-mix_asks x (mix_puts reads heard v) = puts x.out v
+mix_asks x mix_reads = ask_to_register Modes (one_of (port x.mix))
+mix_asks x (mix_chooses reads heard) = ask_to_choose (port_trees (reads ++ x.changes ∷ []))
+mix_asks x (mix_drops c) = ask_to_register Unmix (two_of (port x.mix) (port c))
+mix_asks x (mix_puts reads heard v) = ask_to_put x.out v
 
 -- the value came from the channel c: a change is read; a source that is closed is dropped; a value is passed on
 -- where its source is heard

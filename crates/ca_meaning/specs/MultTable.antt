@@ -5,7 +5,7 @@ use Rattle.ca_term.specs.declared.head.SystemTask.{SystemTask}
 use Rattle.ca_term.specs.declared.head.RegisterName.TheVariants.{Taps, Untap}
 use Rattle.ca_meaning.specs.Operands.{is_nil, truth}
 use Rattle.ca_meaning.specs.Registry.{TapView}
-use Rattle.ca_meaning.specs.Asks.{Ask, takes, puts, spawns, closes, registers, Next, to, stop, needing, closes_due, taps_in, one_of, two_of}
+use Rattle.ca_meaning.specs.Asks.{Ask, ask_to_take, ask_to_put, ask_to_spawn, ask_to_close, ask_to_register, Next, to, stop, needing, closes_due, taps_in, one_of, two_of}
 
 -- The mult, its source, and the channel on which each delivery answers. A value goes to all taps at once, and
 -- the next is taken when all have answered.
@@ -42,12 +42,12 @@ abbrev pub closing_of : List TapView → List ℕ
 closing_of ts = each_of (λ t. t.channel) (filter (λ t. t.closes) ts)
 
 abbrev pub mult_asks : MultPorts → MultState → Ask
-mult_asks t mult_takes = takes t.source
-mult_asks t (mult_reads v) = registers Taps (one_of (port t.mult))
-mult_asks t (mult_spawns v x xs n) = spawns SystemTask.Deliver (item (port t.mult) (item (port x.channel) (two_of v (port t.acks))))
-mult_asks t (mult_waits n) = takes t.acks
-mult_asks t mult_reads_last = registers Taps (one_of (port t.mult))
-mult_asks t (mult_closes c cs) = closes c
+mult_asks t mult_takes = ask_to_take t.source
+mult_asks t (mult_reads v) = ask_to_register Taps (one_of (port t.mult))
+mult_asks t (mult_spawns v x xs n) = ask_to_spawn SystemTask.Deliver (item (port t.mult) (item (port x.channel) (two_of v (port t.acks))))
+mult_asks t (mult_waits n) = ask_to_take t.acks
+mult_asks t mult_reads_last = ask_to_register Taps (one_of (port t.mult))
+mult_asks t (mult_closes c cs) = ask_to_close c
 
 abbrev pub mult_next : Tree → MultState → Next MultState
 mult_next a mult_takes = cond (is_nil a) (to mult_reads_last) (to (mult_reads a))
@@ -71,9 +71,9 @@ pub data DeliverState : Type 0 where
   deliver_answers : DeliverState
 
 abbrev pub deliver_asks : Delivery → DeliverState → Ask
-deliver_asks d deliver_puts = puts d.channel d.value
-deliver_asks d deliver_untaps = registers Untap (two_of (port d.mult) (port d.channel))
-deliver_asks d deliver_answers = puts d.acks (bool true)
+deliver_asks d deliver_puts = ask_to_put d.channel d.value
+deliver_asks d deliver_untaps = ask_to_register Untap (two_of (port d.mult) (port d.channel))
+deliver_asks d deliver_answers = ask_to_put d.acks (bool true)
 
 abbrev pub deliver_next : Tree → DeliverState → Next DeliverState
 deliver_next a deliver_puts = cond (truth a) (to deliver_answers) (to deliver_untaps)

@@ -1,6 +1,6 @@
 -- Tests of the parts of a term that the code makes.
 use Rattle.std.specs.Prelude.{ℕ, suc, Bool, true, false, not, ◌||◌, cond, IsTrue, Option, Some, None}
-use Rattle.ca_value.specs.Builtins.{admits}
+use Rattle.ca_value.specs.Builtins.{admits_arguments}
 use Rattle.ca_term.specs.declared.head.Head.TheVariants.{Recur, Builtin}
 use Rattle.ca_term.specs.Fits.{count_terms}
 use Rattle.ca_term.specs.Kernel.{Kernel, Kernels, const, var, branch, bind, loop, seq, frame, turn, apply, none, item}
@@ -31,7 +31,7 @@ is_whole (apply h ts p) = all_values ts
 
 -- a builtin has as many operands as it takes
 abbrev pub IsAdmitted : Kernel → Type 0
-IsAdmitted (apply (Builtin b) ts p) = IsTrue (admits b (count_terms ts))
+IsAdmitted (apply (Builtin b) ts p) = IsTrue (admits_arguments b (count_terms ts))
 IsAdmitted t = Unit {0}
 
 abbrev pub recur_operands : Kernel → Option Kernels

@@ -3,7 +3,7 @@
 use Rattle.std.specs.Prelude.{ℕ, Bool, false, cond, eqb}
 use Rattle.ca_value.specs.Tree.{Tree, Trees, port, none, item}
 use Rattle.ca_meaning.specs.Operands.{is_nil, truth}
-use Rattle.ca_meaning.specs.Asks.{Ask, takes, puts, chooses, closes, Next, to, stop, needing, value_and_port}
+use Rattle.ca_meaning.specs.Asks.{Ask, ask_to_take, ask_to_put, ask_to_choose, ask_to_close, Next, to, stop, needing, value_and_port}
 
 -- the source, the target, and whether the target closes with the source
 pub record PipePorts : Type 0 where
@@ -17,9 +17,9 @@ pub data PipeState : Type 0 where
   pipe_closes : PipeState
 
 abbrev pub pipe_asks : PipePorts → PipeState → Ask
-pipe_asks p pipe_takes = takes p.source
-pipe_asks p (pipe_puts v) = puts p.target v
-pipe_asks p pipe_closes = closes p.target
+pipe_asks p pipe_takes = ask_to_take p.source
+pipe_asks p (pipe_puts v) = ask_to_put p.target v
+pipe_asks p pipe_closes = ask_to_close p.target
 
 abbrev pub pipe_next : PipePorts → Tree → PipeState → Next PipeState
 pipe_next p a pipe_takes = cond (is_nil a) (cond p.closes (to pipe_closes) stop) (to (pipe_puts a))
@@ -48,9 +48,9 @@ inputs_left none = to merge_closes
 inputs_left (item v vs) = to (merge_chooses v vs)
 
 abbrev pub merge_asks : ℕ → MergeState → Ask
-merge_asks o (merge_chooses v vs) = chooses (item v vs)
-merge_asks o (merge_puts vs v) = puts o v
-merge_asks o merge_closes = closes o
+merge_asks o (merge_chooses v vs) = ask_to_choose (item v vs)
+merge_asks o (merge_puts vs v) = ask_to_put o v
+merge_asks o merge_closes = ask_to_close o
 
 abbrev pub merge_next : Tree → MergeState → Next MergeState
 merge_next a (merge_chooses v vs) = needing (value_and_port a) (λ c. cond (is_nil c.0) (inputs_left (without_port c.1 (item v vs))) (to (merge_puts (item v vs) c.0)))
@@ -78,9 +78,9 @@ items_left o none = onto_over o
 items_left o (item v vs) = to (onto_puts v vs)
 
 abbrev pub onto_asks : OntoPorts → OntoState → Ask
-onto_asks o (onto_puts v vs) = puts o.target v
-onto_asks o onto_closes = closes o.target
-onto_asks o onto_ends = closes o.result
+onto_asks o (onto_puts v vs) = ask_to_put o.target v
+onto_asks o onto_closes = ask_to_close o.target
+onto_asks o onto_ends = ask_to_close o.result
 
 abbrev pub onto_next : OntoPorts → Tree → OntoState → Next OntoState
 onto_next o a (onto_puts v vs) = cond (truth a) (items_left o vs) (onto_over o)

@@ -5,7 +5,7 @@ use Rattle.std.specs.Prelude.{ℕ, Bool, cond}
 use Rattle.ca_value.specs.Tree.{Tree, Trees, vector, port, none, item}
 use Rattle.ca_term.specs.Operation.{fixed}
 use Rattle.ca_meaning.specs.Operands.{is_nil, truth}
-use Rattle.ca_meaning.specs.Asks.{Ask, takes, puts, makes, closes, applies, Next, to, stop, fail, needing, port_in, items_in, value_and_port, pair_of}
+use Rattle.ca_meaning.specs.Asks.{Ask, ask_to_take, ask_to_put, ask_to_make, ask_to_close, applies, Next, to, stop, fail, needing, port_in, items_in, value_and_port, pair_of}
 use Rattle.ca_meaning.specs.Applied.{Outputs, outputs, no_outputs}
 
 -- the source, the jobs' channel, and the queue of reply ports
@@ -25,12 +25,12 @@ pub data FeedState : Type 0 where
   feed_closes_replies : FeedState
 
 abbrev pub feed_asks : FeedPorts → FeedState → Ask
-feed_asks f feed_takes = takes f.source
-feed_asks f (feed_makes v) = makes (fixed 1)
-feed_asks f (feed_puts v p) = puts f.jobs (pair_of v (port p))
-feed_asks f (feed_queues p) = puts f.replies (port p)
-feed_asks f feed_closes_jobs = closes f.jobs
-feed_asks f feed_closes_replies = closes f.replies
+feed_asks f feed_takes = ask_to_take f.source
+feed_asks f (feed_makes v) = ask_to_make (fixed 1)
+feed_asks f (feed_puts v p) = ask_to_put f.jobs (pair_of v (port p))
+feed_asks f (feed_queues p) = ask_to_put f.replies (port p)
+feed_asks f feed_closes_jobs = ask_to_close f.jobs
+feed_asks f feed_closes_replies = ask_to_close f.replies
 
 abbrev pub feed_next : Tree → FeedState → Next FeedState
 feed_next a feed_takes = cond (is_nil a) (to feed_closes_jobs) (to (feed_makes a))
@@ -48,9 +48,9 @@ pub data JobState : Type 0 where
   job_replies : ℕ → Trees → JobState
 
 abbrev pub job_asks : ℕ → JobState → Ask
-job_asks j job_takes = takes j
+job_asks j job_takes = ask_to_take j
 job_asks j (job_works v p) = applies
-job_asks j (job_replies p ys) = puts p (vector ys)
+job_asks j (job_replies p ys) = ask_to_put p (vector ys)
 
 abbrev pub job_next : Tree → JobState → Next JobState
 job_next a job_takes = cond (is_nil a) stop (needing (value_and_port a) (λ c. to (job_works c.0 c.1)))
@@ -83,11 +83,11 @@ outputs_left none = to collect_takes
 outputs_left (item y ys) = to (collect_puts y ys)
 
 abbrev pub collect_asks : CollectPorts → CollectState → Ask
-collect_asks c collect_takes = takes c.replies
-collect_asks c (collect_opens p) = takes p
-collect_asks c (collect_puts y ys) = puts c.target y
-collect_asks c collect_closes = closes c.target
-collect_asks c collect_ends = closes c.result
+collect_asks c collect_takes = ask_to_take c.replies
+collect_asks c (collect_opens p) = ask_to_take p
+collect_asks c (collect_puts y ys) = ask_to_put c.target y
+collect_asks c collect_closes = ask_to_close c.target
+collect_asks c collect_ends = ask_to_close c.result
 
 -- where the target is closed by somebody else, it ends at once
 abbrev pub collect_next : CollectPorts → Tree → CollectState → Next CollectState

@@ -5,7 +5,7 @@ use Rattle.ca_value.specs.Tree.{Tree, vector, port, none, item}
 use Rattle.ca_term.specs.declared.head.PlainFunction.{PlainFunction}
 use Rattle.ca_term.specs.declared.head.RegisterName.TheVariants.{Find, Topics}
 use Rattle.ca_meaning.specs.Operands.{is_nil}
-use Rattle.ca_meaning.specs.Asks.{Ask, takes, puts, closes, registers, applies, Next, to, fail, needing, closes_due, ports_in, one_of, two_of}
+use Rattle.ca_meaning.specs.Asks.{Ask, ask_to_take, ask_to_put, ask_to_close, ask_to_register, applies, Next, to, fail, needing, closes_due, ports_in, one_of, two_of}
 use Rattle.ca_meaning.specs.Applied.{Returned}
 
 -- the publication, its source, its topic function, and the keyword where that is the function
@@ -29,12 +29,12 @@ pub data PubState : Type 0 where
   pub_closes : ℕ → List ℕ → PubState
 
 abbrev pub pub_asks : PubPorts → PubState → Ask
-pub_asks p pub_takes = takes p.source
+pub_asks p pub_takes = ask_to_take p.source
 pub_asks p (pub_sorts v) = applies
-pub_asks p (pub_finds topic v) = registers Find (two_of (port p.publication) topic)
-pub_asks p (pub_puts c v) = puts c v
-pub_asks p pub_reads_last = registers Topics (one_of (port p.publication))
-pub_asks p (pub_closes c cs) = closes c
+pub_asks p (pub_finds topic v) = ask_to_register Find (two_of (port p.publication) topic)
+pub_asks p (pub_puts c v) = ask_to_put c v
+pub_asks p pub_reads_last = ask_to_register Topics (one_of (port p.publication))
+pub_asks p (pub_closes c cs) = ask_to_close c
 
 -- `[mult channel]`
 abbrev pub channel_of_pair : Tree → Option ℕ

@@ -14,7 +14,7 @@ use Rattle.ca_term.specs.declared.head.SystemTask.TheVariants.{Mult, Deliver, Mi
 use Rattle.ca_term.specs.Operation.{OpView, taking, putting, choosing, making, spawning, closing, registering, printing, posting, WhatView, mult, mix, publication, SeedView, go, system}
 use Rattle.ca_term.specs.Event.{BranchView}
 use Rattle.ca_meaning.specs.Body.{At, local, at_op, ended, faulted, nowhere}
-use Rattle.ca_meaning.specs.Operands.{or_else, port_number, is_nil, first_of, second_of, rest_of, count_of, is_pair}
+use Rattle.ca_meaning.specs.Operands.{or_else, port_of_value, is_nil, first_of, second_of, rest_of, count_of, is_pair}
 use Rattle.ca_meaning.specs.Registry.{Registry, a_mult, a_mix, a_publication, register, Registered, answers, refuses}
 use Rattle.ca_meaning.specs.Wait.{side_of, port_of, pending}
 use Rattle.ca_meaning.specs.State.{State}
@@ -142,7 +142,7 @@ registered_at s (Some r) name args = register (is_channel s) r name args
 
 -- what the operation on the registry that its first argument names comes to
 abbrev pub registering_gives : State → RegisterName → Trees → Registered
-registering_gives s name args = registered_at s (s.registries (port_number (first_of args))) name (rest_of args)
+registering_gives s name args = registered_at s (s.registries (port_of_value (first_of args))) name (rest_of args)
 
 -- faults that are judged before anything is looked at
 abbrev pub unfit : State → OpView → Option Fault

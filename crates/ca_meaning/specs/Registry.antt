@@ -10,7 +10,7 @@ use Rattle.ca_term.specs.declared.fault.Fault.TheVariants.{NotAPort, TooManyMemb
 use Rattle.ca_term.specs.declared.head.RegisterName.{RegisterName}
 use Rattle.ca_term.specs.declared.head.RegisterName.TheVariants.{Tap, Untap, UntapAll, Taps, Admix, Unmix, UnmixAll, Toggle, SoloMode, Modes, Find, Place, Drop, Clear, Topics}
 use Rattle.ca_term.specs.Operation.{WhatView, unbuffered, fixed, dropping, sliding, promise, timeout, mult, mix, publication}
-use Rattle.ca_meaning.specs.Operands.{port_number, truth, first_of, second_of, third_of}
+use Rattle.ca_meaning.specs.Operands.{port_of_value, truth, first_of, second_of, third_of}
 
 -- a tapped channel, and whether it closes with the source
 pub record TapView : Type 0 where
@@ -39,9 +39,9 @@ pub data Registry : Type 0 where
 
 -- the new registry, where what is made is one
 abbrev pub registry_made : WhatView → Option Registry
-registry_made (mult source) = Some (a_mult (port_number source) [])
-registry_made (mix out changes) = Some (a_mix (port_number out) (port_number changes) false [])
-registry_made (publication source) = Some (a_publication (port_number source) [])
+registry_made (mult source) = Some (a_mult (port_of_value source) [])
+registry_made (mix out changes) = Some (a_mix (port_of_value out) (port_of_value changes) false [])
+registry_made (publication source) = Some (a_publication (port_of_value source) [])
 registry_made unbuffered = None
 registry_made (fixed n) = None
 registry_made (dropping n) = None
@@ -55,8 +55,8 @@ pub data Registered : Type 0 where
   refuses : Fault → Registered
 
 -- the registry that comes to be has room for its members
-abbrev pub within : ℕ → ℕ → Tree → Registry → Registered
-within limit members v r = cond (nat_lt limit members) (refuses TooManyMembers) (answers v r)
+abbrev pub within_limit : ℕ → ℕ → Tree → Registry → Registered
+within_limit limit members v r = cond (nat_lt limit members) (refuses TooManyMembers) (answers v r)
 
 -- Taps: at most 1,024. A second tap of a channel keeps its place.
 abbrev pub tapped : TapView → List TapView → List TapView
@@ -68,9 +68,9 @@ tap_value t = vector (item (port t.channel) (item (bool t.closes) none))
 
 abbrev pub mult_row : ℕ → List TapView → RegisterName → Trees → Registered
 mult_row s ts Tap args =
-    let us = tapped (record { channel = port_number (first_of args); closes = truth (second_of args) }) ts in
-    within 1024 (length us) (first_of args) (a_mult s us)
-mult_row s ts Untap args = answers nil (a_mult s (filter (λ t. not (eqb (port_number (first_of args)) t.channel)) ts))
+    let us = tapped (record { channel = port_of_value (first_of args); closes = truth (second_of args) }) ts in
+    within_limit 1024 (length us) (first_of args) (a_mult s us)
+mult_row s ts Untap args = answers nil (a_mult s (filter (λ t. not (eqb (port_of_value (first_of args)) t.channel)) ts))
 mult_row s ts UntapAll args = answers nil (a_mult s [])
 mult_row s ts Taps args = answers (vector (trees_of (each_of tap_value ts))) (a_mult s ts)
 mult_row s ts other args = refuses NotAPort
@@ -96,14 +96,14 @@ abbrev pub set_modes : TreePairs → Source → Source
 set_modes empty x = x
 set_modes (pair k v ps) x = set_modes ps (set_mode k v x)
 
-abbrev pub modes_in : Tree → Source → Source
-modes_in (map ps) x = set_modes ps x
-modes_in other x = x
+abbrev pub with_modes_in : Tree → Source → Source
+with_modes_in (map ps) x = set_modes ps x
+with_modes_in other x = x
 
 -- for each pair the modes that it names, in order of the map
 abbrev pub toggled : TreePairs → List Source → List Source
 toggled empty xs = xs
-toggled (pair c m ps) xs = toggled ps (changed_source (port_number c) (modes_in m) xs)
+toggled (pair c m ps) xs = toggled ps (changed_source (port_of_value c) (with_modes_in m) xs)
 
 abbrev pub pairs_in : Tree → TreePairs
 pairs_in (map ps) = ps
@@ -116,12 +116,12 @@ all_channels is_channel (pair c m ps) = is_channel c && all_channels is_channel 
 
 abbrev pub names_channel : ℕ → TreePairs → Bool
 names_channel c empty = false
-names_channel c (pair k m ps) = cond (eqb c (port_number k)) true (names_channel c ps)
+names_channel c (pair k m ps) = cond (eqb c (port_of_value k)) true (names_channel c ps)
 
 -- no two keys name one channel
 abbrev pub channels_differ : TreePairs → Bool
 channels_differ empty = true
-channels_differ (pair k m ps) = not (names_channel (port_number k) ps) && channels_differ ps
+channels_differ (pair k m ps) = not (names_channel (port_of_value k) ps) && channels_differ ps
 
 abbrev pub source_value : Source → Tree
 source_value x = vector (item (port x.channel) (item (bool x.mute) (item (bool x.pause) (item (bool x.solo) none))))
@@ -135,13 +135,13 @@ is_pause other = false
 
 abbrev pub mix_row : (Tree → Bool) → ℕ → ℕ → Bool → List Source → RegisterName → Trees → Registered
 mix_row is_channel o g mode xs Admix args =
-    let ys = changed_source (port_number (first_of args)) (λ x. x) xs in
-    within 255 (length ys) (port g) (a_mix o g mode ys)
-mix_row is_channel o g mode xs Unmix args = answers (port g) (a_mix o g mode (filter (λ x. not (eqb (port_number (first_of args)) x.channel)) xs))
+    let ys = changed_source (port_of_value (first_of args)) (λ x. x) xs in
+    within_limit 255 (length ys) (port g) (a_mix o g mode ys)
+mix_row is_channel o g mode xs Unmix args = answers (port g) (a_mix o g mode (filter (λ x. not (eqb (port_of_value (first_of args)) x.channel)) xs))
 mix_row is_channel o g mode xs UnmixAll args = answers (port g) (a_mix o g mode [])
 mix_row is_channel o g mode xs Toggle args =
     let ys = toggled (pairs_in (first_of args)) xs in
-    cond (all_channels is_channel (pairs_in (first_of args))) (within 255 (length ys) (port g) (a_mix o g mode ys)) (refuses NotAPort)
+    cond (all_channels is_channel (pairs_in (first_of args))) (within_limit 255 (length ys) (port g) (a_mix o g mode ys)) (refuses NotAPort)
 mix_row is_channel o g mode xs SoloMode args = answers (port g) (a_mix o g (is_pause (first_of args)) xs)
 mix_row is_channel o g mode xs Modes args = answers (vector (item (mode_value mode) (trees_of (each_of source_value xs)))) (a_mix o g mode xs)
 mix_row is_channel o g mode xs other args = refuses NotAPort
@@ -151,19 +151,19 @@ abbrev pub topic_value : TopicView → Tree
 topic_value t = vector (item (port t.mult) (item (port t.channel) none))
 
 -- the pair that stands there for the topic, or nil
-abbrev pub found : Tree → List TopicView → Tree
-found topic [] = nil
-found topic (t ∷ ts) = cond (equals topic t.topic) (topic_value t) (found topic ts)
+abbrev pub pair_found : Tree → List TopicView → Tree
+pair_found topic [] = nil
+pair_found topic (t ∷ ts) = cond (equals topic t.topic) (topic_value t) (pair_found topic ts)
 
-abbrev pub placed : TopicView → List TopicView → List TopicView
-placed t [] = t ∷ []
-placed t (u ∷ us) = cond (equals t.topic u.topic) (u ∷ us) (u ∷ placed t us)
+abbrev pub with_topic_placed : TopicView → List TopicView → List TopicView
+with_topic_placed t [] = t ∷ []
+with_topic_placed t (u ∷ us) = cond (equals t.topic u.topic) (u ∷ us) (u ∷ with_topic_placed t us)
 
 abbrev pub publication_row : ℕ → List TopicView → RegisterName → Trees → Registered
-publication_row s ts Find args = answers (found (first_of args) ts) (a_publication s ts)
+publication_row s ts Find args = answers (pair_found (first_of args) ts) (a_publication s ts)
 publication_row s ts Place args =
-    let us = placed (record { topic = first_of args; mult = port_number (second_of args); channel = port_number (third_of args) }) ts in
-    within 1024 (length us) (found (first_of args) us) (a_publication s us)
+    let us = with_topic_placed (record { topic = first_of args; mult = port_of_value (second_of args); channel = port_of_value (third_of args) }) ts in
+    within_limit 1024 (length us) (pair_found (first_of args) us) (a_publication s us)
 publication_row s ts Drop args = answers nil (a_publication s (filter (λ t. not (equals (first_of args) t.topic)) ts))
 publication_row s ts Clear args = answers nil (a_publication s [])
 publication_row s ts Topics args = answers (vector (trees_of (each_of (λ t. port t.channel) ts))) (a_publication s ts)

@@ -15,11 +15,11 @@ terms [] = none
 terms (t ∷ ts) = item t (terms ts)
 
 -- the form with that head and these operands, at the column of the one line
-abbrev pub form : Head → List Kernel → ℕ → Kernel
-form h ts n = apply h (terms ts) (record { line = 1; column = n })
+abbrev pub form_at_column : Head → List Kernel → ℕ → Kernel
+form_at_column h ts n = apply h (terms ts) (record { line = 1; column = n })
 
-abbrev pub number : ℕ → Kernel
-number n = const (int (pos n))
+abbrev pub number_term : ℕ → Kernel
+number_term n = const (int (pos n))
 
 -- names are numbered from here on
 abbrev pub bound_from : ℕ → List Kernel → Bindings
@@ -32,20 +32,20 @@ main_text ts = bind (bound_from 0 ts) (const nil)
 
 -- a go block with that body and these values from outside makes its result port, r, starts the task and answers r
 abbrev pub go_block : ℕ → List Kernel → ℕ → ℕ → Kernel
-go_block body values r n = bind (bound_from r (form (Make Fixed) (number 1 ∷ []) n ∷ [])) (seq (terms (form (Spawn (Go body)) (values ++ var r ∷ []) n ∷ var r ∷ [])))
+go_block body values r n = bind (bound_from r (form_at_column (Make Fixed) (number_term 1 ∷ []) n ∷ [])) (seq (terms (form_at_column (Spawn (Go body)) (values ++ var r ∷ []) n ∷ var r ∷ [])))
 
 -- the text of a go block's task: its value, h, is put into the result port r unless it is nil, and r is closed
 abbrev pub go_text : Kernel → ℕ → ℕ → ℕ → Kernel
 go_text t h r n =
     bind (bound_from h (seq (terms (t ∷ [])) ∷ []))
-    (seq (terms (branch (form (Builtin IsNil) (var h ∷ []) n) (const nil) (form Post (var r ∷ var h ∷ []) n) ∷ form Close (var r ∷ []) n ∷ [])))
+    (seq (terms (branch (form_at_column (Builtin IsNil) (var h ∷ []) n) (const nil) (form_at_column Post (var r ∷ var h ∷ []) n) ∷ form_at_column Close (var r ∷ []) n ∷ [])))
 
 -- `(def c (chan)) (go (>! c 42)) (println (<!! c))`
 abbrev pub putting_once : ProgramView
 putting_once = record {
   functions = [];
-  bodies = record { parameters = 0 ∷ 1 ∷ []; body = go_text (form Put (var 0 ∷ number 42 ∷ []) 20) 2 1 16 } ∷ [];
-  main = main_text (form (Make Unbuffered) [] 8 ∷ go_block 0 (var 0 ∷ []) 1 16 ∷ form Print (form Take (var 0 ∷ []) 40 ∷ []) 31 ∷ []);
+  bodies = record { parameters = 0 ∷ 1 ∷ []; body = go_text (form_at_column Put (var 0 ∷ number_term 42 ∷ []) 20) 2 1 16 } ∷ [];
+  main = main_text (form_at_column (Make Unbuffered) [] 8 ∷ go_block 0 (var 0 ∷ []) 1 16 ∷ form_at_column Print (form_at_column Take (var 0 ∷ []) 40 ∷ []) 31 ∷ []);
 }
 
 -- `(def t (timeout 100)) (def r (alts!! [(chan) t])) (println (first r) (= (nth r 1) t))`
@@ -54,9 +54,9 @@ timing_out = record {
   functions = [];
   bodies = [];
   main = main_text (
-      form (Make Timeout) (number 100 ∷ []) 8
-      ∷ form (Alts AltsOptions.None) (form (Builtin Vector) (form (Make Unbuffered) [] 39 ∷ var 0 ∷ []) 38 ∷ []) 30
-      ∷ form Print (form (Builtin First) (var 1 ∷ []) 60 ∷ form (Builtin Equal) (form (Builtin Nth) (var 1 ∷ number 1 ∷ []) 73 ∷ var 0 ∷ []) 70 ∷ []) 51
+      form_at_column (Make Timeout) (number_term 100 ∷ []) 8
+      ∷ form_at_column (Alts AltsOptions.None) (form_at_column (Builtin Vector) (form_at_column (Make Unbuffered) [] 39 ∷ var 0 ∷ []) 38 ∷ []) 30
+      ∷ form_at_column Print (form_at_column (Builtin First) (var 1 ∷ []) 60 ∷ form_at_column (Builtin Equal) (form_at_column (Builtin Nth) (var 1 ∷ number_term 1 ∷ []) 73 ∷ var 0 ∷ []) 70 ∷ []) 51
       ∷ []
       );
 }
@@ -65,8 +65,8 @@ timing_out = record {
 abbrev pub faulting : ProgramView
 faulting = record {
   functions = [];
-  bodies = record { parameters = 0 ∷ []; body = go_text (form (Builtin Quot) (number 1 ∷ number 0 ∷ []) 12) 1 0 8 } ∷ [];
-  main = main_text (go_block 0 [] 0 8 ∷ form Print (form Take (var 0 ∷ []) 34 ∷ []) 25 ∷ []);
+  bodies = record { parameters = 0 ∷ []; body = go_text (form_at_column (Builtin Quot) (number_term 1 ∷ number_term 0 ∷ []) 12) 1 0 8 } ∷ [];
+  main = main_text (go_block 0 [] 0 8 ∷ form_at_column Print (form_at_column Take (var 0 ∷ []) 34 ∷ []) 25 ∷ []);
 }
 
 -- `(def c (chan)) (close! c) (println (>!! c 1))`
@@ -74,13 +74,13 @@ abbrev pub putting_late : ProgramView
 putting_late = record {
   functions = [];
   bodies = [];
-  main = main_text (form (Make Unbuffered) [] 8 ∷ form Close (var 0 ∷ []) 16 ∷ form Print (form Put (var 0 ∷ number 1 ∷ []) 36 ∷ []) 27 ∷ []);
+  main = main_text (form_at_column (Make Unbuffered) [] 8 ∷ form_at_column Close (var 0 ∷ []) 16 ∷ form_at_column Print (form_at_column Put (var 0 ∷ number_term 1 ∷ []) 36 ∷ []) 27 ∷ []);
 }
 
 -- `(def c (chan)) (go (<! c)) (go (<! c)) (>!! c 42)`
 abbrev pub taking_twice : ProgramView
 taking_twice = record {
   functions = [];
-  bodies = record { parameters = 0 ∷ 1 ∷ []; body = go_text (form Take (var 0 ∷ []) 20) 2 1 16 } ∷ record { parameters = 0 ∷ 2 ∷ []; body = go_text (form Take (var 0 ∷ []) 32) 3 2 28 } ∷ [];
-  main = main_text (form (Make Unbuffered) [] 8 ∷ go_block 0 (var 0 ∷ []) 1 16 ∷ go_block 1 (var 0 ∷ []) 2 28 ∷ form Put (var 0 ∷ number 42 ∷ []) 40 ∷ []);
+  bodies = record { parameters = 0 ∷ 1 ∷ []; body = go_text (form_at_column Take (var 0 ∷ []) 20) 2 1 16 } ∷ record { parameters = 0 ∷ 2 ∷ []; body = go_text (form_at_column Take (var 0 ∷ []) 32) 3 2 28 } ∷ [];
+  main = main_text (form_at_column (Make Unbuffered) [] 8 ∷ go_block 0 (var 0 ∷ []) 1 16 ∷ go_block 1 (var 0 ∷ []) 2 28 ∷ form_at_column Put (var 0 ∷ number_term 42 ∷ []) 40 ∷ []);
 }

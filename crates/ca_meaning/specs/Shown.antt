@@ -13,26 +13,26 @@ use Rattle.ca_term.specs.Operation.{WhatView, unbuffered, fixed, dropping, slidi
 use Rattle.ca_term.specs.Event.{EventView, BranchView, take_of, put_of, made, spawned, done, met, parked, posted, settled, defaulted, closed, registered, printed, ticked, over}
 
 -- a byte that ends a word: a space, a line feed, a comma, `]` or `}`
-abbrev pub stops : ℕ → Bool
-stops b = (b == 32) || ((b == 10) || ((b == 44) || ((b == 93) || (b == 125))))
+abbrev pub ends_word : ℕ → Bool
+ends_word b = (b == 32) || ((b == 10) || ((b == 44) || ((b == 93) || (b == 125))))
 
 abbrev pub Solid : List ℕ → Type 0
 Solid [] = Unit {0}
-Solid (b ∷ s) = (stops b ≡ false) × Solid s
+Solid (b ∷ s) = (ends_word b ≡ false) × Solid s
 
 abbrev pub IsNumber : ℕ → Type 0
 IsNumber n = n < 2 ^ 64
 
-abbrev pub IsInteger : ℤ → Type 0
-IsInteger (pos n) = n < 2 ^ 63
-IsInteger (negsuc n) = n < 2 ^ 63
+abbrev pub IsShownInteger : ℤ → Type 0
+IsShownInteger (pos n) = n < 2 ^ 63
+IsShownInteger (negsuc n) = n < 2 ^ 63
 
 -- a value that a line can show
 abbrev mutual
   pub IsShown : Tree → Type 0
   IsShown nil = Unit {0}
   IsShown (bool b) = Unit {0}
-  IsShown (int z) = IsInteger z
+  IsShown (int z) = IsShownInteger z
   IsShown (text s) = Unit {0}
   IsShown (key s) = Solid s
   IsShown (vector ts) = AreShown ts
@@ -151,21 +151,21 @@ abbrev pub BranchNumbered : BranchView → Type 0
 BranchNumbered (take_of p) = IsNumber p
 BranchNumbered (put_of p v) = IsNumber p × PortsFit v
 
-abbrev pub IsNumbered : EventView → Type 0
-IsNumbered (made t p what moment) = IsNumber t × IsNumber p × WhatNumbered what moment
-IsNumbered (spawned t u kind result) = IsNumber t × IsNumber u × MaybeNumber result
-IsNumbered (done t k b a) = IsNumber t × IsNumber k × BranchNumbered b × PortsFit a
-IsNumbered (met t k side p v w o) = IsNumber t × IsNumber k × IsNumber p × PortsFit v × IsNumber w × IsNumber o
-IsNumbered (parked t w bs) = IsNumber t × IsNumber w × Each BranchNumbered bs
-IsNumbered (posted t w p v) = IsNumber t × IsNumber w × IsNumber p × PortsFit v
-IsNumbered (settled w k side p v) = IsNumber w × IsNumber k × IsNumber p × PortsFit v
-IsNumbered (defaulted t v) = IsNumber t × PortsFit v
-IsNumbered (closed t p) = IsNumber t × IsNumber p
-IsNumbered (registered t name args v) = IsNumber t × AllPortsFit args × PortsFit v
-IsNumbered (printed t line) = IsNumber t
-IsNumbered (ticked m ports) = IsNumber m × Each IsNumber ports
-IsNumbered (over t Ended) = IsNumber t
-IsNumbered (over t (Faulted fault place result)) = IsNumber t × IsNumber place.line × IsNumber place.column × MaybePort result
+abbrev pub IsEventNumbered : EventView → Type 0
+IsEventNumbered (made t p what moment) = IsNumber t × IsNumber p × WhatNumbered what moment
+IsEventNumbered (spawned t u kind result) = IsNumber t × IsNumber u × MaybeNumber result
+IsEventNumbered (done t k b a) = IsNumber t × IsNumber k × BranchNumbered b × PortsFit a
+IsEventNumbered (met t k side p v w o) = IsNumber t × IsNumber k × IsNumber p × PortsFit v × IsNumber w × IsNumber o
+IsEventNumbered (parked t w bs) = IsNumber t × IsNumber w × Each BranchNumbered bs
+IsEventNumbered (posted t w p v) = IsNumber t × IsNumber w × IsNumber p × PortsFit v
+IsEventNumbered (settled w k side p v) = IsNumber w × IsNumber k × IsNumber p × PortsFit v
+IsEventNumbered (defaulted t v) = IsNumber t × PortsFit v
+IsEventNumbered (closed t p) = IsNumber t × IsNumber p
+IsEventNumbered (registered t name args v) = IsNumber t × AllPortsFit args × PortsFit v
+IsEventNumbered (printed t line) = IsNumber t
+IsEventNumbered (ticked m ports) = IsNumber m × Each IsNumber ports
+IsEventNumbered (over t Ended) = IsNumber t
+IsEventNumbered (over t (Faulted fault place result)) = IsNumber t × IsNumber place.line × IsNumber place.column × MaybePort result
 
 -- A run of a checked program whose constants a script can write, with its numbers within 64 bits.
 pub record IsWrittenRun (journal : List EventView) : Type 0 where
@@ -173,4 +173,4 @@ pub record IsWrittenRun (journal : List EventView) : Type 0 where
   pub checked : IsProgram program
   pub constants : ProgramHasScalars written program
   pub legal : Legal program journal
-  pub numbered : Each IsNumbered journal
+  pub numbered : Each IsEventNumbered journal

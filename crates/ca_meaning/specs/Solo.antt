@@ -103,23 +103,23 @@ abbrev pub Chooses : State → Desk → ℕ → ℕ → Type 0
 Chooses s d t k = (x : Task) × (op : OpView) × (s.tasks t ≡ Some x) × IsAtOp x.body op × (has_priority op ≡ false → IsFirstFrom s (branches_of op) (d.alts t) k)
 
 -- an event more on the lane
-abbrev pub counted : Option Lane → Option Lane
-counted None = None
-counted (Some lane) = Some (record lane { events = suc lane.events })
+abbrev pub event_counted : Option Lane → Option Lane
+event_counted None = None
+event_counted (Some lane) = Some (record lane { events = suc lane.events })
 
 abbrev pub made_one : Desk → Desk
-made_one d = record d { lane = counted d.lane }
+made_one d = record d { lane = event_counted d.lane }
 
 abbrev pub left : Desk → Desk
 left d = record d { lane = None }
 
 -- one more alts of the task, where its operation is one
-abbrev pub alts_of : OpView → ℕ → ℕ
-alts_of (choosing ports priority default) n = suc n
-alts_of op n = n
+abbrev pub alts_counted : OpView → ℕ → ℕ
+alts_counted (choosing ports priority default) n = suc n
+alts_counted op n = n
 
 abbrev pub CountsAlts : State → Desk → ℕ → Desk → Type 0
-CountsAlts s d t d2 = (x : Task) × (op : OpView) × (s.tasks t ≡ Some x) × IsAtOp x.body op × (d2 ≡ record d { alts = λ u. cond (eqb t u) (alts_of op (d.alts u)) (d.alts u) })
+CountsAlts s d t d2 = (x : Task) × (op : OpView) × (s.tasks t ≡ Some x) × IsAtOp x.body op × (d2 ≡ record d { alts = λ u. cond (eqb t u) (alts_counted op (d.alts u)) (d.alts u) })
 
 -- a task that comes to run stands behind the others
 abbrev pub joined_by : Option ℕ → Desk → Desk

@@ -17,8 +17,8 @@ Each P [] = Unit {0}
 Each P (x ∷ xs) = P x × Each P xs
 
 -- a channel never holds more than its capacity, which is 0 without a buffer and 1 for a promise
-abbrev pub Fits : Channel → Type 0
-Fits c = (length c.held ≤ c.capacity) × FitsPolicy c.policy c.capacity
+abbrev pub ChannelFits : Channel → Type 0
+ChannelFits c = (length c.held ≤ c.capacity) × FitsPolicy c.policy c.capacity
 
 -- where somebody waits to take, nothing is held, but in a promise, and no put waits on a fixed buffer
 abbrev pub Idle : Channel → List Handler → List Handler → Type 0
@@ -27,8 +27,8 @@ Idle c takers putters = is_promise c.policy ≡ false → (h : Handler) → head
 abbrev pub IsNotNil : Tree → Type 0
 IsNotNil v = is_nil v ≡ false
 
-abbrev pub AllFit : Channels → Type 0
-AllFit channels = (p : ℕ) (c : Channel) → channels p ≡ Some c → Fits c
+abbrev pub ChannelsFit : Channels → Type 0
+ChannelsFit channels = (p : ℕ) (c : Channel) → channels p ≡ Some c → ChannelFits c
 
 abbrev pub AllIdle : Channels → List Wait → Type 0
 AllIdle channels ws = (p : ℕ) (c : Channel) → channels p ≡ Some c → Idle c (queue Take p ws) (queue Put p ws)
@@ -53,7 +53,7 @@ abbrev pub AllRested : Tasks → Type 0
 AllRested tasks = (u : ℕ) (x : Task) → tasks u ≡ Some x → body_at x.body ≢ local
 
 pub record Sound (s : State) : Type 0 where
-  pub fits : AllFit s.channels
+  pub fits : ChannelsFit s.channels
   pub idle : AllIdle s.channels s.waits
   -- a wait stands on channels
   pub homes : (side : Side) (p : ℕ) → s.channels p ≡ None → queue side p s.waits ≡ []

@@ -10,8 +10,8 @@ named [] vs = []
 named (n ∷ ns) [] = []
 named (n ∷ ns) (v ∷ vs) = (n, v) ∷ named ns vs
 
-abbrev pub names_of : Founds → List ℕ
-names_of fs = map (λ f. f.0) fs
+abbrev pub names_found : Founds → List ℕ
+names_found fs = map (λ f. f.0) fs
 
 -- the function or the go body of that number
 abbrev pub procedure_at : List ProcedureView → ℕ → ProcedureView

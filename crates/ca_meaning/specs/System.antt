@@ -6,7 +6,7 @@ use Rattle.ca_value.specs.Tree.{Tree, Trees}
 use Rattle.ca_term.specs.declared.place.Place.{Place}
 use Rattle.ca_term.specs.declared.head.SystemTask.{SystemTask}
 use Rattle.ca_term.specs.Program.{ProgramView}
-use Rattle.ca_meaning.specs.Operands.{port_number, truth, first_of, second_of, third_of, rest_of}
+use Rattle.ca_meaning.specs.Operands.{port_of_value, truth, first_of, second_of, third_of, rest_of}
 use Rattle.ca_meaning.specs.Body.{At}
 use Rattle.ca_meaning.specs.Asks.{Next, to, stands_at, follows, trees_in}
 use Rattle.ca_meaning.specs.Applied.{Returned, Applied, Work, Outputs, Outs}
@@ -36,18 +36,18 @@ fourth_of vs = third_of (rest_of vs)
 
 -- the first state of the table, with the values in the order in which the form has them
 abbrev pub new_system : SystemTask → Trees → Place → SystemBody
-new_system SystemTask.Mult vs p = a_mult (record { mult = port_number (first_of vs); source = port_number (second_of vs); acks = port_number (third_of vs) }) p (to mult_takes)
-new_system SystemTask.Deliver vs p = a_delivery (record { mult = port_number (first_of vs); channel = port_number (second_of vs); value = third_of vs; acks = port_number (fourth_of vs) }) p (to deliver_puts)
-new_system SystemTask.Mix vs p = a_mix (record { mix = port_number (first_of vs); out = port_number (second_of vs); changes = port_number (third_of vs) }) p (to mix_reads)
-new_system (SystemTask.Pub f) vs p = a_pub (record { publication = port_number (first_of vs); source = port_number (second_of vs); topic = f; keyword = third_of vs }) p (to pub_takes)
-new_system SystemTask.Pipe vs p = a_pipe (record { source = port_number (first_of vs); target = port_number (second_of vs); closes = truth (third_of vs) }) p (to pipe_takes)
-new_system SystemTask.Merge vs p = a_merge (port_number (second_of vs)) p (inputs_left (trees_in (first_of vs)))
+new_system SystemTask.Mult vs p = a_mult (record { mult = port_of_value (first_of vs); source = port_of_value (second_of vs); acks = port_of_value (third_of vs) }) p (to mult_takes)
+new_system SystemTask.Deliver vs p = a_delivery (record { mult = port_of_value (first_of vs); channel = port_of_value (second_of vs); value = third_of vs; acks = port_of_value (fourth_of vs) }) p (to deliver_puts)
+new_system SystemTask.Mix vs p = a_mix (record { mix = port_of_value (first_of vs); out = port_of_value (second_of vs); changes = port_of_value (third_of vs) }) p (to mix_reads)
+new_system (SystemTask.Pub f) vs p = a_pub (record { publication = port_of_value (first_of vs); source = port_of_value (second_of vs); topic = f; keyword = third_of vs }) p (to pub_takes)
+new_system SystemTask.Pipe vs p = a_pipe (record { source = port_of_value (first_of vs); target = port_of_value (second_of vs); closes = truth (third_of vs) }) p (to pipe_takes)
+new_system SystemTask.Merge vs p = a_merge (port_of_value (second_of vs)) p (inputs_left (trees_in (first_of vs)))
 new_system SystemTask.Onto vs p =
-    let o : OntoPorts = record { target = port_number (first_of vs); closes = truth (third_of vs); result = port_number (fourth_of vs) } in
+    let o : OntoPorts = record { target = port_of_value (first_of vs); closes = truth (third_of vs); result = port_of_value (fourth_of vs) } in
     an_onto o p (items_left o (trees_in (second_of vs)))
-new_system SystemTask.Feed vs p = a_feed (record { source = port_number (first_of vs); jobs = port_number (second_of vs); replies = port_number (third_of vs) }) p (to feed_takes)
-new_system (SystemTask.Job x f) vs p = a_job (port_number (first_of vs)) (record { transform = x; function = f; keyword = second_of vs; place = p }) (to job_takes)
-new_system SystemTask.Collect vs p = a_collect (record { replies = port_number (first_of vs); target = port_number (second_of vs); closes = truth (third_of vs); result = port_number (fourth_of vs) }) p (to collect_takes)
+new_system SystemTask.Feed vs p = a_feed (record { source = port_of_value (first_of vs); jobs = port_of_value (second_of vs); replies = port_of_value (third_of vs) }) p (to feed_takes)
+new_system (SystemTask.Job x f) vs p = a_job (port_of_value (first_of vs)) (record { transform = x; function = f; keyword = second_of vs; place = p }) (to job_takes)
+new_system SystemTask.Collect vs p = a_collect (record { replies = port_of_value (first_of vs); target = port_of_value (second_of vs); closes = truth (third_of vs); result = port_of_value (fourth_of vs) }) p (to collect_takes)
 
 abbrev pub system_at : SystemBody → At
 system_at (a_mult t p x) = stands_at p (mult_asks t) x

@@ -40,5 +40,5 @@ abbrev pub reply_at : At → ℕ → Tree → Tree
 reply_at (at_op want) p v = reply_to want.op p v
 reply_at elsewhere p v = v
 
-abbrev pub reply : TaskBody → ℕ → Tree → Tree
-reply b p v = reply_at (body_at b) p v
+abbrev pub body_reply : TaskBody → ℕ → Tree → Tree
+body_reply b p v = reply_at (body_at b) p v

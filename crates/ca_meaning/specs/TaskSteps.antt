@@ -13,13 +13,13 @@ use Rattle.ca_term.specs.declared.head.SystemTask.TheVariants.{Onto, Collect}
 use Rattle.ca_term.specs.Operation.{WhatView, unbuffered, fixed, dropping, sliding, promise, timeout, mult, mix, publication, SeedView, go, system, making, spawning, registering, printing}
 use Rattle.ca_term.specs.Program.{ProgramView}
 use Rattle.ca_meaning.specs.Body.{ended}
-use Rattle.ca_meaning.specs.Operands.{port_number, first_of, values_in}
+use Rattle.ca_meaning.specs.Operands.{port_of_value, first_of, values_in}
 use Rattle.ca_meaning.specs.Channel.{channel_made}
 use Rattle.ca_meaning.specs.Registry.{Registry, registry_made, answers}
 use Rattle.ca_meaning.specs.Task.{TaskBody, body_at, BodyRest, new_task}
 use Rattle.ca_meaning.specs.State.{State, Task, Tasks, over, runs, Deadline, shut_all, shut_result, opened, due, open_after}
 use Rattle.ca_meaning.specs.Refusal.{registering_gives, fault_at}
-use Rattle.ca_meaning.specs.Going.{Runs, Stands, Goes}
+use Rattle.ca_meaning.specs.Going.{Runs, RunsAtOperation, Goes}
 
 -- moments are below it
 abbrev pub moments : ℕ
@@ -47,7 +47,7 @@ with_deadline p what m ds = ds
 abbrev pub MakeStep : ProgramView → State → ℕ → ℕ → WhatView → Option ℕ → State → Type 0
 MakeStep program s t p what moment s2 =
     (x : Task) × (tasks : Tasks)
-    × Stands s t (making what) x
+    × RunsAtOperation s t (making what) x
     × (s.channels p ≡ None)
     × (s.registries p ≡ None)
     × IsMoment s.now what moment
@@ -80,7 +80,7 @@ kind_of (system kind values place) = kind_of_system kind
 -- the last of the values, which is a port
 abbrev pub last_port : List Tree → Option ℕ
 last_port [] = None
-last_port (v ∷ []) = Some (port_number v)
+last_port (v ∷ []) = Some (port_of_value v)
 last_port (v ∷ (w ∷ vs)) = last_port (w ∷ vs)
 
 -- of the system's tasks onto and collect have a result port, which is their last value
@@ -97,7 +97,7 @@ result_of (system kind values place) = result_of_system kind values
 abbrev pub SpawnStep : ProgramView → State → ℕ → ℕ → TaskKind → Option ℕ → State → Type 0
 SpawnStep program s t u kind result s2 =
     (x : Task) × (seed : SeedView) × (tasks : Tasks) × (b : TaskBody)
-    × Stands s t (spawning seed) x
+    × RunsAtOperation s t (spawning seed) x
     × (s.tasks u ≡ None)
     × (kind_of seed ≡ kind)
     × (result_of seed ≡ result)
@@ -109,14 +109,14 @@ SpawnStep program s t u kind result s2 =
 abbrev pub RegisterStep : ProgramView → State → ℕ → RegisterName → Trees → Tree → State → Type 0
 RegisterStep program s t name args v s2 =
     (x : Task) × (r : Registry) × (tasks : Tasks)
-    × Stands s t (registering name args) x
+    × RunsAtOperation s t (registering name args) x
     × (registering_gives s name args ≡ answers v r)
     × Goes program s.tasks t x v tasks
-    × (s2 ≡ record s { tasks = tasks; registries = update eqb s.registries (port_number (first_of args)) (Some r) })
+    × (s2 ≡ record s { tasks = tasks; registries = update eqb s.registries (port_of_value (first_of args)) (Some r) })
 
 abbrev pub PrintStep : ProgramView → State → ℕ → List ℕ → State → Type 0
 PrintStep program s t line s2 =
-    (x : Task) × (tasks : Tasks) × Stands s t (printing line) x × Goes program s.tasks t x nil tasks × (s2 ≡ record s { tasks = tasks })
+    (x : Task) × (tasks : Tasks) × RunsAtOperation s t (printing line) x × Goes program s.tasks t x nil tasks × (s2 ≡ record s { tasks = tasks })
 
 -- the clock reaches the moment m, and exactly the channels that are due close
 abbrev pub TickStep : State → ℕ → List ℕ → State → Type 0

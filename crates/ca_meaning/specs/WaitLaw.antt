@@ -11,7 +11,7 @@ use Rattle.ca_meaning.specs.Task.{TaskBody, body_at, body_fill, BodyRest}
 use Rattle.ca_meaning.specs.State.{State, Task, Mode, running, waiting, over, runs}
 use Rattle.ca_meaning.specs.Steps.{Step}
 use Rattle.ca_meaning.specs.Legal.{Reaches}
-use Rattle.ca_meaning.specs.History.{MakesBranch, completed_by, completes, makes, count}
+use Rattle.ca_meaning.specs.History.{MakesBranch, completed_by, completes_wait, makes, count}
 use Rattle.ca_meaning.specs.EndsLaw.{is_of}
 
 -- an operation that takes, puts or chooses
@@ -62,7 +62,7 @@ abbrev pub Told : ProgramView → ℕ → Mode → Task → EventView → Task �
 -- a task that runs stays where it is until its own event
 Told program t running x e y = (is_of t e ≡ false → y ≡ x) × (is_of t e ≡ true → OwnEvent program x e y)
 -- a task that waits has no event, and goes on exactly where its wait is completed
-Told program t (waiting w) x e y = (is_of t e ≡ false) × (completes w e ≡ false → y ≡ x) × (completes w e ≡ true → WentOn program x y)
+Told program t (waiting w) x e y = (is_of t e ≡ false) × (completes_wait w e ≡ false → y ≡ x) × (completes_wait w e ≡ true → WentOn program x y)
 -- a task that is over has no event
 Told program t over x e y = (is_of t e ≡ false) × (y ≡ x)
 
@@ -76,7 +76,7 @@ pub record WaitLaw (program : ProgramView) (journal : List EventView) : Type 0 w
   -- each wait number is made by one Park or Post at most
   pub made_once : (w : ℕ) → count (makes w) journal ≤ 1
   -- at most one Meet or Settle completes it
-  pub completed_once : (w : ℕ) → count (completes w) journal ≤ 1
+  pub completed_once : (w : ℕ) → count (completes_wait w) journal ≤ 1
   -- it comes later, at a branch that the Park or Post names, with that port, side and put value
   pub named : (before after : List EventView) (e : EventView) (w k : ℕ) (b : BranchView) → journal ≡ before ++ e ∷ after → completed_by e ≡ Some (w, k, b)
       → (early : List EventView) × (offer : EventView) × (late : List EventView) × (before ≡ early ++ offer ∷ late) × MakesBranch w k b offer

@@ -16,7 +16,7 @@ use Rattle.ca_meaning.specs.Body.{faulted}
 use Rattle.ca_meaning.specs.Task.{body_at}
 use Rattle.ca_meaning.specs.Wait.{Wait}
 use Rattle.ca_meaning.specs.State.{State, Task, waiting}
-use Rattle.ca_meaning.specs.Going.{Runs, Stands}
+use Rattle.ca_meaning.specs.Going.{Runs, RunsAtOperation}
 use Rattle.ca_meaning.specs.Legal.{Legal}
 
 abbrev pub line : List ℕ → List ℕ
@@ -157,14 +157,14 @@ takes_one w u = record { number = w; owner = Some u; branches = take_of 1 ∷ []
 
 -- Task 1 stands at a put of 42 into channel 1, from which task 0 waits to take, and since later task 3.
 pub record AtMeeting (s : State) (x : Task) : Type 0 where
-  pub stands : Stands s 1 (putting (port 1) (int (pos 42))) x
+  pub stands : RunsAtOperation s 1 (putting (port 1) (int (pos 42))) x
   pub channel : s.channels 1 ≡ Some (new_channel no_buffer 0)
   pub waits : s.waits ≡ takes_one 1 0 ∷ takes_one 2 3 ∷ []
   pub taker : (y : Task) × (s.tasks 0 ≡ Some y) × (y.mode ≡ waiting 1)
 
 -- Task 1 stands at a put into channel 1, which is closed.
 pub record AtClosed (s : State) (x : Task) : Type 0 where
-  pub stands : Stands s 1 (putting (port 1) (int (pos 42))) x
+  pub stands : RunsAtOperation s 1 (putting (port 1) (int (pos 42))) x
   pub channel : (c : Channel) × (s.channels 1 ≡ Some (shut c))
 
 -- The timeout's channel 1 has closed, and task 0 waits for it beside channel 2.

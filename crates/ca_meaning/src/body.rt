@@ -4,7 +4,7 @@ ghost use Rattle.ca_term.specs.Program.{ProgramView, program_view};
 ghost use Rattle.ca_term.specs.View.{kernel};
 ghost use Rattle.ca_term.specs.Operation.{want_view};
 ghost use Rattle.ca_meaning.specs.Body.{at, local, at_op, nowhere, step, fill, new_body};
-ghost use Rattle.ca_meaning.specs.BodyViews.{body_view, stand_of, is_at_op, value_at};
+ghost use Rattle.ca_meaning.specs.BodyViews.{body_view, stand_of, is_at_op, ended_value};
 ghost use Rattle.ca_meaning.specs.IsBody.{IsBody, IsBodyOf};
 ghost use Rattle.ca_meaning.specs.Rest.{Rest};
 
@@ -102,7 +102,7 @@ impl Body {
 
     /// The value that the body came to, where it stands at its end.
     pub fn value(&self) -> Option<&Value>
-        ensures { option_map (λ v. view v.now) result ≡ value_at (at (body_view self.now)) }
+        ensures { option_map (λ v. view v.now) result ≡ ended_value (at (body_view self.now)) }
     {
         match self.fault {
             Some(_) => None,

@@ -1,7 +1,7 @@
 ghost use Rattle.std.specs.Prelude.{◌≡◌, ◌++◌, ◌∷◌, [], IsTrue, IfOk, None, cond, option_map};
 ghost use Rattle.ca_value.specs.Seq.{list};
 ghost use Rattle.ca_value.specs.View.{view, trees};
-ghost use Rattle.ca_value.specs.Builtins.{admits, builtin_result};
+ghost use Rattle.ca_value.specs.Builtins.{admits_arguments, builtin_result};
 ghost use Rattle.ca_term.specs.Fits.{count_terms};
 ghost use Rattle.ca_term.specs.Kernel.{const, apply, frame};
 ghost use Rattle.ca_term.specs.Program.{program_view};
@@ -9,7 +9,7 @@ ghost use Rattle.ca_term.specs.View.{kernel, kernels, bindings, founds};
 ghost use Rattle.ca_meaning.specs.Redex.{value_of, values_of};
 ghost use Rattle.ca_meaning.specs.Operands.{truth, values_in};
 ghost use Rattle.ca_meaning.specs.Started.{procedure_at, started};
-ghost use Rattle.ca_meaning.specs.Body.{contract, after_let, after_loop, after_do, after_turn, after_apply, value_in, failed, fault_of};
+ghost use Rattle.ca_meaning.specs.Body.{contract, after_let, after_loop, after_do, after_turn, after_apply, value_in, outcome_fault, fault_of};
 ghost use Rattle.ca_meaning.specs.Parts.{IsAdmitted, recur_operands};
 
 use crate::body::FaultAt;
@@ -239,9 +239,9 @@ fn evaluated(
     operands: &Seq<Term>,
     place: Place,
 ) -> Result<Contractum, OutOfMemory>
-    requires { IsTrue (admits builtin (count_terms (kernels (list operands.now)))) }
+    requires { IsTrue (admits_arguments builtin (count_terms (kernels (list operands.now)))) }
     ensures term { IfOk result (λ c. kernel c.term ≡ const (value_in (builtin_result builtin (values_of (kernels (list operands.now)))))) }
-    ensures fault { IfOk result (λ c. c.fault ≡ failed place (builtin_result builtin (values_of (kernels (list operands.now))))) }
+    ensures fault { IfOk result (λ c. c.fault ≡ outcome_fault place (builtin_result builtin (values_of (kernels (list operands.now))))) }
 {
     let args = values(alloc, operands)?;
     match apply_builtin(alloc, builtin, args) {

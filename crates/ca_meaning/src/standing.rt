@@ -5,7 +5,7 @@ ghost use Rattle.ca_term.specs.View.{kernel, kernels};
 ghost use Rattle.ca_meaning.specs.Redex.{values_of};
 ghost use Rattle.ca_meaning.specs.Body.{asking, standing, standing_with, standing_turn, at_turn, at_call, turns_after, depth_after};
 ghost use Rattle.ca_value.specs.View.{view};
-ghost use Rattle.ca_meaning.specs.BodyViews.{stand_of, value_at};
+ghost use Rattle.ca_meaning.specs.BodyViews.{stand_of, ended_value};
 
 use crate::body::Stand;
 use crate::redex::is_ready_recur;
@@ -42,7 +42,7 @@ pub(crate) fn standing(turns: u64, depth: u64, redex: &Term) -> Stand
 // The value that a term is whose redex is the whole of it, where it is one.
 #[tactic(auto, using(crate::proofs::Endings::no_value_with, crate::proofs::Endings::no_value_turned))]
 pub(crate) fn ended_with(redex: &Term) -> Option<&Value>
-    ensures { (turns depth : ℕ) → option_map (λ v. view v.now) result ≡ value_at (standing turns depth (kernel redex.now)) }
+    ensures { (turns depth : ℕ) → option_map (λ v. view v.now) result ≡ ended_value (standing turns depth (kernel redex.now)) }
 {
     match redex {
         Term::Const(value) => Some(value),

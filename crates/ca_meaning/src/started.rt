@@ -7,7 +7,7 @@ ghost use Rattle.ca_term.specs.Program.{procedure_view};
 ghost use Rattle.ca_term.specs.View.{kernel, kernels, founds};
 ghost use Rattle.ca_meaning.specs.Redex.{values_of};
 ghost use Rattle.ca_meaning.specs.Operands.{values_in};
-ghost use Rattle.ca_meaning.specs.Started.{named, names_of, started};
+ghost use Rattle.ca_meaning.specs.Started.{named, names_found, started};
 
 use ca_asking::operands::AsOperand;
 use ca_term::program::Procedure;
@@ -68,7 +68,7 @@ pub(crate) fn loop_text(alloc: Global, known: &Seq<Found>, text: &Term) -> Resul
 
 // The names that have their values.
 pub(crate) fn names_of(alloc: Global, known: &Seq<Found>) -> Result<Seq<u64>, OutOfMemory>
-    ensures { IfOk result (λ s. list s ≡ names_of (founds (list known.now))) }
+    ensures { IfOk result (λ s. list s ≡ names_found (founds (list known.now))) }
 {
     let mut names = Seq::new(alloc);
     names.reserve(known.len())?;

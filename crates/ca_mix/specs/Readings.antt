@@ -9,11 +9,11 @@ use Rattle.ca_mix.specs.declared.modes.Source.{Source}
 use Rattle.ca_mix.specs.declared.modes.Modes.{Modes}
 use Rattle.ca_mix.specs.declared.modes.Reading.{Reading}
 
-abbrev pub source_view : Source → SourceView
-source_view s = record { channel = s.channel.n; mute = s.mute; pause = s.pause; solo = s.solo }
+abbrev pub mix_source_view : Source → SourceView
+mix_source_view s = record { channel = s.channel.n; mute = s.mute; pause = s.pause; solo = s.solo }
 
 abbrev pub sources_view : Seq Source → List SourceView
-sources_view xs = each_of source_view (list xs)
+sources_view xs = each_of mix_source_view (list xs)
 
 abbrev pub modes_view : Modes → ModesRead
 modes_view m = record { pausing = m.pausing; sources = sources_view m.sources }

@@ -4,13 +4,13 @@ ghost use Rattle.std.specs.Prelude.{◌≡◌, ◌∷◌, ◌++◌, [], cond, eq
 ghost use Rattle.ca_value.specs.Seq.{list};
 ghost use Rattle.ca_value.specs.View.{view, trees};
 ghost use Rattle.ca_term.specs.declared.head.SystemTask.TheVariants.{Mix as mix_task};
-ghost use Rattle.ca_meaning.specs.Asks.{chooses, needing, stop, to};
+ghost use Rattle.ca_meaning.specs.Asks.{ask_to_choose, needing, stop, to};
 ghost use Rattle.ca_meaning.specs.MixTable.{any_of, heard_of, mix_asks, mix_chosen, mix_next, mix_reads, mix_chooses, mix_drops, modes_in, port_trees, read_of};
 ghost use Rattle.ca_meaning.specs.Operands.{truth};
 ghost use Rattle.ca_meaning.specs.System.{new_system};
 ghost use Rattle.ca_system.specs.Stands.{running_body, stand_at, next_view};
 ghost use Rattle.ca_mix.specs.Readings.{reading_view};
-ghost use Rattle.ca_mix.specs.Mixes.{mix_body, ports_view, state_view};
+ghost use Rattle.ca_mix.specs.Mixes.{mix_body, mix_ports_view, mix_state_view};
 
 use crate::modes::{Reading, modes_in};
 use ca_asking::operands::{is_true, port_at};
@@ -98,7 +98,7 @@ impl Kind for Ports {
 impl Ports {
     // It reads the modes.
     fn modes(&self, alloc: Global, place: Place) -> Result<Stand, OutOfMemory>
-        ensures { IfOk result (λ s. stand_at s ≡ mix_asks (ports_view self.now) mix_reads place) }
+        ensures { IfOk result (λ s. stand_at s ≡ mix_asks (mix_ports_view self.now) mix_reads place) }
     {
         let values = one(alloc, Value::Port(self.mix))?;
         Ok(registers(RegisterName::Modes, values, place))
@@ -107,7 +107,7 @@ impl Ports {
     // It waits for a value of one of these, or for a change.
     #[tactic(auto, using(crate::proofs::Branches::ports_weigh_nothing))]
     fn choice(&self, alloc: Global, reads: &[PortId], place: Place) -> Result<Stand, OutOfMemory>
-        ensures { IfOk result (λ s. stand_at s ≡ chooses (port_trees (map (λ p. p.n) reads.now ++ self.now.changes.n ∷ [])) place) }
+        ensures { IfOk result (λ s. stand_at s ≡ ask_to_choose (port_trees (map (λ p. p.n) reads.now ++ self.now.changes.n ∷ [])) place) }
     {
         let op = Op::Alts {
             ports: Vector::of(alloc, branches(alloc, reads, self.changes)?)?,
@@ -119,7 +119,7 @@ impl Ports {
 
     // It takes the source off.
     fn unmix(&self, alloc: Global, channel: PortId, place: Place) -> Result<Stand, OutOfMemory>
-        ensures { IfOk result (λ s. stand_at s ≡ mix_asks (ports_view self.now) (mix_drops channel.n) place) }
+        ensures { IfOk result (λ s. stand_at s ≡ mix_asks (mix_ports_view self.now) (mix_drops channel.n) place) }
     {
         let values = two(alloc, Value::Port(self.mix), Value::Port(channel))?;
         Ok(registers(RegisterName::Unmix, values, place))
@@ -131,7 +131,7 @@ impl Ports {
         reading: Reading,
         answer: &Value,
     ) -> Result<Next<State>, OutOfMemory>
-        ensures { IfOk result (λ n. next_view state_view n ≡ mix_next (ports_view self.now) (view answer.now) (mix_chooses (reading_view reading).0 (reading_view reading).1)) }
+        ensures { IfOk result (λ n. next_view mix_state_view n ≡ mix_next (mix_ports_view self.now) (view answer.now) (mix_chooses (reading_view reading).0 (reading_view reading).1)) }
     {
         match value_and_port(alloc, answer)? {
             None => Ok(Next::Fail(Fault::WrongKind)),
@@ -141,7 +141,7 @@ impl Ports {
 
     // The channel gave the value: a change, the end of a source, or a value that is heard or not.
     fn chosen(&self, reading: Reading, value: Value, channel: PortId) -> Next<State>
-        ensures { next_view state_view result ≡ mix_chosen (ports_view self.now) (reading_view reading).0 (reading_view reading).1 (view value) channel.n }
+        ensures { next_view mix_state_view result ≡ mix_chosen (mix_ports_view self.now) (reading_view reading).0 (reading_view reading).1 (view value) channel.n }
     {
         if channel.n == self.changes.n {
             Next::To(State::Reads)
@@ -181,7 +181,7 @@ fn is_among(channel: PortId, heard: &[PortId]) -> bool
 
 // It reads and hears what the answer tells.
 fn after_modes(alloc: Global, answer: &Value) -> Result<Next<State>, OutOfMemory>
-    ensures { IfOk result (λ n. next_view state_view n ≡ needing (modes_in (view answer.now)) (λ m. to (mix_chooses (read_of m) (heard_of m)))) }
+    ensures { IfOk result (λ n. next_view mix_state_view n ≡ needing (modes_in (view answer.now)) (λ m. to (mix_chooses (read_of m) (heard_of m)))) }
 {
     match modes_in(alloc, answer)? {
         None => Ok(Next::Fail(Fault::WrongKind)),
@@ -191,7 +191,7 @@ fn after_modes(alloc: Global, answer: &Value) -> Result<Next<State>, OutOfMemory
 
 // A closed output ends the task.
 fn after_put(reading: Reading, answer: &Value) -> Next<State>
-    ensures { next_view state_view result ≡ cond (truth (view answer.now)) (to (mix_chooses (reading_view reading).0 (reading_view reading).1)) stop }
+    ensures { next_view mix_state_view result ≡ cond (truth (view answer.now)) (to (mix_chooses (reading_view reading).0 (reading_view reading).1)) stop }
 {
     if is_true(answer) {
         Next::To(State::Chooses(reading))

@@ -5,7 +5,7 @@ ghost use Rattle.ca_value.specs.Seq.{list};
 ghost use Rattle.ca_value.specs.Tree.{vector};
 ghost use Rattle.ca_value.specs.View.{view, trees};
 ghost use Rattle.ca_meaning.specs.MixTable.{any_solo, heard_of, modes_in, read_of, sources_of};
-ghost use Rattle.ca_mix.specs.Readings.{bool_in, source_view, sources_view, source_from, source_in, modes_view, reading_view, channels_where, is_heard, is_read};
+ghost use Rattle.ca_mix.specs.Readings.{bool_in, mix_source_view, sources_view, source_from, source_in, modes_view, reading_view, channels_where, is_heard, is_read};
 
 use ca_system::operand::port_in;
 use ca_value::memory::OutOfMemory;
@@ -91,7 +91,7 @@ fn sources_of(alloc: Global, items: &[Value]) -> Result<Option<Seq<Source>>, Out
 
 // The source that is written `[channel mute pause solo]`.
 fn source_in(item: &Value) -> Option<Source>
-    ensures { option_map source_view result ≡ source_in (view item.now) }
+    ensures { option_map mix_source_view result ≡ source_in (view item.now) }
 {
     match item {
         Value::Vector(parts) => four_in(parts.as_slice()),
@@ -101,7 +101,7 @@ fn source_in(item: &Value) -> Option<Source>
 
 #[tactic(auto, using(crate::proofs::SourceLaws::fewer_than_four, crate::proofs::SourceLaws::more_than_four))]
 fn four_in(parts: &[Value]) -> Option<Source>
-    ensures { option_map source_view result ≡ source_in (vector (trees parts.now)) }
+    ensures { option_map mix_source_view result ≡ source_in (vector (trees parts.now)) }
 {
     match parts {
         [channel, mute, pause, solo] => source_from(channel, mute, pause, solo),
@@ -110,7 +110,7 @@ fn four_in(parts: &[Value]) -> Option<Source>
 }
 
 fn source_from(channel: &Value, mute: &Value, pause: &Value, solo: &Value) -> Option<Source>
-    ensures { option_map source_view result ≡ source_from (view channel.now) (view mute.now) (view pause.now) (view solo.now) }
+    ensures { option_map mix_source_view result ≡ source_from (view channel.now) (view mute.now) (view pause.now) (view solo.now) }
 {
     Some(Source {
         channel: port_in(channel)?,
@@ -144,21 +144,21 @@ impl Modes {
 impl Source {
     // A soloed one, or one that is not paused where soloed ones are not read alone.
     fn is_read(self, solo_alone: bool) -> bool
-        ensures { result ≡ is_read solo_alone (source_view self) }
+        ensures { result ≡ is_read solo_alone (mix_source_view self) }
     {
         self.solo || !solo_alone && !self.pause
     }
 
     // A soloed one where there are any, else one that is not muted.
     fn is_heard(self, solo_alone: bool) -> bool
-        ensures { result ≡ is_heard solo_alone (source_view self) }
+        ensures { result ≡ is_heard solo_alone (mix_source_view self) }
     {
         if solo_alone { self.solo } else { !self.mute }
     }
 }
 
 fn any_solo(sources: &[Source]) -> bool
-    ensures { result ≡ any_solo (map source_view sources.now) }
+    ensures { result ≡ any_solo (map mix_source_view sources.now) }
 {
     for source in sources {
         if source.solo {
@@ -175,7 +175,7 @@ fn channels(
     solo_read: bool,
     solo_heard: bool,
 ) -> Result<Reading, OutOfMemory>
-    ensures { IfOk result (λ r. reading_view r ≡ (channels_where (is_read solo_read) (map source_view sources.now), channels_where (is_heard solo_heard) (map source_view sources.now))) }
+    ensures { IfOk result (λ r. reading_view r ≡ (channels_where (is_read solo_read) (map mix_source_view sources.now), channels_where (is_heard solo_heard) (map mix_source_view sources.now))) }
 {
     let mut reads = Vec::new(alloc);
     let mut heard = Vec::new(alloc);

@@ -6,44 +6,44 @@ use Rattle.ca_states.specs.declared.code.Exit.{Exit}
 use Rattle.ca_states.specs.declared.code.Exit.TheVariants.{Jump, Branch, Test, TestInt, Call, Return, Cut}
 use Rattle.ca_states.specs.Code.{Slots, Instruction, constant, copying, moving, clearing, one, two, two_int, pushing, putting, many, BlockView, CodeView}
 
-abbrev pub plain : Instruction → Instruction
-plain (constant to v) = constant to v
-plain (copying to a) = copying to a
-plain (moving to a) = copying to a
-plain (clearing a) = clearing a
-plain (one b to a p) = one b to a p
-plain (two b to a c p) = two b to a c p
-plain (two_int b to a z p) = two_int b to a z p
-plain (pushing to a c p) = two Conj to a c p
-plain (putting to a k v p) = putting to a k v p
-plain (many b to a n p) = many b to a n p
+abbrev pub plain_instruction : Instruction → Instruction
+plain_instruction (constant to v) = constant to v
+plain_instruction (copying to a) = copying to a
+plain_instruction (moving to a) = copying to a
+plain_instruction (clearing a) = clearing a
+plain_instruction (one b to a p) = one b to a p
+plain_instruction (two b to a c p) = two b to a c p
+plain_instruction (two_int b to a z p) = two_int b to a z p
+plain_instruction (pushing to a c p) = two Conj to a c p
+plain_instruction (putting to a k v p) = putting to a k v p
+plain_instruction (many b to a n p) = many b to a n p
 
 -- all but to let a value go
-abbrev pub does : Instruction → Bool
-does (constant to v) = true
-does (copying to a) = true
-does (moving to a) = true
-does (clearing a) = false
-does (one b to a p) = true
-does (two b to a c p) = true
-does (two_int b to a z p) = true
-does (pushing to a c p) = true
-does (putting to a k v p) = true
-does (many b to a n p) = true
+abbrev pub does_something : Instruction → Bool
+does_something (constant to v) = true
+does_something (copying to a) = true
+does_something (moving to a) = true
+does_something (clearing a) = false
+does_something (one b to a p) = true
+does_something (two b to a c p) = true
+does_something (two_int b to a z p) = true
+does_something (pushing to a c p) = true
+does_something (putting to a k v p) = true
+does_something (many b to a n p) = true
 
 abbrev pub doing : List Instruction → List Instruction
 doing [] = []
-doing (i ∷ is) = cond (does i) (i ∷ doing is) (doing is)
+doing (i ∷ is) = cond (does_something i) (i ∷ doing is) (doing is)
 
 -- the builtin of a test, whose value comes into a slot, and the branch by that slot
-abbrev pub tests : Exit → List Instruction
-tests (Jump next p) = []
-tests (Branch a yes_to no_to) = []
-tests (Test b to left right yes_to no_to p) = two b to left right p ∷ []
-tests (TestInt b to left z yes_to no_to p) = two_int b to left z p ∷ []
-tests (Call f a n answer next p) = []
-tests (Return a) = []
-tests (Cut h a n answer next p) = []
+abbrev pub exit_tests : Exit → List Instruction
+exit_tests (Jump next p) = []
+exit_tests (Branch a yes_to no_to) = []
+exit_tests (Test b to left right yes_to no_to p) = two b to left right p ∷ []
+exit_tests (TestInt b to left z yes_to no_to p) = two_int b to left z p ∷ []
+exit_tests (Call f a n answer next p) = []
+exit_tests (Return a) = []
+exit_tests (Cut h a n answer next p) = []
 
 abbrev pub untested : Exit → Exit
 untested (Jump next p) = Jump next p
@@ -56,7 +56,7 @@ untested (Cut h a n answer next p) = Cut h a n answer next p
 
 -- all that a block does before its branch
 abbrev pub plain_instrs : List Instruction → Exit → List Instruction
-plain_instrs is x = doing (map plain is) ++ tests x
+plain_instrs is x = doing (map plain_instruction is) ++ exit_tests x
 
 abbrev pub no_slots : Slots
 no_slots = record { below = 0; holes = [] }

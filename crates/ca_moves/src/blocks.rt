@@ -4,7 +4,7 @@ ghost use Rattle.std.specs.Prelude.{◌≡◌, ◌-◌, ◌∷◌, [], length, m
 ghost use Rattle.ca_value.specs.Seq.{list};
 ghost use Rattle.ca_states.specs.Code.{instruction, block_view};
 ghost use Rattle.ca_states.specs.declared.code.Exit.TheVariants.{Branch};
-ghost use Rattle.ca_moves.specs.Plain.{plain, doing, tests, untested, plain_instrs, plain_block};
+ghost use Rattle.ca_moves.specs.Plain.{plain_instruction, doing, exit_tests, untested, plain_instrs, plain_block};
 
 use crate::needs::Needs;
 use crate::slots::Slots;
@@ -16,7 +16,7 @@ use std::alloc::Global;
 
 // The instruction, which takes the value out of the slot that it reads first, where it can.
 fn moving(instr: Instr) -> Instr
-    ensures { plain (instruction result) ≡ plain (instruction instr) }
+    ensures { plain_instruction (instruction result) ≡ plain_instruction (instruction instr) }
 {
     match instr {
         Instr::Copy { to, from } => Instr::Move { to, from },
@@ -37,7 +37,7 @@ fn moving(instr: Instr) -> Instr
 }
 
 fn moving_if(free: bool, instr: Instr) -> Instr
-    ensures { plain (instruction result) ≡ plain (instruction instr) }
+    ensures { plain_instruction (instruction result) ≡ plain_instruction (instruction instr) }
 {
     if free { moving(instr) } else { instr }
 }
@@ -61,7 +61,7 @@ fn moving_where(
     instrs: Seq<Instr>,
     free: Seq<bool>,
 ) -> Result<Seq<Instr>, OutOfMemory>
-    ensures { IfOk result (λ s. map plain (map instruction (list s)) ≡ map plain (map instruction (list instrs))) }
+    ensures { IfOk result (λ s. map plain_instruction (map instruction (list s)) ≡ map plain_instruction (map instruction (list instrs))) }
 {
     let mut free = free;
     let mut moved = Seq::new(alloc);
@@ -76,7 +76,7 @@ fn moving_where(
 // The test that the instruction and a branch by that slot are, if it is a builtin whose value comes into the slot. But
 // `conj` makes a collection, and changes its own where it lies.
 fn test_by(instr: &Instr, slot: u64, yes: u64, no: u64) -> Option<Exit>
-    ensures { IfSome result (λ x. (untested x ≡ Branch slot yes no) × (tests x ≡ doing (plain (instruction instr.now) ∷ []))) }
+    ensures { IfSome result (λ x. (untested x ≡ Branch slot yes no) × (exit_tests x ≡ doing (plain_instruction (instruction instr.now) ∷ []))) }
 {
     match instr {
         Instr::Two {

@@ -2,7 +2,7 @@
 ghost use Rattle.std.specs.Prelude.{◌≡◌, map, IfOk};
 ghost use Rattle.ca_value.specs.Seq.{list};
 ghost use Rattle.ca_states.specs.Code.{instruction, block_view};
-ghost use Rattle.ca_moves.specs.Plain.{plain, doing, plain_block};
+ghost use Rattle.ca_moves.specs.Plain.{plain_instruction, doing, plain_block};
 
 use crate::exits::answered;
 use crate::held::Held;
@@ -16,7 +16,7 @@ use std::alloc::Global;
 // The instructions, and last these slots' values are let go.
 #[tactic(auto, using(crate::proofs::Doing::doing_more))]
 fn letting_go(alloc: Global, instrs: Seq<Instr>, held: &Slots) -> Result<Seq<Instr>, OutOfMemory>
-    ensures { IfOk result (λ s. doing (map plain (map instruction (list s))) ≡ doing (map plain (map instruction (list instrs)))) }
+    ensures { IfOk result (λ s. doing (map plain_instruction (map instruction (list s))) ≡ doing (map plain_instruction (map instruction (list instrs)))) }
 {
     let mut instrs = instrs;
     for slot in 0..held.width() {

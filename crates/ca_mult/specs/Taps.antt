@@ -6,11 +6,11 @@ use Rattle.ca_value.specs.Tree.{Tree, bool, vector, port, none, item}
 use Rattle.ca_meaning.specs.Registry.{TapView}
 use Rattle.ca_mult.specs.declared.taps.Tap.{Tap}
 
-abbrev pub tap_view : Tap → TapView
-tap_view t = record { channel = t.channel.n; closes = t.closes }
+abbrev pub mult_tap_view : Tap → TapView
+mult_tap_view t = record { channel = t.channel.n; closes = t.closes }
 
 abbrev pub taps_view : Seq Tap → List TapView
-taps_view ts = each_of tap_view (list ts)
+taps_view ts = each_of mult_tap_view (list ts)
 
 -- `[channel boolean]`
 abbrev pub tap_from : Tree → Tree → Option TapView

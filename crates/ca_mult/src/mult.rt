@@ -6,12 +6,12 @@ ghost use Rattle.ca_value.specs.Seq.{list};
 ghost use Rattle.ca_value.specs.Tree.{item, port};
 ghost use Rattle.ca_value.specs.View.{view, trees};
 ghost use Rattle.ca_term.specs.declared.head.SystemTask.TheVariants.{Mult as mult_task, Deliver as deliver_task};
-ghost use Rattle.ca_meaning.specs.Asks.{closes_due, spawns, two_of};
+ghost use Rattle.ca_meaning.specs.Asks.{closes_due, ask_to_spawn, two_of};
 ghost use Rattle.ca_meaning.specs.MultTable.{mult_asks, mult_next, mult_takes, mult_reads, mult_reads_last, mult_closes, acks_due, spawns_due};
 ghost use Rattle.ca_meaning.specs.System.{new_system};
 ghost use Rattle.ca_system.specs.Stands.{running_body, stand_at, next_view};
-ghost use Rattle.ca_mult.specs.Taps.{tap_view};
-ghost use Rattle.ca_mult.specs.Mults.{mult_body, ports_view, state_view};
+ghost use Rattle.ca_mult.specs.Taps.{mult_tap_view};
+ghost use Rattle.ca_mult.specs.Mults.{mult_body, mult_ports_view, mult_state_view};
 
 use crate::taps::{Tap, Walk, closing_of, taps_in};
 use ca_asking::operands::port_at;
@@ -110,7 +110,7 @@ impl Kind for Ports {
 impl Ports {
     // It reads the taps.
     fn taps(&self, alloc: Global, place: Place) -> Result<Stand, OutOfMemory>
-        ensures { IfOk result (λ s. stand_at s ≡ mult_asks (ports_view self.now) mult_reads_last place) }
+        ensures { IfOk result (λ s. stand_at s ≡ mult_asks (mult_ports_view self.now) mult_reads_last place) }
     {
         let values = one(alloc, Value::Port(self.mult))?;
         Ok(registers(RegisterName::Taps, values, place))
@@ -124,7 +124,7 @@ impl Ports {
         channel: PortId,
         place: Place,
     ) -> Result<Stand, OutOfMemory>
-        ensures { IfOk result (λ s. stand_at s ≡ spawns deliver_task (item (port self.now.mult.n) (item (port channel.n) (two_of (view value.now) (port self.now.acks.n)))) place) }
+        ensures { IfOk result (λ s. stand_at s ≡ ask_to_spawn deliver_task (item (port self.now.mult.n) (item (port channel.n) (two_of (view value.now) (port self.now.acks.n)))) place) }
     {
         let mult = Value::Port(self.mult);
         let acks = Value::Port(self.acks);
@@ -135,7 +135,7 @@ impl Ports {
 
 // The delivery to the tap after it, or the wait for the answers of all.
 fn next_delivery(value: Value, walk: Walk) -> Next<State>
-    ensures { next_view state_view result ≡ spawns_due (view value) (map tap_view (into_iter_items walk.left)) (walk.before + 1) }
+    ensures { next_view mult_state_view result ≡ spawns_due (view value) (map mult_tap_view (into_iter_items walk.left)) (walk.before + 1) }
 {
     let Walk {
         tap: _,
@@ -147,7 +147,7 @@ fn next_delivery(value: Value, walk: Walk) -> Next<State>
 
 // The end of the source, or the deliveries of its value.
 fn taken(answer: Value) -> Next<State>
-    ensures { next_view state_view result ≡ mult_next (view answer) mult_takes }
+    ensures { next_view mult_state_view result ≡ mult_next (view answer) mult_takes }
 {
     if is_nil(&answer) {
         Next::To(State::ReadsLast)
@@ -158,7 +158,7 @@ fn taken(answer: Value) -> Next<State>
 
 // The deliveries to the taps that the answer tells.
 fn deliveries(alloc: Global, value: Value, answer: &Value) -> Result<Next<State>, OutOfMemory>
-    ensures { IfOk result (λ n. next_view state_view n ≡ mult_next (view answer.now) (mult_reads (view value))) }
+    ensures { IfOk result (λ n. next_view mult_state_view n ≡ mult_next (view answer.now) (mult_reads (view value))) }
 {
     match taps_in(alloc, answer)? {
         None => Ok(Next::Fail(Fault::WrongKind)),
@@ -169,7 +169,7 @@ fn deliveries(alloc: Global, value: Value, answer: &Value) -> Result<Next<State>
 // The delivery to the first of these, with how many stand before it; after the last one the wait for the answers.
 fn spawns_due(value: Value, left: IntoIter<Tap, Global>, before: u64) -> Next<State>
     requires { before + into_iter_len left < 2 ^ 64 }
-    ensures { next_view state_view result ≡ spawns_due (view value) (map tap_view (into_iter_items left)) before }
+    ensures { next_view mult_state_view result ≡ spawns_due (view value) (map mult_tap_view (into_iter_items left)) before }
 {
     let mut left = left;
     match left.next() {
@@ -180,7 +180,7 @@ fn spawns_due(value: Value, left: IntoIter<Tap, Global>, before: u64) -> Next<St
 
 // The wait for so many answers.
 fn acks_due(more: u64) -> Next<State>
-    ensures { next_view state_view result ≡ acks_due more }
+    ensures { next_view mult_state_view result ≡ acks_due more }
 {
     if more == 0 {
         Next::To(State::Takes)
@@ -191,7 +191,7 @@ fn acks_due(more: u64) -> Next<State>
 
 // The channels that close with the source, of the taps that the answer tells.
 fn closings(alloc: Global, answer: &Value) -> Result<Next<State>, OutOfMemory>
-    ensures { IfOk result (λ n. next_view state_view n ≡ mult_next (view answer.now) mult_reads_last) }
+    ensures { IfOk result (λ n. next_view mult_state_view n ≡ mult_next (view answer.now) mult_reads_last) }
 {
     match taps_in(alloc, answer)? {
         None => Ok(Next::Fail(Fault::WrongKind)),
@@ -201,7 +201,7 @@ fn closings(alloc: Global, answer: &Value) -> Result<Next<State>, OutOfMemory>
 
 // The first of these channels closes next; after the last one the task ends.
 fn closes_due(left: IntoIter<PortId, Global>) -> Next<State>
-    ensures { next_view state_view result ≡ closes_due mult_closes (map (λ p. p.n) (into_iter_items left)) }
+    ensures { next_view mult_state_view result ≡ closes_due mult_closes (map (λ p. p.n) (into_iter_items left)) }
 {
     let mut left = left;
     match left.next() {

@@ -6,7 +6,7 @@ ghost use Rattle.ca_value.specs.Tree.{vector};
 ghost use Rattle.ca_value.specs.View.{view, trees};
 ghost use Rattle.ca_meaning.specs.Asks.{taps_in, taps_of};
 ghost use Rattle.ca_meaning.specs.MultTable.{closing_of};
-ghost use Rattle.ca_mult.specs.Taps.{tap_view, tap_from, tap_in, taps_view};
+ghost use Rattle.ca_mult.specs.Taps.{mult_tap_view, tap_from, tap_in, taps_view};
 
 use ca_value::memory::OutOfMemory;
 use ca_value::seq::Seq;
@@ -57,7 +57,7 @@ fn taps_of(alloc: Global, items: &[Value]) -> Result<Option<Seq<Tap>>, OutOfMemo
 
 // The tap that is written `[channel boolean]`.
 fn tap_in(item: &Value) -> Option<Tap>
-    ensures { option_map tap_view result ≡ tap_in (view item.now) }
+    ensures { option_map mult_tap_view result ≡ tap_in (view item.now) }
 {
     match item {
         Value::Vector(parts) => pair_in(parts.as_slice()),
@@ -67,7 +67,7 @@ fn tap_in(item: &Value) -> Option<Tap>
 
 #[tactic(auto, using(crate::proofs::TapLaws::fewer_than_two, crate::proofs::TapLaws::more_than_two))]
 fn pair_in(parts: &[Value]) -> Option<Tap>
-    ensures { option_map tap_view result ≡ tap_in (vector (trees parts.now)) }
+    ensures { option_map mult_tap_view result ≡ tap_in (vector (trees parts.now)) }
 {
     match parts {
         [channel, closes] => tap_from(channel, closes),
@@ -76,7 +76,7 @@ fn pair_in(parts: &[Value]) -> Option<Tap>
 }
 
 fn tap_from(channel: &Value, closes: &Value) -> Option<Tap>
-    ensures { option_map tap_view result ≡ tap_from (view channel.now) (view closes.now) }
+    ensures { option_map mult_tap_view result ≡ tap_from (view channel.now) (view closes.now) }
 {
     match (channel, closes) {
         (Value::Port(channel), Value::Bool(closes)) => Some(Tap {
@@ -89,7 +89,7 @@ fn tap_from(channel: &Value, closes: &Value) -> Option<Tap>
 
 // The channels that close with the source, in order.
 pub(crate) fn closing_of(alloc: Global, taps: &[Tap]) -> Result<Vec<PortId>, OutOfMemory>
-    ensures { IfOk result (λ v. map (λ p. p.n) v.items ≡ closing_of (map tap_view taps.now)) }
+    ensures { IfOk result (λ v. map (λ p. p.n) v.items ≡ closing_of (map mult_tap_view taps.now)) }
 {
     let mut closing = Vec::new(alloc);
     for tap in taps {

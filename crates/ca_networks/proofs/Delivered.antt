@@ -6,7 +6,7 @@ use Rattle.ca_term.specs.declared.head.SystemTask.{SystemTask}
 use Rattle.ca_term.specs.Operation.{OpView, taking, putting, choosing, posting, making, spawning, closing, registering, printing, system}
 use Rattle.ca_term.specs.Program.{ProgramView}
 use Rattle.ca_term.specs.Event.{put_of, EventView}
-use Rattle.ca_meaning.specs.Operands.{port_number}
+use Rattle.ca_meaning.specs.Operands.{port_of_value}
 use Rattle.ca_meaning.specs.MultTable.{Delivery}
 use Rattle.ca_meaning.specs.Choice.{branches_of}
 use Rattle.ca_meaning.specs.State.{State, Task}
@@ -54,18 +54,18 @@ both_puts d = (d.channel, d.value) ∷ (d.acks, bool true) ∷ []
 module _ (d : Delivery) (before : List Deed) where
   next_put : (op : OpView) (k p : ℕ) (v : Tree) → DeliverRule d before op → slice_get (branches_of op) k ≡ Some (put_of p v) → Begins (put_in before ++ (p, v) ∷ []) (both_puts d)
   next_put (putting c w) k p v r e = by r where
-    q : put_of p v ≡ put_of (port_number c) w
-    q = one_branch (put_of (port_number c) w) k (put_of p v) e
+    q : put_of p v ≡ put_of (port_of_value c) w
+    q = one_branch (put_of (port_of_value c) w) k (put_of p v) e
 
-    pc : p ≡ port_number c
-    pc = let i : put_of p v ≡ put_of (port_number c) w = q in cc
+    pc : p ≡ port_of_value c
+    pc = let i : put_of p v ≡ put_of (port_of_value c) w = q in cc
 
     vw : v ≡ w
-    vw = let i : put_of p v ≡ put_of (port_number c) w = q in cc
+    vw = let i : put_of p v ≡ put_of (port_of_value c) w = q in cc
 
     by : DeliverRule d before (putting c w) → Begins (put_in before ++ (p, v) ∷ []) (both_puts d)
-    by (inl z) = ((d.acks, bool true) ∷ [], sym (ap (λ i. (i ++ (p, v) ∷ []) ++ (d.acks, bool true) ∷ []) z.2 ∙ ap (λ i. (i, v) ∷ (d.acks, bool true) ∷ []) (pc ∙ ap port_number z.0) ∙ ap (λ i. (d.channel, i) ∷ (d.acks, bool true) ∷ []) (vw ∙ z.1)))
-    by (inr z) = ([], sym (ap (λ i. (i ++ (p, v) ∷ []) ++ []) z.2 ∙ ap (λ i. (d.channel, d.value) ∷ (i, v) ∷ []) (pc ∙ ap port_number z.0) ∙ ap (λ i. (d.channel, d.value) ∷ (d.acks, i) ∷ []) (vw ∙ z.1)))
+    by (inl z) = ((d.acks, bool true) ∷ [], sym (ap (λ i. (i ++ (p, v) ∷ []) ++ (d.acks, bool true) ∷ []) z.2 ∙ ap (λ i. (i, v) ∷ (d.acks, bool true) ∷ []) (pc ∙ ap port_of_value z.0) ∙ ap (λ i. (d.channel, i) ∷ (d.acks, bool true) ∷ []) (vw ∙ z.1)))
+    by (inr z) = ([], sym (ap (λ i. (i ++ (p, v) ∷ []) ++ []) z.2 ∙ ap (λ i. (d.channel, d.value) ∷ (i, v) ∷ []) (pc ∙ ap port_of_value z.0) ∙ ap (λ i. (d.channel, d.value) ∷ (d.acks, i) ∷ []) (vw ∙ z.1)))
   next_put (registering name args) k p v r e = no_branch (put_of p v) e
   next_put (taking x) k p v r e = absurd r
   next_put (closing x) k p v r e = absurd r

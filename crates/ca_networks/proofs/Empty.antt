@@ -9,7 +9,7 @@ use Rattle.ca_meaning.specs.History.{channel_after}
 use Rattle.ca_meaning.specs.State.{State}
 use Rattle.ca_meaning.specs.PipelineTable.{feed_next}
 use Rattle.ca_meaning.proofs.Histories.{step_tells}
-use Rattle.ca_roles.specs.Roles.{replies, hidden, Roles, nobody}
+use Rattle.ca_roles.specs.Roles.{replies, hidden, Roles, no_roles}
 use Rattle.ca_networks.proofs.Walking.{Keeps}
 use Rattle.ca_networks.proofs.Passing.{enters, leaves}
 use Rattle.ca_networks.proofs.Standing.{moved}
@@ -20,7 +20,7 @@ use Rattle.ca_meaning.proofs.Channels.{made_empty}
 abbrev pub AllEmpty : Roles → State → Type 0
 AllEmpty roles s = (q m : ℕ) (w : Work) → roles q ≡ Some (hidden m (replies w)) → NoFeed s q → (c : Channel) → s.channels q ≡ Some c → c.held ≡ []
 
-pub none_empty : (s : State) → AllEmpty nobody s
+pub none_empty : (s : State) → AllEmpty no_roles s
 none_empty s q m w role none c at = absurd (let k : None ≡ Some (hidden m (replies w)) = role in cc)
 
 -- a channel that comes is empty

@@ -9,23 +9,23 @@ use Rattle.ca_term.specs.Event.{EventView, made}
 use Rattle.ca_meaning.specs.Applied.{Work}
 use Rattle.ca_meaning.specs.Asks.{Next, to}
 use Rattle.ca_meaning.specs.Body.{BodyView}
-use Rattle.ca_meaning.specs.Going.{Stands}
+use Rattle.ca_meaning.specs.Going.{RunsAtOperation}
 use Rattle.ca_meaning.specs.MultTable.{MultPorts, MultState}
 use Rattle.ca_meaning.specs.PipelineTable.{FeedPorts, FeedState, feed_makes, CollectPorts, CollectState}
 use Rattle.ca_meaning.specs.State.{State, Task, Opening}
 use Rattle.ca_meaning.specs.Steps.{Step}
 use Rattle.ca_meaning.specs.System.{a_mult, a_feed, a_collect}
 use Rattle.ca_meaning.specs.Task.{script, system_task}
-use Rattle.ca_roles.specs.Roles.{replies, hidden, Roles, nobody, Grows, IsReply}
+use Rattle.ca_roles.specs.Roles.{replies, hidden, Roles, no_roles, Grows, IsReply}
 use Rattle.ca_roles.specs.Typed.{MayAsk, Typed}
 
 -- of a state, with the roles of its ports
 pub record Guard (program : ProgramView) (roles : Roles) (s : State) : Type 0 where
   -- the state is typed, and so is what its tasks may ask for, by typing
   pub typed : Typed program roles s
-  pub asks : (t : ℕ) (op : OpView) (x : Task) → Stands s t op x → MayAsk program roles x.body op
+  pub asks : (t : ℕ) (op : OpView) (x : Task) → RunsAtOperation s t op x → MayAsk program roles x.body op
   -- no script starts a delivery, since its text is sealed
-  pub starts_none : (t : ℕ) (x : Task) (b : BodyView) (values : Trees) (place : Place) → x.body ≡ script b → Stands s t (spawning (system Deliver values place)) x → ⊥
+  pub starts_none : (t : ℕ) (x : Task) (b : BodyView) (values : Trees) (place : Place) → x.body ≡ script b → RunsAtOperation s t (spawning (system Deliver values place)) x → ⊥
   -- one feed for a queue, one collect for a queue, one mult for a channel of answers, by counting what texts start
   pub one_feed : (t u : ℕ) (x y : Task) (f g : FeedPorts) (l m : Place) (n k : Next FeedState) → s.tasks t ≡ Some x → s.tasks u ≡ Some y → x.body ≡ system_task (a_feed f l n) → y.body ≡ system_task (a_feed g m k) → f.replies ≡ g.replies → t ≡ u
   pub one_collect : (t u : ℕ) (x y : Task) (c d : CollectPorts) (l m : Place) (n k : Next CollectState) → s.tasks t ≡ Some x → s.tasks u ≡ Some y → x.body ≡ system_task (a_collect c l n) → y.body ≡ system_task (a_collect d m k) → c.replies ≡ d.replies → t ≡ u
@@ -50,4 +50,4 @@ pub record IsGuarded (program : ProgramView) (journal : List EventView) (s : Sta
   pub opening : State
   pub opens : Opening program opening
   pub roles : Roles
-  pub guarded : Guarded program nobody opening journal roles s
+  pub guarded : Guarded program no_roles opening journal roles s

@@ -16,10 +16,10 @@ use Rattle.ca_meaning.specs.Body.{BodyView}
 use Rattle.ca_meaning.specs.Redex.{redex, values_of}
 use Rattle.ca_meaning.specs.State.{State, Task}
 use Rattle.ca_meaning.specs.Task.{script}
-use Rattle.ca_meaning.specs.Going.{IsAtOp, Stands}
+use Rattle.ca_meaning.specs.Going.{IsAtOp, RunsAtOperation}
 use Rattle.ca_meaning.specs.Steps.{Steps}
 use Rattle.ca_meaning.specs.Legal.{Reaches}
-use Rattle.ca_roles.specs.Roles.{Role, Roles, nobody}
+use Rattle.ca_roles.specs.Roles.{Role, Roles, no_roles}
 use Rattle.ca_roles.specs.Sealed.{HasMask, plain, Sealed, IsSealed}
 use Rattle.ca_roles.specs.Once.{the_feed, the_collect, the_mult, StartsOnce}
 use Rattle.ca_roles.specs.Typed.{TypedBody}
@@ -39,11 +39,11 @@ no_mask me p ts mask (plain f) = absurd (let j : true ≡ false = f in cc)
 same_kind : (k j : SystemTask) (vs us : Trees) (p q : Place) → spawning (system k vs p) ≡ spawning (system j us q) → k ≡ j
 same_kind k j vs us p q e = cc
 
-no_seed : {G : Type 0} (me : ℕ) (roles : Roles) (kind : SeedKind) (ts : Kernels) (p : Place) (values : Trees) (place : Place) → spawning (seed_of kind (values_of ts) p) ≡ spawning (system Deliver values place) → Sealed me roles (apply (Spawn kind) ts p) nobody → G
+no_seed : {G : Type 0} (me : ℕ) (roles : Roles) (kind : SeedKind) (ts : Kernels) (p : Place) (values : Trees) (place : Place) → spawning (seed_of kind (values_of ts) p) ≡ spawning (system Deliver values place) → Sealed me roles (apply (Spawn kind) ts p) no_roles → G
 no_seed me roles (Go n) ts p values place e h = absurd (let k : spawning (seed_of (Go n) (values_of ts) p) ≡ spawning (system Deliver values place) = e in cc)
-no_seed me roles (System kind) ts p values place e h = let k = subst (λ z. Sealed me roles (apply (Spawn (System z)) ts p) nobody) (same_kind kind Deliver (values_of ts) values p place e) h in no_mask me p ts k.0 k.1
+no_seed me roles (System kind) ts p values place e h = let k = subst (λ z. Sealed me roles (apply (Spawn (System z)) ts p) no_roles) (same_kind kind Deliver (values_of ts) values p place e) h in no_mask me p ts k.0 k.1
 
-no_delivery : {G : Type 0} (me : ℕ) (roles : Roles) (r : Kernel) (op : OpView) (values : Trees) (place : Place) → Form r op → op ≡ spawning (system Deliver values place) → Sealed me roles r nobody → G
+no_delivery : {G : Type 0} (me : ℕ) (roles : Roles) (r : Kernel) (op : OpView) (values : Trees) (place : Place) → Form r op → op ≡ spawning (system Deliver values place) → Sealed me roles r no_roles → G
 no_delivery me roles r op values place (spawns {kind} {ts} {p} bad) e h = no_seed me roles kind ts p values place e h
 no_delivery me roles r op values place takes e h = absurd cc
 no_delivery me roles r op values place puts e h = absurd cc
@@ -64,9 +64,9 @@ module _ (program : ProgramView) (checked : IsProgram program) (sealed : IsSeale
     one_collect = λ t u x y c d l m n o at bt is js e. h.sole the_collect c.replies t u (x, at, ap own_of is) (y, bt, ap own_of js ∙ ap (λ q. Some (the_collect, q)) (sym e));
     one_mult = λ t u x y a b l m n o at bt is js e. h.sole the_mult a.acks t u (x, at, ap own_of is) (y, bt, ap own_of js ∙ ap (λ q. Some (the_mult, q)) (sym e));
   } where
-    none : (t : ℕ) (x : Task) (b : BodyView) (values : Trees) (place : Place) → x.body ≡ script b → Stands s t (spawning (system Deliver values place)) x → ⊥
+    none : (t : ℕ) (x : Task) (b : BodyView) (values : Trees) (place : Place) → x.body ≡ script b → RunsAtOperation s t (spawning (system Deliver values place)) x → ⊥
     none t x b values place is st =
-        let text : Sealed t roles b.term nobody = subst (TypedBody program t roles) is (k.typed.tasks t x st.0).body in
+        let text : Sealed t roles b.term no_roles = subst (TypedBody program t roles) is (k.typed.tasks t x st.0).body in
         let stands : IsAtOp (script b) (spawning (system Deliver values place)) = subst (λ z. IsAtOp z (spawning (system Deliver values place))) is st.2 in
         no_delivery t roles (redex b.term) (spawning (system Deliver values place)) values place (body_form b (record { op = spawning (system Deliver values place); place = stands.0 }) stands.1) refl (redex_sealed t roles b.term text)
 
@@ -80,5 +80,5 @@ module _ (program : ProgramView) (checked : IsProgram program) (sealed : IsSeale
 
   pub runs_are_guarded : (journal : List EventView) (s : State) → Reaches program journal s → IsGuarded program journal s
   runs_are_guarded journal s r =
-      let g = guarded_from journal [] nobody r.opening s (opening_known program checked sealed r.opening r.opens) (opening_spent program checked sealed starts r.opening r.opens) r.steps in
+      let g = guarded_from journal [] no_roles r.opening s (opening_known program checked sealed r.opening r.opens) (opening_spent program checked sealed starts r.opening r.opens) r.steps in
       record { opening = r.opening; opens = r.opens; roles = g.0; guarded = g.1 }

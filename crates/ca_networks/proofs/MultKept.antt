@@ -12,7 +12,7 @@ use Rattle.ca_term.specs.Event.{EventView, spawned}
 use Rattle.ca_meaning.specs.Asks.{Next, to, taps_in, one_of, two_of}
 use Rattle.ca_meaning.specs.Going.{IsAtOp}
 use Rattle.ca_meaning.specs.MultTable.{MultPorts, MultState, mult_takes, mult_reads, mult_spawns, mult_waits, mult_reads_last, mult_closes}
-use Rattle.ca_meaning.specs.Operands.{port_number}
+use Rattle.ca_meaning.specs.Operands.{port_of_value}
 use Rattle.ca_meaning.specs.Registry.{TapView}
 use Rattle.ca_meaning.specs.Sound.{Each}
 use Rattle.ca_meaning.specs.State.{State, Task, running}
@@ -26,9 +26,9 @@ use Rattle.ca_laws.specs.Taken.{put_in, Begins}
 use Rattle.ca_laws.specs.MultRules.{DeliverRule, mult_ports, delivery_of, delivery_to}
 use Rattle.ca_laws.specs.Rules.{SpawnsFrom}
 use Rattle.ca_laws.proofs.Delivering.{deliveries_keep_to}
-use Rattle.ca_roles.specs.Roles.{acks, public, hidden, Roles, nobody}
+use Rattle.ca_roles.specs.Roles.{acks, public, hidden, Roles, no_roles}
 use Rattle.ca_roles.specs.Typed.{TypedSystem, TypedBody}
-use Rattle.ca_networks.specs.Networks.{started_by, started, taken_from, AllNew, EachFor}
+use Rattle.ca_networks.specs.Networks.{started_by, tasks_started, taken_from, AllNew, EachFor}
 use Rattle.ca_networks.specs.MultLaw.{delivery_values, HasDelivered, HasDeliveredAll, KeepsMult, MultLaw}
 use Rattle.ca_networks.proofs.Guarded.{Guard, Guarded, IsGuarded}
 use Rattle.ca_networks.proofs.Walking.{Keeps, Cut, first_cut, last_part, last_guard, steps_join, guard_after}
@@ -62,7 +62,7 @@ at_source {G} program x place F n r p ne at k f = by z.0 z.1 z.2 where
 
   by : (z : MultState) → n ≡ to z → taking (port x.source) ≡ mult_op x place z → G
   by mult_takes nz o = let h : MultAt F (to mult_takes) r p = subst (λ i. MultAt F i r p) nz k in f h.0 h.1
-  by (mult_waits i) nz o = absurd (ne (let q : taking (port x.source) ≡ taking (port x.acks) = o in let h : port x.source ≡ port x.acks = cc in ap port_number h))
+  by (mult_waits i) nz o = absurd (ne (let q : taking (port x.source) ≡ taking (port x.acks) = o in let h : port x.source ≡ port x.acks = cc in ap port_of_value h))
   by (mult_reads v) nz o = absurd (let q : taking (port x.source) ≡ registering Taps (one_of (port x.mult)) = o in cc)
   by (mult_spawns v tap taps i) nz o = absurd (let q : taking (port x.source) ≡ spawning (system Deliver (item (port x.mult) (item (port tap.channel) (two_of v (port x.acks)))) place) = o in cc)
   by mult_reads_last nz o = absurd (let q : taking (port x.source) ≡ registering Taps (one_of (port x.mult)) = o in cc)
@@ -84,8 +84,8 @@ module _ (program : ProgramView) (x : MultPorts) (place : Place) (t : ℕ) (jour
   reads before after k v d is = read_here x [] (before ++ did_take k x.source v ∷ []) after d (subst (AllRead x []) (is ∙ sym (append_assoc before (did_take k x.source v ∷ []) (d ∷ after))) m.read) v (taken_round before k v)
 
   -- a task of a tap has delivered, where no answer is to come
-  delivered : m.pending ≡ [] → (v : Tree) (tap : TapView) (u : ℕ) → For program x place (started (deeds t journal)) journal v tap u → HasDelivered program x place v journal tap u
-  delivered none v tap u f = (f.0, both_done (delivery_to x tap v) (put_in (deeds u journal)) f.2 begins (has (each_among (Member program x place journal m.pending) (started (deeds t journal)) u m.members f.1).4)) where
+  delivered : m.pending ≡ [] → (v : Tree) (tap : TapView) (u : ℕ) → For program x place (tasks_started (deeds t journal)) journal v tap u → HasDelivered program x place v journal tap u
+  delivered none v tap u f = (f.0, both_done (delivery_to x tap v) (put_in (deeds u journal)) f.2 begins (has (each_among (Member program x place journal m.pending) (tasks_started (deeds t journal)) u m.members f.1).4)) where
     begins : Begins (put_in (deeds u journal)) (both_puts (delivery_to x tap v))
     begins = puts_begin (delivery_to x tap v) u journal s (its_rule program journal s Deliver (λ values place. DeliverRule (delivery_of values)) (delivery_values x tap v) place u (deliveries_keep_to program journal s reaches) f.0)
 
@@ -94,7 +94,7 @@ module _ (program : ProgramView) (x : MultPorts) (place : Place) (t : ℕ) (jour
     has (inr i) = absurd (let q : false ≡ true = ap (is_among u) (sym none) ∙ i in cc)
 
   delivers : (before since : List Deed) (k : ℕ) (v : Tree) (y : Task) → deeds t journal ≡ before ++ did_take k x.source v ∷ since → taken_from x.source since ≡ [] → s.tasks t ≡ Some y → IsAtOp y.body (taking (port x.source)) → HasDeliveredAll program x place v journal since
-  delivers before since k v y is none there at = at_source program x place (λ v. EachFor (For program x place (started (deeds t journal)) journal v)) m.at.now (round x (deeds t journal)) m.pending apart here m.stands (λ p h. by since is none p h) where
+  delivers before since k v y is none there at = at_source program x place (λ v. EachFor (For program x place (tasks_started (deeds t journal)) journal v)) m.at.now (round x (deeds t journal)) m.pending apart here m.stands (λ p h. by since is none p h) where
     here : IsAtOp (system_task (a_mult x place m.at.now)) (taking (port x.source))
     here = subst (λ b. IsAtOp b (taking (port x.source))) (ap (λ (z : Task). z.body) (let q : Some y ≡ Some m.at.task = sym there ∙ m.at.there in let i : y ≡ m.at.task = cc in i) ∙ m.at.body_is) at
 
@@ -102,8 +102,8 @@ module _ (program : ProgramView) (x : MultPorts) (place : Place) (t : ℕ) (jour
     round_is : (since : List Deed) → deeds t journal ≡ before ++ did_take k x.source v ∷ since → round x (deeds t journal) ≡ round_from x (has_taken v) since
     round_is since is = ap (round x) (is ∙ sym (append_assoc before (did_take k x.source v ∷ []) since)) ∙ round_join x no_round (before ++ did_take k x.source v ∷ []) since ∙ ap (λ r. round_from x r since) (taken_round before k v)
 
-    by : (since : List Deed) → deeds t journal ≡ before ++ did_take k x.source v ∷ since → taken_from x.source since ≡ [] → m.pending ≡ [] → RoundHas (λ v. EachFor (For program x place (started (deeds t journal)) journal v)) (round x (deeds t journal)) [] → HasDeliveredAll program x place v journal since
-    by [] is none p h = absurd (subst (λ r. RoundHas (λ v. EachFor (For program x place (started (deeds t journal)) journal v)) r []) (round_is [] is) h)
+    by : (since : List Deed) → deeds t journal ≡ before ++ did_take k x.source v ∷ since → taken_from x.source since ≡ [] → m.pending ≡ [] → RoundHas (λ v. EachFor (For program x place (tasks_started (deeds t journal)) journal v)) (round x (deeds t journal)) [] → HasDeliveredAll program x place v journal since
+    by [] is none p h = absurd (subst (λ r. RoundHas (λ v. EachFor (For program x place (tasks_started (deeds t journal)) journal v)) r []) (round_is [] is) h)
     by (d ∷ rest) is none p h = found (taps_in a.0) refl where
       a : (a : Tree) × (d ≡ did_register Taps (one_of (port x.mult)) a)
       a = reads before rest k v d is
@@ -115,13 +115,13 @@ module _ (program : ProgramView) (x : MultPorts) (place : Place) (t : ℕ) (jour
       round_read = round_is (d ∷ rest) is ∙ ap (λ z. round_from x (round_after x z (has_taken v)) rest) a.1
 
       found : (o : Option (List TapView)) → taps_in a.0 ≡ o → HasDeliveredAll program x place v journal (d ∷ rest)
-      found None o = absurd (subst (λ r. RoundHas (λ v. EachFor (For program x place (started (deeds t journal)) journal v)) r []) (round_read ∙ ap (λ z. round_from x (reads_for v z) rest) o ∙ failed_since x rest none_rest) h)
+      found None o = absurd (subst (λ r. RoundHas (λ v. EachFor (For program x place (tasks_started (deeds t journal)) journal v)) r []) (round_read ∙ ap (λ z. round_from x (reads_for v z) rest) o ∙ failed_since x rest none_rest) h)
       found (Some taps) o =
-          let r : round x (deeds t journal) ≡ has_read v taps (started rest) = round_read ∙ ap (λ z. round_from x (reads_for v z) rest) o ∙ round_since x v taps [] rest none_rest in
-          let q : RoundHas (λ v. EachFor (For program x place (started (deeds t journal)) journal v)) (has_read v taps (started rest)) [] = subst (λ z. RoundHas (λ v. EachFor (For program x place (started (deeds t journal)) journal v)) z []) r h in
-          (d, rest, taps, refl, (a.0, a.1, o), subst (λ z. EachFor (HasDelivered program x place v journal) z (started rest)) (sym (q.1 ∙ append-nil q.0)) (for_to (For program x place (started (deeds t journal)) journal v) (HasDelivered program x place v journal) q.0 (started rest) (λ tap u f. delivered p v tap u f) q.2), new) where
-            new : AllNew (started rest)
-            new = new_behind (started (before ++ did_take k x.source v ∷ d ∷ [])) (started rest) (subst AllNew (ap started (is ∙ sym (append_assoc before (did_take k x.source v ∷ d ∷ []) rest)) ∙ flat_map-append started_by (before ++ did_take k x.source v ∷ d ∷ []) rest) m.all_new)
+          let r : round x (deeds t journal) ≡ has_read v taps (tasks_started rest) = round_read ∙ ap (λ z. round_from x (reads_for v z) rest) o ∙ round_since x v taps [] rest none_rest in
+          let q : RoundHas (λ v. EachFor (For program x place (tasks_started (deeds t journal)) journal v)) (has_read v taps (tasks_started rest)) [] = subst (λ z. RoundHas (λ v. EachFor (For program x place (tasks_started (deeds t journal)) journal v)) z []) r h in
+          (d, rest, taps, refl, (a.0, a.1, o), subst (λ z. EachFor (HasDelivered program x place v journal) z (tasks_started rest)) (sym (q.1 ∙ append-nil q.0)) (for_to (For program x place (tasks_started (deeds t journal)) journal v) (HasDelivered program x place v journal) q.0 (tasks_started rest) (λ tap u f. delivered p v tap u f) q.2), new) where
+            new : AllNew (tasks_started rest)
+            new = new_behind (tasks_started (before ++ did_take k x.source v ∷ d ∷ [])) (tasks_started rest) (subst AllNew (ap tasks_started (is ∙ sym (append_assoc before (did_take k x.source v ∷ d ∷ []) rest)) ∙ flat_map-append started_by (before ++ did_take k x.source v ∷ d ∷ []) rest) m.all_new)
 
   pub mult_law_of : KeepsMult program x place t journal s
   mult_law_of = record { reads = reads; delivers = delivers }
@@ -138,12 +138,12 @@ module _ (program : ProgramView) (values : Trees) (place : Place) (t u : ℕ) (r
   mult_begins = record {
     at = mult_now.0;
     pending = [];
-    stands = subst (λ n. MultAt (λ v. EachFor (For program (mult_ports values) place (started (deeds t (early ++ spawned u t TaskKind.Mult result ∷ []))) (early ++ spawned u t TaskKind.Mult result ∷ []) v)) n (round (mult_ports values) (deeds t (early ++ spawned u t TaskKind.Mult result ∷ []))) []) (sym mult_now.1)
-        (subst (λ z. MultAt (λ v. EachFor (For program (mult_ports values) place (started z) (early ++ spawned u t TaskKind.Mult result ∷ []) v)) (to mult_takes) (round (mult_ports values) z) []) (sym none) (refl, tt));
-    members = subst (λ z. Each (Member program (mult_ports values) place (early ++ spawned u t TaskKind.Mult result ∷ []) []) (started z)) (sym none) tt;
+    stands = subst (λ n. MultAt (λ v. EachFor (For program (mult_ports values) place (tasks_started (deeds t (early ++ spawned u t TaskKind.Mult result ∷ []))) (early ++ spawned u t TaskKind.Mult result ∷ []) v)) n (round (mult_ports values) (deeds t (early ++ spawned u t TaskKind.Mult result ∷ []))) []) (sym mult_now.1)
+        (subst (λ z. MultAt (λ v. EachFor (For program (mult_ports values) place (tasks_started z) (early ++ spawned u t TaskKind.Mult result ∷ []) v)) (to mult_takes) (round (mult_ports values) z) []) (sym none) (refl, tt));
+    members = subst (λ z. Each (Member program (mult_ports values) place (early ++ spawned u t TaskKind.Mult result ∷ []) []) (tasks_started z)) (sym none) tt;
     read = subst (AllRead (mult_ports values) []) (sym none) tt;
-    there = subst (λ z. Each (IsThere cut.state2) (started z)) (sym none) tt;
-    all_new = subst (λ z. AllNew (started z)) (sym none) tt;
+    there = subst (λ z. Each (IsThere cut.state2) (tasks_started z)) (sym none) tt;
+    all_new = subst (λ z. AllNew (tasks_started z)) (sym none) tt;
     is_mult = mult_stays program cut.state cut.state2 (mult_ports values).mult (spawned u t TaskKind.Mult result) cut.step (mult_there cut.state values place (not_refused program early cut.state cut.state2 u t Mult result values place from cut.reaches cut.step));
   }
 
@@ -151,7 +151,7 @@ pub mult_law : (program : ProgramView) (journal : List EventView) (last : State)
 mult_law program journal last guarded values place t is =
     let x = mult_ports values in
     let e = spawned is.spawner t TaskKind.Mult is.result in
-    let g : Guarded program nobody guarded.opening (is.early ++ e ∷ is.late) guarded.roles last = subst (λ j. Guarded program nobody guarded.opening j guarded.roles last) is.told guarded.guarded in
+    let g : Guarded program no_roles guarded.opening (is.early ++ e ∷ is.late) guarded.roles last = subst (λ j. Guarded program no_roles guarded.opening j guarded.roles last) is.told guarded.guarded in
     let cut = first_cut program is.early is.late e guarded.roles guarded.opening last guarded.opens g in
     let begun = cut.1 (λ j r s. AllStarted j s) (starting_keeps program cut.0.state) (none_started program guarded.opening guarded.opens) in
     let first : WithMult program x place t (is.early ++ e ∷ []) cut.0.next cut.0.state2 = (
@@ -160,4 +160,4 @@ mult_law program journal last guarded values place t is =
       mult_begins program values place t is.spawner is.result is.early is.late guarded.roles last is.from cut.0,
     ) in
     let end : WithMult program x place t journal guarded.roles last = subst (λ j. WithMult program x place t j guarded.roles last) (sym is.told) (last_part program is.early is.late e guarded.roles last cut.0 (WithMult program x place t) (mult_keeps program x place t last) first) in
-    mult_law_of program x place t journal guarded.roles last end.0 (last_guard program journal nobody guarded.roles guarded.opening last guarded.guarded) end.2
+    mult_law_of program x place t journal guarded.roles last end.0 (last_guard program journal no_roles guarded.roles guarded.opening last guarded.guarded) end.2

@@ -9,7 +9,7 @@ use Rattle.ca_term.specs.declared.head.SystemTask.TheVariants.{Feed, Job, Collec
 use Rattle.ca_term.specs.Operation.{system}
 use Rattle.ca_term.specs.Program.{ProgramView}
 use Rattle.ca_term.specs.Event.{EventView, spawned}
-use Rattle.ca_meaning.specs.Operands.{port_number, first_of}
+use Rattle.ca_meaning.specs.Operands.{port_of_value, first_of}
 use Rattle.ca_meaning.specs.Applied.{Work}
 use Rattle.ca_meaning.specs.Asks.{to}
 use Rattle.ca_meaning.specs.PipelineTable.{job_takes}
@@ -19,7 +19,7 @@ use Rattle.ca_laws.specs.Deeds.{deeds}
 use Rattle.ca_laws.specs.Taken.{taken}
 use Rattle.ca_laws.specs.Rules.{SpawnsFrom}
 use Rattle.ca_laws.specs.PipelineRules.{feed_ports, job_work}
-use Rattle.ca_roles.specs.Roles.{jobs, Role, hidden, Roles, nobody}
+use Rattle.ca_roles.specs.Roles.{jobs, Role, hidden, Roles, no_roles}
 use Rattle.ca_roles.specs.Typed.{TypedSystem, TypedBody}
 use Rattle.ca_networks.specs.Networks.{IsSpawned, offered}
 use Rattle.ca_networks.specs.PipelineLaw.{JobsDo, BeginsOutputs, PipelineLaw}
@@ -36,23 +36,23 @@ role_keeps : (program : ProgramView) (last : State) (q : ℕ) (r : Role) → Kee
 role_keeps program last q r journal rest roles more s mid e traced g k turn g2 steps p = turn.grows q r p
 
 module _ (program : ProgramView) (journal : List EventView) (last : State) (guarded : IsGuarded program journal last) where
-  guarded_as : (j : List EventView) → journal ≡ j → Guarded program nobody guarded.opening j guarded.roles last
-  guarded_as j is = subst (λ i. Guarded program nobody guarded.opening i guarded.roles last) is guarded.guarded
+  guarded_as : (j : List EventView) → journal ≡ j → Guarded program no_roles guarded.opening j guarded.roles last
+  guarded_as j is = subst (λ i. Guarded program no_roles guarded.opening i guarded.roles last) is guarded.guarded
 
   -- the channel of a job is one for its work
-  job_role : (x : Transform) (f : PlainFunction) (values : Trees) (place : Place) (t : ℕ) → IsSpawned program journal (Job x f) values place t → (m : ℕ) × (guarded.roles (port_number (first_of values)) ≡ Some (hidden m (jobs (job_work x f values place))))
-  job_role x f values place t is = (typed.0, last_part program is.early is.late (spawned is.spawner t TaskKind.Job is.result) guarded.roles last cut.0 (λ j r s. r (port_number (first_of values)) ≡ Some (hidden typed.0 (jobs (job_work x f values place)))) (role_keeps program last (port_number (first_of values)) (hidden typed.0 (jobs (job_work x f values place)))) typed.1) where
-    cut : (cut : Cut program is.early (spawned is.spawner t TaskKind.Job is.result) is.late guarded.roles last) × ((P : List EventView → Roles → State → Type 0) → Keeps program cut.state P → P [] nobody guarded.opening → P is.early cut.roles cut.state)
+  job_role : (x : Transform) (f : PlainFunction) (values : Trees) (place : Place) (t : ℕ) → IsSpawned program journal (Job x f) values place t → (m : ℕ) × (guarded.roles (port_of_value (first_of values)) ≡ Some (hidden m (jobs (job_work x f values place))))
+  job_role x f values place t is = (typed.0, last_part program is.early is.late (spawned is.spawner t TaskKind.Job is.result) guarded.roles last cut.0 (λ j r s. r (port_of_value (first_of values)) ≡ Some (hidden typed.0 (jobs (job_work x f values place)))) (role_keeps program last (port_of_value (first_of values)) (hidden typed.0 (jobs (job_work x f values place)))) typed.1) where
+    cut : (cut : Cut program is.early (spawned is.spawner t TaskKind.Job is.result) is.late guarded.roles last) × ((P : List EventView → Roles → State → Type 0) → Keeps program cut.state P → P [] no_roles guarded.opening → P is.early cut.roles cut.state)
     cut = first_cut program is.early is.late (spawned is.spawner t TaskKind.Job is.result) guarded.roles guarded.opening last guarded.opens (guarded_as (is.early ++ spawned is.spawner t TaskKind.Job is.result ∷ is.late) is.told)
 
-    job : (y : Standing (λ n. a_job (port_number (first_of values)) (job_work x f values place) n) t cut.0.state2) × (y.now ≡ to job_takes) × (y.task.mode ≡ running)
-    job = fresh_standing program is.early cut.0.state cut.0.state2 is.spawner t (Job x f) is.result values place is.from cut.0.reaches cut.0.step (λ n. a_job (port_number (first_of values)) (job_work x f values place) n) (to job_takes) (λ b r. r)
+    job : (y : Standing (λ n. a_job (port_of_value (first_of values)) (job_work x f values place) n) t cut.0.state2) × (y.now ≡ to job_takes) × (y.task.mode ≡ running)
+    job = fresh_standing program is.early cut.0.state cut.0.state2 is.spawner t (Job x f) is.result values place is.from cut.0.reaches cut.0.step (λ n. a_job (port_of_value (first_of values)) (job_work x f values place) n) (to job_takes) (λ b r. r)
 
     guard2 : Guard program cut.0.next cut.0.state2
     guard2 = guard_after program is.early (spawned is.spawner t TaskKind.Job is.result) is.late guarded.roles last cut.0
 
-    typed : (m : ℕ) × (cut.0.next (port_number (first_of values)) ≡ Some (hidden m (jobs (job_work x f values place))))
-    typed = let b : TypedSystem program cut.0.next (a_job (port_number (first_of values)) (job_work x f values place) job.0.now) = subst (TypedBody program t cut.0.next) job.0.body_is (guard2.typed.tasks t job.0.task job.0.there).body in (b.0, b.1)
+    typed : (m : ℕ) × (cut.0.next (port_of_value (first_of values)) ≡ Some (hidden m (jobs (job_work x f values place))))
+    typed = let b : TypedSystem program cut.0.next (a_job (port_of_value (first_of values)) (job_work x f values place) job.0.now) = subst (TypedBody program t cut.0.next) job.0.body_is (guard2.typed.tasks t job.0.task job.0.there).body in (b.0, b.1)
 
   pub pipeline_law : PipelineLaw program journal
   pipeline_law fv cv pf pc tf tc isf isc cq = by (which_first isf.early isf.late isc.early isc.late (spawned isf.spawner tf TaskKind.Feed isf.result) (spawned isc.spawner tc TaskKind.Collect isc.result) (sym isf.told ∙ isc.told)) where

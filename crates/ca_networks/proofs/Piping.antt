@@ -18,7 +18,7 @@ use Rattle.ca_meaning.specs.Task.{system_task}
 use Rattle.ca_laws.specs.Deeds.{did_take, did_put, deed}
 use Rattle.ca_laws.proofs.Acts.{wait_of}
 use Rattle.ca_laws.proofs.Deeding.{Traced}
-use Rattle.ca_roles.specs.Roles.{Hidden, jobs, replies, reply, hidden, Roles, CarriesAs, Carries, IsReply}
+use Rattle.ca_roles.specs.Roles.{Hidden, jobs, replies, reply, hidden, Roles, CarriesAs, ChannelCarries, IsReply}
 use Rattle.ca_networks.proofs.Guarded.{Guard, Turn}
 use Rattle.ca_networks.proofs.Passing.{entering, leaving, enters, leaves}
 use Rattle.ca_roles.proofs.Events.{made_event}
@@ -67,20 +67,20 @@ HasRoles roles m w f = (roles f.jobs ≡ Some (hidden m (jobs w))) × (roles f.r
 
 module _ (program : ProgramView) (roles more : Roles) (journal : List EventView) (s s2 : State) (e : EventView) (traced : Traced journal s) (g : Guard program roles s) (turn : Turn program roles more s e) (k : Step program s e s2) where
   -- what leaves a hidden channel fits it
-  left_fits : (p m : ℕ) (h : Hidden) (a : Tree) → roles p ≡ Some (hidden m h) → leaves p e ≡ a ∷ [] → Carries program roles p a
+  left_fits : (p m : ℕ) (h : Hidden) (a : Tree) → roles p ≡ Some (hidden m h) → leaves p e ≡ a ∷ [] → ChannelCarries program roles p a
   left_fits p m h a role lv = by (mark_on p e) refl (sym lv) where
     c : (c : Channel) × (s.channels p ≡ Some c)
     c = let i = g.typed.hidden_channels p m h role in (i.0, i.1)
 
-    by : (n : Mark) → mark_on p e ≡ n → a ∷ [] ≡ leaving (mark_on p e) → Carries program roles p a
+    by : (n : Mark) → mark_on p e ≡ n → a ∷ [] ≡ leaving (mark_on p e) → ChannelCarries program roles p a
     by (give v) is z =
         let first = gives_first program s s2 traced.known.sound p c.0 c.1 e k v is in
         let q : a ∷ [] ≡ v ∷ [] = z ∙ ap leaving is in
-        subst (Carries program roles p) (let i : v ≡ a = cc in i) (subst (Each (Carries program roles p)) first.1 (g.typed.held p c.0 c.1)).0
+        subst (ChannelCarries program roles p) (let i : v ≡ a = cc in i) (subst (Each (ChannelCarries program roles p)) first.1 (g.typed.held p c.0 c.1)).0
     by (pass v) is z =
         let b = enters_by program roles journal s s2 traced g p m h role e k v [] (ap entering is) in
         let q : a ∷ [] ≡ v ∷ [] = z ∙ ap leaving is in
-        subst (Carries program roles p) (let i : v ≡ a = cc in i) b.7
+        subst (ChannelCarries program roles p) (let i : v ≡ a = cc in i) b.7
     by (accept v) is z = no_cons a [] (sym (z ∙ ap leaving is))
     by give_none is z = no_cons a [] (sym (z ∙ ap leaving is))
     by no_mark is z = no_cons a [] (sym (z ∙ ap leaving is))

@@ -18,7 +18,7 @@ use Rattle.ca_meaning.specs.Asks.{one_of}
 use Rattle.ca_meaning.specs.Body.{at_op, ended}
 use Rattle.ca_meaning.specs.ChannelSteps.{other_side}
 use Rattle.ca_meaning.specs.Going.{IsAtOp}
-use Rattle.ca_meaning.specs.Operands.{or_else, port_number, truth, first_of, second_of, rest_of}
+use Rattle.ca_meaning.specs.Operands.{or_else, port_of_value, truth, first_of, second_of, rest_of}
 use Rattle.ca_meaning.specs.Refusal.{a_channel, the_mult, is_the_mult, not_needed, unmet, too_many, registered_at, refusal, fault_at, fault_of_registered}
 use Rattle.ca_meaning.specs.Registry.{TapView, Registry, a_mult, a_mix, a_publication, answers, refuses, mult_row, tapped}
 use Rattle.ca_meaning.specs.State.{State, Task}
@@ -32,12 +32,12 @@ use Rattle.ca_roles.proofs.Recorded.{registries_of}
 mult_answers : (c : ℕ) (taps : List TapView) (name : RegisterName) (args : Trees) (v : Tree) (r : Registry) → mult_row c taps name args ≡ answers v r → is_the_mult (Some r) ≡ true
 mult_answers c taps Tap args v r e = by (nat_lt 1024 (length (tapped tap taps))) e where
   tap : TapView
-  tap = record { channel = port_number (first_of args); closes = truth (second_of args) }
+  tap = record { channel = port_of_value (first_of args); closes = truth (second_of args) }
 
   by : (b : Bool) → cond b (refuses Fault.TooManyMembers) (answers (first_of args) (a_mult c (tapped tap taps))) ≡ answers v r → is_the_mult (Some r) ≡ true
   by true e = absurd (let k : refuses Fault.TooManyMembers ≡ answers v r = e in cc)
   by false e = let k : a_mult c (tapped tap taps) ≡ r = cc in ap (λ z. is_the_mult (Some z)) (sym k)
-mult_answers c taps Untap args v r e = let k : answers nil (a_mult c (filter (λ (t : TapView). not (eqb (port_number (first_of args)) t.channel)) taps)) ≡ answers v r = e in let q : a_mult c (filter (λ (t : TapView). not (eqb (port_number (first_of args)) t.channel)) taps) ≡ r = cc in ap (λ z. is_the_mult (Some z)) (sym q)
+mult_answers c taps Untap args v r e = let k : answers nil (a_mult c (filter (λ (t : TapView). not (eqb (port_of_value (first_of args)) t.channel)) taps)) ≡ answers v r = e in let q : a_mult c (filter (λ (t : TapView). not (eqb (port_of_value (first_of args)) t.channel)) taps) ≡ r = cc in ap (λ z. is_the_mult (Some z)) (sym q)
 mult_answers c taps UntapAll args v r e = let q : a_mult c [] ≡ r = cc in ap (λ z. is_the_mult (Some z)) (sym q)
 mult_answers c taps Taps args v r e = let q : a_mult c taps ≡ r = cc in ap (λ z. is_the_mult (Some z)) (sym q)
 mult_answers c taps Admix args v r e = absurd (let k : refuses Fault.NotAPort ≡ answers v r = e in cc)
@@ -60,9 +60,9 @@ was_mult s None name args v r i e = absurd (let k : false ≡ true = i in cc)
 
 pub mult_stays : (program : ProgramView) (s s2 : State) (m : ℕ) (e : EventView) → Step program s e s2 → is_the_mult (s.registries m) ≡ true → is_the_mult (s2.registries m) ≡ true
 mult_stays program s s2 m (made t p what moment) x i = ap (λ (f : ℕ → Option Registry). is_the_mult (f m)) (registries_of x.7) ∙ ap is_the_mult (update_apart s.registries p _ m (λ q. let k : false ≡ true = ap is_the_mult (sym (ap s.registries q ∙ x.4)) ∙ i in cc)) ∙ i
-mult_stays program s s2 m (registered t name args v) x i = ap (λ (f : ℕ → Option Registry). is_the_mult (f m)) (registries_of x.6) ∙ by (eqb (port_number (first_of args)) m) refl where
-  by : (b : Bool) → eqb (port_number (first_of args)) m ≡ b → is_the_mult (cond b (Some x.1) (s.registries m)) ≡ true
-  by true q = was_mult s (s.registries (port_number (first_of args))) name _ v x.1 (ap (λ n. is_the_mult (s.registries n)) (eqb-true (port_number (first_of args)) m q) ∙ i) x.4
+mult_stays program s s2 m (registered t name args v) x i = ap (λ (f : ℕ → Option Registry). is_the_mult (f m)) (registries_of x.6) ∙ by (eqb (port_of_value (first_of args)) m) refl where
+  by : (b : Bool) → eqb (port_of_value (first_of args)) m ≡ b → is_the_mult (cond b (Some x.1) (s.registries m)) ≡ true
+  by true q = was_mult s (s.registries (port_of_value (first_of args))) name _ v x.1 (ap (λ n. is_the_mult (s.registries n)) (eqb-true (port_of_value (first_of args)) m q) ∙ i) x.4
   by false q = i
 mult_stays program s s2 m (spawned t u kind result) x i = ap (λ (f : ℕ → Option Registry). is_the_mult (f m)) (registries_of x.10) ∙ i
 mult_stays program s s2 m (done t k b a) x i = ap (λ (f : ℕ → Option Registry). is_the_mult (f m)) (registries_of x.8) ∙ i
@@ -124,7 +124,7 @@ taps_fine s m is = by (s.registries m) refl is where
   by None e i = absurd (let q : false ≡ true = i in cc)
 
 -- only for a mult a mult is started
-needed : (s : State) (v : Tree) (rest more : Option Fault) → or_else (or_else (not_needed s the_mult v) rest) more ≡ None → is_the_mult (s.registries (port_number v)) ≡ true
+needed : (s : State) (v : Tree) (rest more : Option Fault) → or_else (or_else (not_needed s the_mult v) rest) more ≡ None → is_the_mult (s.registries (port_of_value v)) ≡ true
 needed s (port n) rest more e = by (is_the_mult (s.registries n)) refl e where
   by : (b : Bool) → is_the_mult (s.registries n) ≡ b → or_else (or_else (cond b None (Some Fault.NotAPort)) rest) more ≡ None → is_the_mult (s.registries n) ≡ true
   by true k e = k
@@ -137,5 +137,5 @@ needed s (key z) rest more e = absurd (let j : Some Fault.NotAPort ≡ None = e 
 needed s (vector z) rest more e = absurd (let j : Some Fault.NotAPort ≡ None = e in cc)
 needed s (map z) rest more e = absurd (let j : Some Fault.NotAPort ≡ None = e in cc)
 
-pub mult_there : (s : State) (values : Trees) (place : Place) → refusal s (spawning (system SystemTask.Mult values place)) ≡ None → is_the_mult (s.registries (port_number (first_of values))) ≡ true
+pub mult_there : (s : State) (values : Trees) (place : Place) → refusal s (spawning (system SystemTask.Mult values place)) ≡ None → is_the_mult (s.registries (port_of_value (first_of values))) ≡ true
 mult_there s values place fine = needed s (first_of values) (unmet s (a_channel ∷ a_channel ∷ []) (rest_of values)) (too_many s (spawning (system SystemTask.Mult values place))) fine

@@ -6,7 +6,7 @@ use Rattle.ca_meaning.specs.Registry.{TapView}
 use Rattle.ca_meaning.specs.Asks.{Next, to, stop, fail, taps_in, one_of}
 use Rattle.ca_meaning.specs.MultTable.{MultPorts, MultState, mult_takes, mult_reads, mult_spawns, mult_waits, mult_reads_last, mult_closes, acks_due}
 use Rattle.ca_laws.specs.Deeds.{Deed, did_take, did_put, did_wait, did_post, did_default, did_make, did_spawn, did_close, did_register, did_print, did_end}
-use Rattle.ca_networks.specs.Networks.{taken_from, started}
+use Rattle.ca_networks.specs.Networks.{taken_from, tasks_started}
 use Rattle.ca_networks.proofs.Lists.{no_one}
 
 pub data Round : Type 0 where
@@ -55,12 +55,12 @@ not_it true a rest e = absurd (let k : a ∷ rest ≡ [] = e in cc)
 not_it false a rest e = (refl, e)
 
 -- until it takes again, it only starts tasks
-pub round_since : (x : MultPorts) (v : Tree) (ts : List TapView) (us : List ℕ) (ds : List Deed) → taken_from x.source ds ≡ [] → round_from x (has_read v ts us) ds ≡ has_read v ts (us ++ started ds)
+pub round_since : (x : MultPorts) (v : Tree) (ts : List TapView) (us : List ℕ) (ds : List Deed) → taken_from x.source ds ≡ [] → round_from x (has_read v ts us) ds ≡ has_read v ts (us ++ tasks_started ds)
 round_since x v ts us [] e = ap (has_read v ts) (sym (append-nil us))
 round_since x v ts us (did_take k p a ∷ ds) e =
     let n = not_it (eqb p x.source) a (taken_from x.source ds) e in
     ap (λ b. round_from x (cond b (has_taken a) (has_read v ts us)) ds) n.0 ∙ round_since x v ts us ds n.1
-round_since x v ts us (did_spawn u kind result ∷ ds) e = round_since x v ts (us ++ u ∷ []) ds e ∙ ap (has_read v ts) (append_assoc us (u ∷ []) (started ds))
+round_since x v ts us (did_spawn u kind result ∷ ds) e = round_since x v ts (us ++ u ∷ []) ds e ∙ ap (has_read v ts) (append_assoc us (u ∷ []) (tasks_started ds))
 round_since x v ts us (did_put k p w a ∷ ds) e = round_since x v ts us ds e
 round_since x v ts us (did_wait w bs ∷ ds) e = round_since x v ts us ds e
 round_since x v ts us (did_post w p i ∷ ds) e = round_since x v ts us ds e

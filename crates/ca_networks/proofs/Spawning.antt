@@ -12,7 +12,7 @@ use Rattle.ca_meaning.specs.Asks.{Next}
 use Rattle.ca_meaning.specs.System.{SystemBody, new_system, SystemRest}
 use Rattle.ca_meaning.specs.Task.{system_task, BodyRest, new_task}
 use Rattle.ca_meaning.specs.State.{State, Task, Tasks, running, runs}
-use Rattle.ca_meaning.specs.Going.{Stands}
+use Rattle.ca_meaning.specs.Going.{RunsAtOperation}
 use Rattle.ca_meaning.specs.Refusal.{refusal}
 use Rattle.ca_meaning.specs.Steps.{Step, Steps}
 use Rattle.ca_meaning.specs.TaskSteps.{kind_of, kind_of_system}
@@ -96,6 +96,6 @@ all_spawned program journal s r early late u t word result is n =
         spawner = u;
         result = result;
         told = is ∙ ap (λ z. early ++ spawned u t z result ∷ late) (sym seed.3);
-        from = record { before = m.0; reaches = record { opening = r.opening; opens = r.opens; steps = m.1 }; spawner = k.1.0; stands = subst (λ z. Stands m.0 u (spawning z) k.1.0) seed.4 k.1.4 };
+        from = record { before = m.0; reaches = record { opening = r.opening; opens = r.opens; steps = m.1 }; spawner = k.1.0; stands = subst (λ z. RunsAtOperation m.0 u (spawning z) k.1.0) seed.4 k.1.4 };
       },
     )

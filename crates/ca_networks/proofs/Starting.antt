@@ -14,7 +14,7 @@ use Rattle.ca_meaning.specs.System.{a_delivery}
 use Rattle.ca_meaning.specs.Wait.{is_among}
 use Rattle.ca_meaning.specs.Task.{TaskBody, script, system_task, body_fill, BodyRest, new_task}
 use Rattle.ca_meaning.specs.State.{State, Task, Tasks, runs, Opening}
-use Rattle.ca_meaning.specs.Going.{IsAtOp, Stands}
+use Rattle.ca_meaning.specs.Going.{IsAtOp, RunsAtOperation}
 use Rattle.ca_meaning.specs.Steps.{Step}
 use Rattle.ca_meaning.specs.Body.{new_body}
 use Rattle.ca_meaning.proofs.Tasks.{tasks_of}
@@ -23,7 +23,7 @@ use Rattle.ca_laws.proofs.Acts.{wait_of, Acts, idles, parks, stops, goes}
 use Rattle.ca_laws.proofs.Acted.{acts}
 use Rattle.ca_laws.proofs.Deeding.{and_deed, deeds_more, comes}
 use Rattle.ca_laws.proofs.More.{each_more}
-use Rattle.ca_networks.specs.Networks.{started_by, started}
+use Rattle.ca_networks.specs.Networks.{started_by, tasks_started}
 use Rattle.ca_networks.proofs.Walking.{Keeps}
 use Rattle.ca_networks.proofs.Standing.{Standing, moved}
 use Rattle.ca_networks.proofs.Tables.{mult_body, mult_op, mult_table}
@@ -32,16 +32,16 @@ use Rattle.ca_networks.proofs.Spawners.{spawner, was_delivery, delivery_seed}
 
 -- a mult with this channel of answers started task u
 abbrev IsStarted : List EventView → State → ℕ → ℕ → Type 0
-IsStarted journal s acks u = (t : ℕ) × (x : MultPorts) × (place : Place) × Standing (mult_body x place) t s × (x.acks ≡ acks) × (is_among u (started (deeds t journal)) ≡ true)
+IsStarted journal s acks u = (t : ℕ) × (x : MultPorts) × (place : Place) × Standing (mult_body x place) t s × (x.acks ≡ acks) × (is_among u (tasks_started (deeds t journal)) ≡ true)
 
 abbrev pub AllStarted : List EventView → State → Type 0
 AllStarted journal s = (u : ℕ) (y : Task) (d : Delivery) (l : Place) (n : Next DeliverState) → s.tasks u ≡ Some y → y.body ≡ system_task (a_delivery d l n) → IsStarted journal s d.acks u
 
-pub started_more : (u t : ℕ) (journal : List EventView) (e : EventView) → is_among u (started (deeds t journal)) ≡ true → is_among u (started (deeds t (journal ++ e ∷ []))) ≡ true
-started_more u t journal e k = subst (λ z. is_among u (started z) ≡ true) (sym (deeds_more t None journal e)) (by (deed t (wait_in t journal) e)) where
-  by : (o : Option Deed) → is_among u (started (and_deed (deeds t journal) o)) ≡ true
-  by None = subst (λ z. is_among u (started z) ≡ true) (sym (append-nil (deeds t journal))) k
-  by (Some c) = subst (λ z. is_among u z ≡ true) (sym (each_more started_by (deeds t journal) c)) (among_first u (started (deeds t journal)) (started_by c) k)
+pub started_more : (u t : ℕ) (journal : List EventView) (e : EventView) → is_among u (tasks_started (deeds t journal)) ≡ true → is_among u (tasks_started (deeds t (journal ++ e ∷ []))) ≡ true
+started_more u t journal e k = subst (λ z. is_among u (tasks_started z) ≡ true) (sym (deeds_more t None journal e)) (by (deed t (wait_in t journal) e)) where
+  by : (o : Option Deed) → is_among u (tasks_started (and_deed (deeds t journal) o)) ≡ true
+  by None = subst (λ z. is_among u (tasks_started z) ≡ true) (sym (append-nil (deeds t journal))) k
+  by (Some c) = subst (λ z. is_among u z ≡ true) (sym (each_more started_by (deeds t journal) c)) (among_first u (tasks_started (deeds t journal)) (started_by c) k)
 
 pub none_started : (program : ProgramView) (opening : State) → Opening program opening → AllStarted [] opening
 none_started program opening o u y d l n at is = by (eqb 0 u) (ap (λ (z : State). z.tasks u) (sym o.2) ∙ at) where
@@ -97,7 +97,7 @@ starting_keeps program last journal rest roles more s mid e traced g k turn g2 s
     seed = delivery_seed program p.1 d l n rest_of
 
     by_task : (b : TaskBody) → p.0.body ≡ b → IsStarted (journal ++ e ∷ []) mid d.acks u
-    by_task (script b) i = absurd (g.starts_none v p.0 b seed.0 seed.1 i (subst (λ z. Stands s v (spawning z) p.0) seed.2 p.4))
+    by_task (script b) i = absurd (g.starts_none v p.0 b seed.0 seed.1 i (subst (λ z. RunsAtOperation s v (spawning z) p.0) seed.2 p.4))
     by_task (system_task b) i =
         let m = spawner b p.1 (subst (λ z. IsAtOp z (spawning p.1)) i p.4.2) in
         let its : Delivery = record { mult = m.0.mult; channel = m.4; value = m.3; acks = m.0.acks } in
@@ -111,7 +111,7 @@ starting_keeps program last journal rest roles more s mid e traced g k turn g2 s
           m.1,
           (moved program (mult_body m.0 m.1) (mult_op m.0 m.1) mult_next (mult_table m.0 m.1 program) journal s mid e traced k v stands).0,
           sym (ap (λ (q : Delivery). q.acks) ports),
-          subst (λ z. is_among u (started z) ≡ true) (sym (deeds_more v None journal e ∙ ap (and_deed (deeds v journal)) does)) (subst (λ z. is_among u z ≡ true) (sym (each_more started_by (deeds v journal) (did_spawn u kind result))) (among_last u (started (deeds v journal)))),
+          subst (λ z. is_among u (tasks_started z) ≡ true) (sym (deeds_more v None journal e ∙ ap (and_deed (deeds v journal)) does)) (subst (λ z. is_among u z ≡ true) (sym (each_more started_by (deeds v journal) (did_spawn u kind result))) (among_last u (tasks_started (deeds v journal)))),
         )
 
   by : (o : Option Task) → s.tasks u ≡ o → IsStarted (journal ++ e ∷ []) mid d.acks u

@@ -6,14 +6,14 @@ use Rattle.ca_term.specs.declared.event.Side.TheVariants.{Take, Put}
 use Rattle.ca_term.specs.Operation.{OpView, taking, putting, choosing, making, spawning, closing, registering, printing, posting}
 use Rattle.ca_term.specs.Program.{ProgramView}
 use Rattle.ca_term.specs.Event.{BranchView, take_of, put_of, EventView, made, spawned, done, met, parked, posted, settled, defaulted, closed, registered, printed, ticked, over as is_over}
-use Rattle.ca_meaning.specs.Operands.{port_number, is_nil, truth}
+use Rattle.ca_meaning.specs.Operands.{port_of_value, is_nil, truth}
 use Rattle.ca_meaning.specs.Channel.{Channel}
 use Rattle.ca_meaning.specs.Wait.{Handler, side_of, port_of, front, queue, owner_of}
 use Rattle.ca_meaning.specs.Row.{meets, row_on}
 use Rattle.ca_meaning.specs.Task.{TaskBody}
 use Rattle.ca_meaning.specs.State.{State, Task, running, waiting}
 use Rattle.ca_meaning.specs.Choice.{branches_of}
-use Rattle.ca_meaning.specs.Going.{Stands}
+use Rattle.ca_meaning.specs.Going.{RunsAtOperation}
 use Rattle.ca_meaning.specs.ChannelSteps.{other_side}
 use Rattle.ca_meaning.specs.Steps.{Step}
 use Rattle.ca_meaning.specs.History.{Mark, accept, give, give_none, pass, no_mark, mark_of_take, mark_of_put, mark_of_done, mark_of_settled, branch_on}
@@ -25,7 +25,7 @@ use Rattle.ca_laws.proofs.Stood.{Stood}
 use Rattle.ca_laws.proofs.Deeding.{Traced}
 use Rattle.ca_laws.proofs.Orders.{one_branch, no_branch}
 use Rattle.ca_roles.proofs.Unused.{not_true}
-use Rattle.ca_roles.specs.Roles.{Hidden, public, hidden, Roles, CarriesAs, Carries}
+use Rattle.ca_roles.specs.Roles.{Hidden, public, hidden, Roles, CarriesAs, ChannelCarries}
 use Rattle.ca_roles.specs.Users.{Uses, MayUse}
 use Rattle.ca_roles.specs.Typed.{IsPublicBranch, IsTypedPost, MayAsk}
 use Rattle.ca_networks.proofs.Guarded.{Guard}
@@ -39,16 +39,16 @@ module _ (program : ProgramView) (roles : Roles) where
   -- the task may use the branch's channel so, and the channel carries what is put
   abbrev Suits : TaskBody → BranchView → Type 0
   Suits b (take_of p) = MayUse (roles p) Take p b
-  Suits b (put_of p v) = MayUse (roles p) Put p b × Carries program roles p v
+  Suits b (put_of p v) = MayUse (roles p) Put p b × ChannelCarries program roles p v
 
   public_suits : (b : TaskBody) (c : BranchView) → IsPublicBranch roles c → Suits b c
   public_suits b (take_of p) k = subst (λ r. MayUse r Take p b) (sym k) tt
   public_suits b (put_of p v) k = (subst (λ r. MayUse r Put p b) (sym k.0) tt, subst (λ r. CarriesAs program roles r v) (sym k.0) k.1)
 
   suits : (b : TaskBody) (op : OpView) (k : ℕ) (c : BranchView) → MayAsk program roles b op → slice_get (branches_of op) k ≡ Some c → Suits b c
-  suits b (taking x) k c m e = subst (Suits b) (sym (one_branch (take_of (port_number x)) k c e ∙ ap (λ z. take_of (port_number z)) m.1)) m.2
-  suits b (putting x v) k c m e = subst (Suits b) (sym (one_branch (put_of (port_number x) v) k c e ∙ ap (λ z. put_of (port_number z) v) m.1)) (m.2, m.3)
-  suits b (posting x v) k c m e = subst (Suits b) (sym (one_branch (put_of (port_number x) v) k c e ∙ ap (λ z. put_of (port_number z) v) m.1)) (public_suits b (put_of m.0 v) (m.2, m.3))
+  suits b (taking x) k c m e = subst (Suits b) (sym (one_branch (take_of (port_of_value x)) k c e ∙ ap (λ z. take_of (port_of_value z)) m.1)) m.2
+  suits b (putting x v) k c m e = subst (Suits b) (sym (one_branch (put_of (port_of_value x) v) k c e ∙ ap (λ z. put_of (port_of_value z) v) m.1)) (m.2, m.3)
+  suits b (posting x v) k c m e = subst (Suits b) (sym (one_branch (put_of (port_of_value x) v) k c e ∙ ap (λ z. put_of (port_of_value z) v) m.1)) (public_suits b (put_of m.0 v) (m.2, m.3))
   suits b (choosing ports priority default) k c m e = public_suits b c (each-get (IsPublicBranch roles) (branches_of (choosing ports priority default)) k c m.0 e)
   suits b (making what) k c m e = no_branch c e
   suits b (spawning seed) k c m e = no_branch c e
@@ -94,7 +94,7 @@ taken_value a v vs e = by (is_nil a) e where
 module _ (program : ProgramView) (roles : Roles) (journal : List EventView) (s s2 : State) (traced : Traced journal s) (g : Guard program roles s) (q m : ℕ) (hid : Hidden) (role : roles q ≡ Some (hidden m hid)) where
   -- a task that uses it at the event
   abbrev pub PutBy : EventView → Tree → Type 0
-  PutBy e v = (u : ℕ) × (x : Task) × (j : ℕ) × (a : Tree) × (s.tasks u ≡ Some x) × (deed u (wait_of x.mode) e ≡ Some (did_put j q v a)) × Uses Put q hid x.body × Carries program roles q v
+  PutBy e v = (u : ℕ) × (x : Task) × (j : ℕ) × (a : Tree) × (s.tasks u ≡ Some x) × (deed u (wait_of x.mode) e ≡ Some (did_put j q v a)) × Uses Put q hid x.body × ChannelCarries program roles q v
 
   abbrev pub TakenBy : EventView → Tree → Type 0
   TakenBy e v = (u : ℕ) × (x : Task) × (j : ℕ) × (s.tasks u ≡ Some x) × (deed u (wait_of x.mode) e ≡ Some (did_take j q v)) × Uses Take q hid x.body
@@ -127,12 +127,12 @@ module _ (program : ProgramView) (roles : Roles) (journal : List EventView) (s s
   settled_deed : (w k u : ℕ) (side : Side) (v : Tree) (x : Task) → x.mode ≡ waiting w → deed u (wait_of x.mode) (settled w k side q v) ≡ Some (deed_on side k q v)
   settled_deed w k u side v x mode = ap (λ i. cond (is_wait w (wait_of i)) (Some (deed_on side k q v)) None) mode ∙ ap (λ b. cond b (Some (deed_on side k q v)) None) (eq-eqb w w refl)
 
-  own_put : (e : EventView) (u : ℕ) (op : OpView) (x : Task) (k p : ℕ) (w a v : Tree) → Stands s u op x → slice_get (branches_of op) k ≡ Some (put_of p w) → p ≡ q → w ≡ v → deed u (wait_of x.mode) e ≡ Some (did_put k p w a) → PutBy e v
+  own_put : (e : EventView) (u : ℕ) (op : OpView) (x : Task) (k p : ℕ) (w a v : Tree) → RunsAtOperation s u op x → slice_get (branches_of op) k ≡ Some (put_of p w) → p ≡ q → w ≡ v → deed u (wait_of x.mode) e ≡ Some (did_put k p w a) → PutBy e v
   own_put e u op x k p w a v st at pq wv d =
       let h : Suits program roles x.body (put_of q v) = subst (λ i. Suits program roles x.body (put_of q i)) wv (subst (λ i. Suits program roles x.body (put_of i w)) pq (suits program roles x.body op k (put_of p w) (g.asks u op x st) at)) in
       (u, x, k, a, st.0, d ∙ ap (λ i. Some (did_put k i w a)) pq ∙ ap (λ i. Some (did_put k q i a)) wv, use_of Put x.body h.0, h.1)
 
-  own_take : (e : EventView) (u : ℕ) (op : OpView) (x : Task) (k p : ℕ) (a v : Tree) → Stands s u op x → slice_get (branches_of op) k ≡ Some (take_of p) → p ≡ q → a ≡ v → deed u (wait_of x.mode) e ≡ Some (did_take k p a) → TakenBy e v
+  own_take : (e : EventView) (u : ℕ) (op : OpView) (x : Task) (k p : ℕ) (a v : Tree) → RunsAtOperation s u op x → slice_get (branches_of op) k ≡ Some (take_of p) → p ≡ q → a ≡ v → deed u (wait_of x.mode) e ≡ Some (did_take k p a) → TakenBy e v
   own_take e u op x k p a v st at pq av d =
       let h : Suits program roles x.body (take_of q) = subst (λ i. Suits program roles x.body (take_of i)) pq (suits program roles x.body op k (take_of p) (g.asks u op x st) at) in
       (u, x, k, st.0, d ∙ ap (λ i. Some (did_take k i a)) pq ∙ ap (λ i. Some (did_take k q i)) av, use_of Take x.body h)

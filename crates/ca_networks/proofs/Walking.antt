@@ -6,7 +6,7 @@ use Rattle.ca_meaning.specs.State.{State, Opening}
 use Rattle.ca_meaning.specs.Steps.{Step, Steps}
 use Rattle.ca_meaning.specs.Legal.{Reaches}
 use Rattle.ca_laws.proofs.Deeding.{Traced, traced_step, traced_steps, opening_traced}
-use Rattle.ca_roles.specs.Roles.{Roles, nobody}
+use Rattle.ca_roles.specs.Roles.{Roles, no_roles}
 use Rattle.ca_networks.proofs.Guarded.{Guard, Turn, Guarded}
 
 pub guarded_split : (program : ProgramView) (xs ys : List EventView) (roles more : Roles) (s last : State) → Guarded program roles s (xs ++ ys) more last → (next : Roles) × (mid : State) × Guarded program roles s xs next mid × Guarded program next mid ys more last
@@ -65,13 +65,13 @@ module _ (program : ProgramView) (before : List EventView) (e : EventView) (afte
   traced_after = traced_step program before cut.state cut.state2 e cut.step cut.traced
 
 -- what all events before the first cut keep; and all between two cuts
-pub first_cut : (program : ProgramView) (xs ys : List EventView) (e : EventView) (more : Roles) (opening last : State) → Opening program opening → Guarded program nobody opening (xs ++ e ∷ ys) more last
-    → (cut : Cut program xs e ys more last) × ((P : List EventView → Roles → State → Type 0) → Keeps program cut.state P → P [] nobody opening → P xs cut.roles cut.state)
+pub first_cut : (program : ProgramView) (xs ys : List EventView) (e : EventView) (more : Roles) (opening last : State) → Opening program opening → Guarded program no_roles opening (xs ++ e ∷ ys) more last
+    → (cut : Cut program xs e ys more last) × ((P : List EventView → Roles → State → Type 0) → Keeps program cut.state P → P [] no_roles opening → P xs cut.roles cut.state)
 first_cut program xs ys e more opening last opens g =
-    let a = guarded_split program xs (e ∷ ys) nobody more opening last g in
-    let steps = steps_of program xs nobody a.0 opening a.1 a.2 in (
+    let a = guarded_split program xs (e ∷ ys) no_roles more opening last g in
+    let steps = steps_of program xs no_roles a.0 opening a.1 a.2 in (
       record { roles = a.0; state = a.1; guard = a.3.0; traced = traced_steps program xs [] opening a.1 steps (opening_traced program opening opens); reaches = record { opening = opening; opens = opens; steps = steps }; next = a.3.2; state2 = a.3.1; step = a.3.3; turn = a.3.4; rest = a.3.5 },
-      λ P keeps p. (walk program P a.1 keeps xs [] nobody a.0 opening (opening_traced program opening opens) a.2 p).0,
+      λ P keeps p. (walk program P a.1 keeps xs [] no_roles a.0 opening (opening_traced program opening opens) a.2 p).0,
     )
 
 pub next_cut : (program : ProgramView) (before ms ys : List EventView) (e d : EventView) (more : Roles) (last : State) (cut : Cut program before e (ms ++ d ∷ ys) more last)

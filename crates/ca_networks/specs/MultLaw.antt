@@ -16,11 +16,11 @@ use Rattle.ca_meaning.specs.Going.{IsAtOp}
 use Rattle.ca_laws.specs.Deeds.{Deed, did_take, did_register, deeds}
 use Rattle.ca_laws.specs.Taken.{put_in}
 use Rattle.ca_laws.specs.MultRules.{mult_ports}
-use Rattle.ca_networks.specs.Networks.{IsSpawned, taken_from, started, AllNew, EachFor}
+use Rattle.ca_networks.specs.Networks.{IsSpawned, taken_from, tasks_started, AllNew, EachFor}
 
 -- it reads the taps of the mult, which are these
-abbrev pub IsReading : MultPorts → List TapView → Deed → Type 0
-IsReading x taps d = (a : Tree) × (d ≡ did_register Taps (one_of (port x.mult)) a) × (taps_in a ≡ Some taps)
+abbrev pub ReadsTaps : MultPorts → List TapView → Deed → Type 0
+ReadsTaps x taps d = (a : Tree) × (d ≡ did_register Taps (one_of (port x.mult)) a) × (taps_in a ≡ Some taps)
 
 -- the values of a delivery of the value to the tap
 abbrev pub delivery_values : MultPorts → TapView → Tree → Trees
@@ -34,7 +34,7 @@ HasDelivered program x place v journal tap u = IsSpawned program journal Deliver
 -- It read its taps, and started a task for each of them, in their order, and no other; each has delivered.
 abbrev pub HasDeliveredAll : ProgramView → MultPorts → Place → Tree → List EventView → List Deed → Type 0
 HasDeliveredAll program x place v journal since =
-    (d : Deed) × (rest : List Deed) × (taps : List TapView) × (since ≡ d ∷ rest) × IsReading x taps d × EachFor (HasDelivered program x place v journal) taps (started rest) × AllNew (started rest)
+    (d : Deed) × (rest : List Deed) × (taps : List TapView) × (since ≡ d ∷ rest) × ReadsTaps x taps d × EachFor (HasDelivered program x place v journal) taps (tasks_started rest) × AllNew (tasks_started rest)
 
 -- task t is a mult of these ports, for the form at this place
 pub record KeepsMult (program : ProgramView) (x : MultPorts) (place : Place) (t : ℕ) (journal : List EventView) (s : State) : Type 0 where

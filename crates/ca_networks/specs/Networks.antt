@@ -58,8 +58,8 @@ abbrev pub started_by : Deed → List ℕ
 started_by (did_spawn u kind result) = u ∷ []
 started_by d = []
 
-abbrev pub started : List Deed → List ℕ
-started ds = flat_map started_by ds
+abbrev pub tasks_started : List Deed → List ℕ
+tasks_started ds = flat_map started_by ds
 
 -- no two of the numbers are equal
 abbrev pub AllNew : List ℕ → Type 0

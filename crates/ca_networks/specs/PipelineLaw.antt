@@ -8,7 +8,7 @@ use Rattle.ca_term.specs.declared.head.Transform.{Transform}
 use Rattle.ca_term.specs.declared.head.SystemTask.TheVariants.{Feed, Job, Collect}
 use Rattle.ca_term.specs.Program.{ProgramView}
 use Rattle.ca_term.specs.Event.{EventView}
-use Rattle.ca_meaning.specs.Operands.{port_number, first_of}
+use Rattle.ca_meaning.specs.Operands.{port_of_value, first_of}
 use Rattle.ca_meaning.specs.Applied.{Work, outputs, Outs}
 use Rattle.ca_laws.specs.Deeds.{deeds}
 use Rattle.ca_laws.specs.Taken.{taken, Begins}
@@ -27,7 +27,7 @@ BeginsOutputs program w vs xs = (some : List Tree) × (rest : List Tree) × Begi
 
 -- each job that takes from that channel does this work
 abbrev pub JobsDo : ProgramView → List EventView → ℕ → Work → Type 0
-JobsDo program journal jobs w = (x : Transform) (f : PlainFunction) (values : Trees) (place : Place) (t : ℕ) → IsSpawned program journal (Job x f) values place t → port_number (first_of values) ≡ jobs → job_work x f values place ≡ w
+JobsDo program journal jobs w = (x : Transform) (f : PlainFunction) (values : Trees) (place : Place) (t : ℕ) → IsSpawned program journal (Job x f) values place t → port_of_value (first_of values) ≡ jobs → job_work x f values place ≡ w
 
 -- For a feed and a collect of one queue of reply ports there is a work, which is that of the feed's jobs, and what the
 -- collect put, or offers, begins the outputs of this work for what the feed took.

@@ -5,7 +5,7 @@ use Rattle.ca_value.specs.Tree.{Tree, Trees, nil, bool, int, text, key, vector, 
 use Rattle.ca_value.specs.View.{view, views, trees}
 use Rattle.ca_value.specs.declared.value.Value.{Value}
 use Rattle.ca_term.specs.declared.place.Place.{Place}
-use Rattle.ca_meaning.specs.Asks.{chooses, follows, needing, stands_at, value_and_port, pair_of}
+use Rattle.ca_meaning.specs.Asks.{ask_to_choose, follows, needing, stands_at, value_and_port, pair_of}
 use Rattle.ca_meaning.specs.PipeTable.{is_port, without_port, merge_asks, merge_next, inputs_left}
 use Rattle.ca_system.specs.declared.stand.Stand.{Stand}
 use Rattle.ca_system.specs.declared.stand.Next.{Next as NextState}
@@ -14,9 +14,9 @@ use Rattle.ca_pipes.specs.declared.merge.State.{State}
 use Rattle.ca_pipes.specs.MergeViews.{merge_at, after_choice_of}
 
 -- there is an input to choose
-pub some_inputs : {E : Type 0} (r : Result Stand E) (out : ℕ) (p : Place) (vs : List Value) (ts : List Tree) → views vs ≡ ts → length vs ≢ 0 → IfOk r (λ s. stand_at s ≡ chooses (trees_of ts) p) → IfOk r (λ s. stand_at s ≡ stands_at p (merge_asks out) (inputs_left (trees_of ts)))
+pub some_inputs : {E : Type 0} (r : Result Stand E) (out : ℕ) (p : Place) (vs : List Value) (ts : List Tree) → views vs ≡ ts → length vs ≢ 0 → IfOk r (λ s. stand_at s ≡ ask_to_choose (trees_of ts) p) → IfOk r (λ s. stand_at s ≡ stands_at p (merge_asks out) (inputs_left (trees_of ts)))
 some_inputs r out p [] ts e some h = absurd (some refl)
-some_inputs {E} r out p (v ∷ vs) ts e some h = subst (λ ws. IfOk r (λ s. stand_at s ≡ chooses (trees_of ws) p) → IfOk r (λ s. stand_at s ≡ stands_at p (merge_asks out) (inputs_left (trees_of ws)))) e (λ x. x) h
+some_inputs {E} r out p (v ∷ vs) ts e some h = subst (λ ws. IfOk r (λ s. stand_at s ≡ ask_to_choose (trees_of ws) p) → IfOk r (λ s. stand_at s ≡ stands_at p (merge_asks out) (inputs_left (trees_of ws)))) e (λ x. x) h
 
 -- what follows on the answer of an alts over some inputs
 pub alts_follow : {E : Type 0} (r : Result (NextState State) E) (o : Option (Tree × ℕ)) (a : Tree) (vs : List Value) (ts : Trees) → trees vs ≡ ts → length vs ≢ 0 → o ≡ value_and_port a → IfOk r (λ s. merge_at s ≡ needing o (λ c. after_choice_of ts c.0 c.1)) → IfOk r (λ s. merge_at s ≡ follows (merge_next a) (inputs_left ts))

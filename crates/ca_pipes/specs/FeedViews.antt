@@ -9,8 +9,8 @@ use Rattle.ca_pipes.specs.declared.feed.Ports.{Ports}
 use Rattle.ca_pipes.specs.declared.feed.State.{State}
 use Rattle.ca_pipes.specs.declared.feed.State.TheVariants.{Takes, Makes, Puts, Queues, ClosesJobs, ClosesReplies}
 
-abbrev pub feed_ports : Ports → FeedPorts
-feed_ports f = record { source = f.source.n; jobs = f.jobs.n; replies = f.replies.n }
+abbrev pub feed_ports_view : Ports → FeedPorts
+feed_ports_view f = record { source = f.source.n; jobs = f.jobs.n; replies = f.replies.n }
 
 abbrev pub feed_state : State → FeedState
 feed_state Takes = feed_takes
@@ -21,4 +21,4 @@ feed_state ClosesJobs = feed_closes_jobs
 feed_state ClosesReplies = feed_closes_replies
 
 abbrev pub feed_body : Ports → Place → Next State → SystemBody
-feed_body k p x = a_feed (feed_ports k) p (next_view feed_state x)
+feed_body k p x = a_feed (feed_ports_view k) p (next_view feed_state x)

@@ -9,8 +9,8 @@ use Rattle.ca_pipes.specs.declared.pipe.Ports.{Ports}
 use Rattle.ca_pipes.specs.declared.pipe.State.{State}
 use Rattle.ca_pipes.specs.declared.pipe.State.TheVariants.{Takes, Puts, Closes}
 
-abbrev pub pipe_ports : Ports → PipePorts
-pipe_ports p = record { source = p.source.n; target = p.target.n; closes = p.closes }
+abbrev pub pipe_ports_view : Ports → PipePorts
+pipe_ports_view p = record { source = p.source.n; target = p.target.n; closes = p.closes }
 
 abbrev pub pipe_state : State → PipeState
 pipe_state Takes = pipe_takes
@@ -18,4 +18,4 @@ pipe_state (Puts v) = pipe_puts (view v)
 pipe_state Closes = pipe_closes
 
 abbrev pub pipe_body : Ports → Place → Next State → SystemBody
-pipe_body k p x = a_pipe (pipe_ports k) p (next_view pipe_state x)
+pipe_body k p x = a_pipe (pipe_ports_view k) p (next_view pipe_state x)

@@ -11,8 +11,8 @@ abbrev pub skipped : ℕ → Trees → Trees
 skipped zero vs = vs
 skipped (suc n) vs = skipped n (rest_of vs)
 
-abbrev pub left : Walk → Trees
-left w = skipped w.place (trees_in (view w.vector))
+abbrev pub walk_left : Walk → Trees
+walk_left w = skipped w.place (trees_in (view w.vector))
 
 abbrev pub is_none : Trees → Bool
 is_none none = true

@@ -7,8 +7,8 @@ ghost use Rattle.ca_meaning.specs.Asks.{needing, items_in, to};
 ghost use Rattle.ca_meaning.specs.PipelineTable.{collect_next, collect_takes, collect_closes, collect_ends, outputs_left};
 ghost use Rattle.ca_meaning.specs.System.{new_system};
 ghost use Rattle.ca_system.specs.Stands.{running_body, next_view};
-ghost use Rattle.ca_pipes.specs.Walks.{left};
-ghost use Rattle.ca_pipes.specs.CollectViews.{collect_body, collect_ports, collect_state};
+ghost use Rattle.ca_pipes.specs.Walks.{walk_left};
+ghost use Rattle.ca_pipes.specs.CollectViews.{collect_body, collect_ports_view, collect_state};
 
 use crate::walk::Walk;
 use ca_asking::operands::{is_true, port_at, truth_at};
@@ -64,7 +64,7 @@ pub fn new_collect(values: Items, place: Place) -> Collect
 }
 
 fn go_on(outputs: Walk) -> Next<State>
-    ensures { next_view collect_state result ≡ outputs_left (left outputs) }
+    ensures { next_view collect_state result ≡ outputs_left (walk_left outputs) }
 {
     if outputs.is_over() {
         Next::To(State::Takes)
@@ -142,7 +142,7 @@ impl Ports {
 
     // What follows on a reply's channel, or on nil after the last one.
     fn after_take(self, answer: Value) -> Next<State>
-        ensures { next_view collect_state result ≡ collect_next (collect_ports self) (view answer) collect_takes }
+        ensures { next_view collect_state result ≡ collect_next (collect_ports_view self) (view answer) collect_takes }
     {
         if is_nil(&answer) {
             return self.over();

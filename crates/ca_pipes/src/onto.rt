@@ -3,12 +3,12 @@ ghost use Rattle.std.specs.Prelude.{◌≡◌};
 ghost use Rattle.ca_value.specs.Seq.{list};
 ghost use Rattle.ca_value.specs.View.{trees};
 ghost use Rattle.ca_term.specs.declared.head.SystemTask.{SystemTask};
-ghost use Rattle.ca_meaning.specs.Operands.{port_number, truth as truth_of, first_of, second_of, third_of};
+ghost use Rattle.ca_meaning.specs.Operands.{port_of_value, truth as truth_of, first_of, second_of, third_of};
 ghost use Rattle.ca_meaning.specs.PipeTable.{onto_over, items_left};
 ghost use Rattle.ca_meaning.specs.System.{new_system, fourth_of};
 ghost use Rattle.ca_system.specs.Stands.{running_body, next_view};
-ghost use Rattle.ca_pipes.specs.Walks.{left};
-ghost use Rattle.ca_pipes.specs.OntoViews.{onto_body, onto_ports, onto_state};
+ghost use Rattle.ca_pipes.specs.Walks.{walk_left};
+ghost use Rattle.ca_pipes.specs.OntoViews.{onto_body, onto_ports_view, onto_state};
 
 use crate::walk::Walk;
 use ca_asking::operands::{is_true, port_at, truth_at, value_at};
@@ -94,7 +94,7 @@ impl Kind for Ports {
 
 impl Ports {
     fn of(values: &[Value]) -> Ports
-        ensures { onto_ports result ≡ record { target = port_number (first_of (trees values.now)); closes = truth_of (third_of (trees values.now)); result = port_number (fourth_of (trees values.now)) } }
+        ensures { onto_ports_view result ≡ record { target = port_of_value (first_of (trees values.now)); closes = truth_of (third_of (trees values.now)); result = port_of_value (fourth_of (trees values.now)) } }
     {
         Ports {
             target: port_at(values, 0),
@@ -105,7 +105,7 @@ impl Ports {
 
     // After the last item, or a refused one.
     fn over(self) -> Next<State>
-        ensures { next_view onto_state result ≡ onto_over (onto_ports self) }
+        ensures { next_view onto_state result ≡ onto_over (onto_ports_view self) }
     {
         if self.closes {
             Next::To(State::Closes)
@@ -115,7 +115,7 @@ impl Ports {
     }
 
     fn go_on(self, items: Walk) -> Next<State>
-        ensures { next_view onto_state result ≡ items_left (onto_ports self) (left items) }
+        ensures { next_view onto_state result ≡ items_left (onto_ports_view self) (walk_left items) }
     {
         if items.is_over() {
             self.over()

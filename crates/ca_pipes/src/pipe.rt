@@ -6,7 +6,7 @@ ghost use Rattle.ca_term.specs.declared.head.SystemTask.{SystemTask};
 ghost use Rattle.ca_meaning.specs.PipeTable.{pipe_next, pipe_takes};
 ghost use Rattle.ca_meaning.specs.System.{new_system};
 ghost use Rattle.ca_system.specs.Stands.{running_body, next_view};
-ghost use Rattle.ca_pipes.specs.PipeViews.{pipe_body, pipe_ports, pipe_state};
+ghost use Rattle.ca_pipes.specs.PipeViews.{pipe_body, pipe_ports_view, pipe_state};
 
 use ca_asking::operands::{is_true, port_at, truth_at};
 use ca_system::asks::{closes, puts, takes};
@@ -96,7 +96,7 @@ impl Kind for Ports {
 impl Ports {
     // What follows on a value, or on nil at the end of the source.
     fn after_take(&self, answer: Value) -> Next<State>
-        ensures { next_view pipe_state result ≡ pipe_next (pipe_ports self.now) (view answer) pipe_takes }
+        ensures { next_view pipe_state result ≡ pipe_next (pipe_ports_view self.now) (view answer) pipe_takes }
     {
         if !is_nil(&answer) {
             return Next::To(State::Puts(answer));

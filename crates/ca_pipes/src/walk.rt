@@ -2,7 +2,7 @@ ghost use Rattle.std.specs.Prelude.{◌≡◌, IfOk};
 ghost use Rattle.ca_value.specs.View.{view, trees};
 ghost use Rattle.ca_meaning.specs.Operands.{first_of, rest_of};
 ghost use Rattle.ca_meaning.specs.Asks.{trees_in};
-ghost use Rattle.ca_pipes.specs.Walks.{left, skipped, is_none};
+ghost use Rattle.ca_pipes.specs.Walks.{walk_left, skipped, is_none};
 
 use ca_system::operand::{copy_at, items_of};
 use ca_value::memory::OutOfMemory;
@@ -19,7 +19,7 @@ pub struct Walk {
 impl Walk {
     // All the items of a vector; of another value none.
     pub(crate) fn new(vector: Value) -> Walk
-        ensures { left result ≡ trees_in (view vector) }
+        ensures { walk_left result ≡ trees_in (view vector) }
     {
         Walk { vector, place: 0 }
     }
@@ -27,7 +27,7 @@ impl Walk {
     // Whether no item is left.
     #[tactic(auto, using(crate::proofs::WalkLaws::is_over))]
     pub(crate) fn is_over(&self) -> bool
-        ensures { result ≡ is_none (left self.now) }
+        ensures { result ≡ is_none (walk_left self.now) }
     {
         items_of(&self.vector).len() as u64 <= self.place
     }
@@ -35,14 +35,14 @@ impl Walk {
     // A copy of the first item that is left, or nil.
     #[tactic(auto, using(crate::proofs::WalkLaws::first_got))]
     pub(crate) fn first(&self, alloc: Global) -> Result<Value, OutOfMemory>
-        ensures { IfOk result (λ v. view v ≡ first_of (left self.now)) }
+        ensures { IfOk result (λ v. view v ≡ first_of (walk_left self.now)) }
     {
         copy_at(alloc, items_of(&self.vector), self.place)
     }
 
     // What is left after the first item.
     pub(crate) fn rest(self) -> Walk
-        ensures { left result ≡ rest_of (left self) }
+        ensures { walk_left result ≡ rest_of (walk_left self) }
     {
         let Walk { vector, place } = self;
         let place = place_after(items_of(&vector), place);

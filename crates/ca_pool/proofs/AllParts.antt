@@ -15,10 +15,10 @@ use Rattle.ca_meaning.specs.Body.{At}
 use Rattle.ca_meaning.specs.Task.{TaskBody}
 use Rattle.ca_states.specs.Code.{CodeView}
 use Rattle.ca_agent.specs.Agents.{Advanced, Answered, Started}
-use Rattle.ca_turns.specs.Hands.{Held, HoldsNothing, IsSettled, IsWithout, SameBut}
+use Rattle.ca_turns.specs.Hands.{Held, HoldsNothing, IsPartSettled, IsWithout, SameBut}
 use Rattle.ca_turns.specs.Steps.{SeesOne}
 use Rattle.ca_table.specs.Draws.{drawn_moves, drawn_touches}
-use Rattle.ca_table.specs.Grips.{Fits, Grips}
+use Rattle.ca_table.specs.Grips.{GripFits, Grips}
 use Rattle.ca_table.specs.Parts.{part_seen}
 use Rattle.ca_table.specs.Running.{Knows}
 use Rattle.ca_table.specs.Seen.{PartSeen}
@@ -75,7 +75,7 @@ module _ {A C : Type 0} (seen : Part A C → PartSeen A) where
     -- nothing changed
     pub surveys_same : new.parts ≡ old.parts → new.view.held ≡ old.view.held → Surveys seen n code new g
     surveys_same parts held = record { grips = λ i. by i (as_settled seen g i) (s.grips i); of = s.of } where
-      by : (i : ℕ) (o : Option (Part A C × PartSeen A)) → Fits o old i → Fits o new i
+      by : (i : ℕ) (o : Option (Part A C × PartSeen A)) → GripFits o old i → GripFits o new i
       by i None f = λ x e. f x (sym (ap (λ l. get_elem? l i) parts) ∙ e)
       by i (Some x) f = (ap (λ l. get_elem? l i) parts ∙ f.0, ap (λ l. get_elem? l i) held ∙ f.1)
 
@@ -83,7 +83,7 @@ module _ {A C : Type 0} (seen : Part A C → PartSeen A) where
     pub lies_at : (at : ℕ) (x : Part A C) → g at ≡ Some x → (get_elem? old.parts at ≡ core.some (Some x)) × (get_elem? old.view.held at ≡ core.some (Some (seen x)))
     lies_at at x e = fit old (as_settled seen g) at (x, seen x) s.grips (ap (option_map (pair_of seen)) e)
 
-    pub settled_at : (at : ℕ) → is_some (g at) ≡ true → IsSettled seen old at
+    pub settled_at : (at : ℕ) → is_some (g at) ≡ true → IsPartSettled seen old at
     settled_at at e = let x = there_is (g at) e in let f = lies_at at x.0 x.1 in (x.0, f.0, f.1)
 
     pub free_at : (at : ℕ) → g at ≡ None → IsWithout old at
@@ -99,7 +99,7 @@ module _ {A C : Type 0} (over : CodeView → A → Type 0) (place : A → At) (s
   known = knows_same over stands program code n old.view new.view opening knows
 
   -- one more part is held
-  pub surveys_more : (at : ℕ) → SameBut at old new → (x : IsSettled shows new at) (g : ℕ → Option (Part A C)) → Surveys shows n code old g → Surveys shows n code new (update eqb g at (Some x.0))
+  pub surveys_more : (at : ℕ) → SameBut at old new → (x : IsPartSettled shows new at) (g : ℕ → Option (Part A C)) → Surveys shows n code old g → Surveys shows n code new (update eqb g at (Some x.0))
   surveys_more at same x g s = surveys_with shows n code old new g s at (Some x.0) (grips_at old new (as_settled shows g) at (Some (x.0, shows x.0)) same (x.1, x.2) s.grips)
       (λ y e. subst (λ (z : Part A C). ((shows z).workers ≡ n) × ((shows z).code ≡ code)) (some_same x.0 y e) (
         (kind_is over place stands advances gives starts advance_law answer_law start_law program code n new.view known sees at (shows x.0) x.2).0,

@@ -9,25 +9,25 @@ use Rattle.ca_term.specs.Cost.{cost_of}
 use Rattle.ca_term.specs.Event.{EventView, event_view, ticked}
 use Rattle.ca_term.specs.Operation.{SeedView}
 use Rattle.ca_term.specs.Program.{ProgramView}
-use Rattle.ca_agent.specs.Agents.{Stays}
-use Rattle.ca_bank.specs.Kept.{closed}
+use Rattle.ca_agent.specs.Agents.{StaysOverCode}
+use Rattle.ca_bank.specs.Kept.{closed_channel}
 use Rattle.ca_meaning.specs.Body.{At}
 use Rattle.ca_meaning.specs.Cost.{cost}
 use Rattle.ca_meaning.specs.Task.{reply_at}
 use Rattle.ca_meaning.specs.Wait.{is_among, told}
 use Rattle.ca_commit.specs.Agents.{TaskAgent}
 use Rattle.ca_commit.specs.Contents.{Kept, Parked, Parts, TimersPart, clock_failed, home, nobody, owner, stopped, whole}
-use Rattle.ca_commit.specs.EventMoves.{times}
+use Rattle.ca_commit.specs.EventMoves.{times_shown}
 use Rattle.ca_commit.specs.Finding.{serves}
 use Rattle.ca_commit.specs.Listing.{changed_at, listed}
 use Rattle.ca_commit.specs.Listings.{parts}
 use Rattle.ca_commit.specs.Moving.{MovesTurn}
 use Rattle.ca_commit.specs.Numbers.{number_of_bank, number_of_shard}
 use Rattle.ca_commit.specs.Running.{Placed}
-use Rattle.ca_commit.specs.Settling.{IsSettled, served_in, settle_change, settling}
+use Rattle.ca_commit.specs.Settling.{IsSettled, served_in, settle_change, value_settled}
 use Rattle.ca_commit.specs.Showing.{bank_in, channels_held, registries_held, shard_in, waits_held}
 use Rattle.ca_commit.specs.SilentMoves.{Asked, Failed, Marked, MovesTimers, Stopped}
-use Rattle.ca_commit.specs.TaskMoves.{GoOnBy, MovesTick, Reads, marked, with_mark}
+use Rattle.ca_commit.specs.TaskMoves.{GoOnBy, MovesTick, ReadsClock, stop_marked, with_mark}
 use Rattle.ca_commit.specs.Tasks.{tasks_in}
 use Rattle.ca_commit.specs.Ticking.{closed_all}
 use Rattle.ca_commit.specs.Touched as said
@@ -41,7 +41,7 @@ use Rattle.ca_states.specs.declared.valid_code.ValidCode.{ValidCode}
 use Rattle.ca_table.specs.Bearing.{ShowSame, parts_held}
 use Rattle.ca_table.specs.Carriers.{IsMoved, is_now, was}
 use Rattle.ca_table.specs.Carrying.{Carries}
-use Rattle.ca_table.specs.Covering.{names_of}
+use Rattle.ca_table.specs.Covering.{turn_names}
 use Rattle.ca_table.specs.Draws.{MayHold}
 use Rattle.ca_table.specs.Needing.{Brings, drawn_with}
 use Rattle.ca_table.specs.OneCode.{advances_over, gives_over, starts_over}
@@ -55,7 +55,7 @@ use Rattle.ca_table.proofs.MadeOf.{all_alike, bears}
 use Rattle.ca_table.proofs.Needing.{BanksOf, covers_by}
 use Rattle.ca_table.proofs.SettleMoved.{settles_draw}
 use Rattle.ca_table.proofs.Staying.{changed_still, shows_there}
-use Rattle.ca_pool.specs.Asking.{HasBanksOf, HasFailed, IsAsked, SameTimes, TimesBy, passed}
+use Rattle.ca_pool.specs.Asking.{HasBanksOf, HasFailed, IsAsked, SameTimes, TimesBy, moment_passed}
 use Rattle.ca_pool.specs.Desk.{ClockBox, IsMovedWith, SameHeld, holds_banks, holds_shards, laid_aside}
 use Rattle.ca_pool.proofs.Desk.{aside_brings, aside_turned, lies_there, some_map}
 
@@ -73,7 +73,7 @@ same_shown clock0 clock old new e s = record {
 }
 
 -- a task that is woken is over the code where it was
-pub wakes_over : {A : Type 0} (over : CodeView → A → Type 0) (code : CodeView) (place : A → At) (gives : A → Tree → A → Type 0) → Stays over gives → (o : Option (Parked (TaskAgent A))) (p : ℕ) (v : Tree) (old new : Option (List (ℕ × TaskAgent A))) → WakesBy place gives o p v old new → WakesBy place (gives_over over code gives) o p v old new
+pub wakes_over : {A : Type 0} (over : CodeView → A → Type 0) (code : CodeView) (place : A → At) (gives : A → Tree → A → Type 0) → StaysOverCode over gives → (o : Option (Parked (TaskAgent A))) (p : ℕ) (v : Tree) (old new : Option (List (ℕ × TaskAgent A))) → WakesBy place gives o p v old new → WakesBy place (gives_over over code gives) o p v old new
 wakes_over over code place gives law None p v old new w = w
 wakes_over over code place gives law (Some nobody) p v old new w = w
 wakes_over over code place gives law (Some (owner u a)) p v old new w = (w.0, w.1, w.2, (w.3, law code a.agent w.0.agent (reply_at (place a.agent) p v) w.3), w.4)
@@ -85,7 +85,7 @@ woken_there place gives (Some (owner u a)) p v old new w = ap is_some w.4 ∙ so
 
 module _ {A : Type 0} (place : A → At) (gives : A → Tree → A → Type 0) (held held2 : Held A) (p wait o : ℕ) (side : Side) (e : Event) (s : IsSettled place gives held held2 p side wait o e) where
   abbrev value : Tree
-  value = settling side (whole (channels_held held.banks) p)
+  value = value_settled side (whole (channels_held held.banks) p)
 
   -- settling leaves which parts are held
   pub settled_held : {C : Type 0} (clock : Option (ClockBox C)) → SameHeld clock clock held held2
@@ -96,7 +96,7 @@ module _ {A : Type 0} (place : A → At) (gives : A → Tree → A → Type 0) (
     timers = refl;
   }
 
-  pub settled_over : (over : CodeView → A → Type 0) (code : CodeView) → Stays over gives → IsSettled place (gives_over over code gives) held held2 p side wait o e
+  pub settled_over : (over : CodeView → A → Type 0) (code : CodeView) → StaysOverCode over gives → IsSettled place (gives_over over code gives) held held2 p side wait o e
   settled_over over code law = record {
     event = s.event;
     channels = s.channels;
@@ -106,16 +106,16 @@ module _ {A : Type 0} (place : A → At) (gives : A → Tree → A → Type 0) (
     numbers = s.numbers;
   }
 
-still_one : (p : ℕ) (ps : List ℕ) (m : ℕ → Option (ℕ → Option Kept)) (i : ℕ) → is_some (closed_all ps (changed_at p (option_map closed) m) i) ≡ is_some (changed_at p (option_map closed) m i) → is_some (closed_all (p ∷ ps) m i) ≡ is_some (m i)
-still_one p ps m i e = e ∙ changed_still p (option_map closed) m i
+still_one : (p : ℕ) (ps : List ℕ) (m : ℕ → Option (ℕ → Option Kept)) (i : ℕ) → is_some (closed_all ps (changed_at p (option_map closed_channel) m) i) ≡ is_some (changed_at p (option_map closed_channel) m i) → is_some (closed_all (p ∷ ps) m i) ≡ is_some (m i)
+still_one p ps m i e = e ∙ changed_still p (option_map closed_channel) m i
 
 -- closing channels leaves which banks there are
 all_still : (ps : List ℕ) (m : ℕ → Option (ℕ → Option Kept)) (i : ℕ) → is_some (closed_all ps m i) ≡ is_some (m i)
 all_still [] m i = refl
-all_still (p ∷ ps) m i = still_one p ps m i (all_still ps (changed_at p (option_map closed) m) i)
+all_still (p ∷ ps) m i = still_one p ps m i (all_still ps (changed_at p (option_map closed_channel) m) i)
 
 -- what holds of all that are among them holds of all of them
-all_in : (P : ℕ → Type 0) (ps : List ℕ) → ((p : ℕ) → is_among p ps ≡ true → P p) → said.AllIn P ps
+all_in : (P : ℕ → Type 0) (ps : List ℕ) → ((p : ℕ) → is_among p ps ≡ true → P p) → said.AllHave P ps
 all_in P [] h = tt
 all_in P (p ∷ ps) h = (h p (ap (λ b. cond b true (is_among p ps)) (eq-eqb p p refl)), all_in P ps (λ q among. h q (by (eqb q p) among))) where
   by : (b : Bool) {c : Bool} → c ≡ true → cond b true c ≡ true
@@ -135,7 +135,7 @@ module _ {A C : Type 0} (least faults : C → ℕ) (readings : C → Option (Lis
   -- the tick of moment m, where the clock was asked and its answer left the timers as c1
   pub record Ticks : Type 0 where
     pub asked : IsAsked m was_so c1
-    pub passed_by : is_so ≡ passed m c1
+    pub passed_by : is_so ≡ moment_passed m c1
     pub event : e ≡ ticked m ps
     pub some : ps ≢ []
     pub placed : Placed (channels_held held0.banks)
@@ -154,7 +154,7 @@ module _ {A C : Type 0} (over : CodeView → A → Type 0) (place : A → At) (a
   Turns = MovesTurn place (advances_over over (valid_code code) advances) (gives_over over (valid_code code) gives) (starts_over over (valid_code code) starts) w n
 
   -- what a channel served
-  pub served_moved : (law : Stays over gives) (held held2 : Held A) (p wait o : ℕ) (side : Side) (e : Event) → served_in held p ≡ serves side wait o → is_some held.ready ≡ true → IsSettled place gives held held2 p side wait o e
+  pub served_moved : (law : StaysOverCode over gives) (held held2 : Held A) (p wait o : ℕ) (side : Side) (e : Event) → served_in held p ≡ serves side wait o → is_some held.ready ≡ true → IsSettled place gives held held2 p side wait o e
       → IsMovedWith over place advances gives starts seen code n w (holds_banks held2) (holds_shards held2) (said.shown (event_view e)) (laid_aside seen n code w l None held None held2)
   served_moved law held held2 p wait o side e served ready s ports looked banks shards =
       let same = settled_held place gives held held2 p wait o side e s {C = C} None in
@@ -174,7 +174,7 @@ module _ {A C : Type 0} (over : CodeView → A → Type 0) (place : A → At) (a
     abbrev c1 : Option TimersPart
     c1 = Some (clockwork_seen least faults readings clock.value)
 
-    clock_moved : (x : said.Named) → what ≢ said.stalls → names_of w what ≡ x → x.lane ≡ false → x.timers ≡ true → x.ready ≡ None → BanksOf h x.ports → x.waits ≡ []
+    clock_moved : (x : said.NamedParts) → what ≢ said.stalls → turn_names w what ≡ x → x.lane ≡ false → x.timers ≡ true → x.ready ≡ None → BanksOf h x.ports → x.waits ≡ []
         → Turns what (parts_held w None c0 held0) (parts_held w None c1 held) → IsMoved over place advances gives starts seen code n w (drawn_with w n what ports looked) h
     clock_moved x some names lane timed none banks_of no_waits turns =
         let t = aside_turned least faults readings n code w l (Some clock0) (Some clock) held0 held same in
@@ -183,7 +183,7 @@ module _ {A C : Type 0} (over : CodeView → A → Type 0) (place : A → At) (a
         record {
           by = refl;
           of = refl;
-          covers = covers_by h w n what ports looked x some names lane brings banks_of (subst (λ (v : List ℕ). said.AllIn (λ v. is_some (h.shards (home v)) ≡ true) v) (sym no_waits) tt);
+          covers = covers_by h w n what ports looked x some names lane brings banks_of (subst (λ (v : List ℕ). said.AllHave (λ v. is_some (h.shards (home v)) ≡ true) v) (sym no_waits) tt);
           alike = all_alike n w was (is_now seen) h None None c0 c1 held0 held t.before t.after;
           moves = both_carried was (is_now seen) w h None None c0 c1 held0 held a b (Turns what) turns;
         } where
@@ -246,7 +246,7 @@ module _ {A C : Type 0} (over : CodeView → A → Type 0) (place : A → At) (a
       timers = refl;
     }
 
-    reads : Ticks least faults readings clock0 clock held0 held m c1 e → Reads m (clockwork_seen least faults readings clock0.value) (clockwork_seen least faults readings clock.value)
+    reads : Ticks least faults readings clock0 clock held0 held m c1 e → ReadsClock m (clockwork_seen least faults readings clock0.value) (clockwork_seen least faults readings clock.value)
     reads t = let q = t.passed_by in record {
       now = ap (λ (x : TimersPart). x.now) q;
       later = t.asked.later;
@@ -262,7 +262,7 @@ module _ {A C : Type 0} (over : CodeView → A → Type 0) (place : A → At) (a
 
     ticks : Ticks least faults readings clock0 clock held0 held m c1 e → MovesTick m (due m c1.deadlines) (parts_held w None (Some (clockwork_seen least faults readings clock0.value)) held0) (parts_held w None (Some (clockwork_seen least faults readings clock.value)) held)
     ticks t = tick_moves (parts_held w None (Some (clockwork_seen least faults readings clock0.value)) held0) (parts_held w None (Some (clockwork_seen least faults readings clock.value)) held) m (due m c1.deadlines) (clockwork_seen least faults readings clock0.value) (clockwork_seen least faults readings clock.value) t.placed refl refl t.asked.late t.asked.bound
-        (ap (due m) (sym t.asked.deadlines)) t.some (ap times t.passed_by ∙ ap (λ ds. record { deadlines = open_after m ds; now = m }) t.asked.deadlines) (reads t)
+        (ap (due m) (sym t.asked.deadlines)) t.some (ap times_shown t.passed_by ∙ ap (λ ds. record { deadlines = open_after m ds; now = m }) t.asked.deadlines) (reads t)
         (λ p among. held_at p (listed number_of_bank (parts held0.banks) (home p)) (t.there p among))
         t.channels t.registries (λ i. refl) (λ i. ap (λ s. waits_held s i) t.shards) (λ r. ap (λ o. cond (eqb w r) (ready_in o) None) t.ready)
 
@@ -284,7 +284,7 @@ asked_reads m c c2 a = (
 pub failed_fails : (c c2 c3 : TimersPart) → HasFailed c c2 → c3 ≡ with_mark clock_failed c2 → TimesBy said.fails c c3
 failed_fails c c2 c3 f e = subst (λ (x : TimersPart). TimesBy said.fails c x) (sym e) (
   record { deadlines = f.deadlines; now = f.now; least = f.least },
-  (f.readings, f.faults, ap (λ k. marked k clock_failed) f.mark),
+  (f.readings, f.faults, ap (λ k. stop_marked k clock_failed) f.mark),
 )
 
 -- an asking of timers that showed the same

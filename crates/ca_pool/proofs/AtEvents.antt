@@ -8,7 +8,7 @@ use Rattle.ca_states.specs.Code.{CodeView}
 use Rattle.ca_states.specs.ValidCode.{valid_code}
 use Rattle.ca_states.specs.declared.valid_code.ValidCode.{ValidCode}
 use Rattle.ca_turns.specs.Hands.{Held as HandHeld, TableId}
-use Rattle.ca_turns.specs.Views.{stands}
+use Rattle.ca_turns.specs.Views.{hands_stood_for}
 use Rattle.ca_commit.specs.Contents.{TimersPart}
 use Rattle.ca_commit.specs.declared.held.Held.{Held}
 use Rattle.ca_table.specs.Bearing.{ShowSame}
@@ -17,7 +17,7 @@ use Rattle.ca_table.specs.Carrying.{Carries, at_places}
 use Rattle.ca_table.specs.Draws.{drawn_touches}
 use Rattle.ca_table.specs.Grips.{Grips, SameTurns}
 use Rattle.ca_table.specs.LoneHands.{HoldsLeft}
-use Rattle.ca_table.specs.Parts.{away, clockwork_seen, part_seen}
+use Rattle.ca_table.specs.Parts.{part_away, clockwork_seen, part_seen}
 use Rattle.ca_table.specs.Seen.{PartSeen, seen_timers}
 use Rattle.ca_table.specs.Worked.{Drew}
 use Rattle.ca_table.specs.Workers.{AllAbove, IsOne, SameWorker, noted}
@@ -28,7 +28,7 @@ use Rattle.ca_table.specs.declared.worker.Worker.{Worker}
 use Rattle.ca_table.proofs.Drawing.{drew_none}
 use Rattle.ca_table.proofs.Knowing.{knows_same}
 use Rattle.ca_pool.specs.AtEvent.{HasLane, HasTaken}
-use Rattle.ca_pool.specs.Desk.{ClockBox, IsBare, taken}
+use Rattle.ca_pool.specs.Desk.{ClockBox, IsBare, desk_taken}
 use Rattle.ca_pool.proofs.Desk.{bare_taken, clock_seen, taken_same}
 
 -- a call that leaves the hand alone
@@ -63,7 +63,7 @@ module _ {A C : Type 0} (over : CodeView → A → Type 0) (stands_as : ProgramV
     opened_for = ap (λ h. h.view.hands) hand ∙ one.opened_for;
     above = subst (λ ts. AllAbove 0 ts) (sym (ap (λ h. h.view.turns) hand)) one.above;
     notes = entries_are ∙ one.notes ∙ sym (ap (λ h. noted h.view.turns) hand);
-    left = subst (λ (h : HandHeld (Part A C) (PartSeen A) Drawn). stands h.view ≡ h.view.hands → HoldsLeft drawn_touches h.view) (sym hand) one.left;
+    left = subst (λ (h : HandHeld (Part A C) (PartSeen A) Drawn). hands_stood_for h.view ≡ h.view.hands → HoldsLeft drawn_touches h.view) (sym hand) one.left;
   }
 
   pub kept_carrying : (h : Carries (Part A C × PartSeen A)) → SameWorker w v → v.hand ≡ w.hand → entries v.entries ≡ entries w.entries → IsCarrying over stands_as program code id n w h → IsCarrying over stands_as program code id n v h
@@ -79,8 +79,8 @@ module _ {A C : Type 0} (over : CodeView → A → Type 0) (stands_as : ProgramV
   shows = part_seen least faults readings
 
   -- by its own number
-  pub own_number : (w v : Worker A C) (clock : Option (ClockBox C)) (held : Held A) → v.number ≡ w.number → IsCarrying over stands_as program code id n v (taken shows n code w.number l clock held) → HasTaken over stands_as code id program n l shows clock held v
-  own_number w v clock held e s = subst (λ (k : ℕ). IsCarrying over stands_as program code id n v (taken shows n code k l clock held)) (sym e) s
+  pub own_number : (w v : Worker A C) (clock : Option (ClockBox C)) (held : Held A) → v.number ≡ w.number → IsCarrying over stands_as program code id n v (desk_taken shows n code w.number l clock held) → HasTaken over stands_as code id program n l shows clock held v
+  own_number w v clock held e s = subst (λ (k : ℕ). IsCarrying over stands_as program code id n v (desk_taken shows n code k l clock held)) (sym e) s
 
   -- nothing is held beside the lane
   pub bare_lane : (w : Worker A C) (held : Held A) → IsBare held → HasTaken over stands_as code id program n l shows None held w → HasLane over stands_as code id program n l w
@@ -94,7 +94,7 @@ module _ {A C : Type 0} (over : CodeView → A → Type 0) (stands_as : ProgramV
   taken_shown w clock old new same s = subst (λ (h : Carries (Part A C × PartSeen A)). IsCarrying over stands_as program code id n w h) (taken_same least faults readings n code w.number l clock old new same) s
 
   abbrev clock_part : TimersPart → Part A C × PartSeen A
-  clock_part t = (away n code, record { workers = n; code = valid_code code; held = seen_timers t })
+  clock_part t = (part_away n code, record { workers = n; code = valid_code code; held = seen_timers t })
 
   clock_parts : (clock : Option (ClockBox C)) → option_map (λ c. clock_part (clockwork_seen least faults readings c.value)) clock ≡ option_map clock_part (clock_seen least faults readings clock)
   clock_parts None = refl
@@ -102,11 +102,11 @@ module _ {A C : Type 0} (over : CodeView → A → Type 0) (stands_as : ProgramV
 
   pub clock_shown : (w : Worker A C) (clock clock2 : Option (ClockBox C)) (held : Held A) → clock_seen least faults readings clock2 ≡ clock_seen least faults readings clock → HasTaken over stands_as code id program n l shows clock held w → HasTaken over stands_as code id program n l shows clock2 held w
   clock_shown w clock clock2 held e s = subst (λ (h : Carries (Part A C × PartSeen A)). IsCarrying over stands_as program code id n w h) same s where
-    same : taken shows n code w.number l clock held ≡ taken shows n code w.number l clock2 held
+    same : desk_taken shows n code w.number l clock held ≡ desk_taken shows n code w.number l clock2 held
     same = λ t. record {
-      lane = (taken shows n code w.number l clock held).lane;
-      banks = (taken shows n code w.number l clock held).banks;
-      shards = (taken shows n code w.number l clock held).shards;
+      lane = (desk_taken shows n code w.number l clock held).lane;
+      banks = (desk_taken shows n code w.number l clock held).banks;
+      shards = (desk_taken shows n code w.number l clock held).shards;
       timers = (clock_parts clock ∙ ap (option_map clock_part) (sym e) ∙ sym (clock_parts clock2)) t;
-      ready = (taken shows n code w.number l clock held).ready;
+      ready = (desk_taken shows n code w.number l clock held).ready;
     }

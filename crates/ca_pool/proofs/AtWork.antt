@@ -20,7 +20,7 @@ use Rattle.ca_table.specs.Carriers.{IsCarrying, LaneBox, just_lane}
 use Rattle.ca_table.specs.Grips.{SameHand, SameTurns}
 use Rattle.ca_table.specs.LoneHands.{DrewTurn}
 use Rattle.ca_table.specs.Running.{shown_by}
-use Rattle.ca_table.specs.Worked.{AnswersFor, Drew, HasWorked, Sparing, fails_clock, gives_up, has, tells_stop}
+use Rattle.ca_table.specs.Worked.{AnswersFor, Drew, HasWorked, Sparing, fails_clock, gives_up, some_turn, tells_stop}
 use Rattle.ca_table.specs.Workers.{IsReady, IsSeated, SameWorker}
 use Rattle.ca_table.specs.declared.answer.PoolStop.{PoolStop}
 use Rattle.ca_table.specs.declared.answer.PoolStop.TheVariants.{ClockFailed, OutOfMemory}
@@ -41,9 +41,9 @@ shown_first : {C : Type 0} (ts us : List (Turn C Drawn)) → shown_by us ≡ [] 
 shown_first ts us hidden = shown_both ts us ∙ ap (λ (es : List EventView). shown_by ts ++ es) hidden ∙ append-nil (shown_by ts)
 
 -- why the call is given up stays so
-stops_so : {C : Type 0} (stop : PoolStop) (ts us : List (Turn C Drawn)) → has gives_up ts ≡ false → AnswersFor 0 (Err stop) us → AnswersFor 0 (Err stop) (ts ++ us)
+stops_so : {C : Type 0} (stop : PoolStop) (ts us : List (Turn C Drawn)) → some_turn gives_up ts ≡ false → AnswersFor 0 (Err stop) us → AnswersFor 0 (Err stop) (ts ++ us)
 stops_so ClockFailed ts us going why = (
-  has_append fails_clock ts us ∙ second_true (has fails_clock ts) (has fails_clock us) why.0,
+  has_append fails_clock ts us ∙ second_true (some_turn fails_clock ts) (some_turn fails_clock us) why.0,
   has_append tells_stop ts us ∙ ap₂ (λ (i j : Bool). i || j) (no_stop ts going) why.1,
 )
 stops_so OutOfMemory ts us going why = has_append fails_clock ts us ∙ ap₂ (λ (i j : Bool). i || j) (no_failure ts going) why

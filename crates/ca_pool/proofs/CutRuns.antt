@@ -9,11 +9,11 @@ use Rattle.ca_term.specs.Program.{ProgramView}
 use Rattle.ca_meaning.specs.Cost.{cost}
 use Rattle.ca_meaning.specs.Ends.{HasEnd, IsOpen, but_last}
 use Rattle.ca_meaning.specs.EndsLaw.{IsQuiet}
-use Rattle.ca_meaning.specs.Legal.{GoesOn, Legal, Reaches, is_end_of_main}
+use Rattle.ca_meaning.specs.Legal.{EndsLast, Legal, Reaches, is_end_of_main}
 use Rattle.ca_meaning.specs.State.{State}
 use Rattle.ca_meaning.specs.Steps.{Steps}
 use Rattle.ca_meaning.proofs.Possible.{quiet_stuck}
-use Rattle.ca_journal.specs.Cut.{End, end_in, first_end, kept, main_end, one_later, stops}
+use Rattle.ca_journal.specs.Cut.{End, end_in, first_end, kept, main_end, one_later, stops_at}
 use Rattle.ca_journal.specs.declared.cut.CutAt.{CutAt}
 use Rattle.ca_journal.specs.declared.cut.CutAt.TheVariants.{Limit}
 use Rattle.ca_journal.proofs.Cuts.{cut_ends}
@@ -40,11 +40,11 @@ no_main_in : {G : Type 0} (es : List EventView) → NoMain es → HasMainEnd es 
 no_main_in [] calm h = absurd h.1
 no_main_in (x ∷ es) calm h = ⊎_elim (λ is. absurd (let f : is_end_of_main h.0 ≡ false = ap is_end_of_main is ∙ goes_with x calm.0 in let z : false ≡ true = sym f ∙ h.2 in cc)) (λ k. no_main_in es calm.1 (h.0, k, h.2)) h.1
 
-goes_more : (e : EventView) (es : List EventView) → is_end_of_main e ≡ false → GoesOn es → GoesOn (e ∷ es)
+goes_more : (e : EventView) (es : List EventView) → is_end_of_main e ≡ false → EndsLast es → EndsLast (e ∷ es)
 goes_more e [] calm go = tt
 goes_more e (f ∷ es) calm go = (calm, go)
 
-goes_all : (es : List EventView) → NoMain es → GoesOn es
+goes_all : (es : List EventView) → NoMain es → EndsLast es
 goes_all [] calm = tt
 goes_all (e ∷ es) calm = goes_more e es (goes_with e calm.0) (goes_all es calm.1)
 
@@ -66,7 +66,7 @@ unspent left n t = grind (arith, nat_tests)
 found_none : (left : ℕ) (es : List EventView) → 0 < left → first_end left es ≡ None → (cost es < left) × NoMain es
 found_none left [] lt h = (lt, tt)
 found_none left (e ∷ es) lt h = by (main_end e) refl (nat_le left (cost_of e)) refl (found_none (left - cost_of e) es) h where
-  by : (a : Option CutAt) → main_end e ≡ a → (b : Bool) → nat_le left (cost_of e) ≡ b → (0 < left - cost_of e → first_end (left - cost_of e) es ≡ None → (cost es < left - cost_of e) × NoMain es) → stops a b (first_end (left - cost_of e) es) ≡ None → (cost (e ∷ es) < left) × NoMain (e ∷ es)
+  by : (a : Option CutAt) → main_end e ≡ a → (b : Bool) → nat_le left (cost_of e) ≡ b → (0 < left - cost_of e → first_end (left - cost_of e) es ≡ None → (cost es < left - cost_of e) × NoMain es) → stops_at a b (first_end (left - cost_of e) es) ≡ None → (cost (e ∷ es) < left) × NoMain (e ∷ es)
   by (Some at) m b t later k = not_here _ k
   by None m true t later k = not_here _ k
   by None m false t later k = let room = unspent left (cost_of e) t in let r = later (omega (arith, room)) (none_later (first_end (left - cost_of e) es) k) in (let less = r.0 in omega (arith, less, room), (m, r.1))
@@ -74,14 +74,14 @@ found_none left (e ∷ es) lt h = by (main_end e) refl (nat_le left (cost_of e))
 same_end : (c d : End) → Some c ≡ Some d → c ≡ d
 same_end c d e = cc
 
-goes_to : (left : ℕ) (es : List EventView) (c : End) → first_end left es ≡ Some c → GoesOn (take c.0 es)
+goes_to : (left : ℕ) (es : List EventView) (c : End) → first_end left es ≡ Some c → EndsLast (take c.0 es)
 goes_to left [] c h = absurd (let z : None ≡ Some c = h in cc)
 goes_to left (e ∷ es) c h = by (main_end e) refl (nat_le left (cost_of e)) (first_end (left - cost_of e) es) refl (goes_to (left - cost_of e) es) h where
-  by : (a : Option CutAt) → main_end e ≡ a → (b : Bool) → (r : Option End) → first_end (left - cost_of e) es ≡ r → ((d : End) → first_end (left - cost_of e) es ≡ Some d → GoesOn (take d.0 es)) → stops a b r ≡ Some c → GoesOn (take c.0 (e ∷ es))
-  by (Some at) m b r is later k = subst (λ (d : End). GoesOn (take d.0 (e ∷ es))) (same_end (1, at) c k) tt
-  by None m true r is later k = subst (λ (d : End). GoesOn (take d.0 (e ∷ es))) (same_end (1, Limit) c k) tt
+  by : (a : Option CutAt) → main_end e ≡ a → (b : Bool) → (r : Option End) → first_end (left - cost_of e) es ≡ r → ((d : End) → first_end (left - cost_of e) es ≡ Some d → EndsLast (take d.0 es)) → stops_at a b r ≡ Some c → EndsLast (take c.0 (e ∷ es))
+  by (Some at) m b r is later k = subst (λ (d : End). EndsLast (take d.0 (e ∷ es))) (same_end (1, at) c k) tt
+  by None m true r is later k = subst (λ (d : End). EndsLast (take d.0 (e ∷ es))) (same_end (1, Limit) c k) tt
   by None m false None is later k = absurd (let z : None ≡ Some c = k in cc)
-  by None m false (Some d) is later k = subst (λ (d : End). GoesOn (take d.0 (e ∷ es))) (same_end (one_later d) c k) (goes_more e (take d.0 es) (goes_with e m) (later d is))
+  by None m false (Some d) is later k = subst (λ (d : End). EndsLast (take d.0 (e ∷ es))) (same_end (one_later d) c k) (goes_more e (take d.0 es) (goes_with e m) (later d is))
 
 steps_to : (program : ProgramView) (n : ℕ) (es : List EventView) (s s2 : State) → Steps program s es s2 → (s3 : State) × Steps program s (take n es) s3
 steps_to program zero [] s s2 steps = (s, refl)

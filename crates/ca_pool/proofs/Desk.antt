@@ -29,13 +29,13 @@ use Rattle.ca_table.specs.Bearing.{ShowSame, bank_content, ready_content, shard_
 use Rattle.ca_table.specs.Beside.{settled_beside}
 use Rattle.ca_table.specs.Carriers.{IsCarrying, IsMoved, LaneBox, is_now, just_lane, was}
 use Rattle.ca_table.specs.Carrying.{Carries, at_places, each_by, lane_place, ready_place, with_at}
-use Rattle.ca_table.specs.Covering.{is_named}
+use Rattle.ca_table.specs.Covering.{is_named_one}
 use Rattle.ca_table.specs.DrawnEvents.{IsTurned}
 use Rattle.ca_table.specs.Grips.{SameHand, settled_one}
 use Rattle.ca_table.specs.Homes.{has_home, members}
 use Rattle.ca_table.specs.Lifting.{SettledIf, laid_back, lifted}
 use Rattle.ca_table.specs.Needing.{Brings, drawn_with, own_if}
-use Rattle.ca_table.specs.Parts.{away, bank_seen, clockwork_seen, lane_seen, part_of, part_seen, shard_seen}
+use Rattle.ca_table.specs.Parts.{part_away, bank_seen, clockwork_seen, lane_seen, part_of, part_seen, shard_seen}
 use Rattle.ca_table.specs.Seen.{PartSeen, content_of, lane_of_seen, seen_bank, seen_ready, seen_shard}
 use Rattle.ca_table.specs.Workers.{part_of_lane}
 use Rattle.ca_table.specs.declared.part.Contents.{Contents}
@@ -50,7 +50,7 @@ use Rattle.ca_table.proofs.Gripping.{held_is}
 use Rattle.ca_table.proofs.HomeMembers.{members_homes}
 use Rattle.ca_table.proofs.Loaded.{bank_is, shard_is}
 use Rattle.ca_table.proofs.MadeOf.{some_same}
-use Rattle.ca_pool.specs.Desk.{AreLaid, ClockBox, IsBare, IsMovedWith, SameHeld, TellsOf, all_laid, desk, holds_banks, holds_shards, laid, laid_aside, settled_as, taken}
+use Rattle.ca_pool.specs.Desk.{AreLaid, ClockBox, IsBare, IsMovedWith, SameHeld, TellsOf, all_laid, desk, holds_banks, holds_shards, laid_again, laid_aside, settled_as, desk_taken}
 use Rattle.ca_pool.specs.declared.release.Laid.{Laid}
 
 -- what is there after a map is there before it
@@ -88,7 +88,7 @@ module _ {A C T : Type 0} (seen : Part A C → PartSeen A) (n : ℕ) (code : Val
   as_settled x = seen (part_of n code (as_contents x))
 
   -- what was moved out as it was settled
-  pub lies_away : (o : Option T) → laid_back n code as_contents None (option_map as_settled o) ≡ option_map (λ x. (away n code, as_settled x)) o
+  pub lies_away : (o : Option T) → laid_back n code as_contents None (option_map as_settled o) ≡ option_map (λ x. (part_away n code, as_settled x)) o
   lies_away None = refl
   lies_away (Some x) = refl
 
@@ -145,16 +145,16 @@ module _ {A C : Type 0} (seen : Part A C → PartSeen A) (n : ℕ) (code : Valid
 
   -- a part that was moved out as it was settled
   abbrev pub away_as : Contents A C → Part A C × PartSeen A
-  away_as x = (away n code, settled_as seen n code x)
+  away_as x = (part_away n code, settled_as seen n code x)
 
   abbrev pub ready_laid : Held A → Held A → Option (Part A C × PartSeen A)
   ready_laid held0 held = laid_back n code V.Ready held.ready (ready_were held0)
 
   abbrev pub lane_away : Option (Part A C × PartSeen A)
-  lane_away = Some (away n code, part_of_lane n code l)
+  lane_away = Some (part_away n code, part_of_lane n code l)
 
   -- what is taken, as what lies away
-  pub taken_away : (clock : Option (ClockBox C)) (held : Held A) → taken seen n code w l clock held
+  pub taken_away : (clock : Option (ClockBox C)) (held : Held A) → desk_taken seen n code w l clock held
       ≡ desk w lane_away (λ i. laid_back n code V.Bank None (banks_were held i)) (λ i. laid_back n code V.Shard None (shards_were held i)) (laid_back n code V.Timers None (timers_were clock)) (laid_back n code V.Ready None (ready_were held))
   taken_away clock held = λ t. record {
     lane = lane_away;
@@ -174,11 +174,11 @@ module _ {A C : Type 0} (seen : Part A C → PartSeen A) (n : ℕ) (code : Valid
 
     -- all of it, with the ready part of worker k
     abbrev pub desk_laid : ℕ → Carries (Part A C × PartSeen A)
-    desk_laid k = let h = laid seen n code w l clock0 held0 clock held in desk k h.lane h.banks h.shards h.timers (laid_back n code V.Ready held.ready (ready_were held0))
+    desk_laid k = let h = laid_again seen n code w l clock0 held0 clock held in desk k h.lane h.banks h.shards h.timers (laid_back n code V.Ready held.ready (ready_were held0))
 
     -- and once it is settled, with this lane
     abbrev pub desk_after : Option (Part A C × PartSeen A) → ℕ → Carries (Part A C × PartSeen A)
-    desk_after lane k = let h = laid seen n code w l clock0 held0 clock held in
+    desk_after lane k = let h = laid_again seen n code w l clock0 held0 clock held in
         desk k lane (λ i. settled_one seen (h.banks i)) (λ i. settled_one seen (h.shards i)) (settled_one seen h.timers) (settled_one seen (laid_back n code V.Ready held.ready (ready_were held0)))
 
     -- all but the ready part
@@ -195,7 +195,7 @@ module _ {A C : Type 0} (seen : Part A C → PartSeen A) (n : ℕ) (code : Valid
     ready_back = with_at (ready_place w) (laid_back n code V.Ready held.ready (ready_were held0)) shards_back
 
   -- where nothing is held the lane alone is taken
-  pub bare_taken : (held : Held A) → IsBare held → taken seen n code w l None held ≡ just_lane n code l
+  pub bare_taken : (held : Held A) → IsBare held → desk_taken seen n code w l None held ≡ just_lane n code l
   bare_taken held b = λ t. record {
     lane = lane_away;
     banks = λ i. ap (λ (xs : List HeldBank). option_map (λ x. away_as (V.Bank x)) (listed number_of_bank xs i)) b.banks t;
@@ -216,11 +216,11 @@ module _ {A C : Type 0} (seen : Part A C → PartSeen A) (n : ℕ) (code : Valid
   pub no_shard : (held : Held A) (i : ℕ) → listed number_of_shard (parts held.shards) i ≡ None → lifted n code V.Shard seen number_of_shard (parts held.shards) i ≡ None
   no_shard held i e = ap (option_map (λ s. away_as (V.Shard s))) e
 
-  pub no_ready : (held : Held A) (clock : Option (ClockBox C)) → held.ready ≡ None → (r : ℕ) → (taken seen n code w l clock held).ready r ≡ None
+  pub no_ready : (held : Held A) (clock : Option (ClockBox C)) → held.ready ≡ None → (r : ℕ) → (desk_taken seen n code w l clock held).ready r ≡ None
   no_ready held clock e r = none_own (eqb w r) (option_map (λ q. away_as (V.Ready q)) held.ready) (ap (option_map (λ q. away_as (V.Ready q))) e)
 
   -- the same parts are taken where the room beside them changed
-  pub taken_by : (clock : Option (ClockBox C)) (old new : Held A) → parts new.banks ≡ parts old.banks → parts new.shards ≡ parts old.shards → new.ready ≡ old.ready → taken seen n code w l clock old ≡ taken seen n code w l clock new
+  pub taken_by : (clock : Option (ClockBox C)) (old new : Held A) → parts new.banks ≡ parts old.banks → parts new.shards ≡ parts old.shards → new.ready ≡ old.ready → desk_taken seen n code w l clock old ≡ desk_taken seen n code w l clock new
   taken_by clock old new banks shards ready = λ t. record {
     lane = lane_away;
     banks = λ i. lifted n code V.Bank seen number_of_bank (sym banks t) i;
@@ -231,10 +231,10 @@ module _ {A C : Type 0} (seen : Part A C → PartSeen A) (n : ℕ) (code : Valid
 
   -- with a ready part more
   abbrev pub ready_too : Option (ClockBox C) → Held A → Ready A → Carries (Part A C × PartSeen A)
-  ready_too clock held q = let h = taken seen n code w l clock held in desk w h.lane h.banks h.shards h.timers (Some (away_as (V.Ready q)))
+  ready_too clock held q = let h = desk_taken seen n code w l clock held in desk w h.lane h.banks h.shards h.timers (Some (away_as (V.Ready q)))
 
-  pub with_own : (clock : Option (ClockBox C)) (held : Held A) (q : Ready A) → held.ready ≡ None → with_at (ready_place w) (Some (away_as (V.Ready q))) (taken seen n code w l clock held) ≡ ready_too clock held q
-  with_own clock held q none = λ t. let h = taken seen n code w l clock held in record { lane = h.lane; banks = h.banks; shards = h.shards; timers = h.timers; ready = λ r. own (eqb w r) (h.ready r) (no_ready held clock none r) t } where
+  pub with_own : (clock : Option (ClockBox C)) (held : Held A) (q : Ready A) → held.ready ≡ None → with_at (ready_place w) (Some (away_as (V.Ready q))) (desk_taken seen n code w l clock held) ≡ ready_too clock held q
+  with_own clock held q none = λ t. let h = desk_taken seen n code w l clock held in record { lane = h.lane; banks = h.banks; shards = h.shards; timers = h.timers; ready = λ r. own (eqb w r) (h.ready r) (no_ready held clock none r) t } where
     own : (b : Bool) (o : Option (Part A C × PartSeen A)) → o ≡ None → cond b (Some (away_as (V.Ready q))) o ≡ cond b (Some (away_as (V.Ready q))) None
     own true o e = refl
     own false o e = e
@@ -286,14 +286,14 @@ module _ {A C : Type 0} (seen : Part A C → PartSeen A) (n : ℕ) (code : Valid
   -- an event's ports and waits are those of the parts that lie in the hand for it
   pub brings_laid : (clock0 clock : Option (ClockBox C)) (held0 held : Held A) (lane : Option (Part A C × PartSeen A)) (ports looked : List ℕ) (with_timers with_ready : Bool) → SameHeld clock0 clock held0 held
       → ((i : ℕ) → i < 16 → said.homes ports i ≡ holds_banks held i) → ((i : ℕ) → i < 16 → said.homes looked i ≡ holds_shards held i) → with_timers ≡ is_some clock → with_ready ≡ is_some held.ready
-      → Brings ports looked with_timers (own_if with_ready w) (desk w lane (laid seen n code w l clock0 held0 clock held).banks (laid seen n code w l clock0 held0 clock held).shards (laid seen n code w l clock0 held0 clock held).timers (laid_back n code V.Ready held.ready (ready_were held0)))
+      → Brings ports looked with_timers (own_if with_ready w) (desk w lane (laid_again seen n code w l clock0 held0 clock held).banks (laid_again seen n code w l clock0 held0 clock held).shards (laid_again seen n code w l clock0 held0 clock held).timers (laid_back n code V.Ready held.ready (ready_were held0)))
   brings_laid clock0 clock held0 held lane ports looked with_timers with_ready same banks shards timers ready = record {
     banks = λ i lt. banks i lt ∙ sym (lies_there seen n code V.Bank (listed number_of_bank (parts held0.banks) i) (listed number_of_bank (parts held.banks) i) (same.banks i));
     shards = λ i lt. shards i lt ∙ sym (lies_there seen n code V.Shard (listed number_of_shard (parts held0.shards) i) (listed number_of_shard (parts held.shards) i) (same.shards i));
     timers = timers ∙ sym (lies_there seen n code V.Timers clock0 clock same.timers);
     ready = λ r. own (eqb w r) r refl with_ready (ready ∙ sym (lies_there seen n code V.Ready held0.ready held.ready same.ready));
   } where
-    own : (b : Bool) (r : ℕ) → eqb w r ≡ b → (e : Bool) → e ≡ is_some (ready_laid held0 held) → is_named (own_if e w) r ≡ is_some (cond b (ready_laid held0 held) None)
+    own : (b : Bool) (r : ℕ) → eqb w r ≡ b → (e : Bool) → e ≡ is_some (ready_laid held0 held) → is_named_one (own_if e w) r ≡ is_some (cond b (ready_laid held0 held) None)
     own true r is true e = is ∙ e
     own true r is false e = e
     own false r is true e = is
@@ -335,30 +335,30 @@ module _ {A C : Type 0} (least faults : C → ℕ) (readings : C → Option (Lis
   shows = part_seen least faults readings
 
   abbrev out : Contents A C → Part A C × PartSeen A
-  out x = (away n code, settled_as shows n code x)
+  out x = (part_away n code, settled_as shows n code x)
 
   same_banks : (o z : Option HeldBank) → option_map bank_in z ≡ option_map bank_in o → option_map registries_in z ≡ option_map registries_in o → option_map (λ b. out (V.Bank b)) o ≡ option_map (λ b. out (V.Bank b)) z
   same_banks None None a b = refl
   same_banks None (Some y) a b = absurd (let k : Some (bank_in y) ≡ None = a in cc)
   same_banks (Some x) None a b = absurd (let k : None ≡ Some (bank_in x) = a in cc)
-  same_banks (Some x) (Some y) a b = ap (λ s. Some (away n code, record { workers = n; code = valid_code code; held = seen_bank s })) (bank_same x y (some_same (bank_in y) (bank_in x) a) (some_same (registries_in y) (registries_in x) b))
+  same_banks (Some x) (Some y) a b = ap (λ s. Some (part_away n code, record { workers = n; code = valid_code code; held = seen_bank s })) (bank_same x y (some_same (bank_in y) (bank_in x) a) (some_same (registries_in y) (registries_in x) b))
 
   same_shards : (o z : Option (HeldShard A)) → option_map shard_in z ≡ option_map shard_in o → option_map (λ s. out (V.Shard s)) o ≡ option_map (λ s. out (V.Shard s)) z
   same_shards None None a = refl
   same_shards None (Some y) a = absurd (let k : Some (shard_in y) ≡ None = a in cc)
   same_shards (Some x) None a = absurd (let k : None ≡ Some (shard_in x) = a in cc)
-  same_shards (Some x) (Some y) a = ap (λ s. Some (away n code, record { workers = n; code = valid_code code; held = seen_shard s })) (shard_same x y (some_same (shard_in y) (shard_in x) a))
+  same_shards (Some x) (Some y) a = ap (λ s. Some (part_away n code, record { workers = n; code = valid_code code; held = seen_shard s })) (shard_same x y (some_same (shard_in y) (shard_in x) a))
 
   same_ready : (o z : Option (Ready A)) → option_map tasks_in z ≡ option_map tasks_in o → option_map (λ q. out (V.Ready q)) o ≡ option_map (λ q. out (V.Ready q)) z
   same_ready None None a = refl
   same_ready None (Some y) a = absurd (let k : Some (tasks_in y) ≡ None = a in cc)
   same_ready (Some x) None a = absurd (let k : None ≡ Some (tasks_in x) = a in cc)
-  same_ready (Some x) (Some y) a = ap (λ q. Some (away n code, record { workers = n; code = valid_code code; held = seen_ready q })) (sym (some_same (tasks_in y) (tasks_in x) a))
+  same_ready (Some x) (Some y) a = ap (λ q. Some (part_away n code, record { workers = n; code = valid_code code; held = seen_ready q })) (sym (some_same (tasks_in y) (tasks_in x) a))
 
   -- a call that only reserves leaves what is taken as it was
-  pub taken_same : (w : ℕ) (l : Lane A) (clock : Option (ClockBox C)) (old new : Held A) → ShowSame old new → taken shows n code w l clock old ≡ taken shows n code w l clock new
+  pub taken_same : (w : ℕ) (l : Lane A) (clock : Option (ClockBox C)) (old new : Held A) → ShowSame old new → desk_taken shows n code w l clock old ≡ desk_taken shows n code w l clock new
   taken_same w l clock old new same = λ t. record {
-    lane = Some (away n code, part_of_lane n code l);
+    lane = Some (part_away n code, part_of_lane n code l);
     banks = λ i. same_banks (listed number_of_bank (parts old.banks) i) (listed number_of_bank (parts new.banks) i) (same.channels i) (same.registries i) t;
     shards = λ i. same_shards (listed number_of_shard (parts old.shards) i) (listed number_of_shard (parts new.shards) i) (same.waits i) t;
     timers = option_map (λ c. out (V.Timers c)) clock;
@@ -366,31 +366,31 @@ module _ {A C : Type 0} (least faults : C → ℕ) (readings : C → Option (Lis
   }
 
   module _ (w : ℕ) (l : Lane A) (clock0 clock : Option (ClockBox C)) (held0 held : Held A) (same : SameHeld clock0 clock held0 held) where
-    abbrev banks_was : (i : ℕ) → option_map was ((laid shows n code w l clock0 held0 clock held).banks i) ≡ option_map (bank_content n) (listed number_of_bank (parts held0.banks) i)
+    abbrev banks_was : (i : ℕ) → option_map was ((laid_again shows n code w l clock0 held0 clock held).banks i) ≡ option_map (bank_content n) (listed number_of_bank (parts held0.banks) i)
     banks_was i = lies_was shows n code V.Bank (bank_content n) (bank_is A n) (listed number_of_bank (parts held0.banks) i) (listed number_of_bank (parts held.banks) i) (same.banks i)
 
-    abbrev banks_now : (i : ℕ) → option_map (is_now shows) ((laid shows n code w l clock0 held0 clock held).banks i) ≡ option_map (bank_content n) (listed number_of_bank (parts held.banks) i)
+    abbrev banks_now : (i : ℕ) → option_map (is_now shows) ((laid_again shows n code w l clock0 held0 clock held).banks i) ≡ option_map (bank_content n) (listed number_of_bank (parts held.banks) i)
     banks_now i = lies_now shows n code V.Bank (bank_content n) (bank_is A n) (listed number_of_bank (parts held0.banks) i) (listed number_of_bank (parts held.banks) i) (same.banks i)
 
-    abbrev shards_was : (i : ℕ) → option_map was ((laid shows n code w l clock0 held0 clock held).shards i) ≡ option_map (shard_content n) (listed number_of_shard (parts held0.shards) i)
+    abbrev shards_was : (i : ℕ) → option_map was ((laid_again shows n code w l clock0 held0 clock held).shards i) ≡ option_map (shard_content n) (listed number_of_shard (parts held0.shards) i)
     shards_was i = lies_was shows n code V.Shard (shard_content n) (shard_is n) (listed number_of_shard (parts held0.shards) i) (listed number_of_shard (parts held.shards) i) (same.shards i)
 
-    abbrev shards_now : (i : ℕ) → option_map (is_now shows) ((laid shows n code w l clock0 held0 clock held).shards i) ≡ option_map (shard_content n) (listed number_of_shard (parts held.shards) i)
+    abbrev shards_now : (i : ℕ) → option_map (is_now shows) ((laid_again shows n code w l clock0 held0 clock held).shards i) ≡ option_map (shard_content n) (listed number_of_shard (parts held.shards) i)
     shards_now i = lies_now shows n code V.Shard (shard_content n) (shard_is n) (listed number_of_shard (parts held0.shards) i) (listed number_of_shard (parts held.shards) i) (same.shards i)
 
     abbrev clock_content : ClockBox C → Content (TaskAgent A)
     clock_content c = timers_content n (clockwork_seen least faults readings c.value)
 
-    timers_was : option_map was (laid shows n code w l clock0 held0 clock held).timers ≡ option_map (timers_content n) (clock_seen least faults readings clock0)
+    timers_was : option_map was (laid_again shows n code w l clock0 held0 clock held).timers ≡ option_map (timers_content n) (clock_seen least faults readings clock0)
     timers_was = lies_was shows n code V.Timers clock_content (λ c. refl) clock0 clock same.timers ∙ map_twice (λ c. clockwork_seen least faults readings c.value) (timers_content n) clock0
 
-    timers_now : option_map (is_now shows) (laid shows n code w l clock0 held0 clock held).timers ≡ option_map (timers_content n) (clock_seen least faults readings clock)
+    timers_now : option_map (is_now shows) (laid_again shows n code w l clock0 held0 clock held).timers ≡ option_map (timers_content n) (clock_seen least faults readings clock)
     timers_now = lies_now shows n code V.Timers clock_content (λ c. refl) clock0 clock same.timers ∙ map_twice (λ c. clockwork_seen least faults readings c.value) (timers_content n) clock
 
-    ready_was : (r : ℕ) → option_map was ((laid shows n code w l clock0 held0 clock held).ready r) ≡ cond (eqb w r) (option_map (ready_content n) held0.ready) None
+    ready_was : (r : ℕ) → option_map was ((laid_again shows n code w l clock0 held0 clock held).ready r) ≡ cond (eqb w r) (option_map (ready_content n) held0.ready) None
     ready_was r = own_part was (eqb w r) (laid_back n code V.Ready held.ready (ready_were shows n code w l held0)) ∙ ap (λ o. cond (eqb w r) o None) (lies_was shows n code V.Ready (ready_content n) (λ q. refl) held0.ready held.ready same.ready)
 
-    ready_now : (r : ℕ) → option_map (is_now shows) ((laid shows n code w l clock0 held0 clock held).ready r) ≡ cond (eqb w r) (option_map (ready_content n) held.ready) None
+    ready_now : (r : ℕ) → option_map (is_now shows) ((laid_again shows n code w l clock0 held0 clock held).ready r) ≡ cond (eqb w r) (option_map (ready_content n) held.ready) None
     ready_now r = own_part (is_now shows) (eqb w r) (laid_back n code V.Ready held.ready (ready_were shows n code w l held0)) ∙ ap (λ o. cond (eqb w r) o None) (lies_now shows n code V.Ready (ready_content n) (λ q. refl) held0.ready held.ready same.ready)
 
     -- what lies in the hand for an event beside the lane

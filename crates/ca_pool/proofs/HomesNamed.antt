@@ -10,9 +10,9 @@ use Rattle.ca_meaning.specs.Operands.{first_of, second_of}
 use Rattle.ca_meaning.specs.Refusal.{operands_to_make}
 use Rattle.ca_meaning.specs.Registry.{pairs_in}
 use Rattle.ca_commit.specs.Contents.{home}
-use Rattle.ca_commit.specs.Naming.{port_in, port_keys, port_of_item, ports_among, ports_of_items, ports_of_seed, ports_toggled}
+use Rattle.ca_commit.specs.Naming.{listed_port, port_keys, port_of_item, ports_among, ports_of_items, ports_of_seed, ports_toggled}
 use Rattle.ca_commit.specs.Touched.{homes}
-use Rattle.ca_pool.specs.Named.{ports_to_hold, with_item, with_items, with_keys, with_operands, with_port, with_seed, with_toggle, with_value, with_values}
+use Rattle.ca_pool.specs.Named.{ports_to_hold, with_item, with_items, with_keys, with_operands, home_wanted, with_seed, with_toggle, with_value, with_values}
 
 turned_eqb : (a b : ℕ) → eqb a b ≡ eqb b a
 turned_eqb a b = by (eqb a b) refl where
@@ -49,16 +49,16 @@ module _ (i : ℕ) where
   has_more : (xs ys : List ℕ) (f : Bool → Bool) (b c : Bool) → ((d : Bool) → f d ≡ (Has ys || d)) → c ≡ (Has xs || b) → f c ≡ (Has (xs ++ ys) || b)
   has_more xs ys f b c rest first = rest c ∙ ap (λ d. Has ys || d) first ∙ in_front (Has xs) (Has ys) b ∙ ap (λ d. d || b) (sym (has_both xs ys))
 
-  port_more : (n : ℕ) (b : Bool) → with_port n i b ≡ (Has (n ∷ []) || b)
+  port_more : (n : ℕ) (b : Bool) → home_wanted n i b ≡ (Has (n ∷ []) || b)
   port_more n b = ap (λ c. cond c true b) (turned_eqb (home n) i) ∙ or_cond (eqb i (home n)) b
 
-  value_more : (v : Tree) (b : Bool) → with_value v i b ≡ (Has (port_in v) || b)
+  value_more : (v : Tree) (b : Bool) → with_value v i b ≡ (Has (listed_port v) || b)
   value_more (port n) b = port_more n b
   value_more v b = refl
 
   values_more : (vs : Trees) (b : Bool) → with_values vs i b ≡ (Has (ports_among vs) || b)
   values_more none b = refl
-  values_more (item v vs) b = has_more (port_in v) (ports_among vs) (λ d. with_values vs i d) b (with_value v i b) (values_more vs) (value_more v b)
+  values_more (item v vs) b = has_more (listed_port v) (ports_among vs) (λ d. with_values vs i d) b (with_value v i b) (values_more vs) (value_more v b)
 
   item_more : (v : Tree) (b : Bool) → with_item v i b ≡ (Has (port_of_item v) || b)
   item_more (vector vs) b = value_more (first_of vs) b
@@ -70,7 +70,7 @@ module _ (i : ℕ) where
 
   keys_more : (ps : TreePairs) (b : Bool) → with_keys ps i b ≡ (Has (port_keys ps) || b)
   keys_more empty b = refl
-  keys_more (pair k v ps) b = has_more (port_in k) (port_keys ps) (λ d. with_keys ps i d) b (with_value k i b) (keys_more ps) (value_more k b)
+  keys_more (pair k v ps) b = has_more (listed_port k) (port_keys ps) (λ d. with_keys ps i d) b (with_value k i b) (keys_more ps) (value_more k b)
 
   toggle_more : (name : RegisterName) (args : Trees) (b : Bool) → with_toggle name args i b ≡ (Has (ports_toggled name args) || b)
   toggle_more Toggle args b = keys_more (pairs_in (second_of args)) b
@@ -85,7 +85,7 @@ module _ (i : ℕ) where
   operands_more (putting c v) p b = value_more c b
   operands_more (posting c v) p b = value_more c b
   operands_more (choosing ports priority default) p b = items_more ports b
-  operands_more (making what) p b = has_more (p ∷ []) (ports_among (operands_to_make what)) (λ d. with_values (operands_to_make what) i d) b (with_port p i b) (values_more (operands_to_make what)) (port_more p b)
+  operands_more (making what) p b = has_more (p ∷ []) (ports_among (operands_to_make what)) (λ d. with_values (operands_to_make what) i d) b (home_wanted p i b) (values_more (operands_to_make what)) (port_more p b)
   operands_more (spawning seed) p b = seed_more seed b
   operands_more (closing c) p b = value_more c b
   operands_more (registering name args) p b = has_more (ports_among args) (ports_toggled name args) (λ d. with_toggle name args i d) b (with_values args i b) (toggle_more name args) (values_more args b)

@@ -8,7 +8,7 @@ use Rattle.ca_states.specs.Code.{CodeView}
 use Rattle.ca_turns.specs.declared.rule.Turn.{Turn}
 use Rattle.ca_turns.specs.declared.rule.View.{View}
 use Rattle.ca_turns.specs.Steps.{SeesOne}
-use Rattle.ca_turns.specs.Views.{having_missed, holding, missing}
+use Rattle.ca_turns.specs.Views.{having_missed, holding, missing_part}
 use Rattle.ca_table.specs.Draws.{drawn_moves, drawn_touches}
 use Rattle.ca_table.specs.LoneHands.{HoldsLeft}
 use Rattle.ca_table.specs.Seen.{PartSeen}
@@ -24,7 +24,7 @@ module _ {A : Type 0} where
   left_both x y z stand hands turns a b alone up h = b (ap (λ (l : List ℕ). length l) stand ∙ alone ∙ sym hands) (subst (λ (ts : List (Turn (PartSeen A) Drawn)). AllAbove 0 ts) (sym turns) up) (a alone up h)
 
   -- it found the part held
-  pub missed_left : (v w : View (PartSeen A) Drawn) (i : ℕ) → w ≡ missing v i → KeepsLeft v w
+  pub missed_left : (v w : View (PartSeen A) Drawn) (i : ℕ) → w ≡ missing_part v i → KeepsLeft v w
   missed_left v w i e alone up h = subst (λ (x : View (PartSeen A) Drawn). HoldsLeft drawn_touches x) (sym e) (record { long = h.long; held = h.held })
 
   -- it gave the part back

@@ -25,7 +25,7 @@ use Rattle.ca_table.specs.Carrying.{timers_place}
 use Rattle.ca_table.specs.Draws.{drawn_touches}
 use Rattle.ca_table.specs.Grips.{SameHand}
 use Rattle.ca_table.specs.LoneHands.{DrewTurn, HoldsLeft, left_now}
-use Rattle.ca_table.specs.Parts.{away, clockwork_seen, part_seen}
+use Rattle.ca_table.specs.Parts.{part_away, clockwork_seen, part_seen}
 use Rattle.ca_table.specs.Seen.{HeldSeen, PartSeen, held_of, seen_timers}
 use Rattle.ca_table.specs.Workers.{SameWorker}
 use Rattle.ca_table.specs.declared.drawn.Drawn.{Drawn}
@@ -41,8 +41,8 @@ use Rattle.ca_alone.proofs.HeldPosition.{with_timers}
 use Rattle.ca_alone.proofs.HeldWithin.{carried_settled}
 use Rattle.ca_alone.proofs.Leading as leading
 use Rattle.ca_alone.proofs.Standings as standings
-use Rattle.ca_pool.specs.Asking.{IsAsked, IsFirst}
-use Rattle.ca_pool.specs.Desk.{ClockBox, settled_as, taken}
+use Rattle.ca_pool.specs.Asking.{IsAsked, IsFirstMoment}
+use Rattle.ca_pool.specs.Desk.{ClockBox, settled_as, desk_taken}
 use Rattle.ca_pool.specs.Lone.{HasAsked, IsLone, LoneAt, LoneStopped, MayGo, Stayed, Went}
 use Rattle.ca_pool.specs.declared.clock.Asked.{Asked}
 use Rattle.ca_pool.specs.declared.clock.Asked.TheVariants.{Ticked}
@@ -55,11 +55,11 @@ stayed_none w = let d = did_none w in lone.stayed_same d.same d.turns
 
 -- The first deadline.
 -- the clock's answer is before it, or isn't
-pub is_early : (first m : ℕ) (ds : List Deadline) → IsFirst first ds → m < first → IsEarly ds m
+pub is_early : (first m : ℕ) (ds : List Deadline) → IsFirstMoment first ds → m < first → IsEarly ds m
 is_early first m [] e lt = absurd (let k : None ≡ Some first = e in cc)
 is_early first m (d ∷ ds) e lt = let k : d.moment ≡ first = some_same d.moment first e in omega (arith, k, lt)
 
-pub is_due : (first m : ℕ) (ds : List Deadline) → IsFirst first ds → first ≤ m → IsDue ds m
+pub is_due : (first m : ℕ) (ds : List Deadline) → IsFirstMoment first ds → first ≤ m → IsDue ds m
 is_due first m [] e le = absurd (let k : None ≡ Some first = e in cc)
 is_due first m (d ∷ ds) e le = let k : d.moment ≡ first = some_same d.moment first e in omega (arith, k, le)
 
@@ -109,7 +109,7 @@ module _ {A C : Type 0} (over : CodeView → A → Type 0) (place : A → At) (s
   ticked_asked us most a w t = subst (λ (x : Asked). HasAsked over place stands_as advances gives starts code us most x w) (sym t.1) t.2
 
   module _ (least faults : C → ℕ) (readings : C → Option (List ℕ)) (id : TableId) (program : ProgramView) (n : ℕ) (l : Lane A) (clock : ClockBox C) (held : Held A) (w : Worker A C)
-      (alone : IsLone w) (s : IsCarrying over stands_as program code id n w (taken (part_seen least faults readings) n code w.number l (Some clock) held)) where
+      (alone : IsLone w) (s : IsCarrying over stands_as program code id n w (desk_taken (part_seen least faults readings) n code w.number l (Some clock) held)) where
     abbrev shown : TimersPart
     shown = clockwork_seen least faults readings clock.value
 
@@ -124,8 +124,8 @@ module _ {A C : Type 0} (over : CodeView → A → Type 0) (place : A → At) (s
     settled c = settled_as (part_seen least faults readings) 1 code (V.Timers c)
 
     lies : get_elem? w.hand.view.held 33 ≡ core.some (Some (settled clock))
-    lies = carried_settled over stands_as program code id w (taken (part_seen least faults readings) 1 code w.number l (Some clock) held)
-        (subst (λ (m : ℕ). IsCarrying over stands_as program code id m w (taken (part_seen least faults readings) m code w.number l (Some clock) held)) one s) timers_place (away 1 code, settled clock) tt refl
+    lies = carried_settled over stands_as program code id w (desk_taken (part_seen least faults readings) 1 code w.number l (Some clock) held)
+        (subst (λ (m : ℕ). IsCarrying over stands_as program code id m w (desk_taken (part_seen least faults readings) m code w.number l (Some clock) held)) one s) timers_place (part_away 1 code, settled clock) tt refl
 
     was : (parts_now w.hand.view).timers ≡ Some shown
     was = timers_there w.hand.view left (settled clock) shown lies refl

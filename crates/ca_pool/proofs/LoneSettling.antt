@@ -46,7 +46,7 @@ use Rattle.ca_alone.proofs.HeldWithin.{carried_lies}
 use Rattle.ca_alone.proofs.Leading as leading
 use Rattle.ca_alone.proofs.Standings as standings
 use Rattle.ca_pool.specs.AtWork.{HasSpent}
-use Rattle.ca_pool.specs.Desk.{taken}
+use Rattle.ca_pool.specs.Desk.{desk_taken}
 use Rattle.ca_pool.specs.Lone.{HasCounted, HasSettled, IsGoing, IsRunning, LoneAt, MayGo, Went}
 use Rattle.ca_pool.proofs.Desk.{some_map}
 use Rattle.ca_pool.proofs.Lone as lone
@@ -96,12 +96,12 @@ module _ {A C : Type 0} (over : CodeView → A → Type 0) (place : A → At) (s
       (λ program at. leading.settles over place stands_as advances gives starts advance_law answer_law start_law program (valid_code code) old.hand.view new.hand.view k p us w o side x at drew) m
 
   -- what is held shows that the channel doesn't settle
-  pub rests_pass : (least faults : C → ℕ) (readings : C → Option (List ℕ)) (id : TableId) {w : Worker A C} (program : ProgramView) (n : ℕ) (l : Lane A) (number : ℕ) (held : Held A) (k : Follow) (p : ℕ) (us : List ℕ) → IsCarrying over stands_as program code id n w (taken (part_seen least faults readings) n code number l None held)
+  pub rests_pass : (least faults : C → ℕ) (readings : C → Option (List ℕ)) (id : TableId) {w : Worker A C} (program : ProgramView) (n : ℕ) (l : Lane A) (number : ℕ) (held : Held A) (k : Follow) (p : ℕ) (us : List ℕ) → IsCarrying over stands_as program code id n w (desk_taken (part_seen least faults readings) n code number l None held)
       → IsSome (channels_held held.banks (home p)) → served_in held p ≡ rests → Stands (MaySettle k (p ∷ us)) w → Stands (MaySettle k us) w
   rests_pass least faults readings id {w} program n l number held k p us c bank e s =
       let one : n ≡ 1 = sym c.one.of ∙ s.lone.0 in
-      let c1 : IsCarrying over stands_as program code id 1 w (taken (part_seen least faults readings) 1 code number l None held) = subst (λ (i : ℕ). IsCarrying over stands_as program code id i w (taken (part_seen least faults readings) i code number l None held)) one c in
-      let lies = carried_lies over stands_as program code id w (taken (part_seen least faults readings) 1 code number l None held) c1 least faults readings held (c1.one.left s.lone.1) refl refl in
+      let c1 : IsCarrying over stands_as program code id 1 w (desk_taken (part_seen least faults readings) 1 code number l None held) = subst (λ (i : ℕ). IsCarrying over stands_as program code id i w (desk_taken (part_seen least faults readings) i code number l None held)) one c in
+      let lies = carried_lies over stands_as program code id w (desk_taken (part_seen least faults readings) 1 code number l None held) c1 least faults readings held (c1.one.left s.lone.1) refl refl in
       let f = some_there (channels_held held.banks (home p)) bank in record {
         lone = s.lone;
         at = standings.passes over place stands_as advances gives starts advance_law answer_law start_law (program_view w.program.value) (valid_code code) w.hand.view k p us

@@ -22,7 +22,7 @@ use Rattle.ca_turns.specs.Hands.{TableId}
 use Rattle.ca_turns.specs.declared.rule.Turn.{Turn}
 use Rattle.ca_turns.specs.declared.rule.View.{View}
 use Rattle.ca_commit.specs.Agents.{TaskAgent}
-use Rattle.ca_commit.specs.Applying.{Channels, Members, event_of}
+use Rattle.ca_commit.specs.Applying.{BankChannels, Members, event_of}
 use Rattle.ca_commit.specs.Contents.{Kept, Parts, whole}
 use Rattle.ca_commit.specs.Deciding.{seen_in}
 use Rattle.ca_commit.specs.Planning.{Planned, planned, to_close, to_default, to_do, to_look, to_make, to_meet, to_park, to_post, to_print, to_prune, to_refuse, to_register, to_spawn}
@@ -37,7 +37,7 @@ use Rattle.ca_table.specs.Carrying.{Carries, carried, lane_place}
 use Rattle.ca_table.specs.Draws.{drawn_touches, turn_view}
 use Rattle.ca_table.specs.Grips.{SameHand}
 use Rattle.ca_table.specs.LoneHands.{DrewTurn, HoldsLeft}
-use Rattle.ca_table.specs.Parts.{away, lane_seen, part_seen}
+use Rattle.ca_table.specs.Parts.{part_away, lane_seen, part_seen}
 use Rattle.ca_table.specs.Running.{shown_by}
 use Rattle.ca_table.specs.Seen.{PartSeen}
 use Rattle.ca_table.specs.Workers.{SameWorker, part_of_lane}
@@ -58,7 +58,7 @@ use Rattle.ca_alone.proofs.HeldWithin.{carried_lies, carried_part, carried_settl
 use Rattle.ca_alone.proofs.Standings.{stands_as as as_kind}
 use Rattle.ca_alone.proofs.Stopping.{makes}
 use Rattle.ca_pool.specs.AtEvent.{HasTaken}
-use Rattle.ca_pool.specs.Desk.{ClockBox, taken}
+use Rattle.ca_pool.specs.Desk.{ClockBox, desk_taken}
 use Rattle.ca_pool.specs.Lone.{HasStepped, IsLone, MayGo, Stayed}
 use Rattle.ca_pool.specs.OwnPlans.{IsOwnPlanFor}
 use Rattle.ca_pool.specs.Prepared.{HasGone}
@@ -73,7 +73,7 @@ stayed_nothing w = stayed_same (record { number = refl; workers = refl; program 
 self : (t : ℕ) → eqb t t ≡ true
 self t = eq-eqb t t refl
 
-module _ (cs : Channels) (rs : Members) (t u p w m : ℕ) where
+module _ (cs : BankChannels) (rs : Members) (t u p w m : ℕ) where
   -- the event of a plan is one of the task's, and no end of the main text
   planned_is_of : (q : Planned) → is_of t (event_of cs rs t u p w m q) ≡ true
   planned_is_of (to_do k b alts) = self t
@@ -234,16 +234,16 @@ module _ {A C : Type 0} (over : CodeView → A → Type 0) (place : A → At) (s
     by_one = subst (λ (k : ℕ). HasTaken over stands_as code id program k l shows clock held w) (sym carries.one.of ∙ may.at.lone.0) carries
 
     lies_there : IsPart (shown_parts held) (parts_now w.hand.view)
-    lies_there = lies_part held (parts_now w.hand.view) (carried_lies over stands_as program code id w (taken shows 1 code w.number l clock held) by_one least faults readings held (by_one.one.left may.at.lone.1) refl refl)
+    lies_there = lies_part held (parts_now w.hand.view) (carried_lies over stands_as program code id w (desk_taken shows 1 code w.number l clock held) by_one least faults readings held (by_one.one.left may.at.lone.1) refl refl)
 
     -- an event of a plan
     pub plan_leads : (u : ℕ) (q : Planned) (e : EventView) (us : List ℕ) → IsOwnPlanFor place held q (agent_of task) → e ≡ event_of (channels_held held.banks) (registries_held held.banks) task.number u held.new_port held.new_wait held.moment q
         → us ≡ stirred_of (whole (channels_held held.banks)) q → (what : Turned) → turn_view what ≡ said.shown e → Drew1 what w v → Steps us false most v
     plan_leads u q e us plan is stirs what shows_it drew =
-        planned_steps program l lane (taken shows 1 code w.number l clock held) (away 1 code) (shown_parts held) w v task by_one refl lies_there gone may.at.lone same hand few plan.0 u held.new_port held.new_wait held.moment q e us plan.1 plan.2 is stirs
+        planned_steps program l lane (desk_taken shows 1 code w.number l clock held) (part_away 1 code) (shown_parts held) w v task by_one refl lies_there gone may.at.lone same hand few plan.0 u held.new_port held.new_wait held.moment q e us plan.1 plan.2 is stirs
         (drew_shown w v hand e what shows_it drew) (stands_by w v hand program carries.one.of_program most may) most may.below
 
     pub end_leads : (ending : Ending) (us : List ℕ) (b : Bool) → us ≡ stirred_at_end ending → is_end_of_main (over_event task.number ending) ≡ b → (what : Turned) → turn_view what ≡ said.shown (over_event task.number ending) → Drew1 what w v → Steps us b most v
     end_leads ending us b stirs main what shows_it drew =
-        end_steps program l lane (taken shows 1 code w.number l clock held) (away 1 code) (shown_parts held) w v task by_one refl lies_there gone may.at.lone same hand few ending us b stirs main
+        end_steps program l lane (desk_taken shows 1 code w.number l clock held) (part_away 1 code) (shown_parts held) w v task by_one refl lies_there gone may.at.lone same hand few ending us b stirs main
         (drew_shown w v hand (over_event task.number ending) what shows_it drew) (stands_by w v hand program carries.one.of_program most may) most may.below

@@ -21,9 +21,9 @@ use Rattle.ca_commit.specs.Touched as said
 use Rattle.ca_commit.specs.declared.task.Task.{Task}
 use Rattle.ca_solo.specs.Positions.{Position}
 use Rattle.ca_table.specs.Draws.{drawn_touches}
-use Rattle.ca_table.specs.Grips.{SameHand, SameTurns, nothing}
+use Rattle.ca_table.specs.Grips.{SameHand, SameTurns, no_grip}
 use Rattle.ca_table.specs.LoneHands.{DrewTurn, left_now}
-use Rattle.ca_table.specs.Parts.{away, lane_seen}
+use Rattle.ca_table.specs.Parts.{part_away, lane_seen}
 use Rattle.ca_table.specs.Running.{Knows}
 use Rattle.ca_table.specs.Seen.{PartSeen, seen_ready}
 use Rattle.ca_table.specs.Worked.{Drew}
@@ -75,7 +75,7 @@ module _ {A C : Type 0} (over : CodeView → A → Type 0) (place : A → At) (s
     in_hand alone =
         let lt = at.seated.one.below in let one = alone.0 in let zero_is : w.number ≡ 0 = omega (arith, lt, one) in
         subst (λ (k : ℕ). get_elem? w.hand.view.held k ≡ core.some (Some (part_of_lane w.workers code lane))) zero_is
-        (fit w.hand (update eqb nothing w.number (Some (away w.workers code, part_of_lane w.workers code lane))) w.number (away w.workers code, part_of_lane w.workers code lane) at.seated.grips (update_here nothing w.number (Some (away w.workers code, part_of_lane w.workers code lane)))).1
+        (fit w.hand (update eqb no_grip w.number (Some (part_away w.workers code, part_of_lane w.workers code lane))) w.number (part_away w.workers code, part_of_lane w.workers code lane) at.seated.grips (update_here no_grip w.number (Some (part_away w.workers code, part_of_lane w.workers code lane)))).1
 
     -- it tells whose turn it is
     lane_told : (P : Position → Type 0) → Here P w → Here (λ x. P x × (x.desk.lane ≡ lane_read (option_map task_view lane.task) lane.since)) w

@@ -13,7 +13,7 @@ use Rattle.ca_meaning.specs.Wait.{port_of, side_of, told}
 use Rattle.ca_states.specs.Code.{CodeView}
 use Rattle.ca_states.specs.ValidCode.{valid_code}
 use Rattle.ca_states.specs.declared.valid_code.ValidCode.{ValidCode}
-use Rattle.ca_agent.specs.Agents.{Stays}
+use Rattle.ca_agent.specs.Agents.{StaysOverCode}
 use Rattle.ca_turns.specs.Hands.{TableId}
 use Rattle.ca_commit.specs.Agents.{TaskAgent, advances_of}
 use Rattle.ca_commit.specs.Applying.{IsTimely, ReadyBy, RunsBy, event_of, number_of, times_by}
@@ -31,7 +31,7 @@ use Rattle.ca_commit.specs.declared.held.Held.{Held}
 use Rattle.ca_commit.specs.declared.planned.Plan.{Plan}
 use Rattle.ca_commit.specs.declared.task.Task.{Task}
 use Rattle.ca_table.specs.Carriers.{LaneBox}
-use Rattle.ca_table.specs.Committing.{IsDone, IsDue}
+use Rattle.ca_table.specs.Committing.{IsDone, IsPlanDue}
 use Rattle.ca_table.specs.Needing.{is_timeout, needs_ready, needs_timers}
 use Rattle.ca_table.specs.OneCode.{advances_over, gives_over, starts_over}
 use Rattle.ca_table.specs.Parts.{clockwork_seen, counts_view, lane_seen, part_seen}
@@ -43,8 +43,8 @@ use Rattle.ca_table.proofs.Lifted.{ready_more, runs_more}
 use Rattle.ca_table.proofs.Staying.{parts_stay, shows_there}
 use Rattle.ca_pool.specs.AtEvent.{HasTaken}
 use Rattle.ca_pool.specs.Desk.{ClockBox, IsMovedWith, SameHeld, all_laid, holds_banks, holds_shards}
-use Rattle.ca_pool.specs.Prepared.{HasGone, IsAsked, IsReadied, IsStarted}
-use Rattle.ca_pool.specs.Preparing.{AskedFor, ButTimers, IsAnswered, IsTimely as IsTimelyClock, clock_seen as shown_by, clock_with, in_place}
+use Rattle.ca_pool.specs.Prepared.{HasGone, IsClockworkAsked, IsReadied, IsStarted}
+use Rattle.ca_pool.specs.Preparing.{AskedFor, ButTimers, ClockAnswered, AreTimersTimely as IsTimelyClock, clock_seen as shown_by, clock_with, in_place}
 use Rattle.ca_pool.proofs.Desk.{all_brings, all_turned, clock_seen}
 use Rattle.ca_pool.proofs.PlansReadied.{from_its_start}
 
@@ -72,7 +72,7 @@ module _ {C : Type 0} (least faults : C → ℕ) (readings : C → Option (List 
   made_timed n (Some s) (Some k) (Some x) None e t c is early a times = absurd (let z : None ≡ Some (timed p (timeout n) m (times_of x)) = times in cc)
   made_timed n (Some s) (Some k) (Some x) (Some y) e t c is early a times =
       let at = some_same (in_place (seen_as k) (Some x)) a.0 a.1 in
-      let answered = subst (IsAnswered m s) (sym at) a.2 in
+      let answered = subst (ClockAnswered m s) (sym at) a.2 in
       let came = some_same (times_of y) (timed p (timeout n) m (times_of x)) times in
       let same = some_same s c is in
       let early_s : s.now ≤ s.least = subst (λ (z : TimersPart). z.now ≤ z.least) (sym same) early in (
@@ -120,7 +120,7 @@ module _ {C : Type 0} (least faults : C → ℕ) (readings : C → Option (List 
   no_earlier (timeout n) (Some c) (Some k) None e early a = tt
   no_earlier (timeout n) (Some c) (Some k) (Some x) e early a =
       let at = some_same (in_place (seen_as k) (Some x)) a.0 a.1 in
-      let answered = subst (IsAnswered m c) (sym at) a.2 in
+      let answered = subst (ClockAnswered m c) (sym at) a.2 in
       let is = answered.now in let l = answered.later in let b = early c refl in omega (arith, is, l, b)
   no_earlier unbuffered s clock old e early a = tt
   no_earlier (fixed n) s clock old e early a = tt
@@ -136,7 +136,7 @@ early_by None t c e = absurd (let k : None ≡ Some c = e in cc)
 early_by (Some x) t c e = subst (λ (z : TimersPart). z.now ≤ z.least) (some_same x c e) t
 
 -- a timeout's moment is no earlier than the timers'
-pub is_timely : {A C : Type 0} (least faults : C → ℕ) (readings : C → Option (List ℕ)) (q : Planned) (clock0 clock : Option (ClockBox C)) (held : Held A) → IsAsked least faults readings q clock0 clock held → IsTimely held q
+pub is_timely : {A C : Type 0} (least faults : C → ℕ) (readings : C → Option (List ℕ)) (q : Planned) (clock0 clock : Option (ClockBox C)) (held : Held A) → IsClockworkAsked least faults readings q clock0 clock held → IsTimely held q
 is_timely least faults readings (to_make what) clock0 clock held a = no_earlier least faults readings held.moment 0 what (shown_by least faults readings clock0) clock held.timers (shows_there (λ t. clockwork_seen least faults readings t.value) clock0 ∙ a.needed) (early_by (shown_by least faults readings clock0) a.timely) a.asked
 is_timely least faults readings (to_do k b alts) clock0 clock held a = tt
 is_timely least faults readings (to_meet k b alts w o) clock0 clock held a = tt
@@ -221,9 +221,9 @@ module _ {A : Type 0} (gives : A → Tree → A → Type 0) (P : A → Type 0) (
   runs_within (to_refuse f) None e u is = absurd e
   runs_within (to_refuse f) (Some c) e u is = subst (λ (x : Task A). P x.agent) (some_same c u is) (stays _ _ _ e.1.2 has)
 
-module _ {A C : Type 0} (over : CodeView → A → Type 0) (stands_as : ProgramView → A → TaskBody → Type 0) (place : A → At) (advances : ProgramView → A → A → Type 0) (gives : A → Tree → A → Type 0) (starts : ProgramView → SeedView → A → Type 0) (stays : Stays over gives) (least faults : C → ℕ) (readings : C → Option (List ℕ)) (code : ValidCode) (id : TableId) (program : ProgramView) (n : ℕ) (l : Lane A)
+module _ {A C : Type 0} (over : CodeView → A → Type 0) (stands_as : ProgramView → A → TaskBody → Type 0) (place : A → At) (advances : ProgramView → A → A → Type 0) (gives : A → Tree → A → Type 0) (starts : ProgramView → SeedView → A → Type 0) (stays : StaysOverCode over gives) (least faults : C → ℕ) (readings : C → Option (List ℕ)) (code : ValidCode) (id : TableId) (program : ProgramView) (n : ℕ) (l : Lane A)
     (clock0 clock clock2 : Option (ClockBox C)) (held held2 held3 : Held A) (w : Worker A C) (lane : Lane A) (lane2 : LaneBox A) (task : Task A) (plan : Plan) (spawned running : Option (Task A))
-    (s : HasTaken over stands_as code id program n l (part_seen least faults readings) clock0 held w) (gone : HasGone over advances program code l lane task) (asked : IsAsked least faults readings (plan_view plan) clock0 clock held) (ready : IsReadied place (counts_view lane.counts) w.number w.workers held task plan spawned) (started : IsStarted place starts over program (valid_code code) held.new_task task spawned)
+    (s : HasTaken over stands_as code id program n l (part_seen least faults readings) clock0 held w) (gone : HasGone over advances program code l lane task) (asked : IsClockworkAsked least faults readings (plan_view plan) clock0 clock held) (ready : IsReadied place (counts_view lane.counts) w.number w.workers held task plan spawned) (started : IsStarted place starts over program (valid_code code) held.new_task task spawned)
     (done : IsDone place advances gives starts (plan_view plan) (lane_of_seen (lane_seen lane)) (lane_of_seen (lane_seen lane2.value)) held held2 task spawned running)
     (times : times_in held2.timers ≡ times_by held.new_port held.moment (plan_view plan) (times_in held.timers))
     (back : shown_by least faults readings clock2 ≡ clock_with least faults readings clock held2.timers) (there : is_some clock2 ≡ is_some clock) (but : ButTimers held2 held3) where
@@ -248,7 +248,7 @@ module _ {A C : Type 0} (over : CodeView → A → Type 0) (stands_as : ProgramV
   by_run : (f : ℕ → ℕ → Counts → ℕ) → f w.number w.workers (counts_view lane.counts) ≡ f w.number n (counts_view l.counts)
   by_run f = ap (λ (k : ℕ). f w.number k (counts_view lane.counts)) s.one.of ∙ ap (f w.number n) its_counts
 
-  due : IsDue place adv giv sta w.number n q was_lane held task spawned
+  due : IsPlanDue place adv giv sta w.number n q was_lane held task spawned
   due = record {
     agent = gone.left.agent;
     has_task = gone.left.was;

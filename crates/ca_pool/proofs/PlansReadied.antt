@@ -34,7 +34,7 @@ use Rattle.ca_pool.specs.Desk.{ButReady, holds_shards}
 use Rattle.ca_pool.specs.Named.{ports_to_hold}
 use Rattle.ca_pool.specs.OwnPlans.{IsOwnPlanFor}
 use Rattle.ca_pool.specs.Preparing.{HasRest}
-use Rattle.ca_pool.specs.Resolving.{BringsApart, IsResolved, IsSeen}
+use Rattle.ca_pool.specs.Resolving.{TaskBringsApart, IsResolved, IsSeen}
 
 pub if_some : {X : Type 0} (P : X → Type 0) (o : Option X) (x : X) → IfSome o P → o ≡ Some x → P x
 if_some P None x p e = absurd (let k : None ≡ Some x = e in cc)
@@ -110,5 +110,5 @@ rest_ready (to_prune x side i) old new b h = tt
 rest_ready (to_refuse f) old new b h = tt
 
 -- and what its operation names is apart
-pub resolved_apart : {A : Type 0} (place : A → At) (held : Held A) (task : Task A) (p : Plan) → IsResolved place held task p → BringsApart place task → KeepsApart (plan_view p)
+pub resolved_apart : {A : Type 0} (place : A → At) (held : Held A) (task : Task A) (p : Plan) → IsResolved place held task p → TaskBringsApart place task → KeepsApart (plan_view p)
 resolved_apart place held task p r brings = subst (λ (q : Planned). KeepsApart q) (sym r.plan_for.2) (plans_apart (seen held.banks held.shards) r.plan_for.0.op (agent_of task).alts (brings r.plan_for.0 r.plan_for.1 (state_held held.banks)))

@@ -23,7 +23,7 @@ use Rattle.ca_table.specs.Needing.{is_timeout, needs_ready, needs_timers}
 use Rattle.ca_table.specs.Parts.{clockwork_seen, mark_view}
 use Rattle.ca_pool.specs.AtEvent.{SameNext}
 use Rattle.ca_pool.specs.Desk.{ClockBox, SameNumbers}
-use Rattle.ca_pool.specs.Preparing.{ButTimers, HasRest, IsAnswered, StartsFor, clock_with, in_place}
+use Rattle.ca_pool.specs.Preparing.{ButTimers, HasRest, ClockAnswered, StartsFor, clock_with, in_place}
 
 -- a clock that tells its answers goes on by one
 pub tells_on : (old new : Option (List ℕ)) (m : ℕ) → Tells old new m → GoOnBy m old new
@@ -32,7 +32,7 @@ tells_on (Some told) None m t = absurd t
 tells_on (Some told) (Some now) m t = ap Some t
 
 -- with other timers in place of its own
-pub answered_in : (m : ℕ) (c c2 : TimersPart) (o : Option TimersView) → IsAnswered m c c2 → IsAnswered m (in_place c o) (in_place c2 o)
+pub answered_in : (m : ℕ) (c c2 : TimersPart) (o : Option TimersView) → ClockAnswered m c c2 → ClockAnswered m (in_place c o) (in_place c2 o)
 answered_in m c c2 None a = a
 answered_in m c c2 (Some t) a = record { deadlines = refl; now = refl; later = a.later; bound = a.bound; least = a.least; faults = a.faults; readings = a.readings; mark = a.mark }
 
@@ -142,7 +142,7 @@ module _ {C : Type 0} (least faults : C → ℕ) (readings : C → Option (List 
   seen_parted c0 c t times clock mark = λ i. record { deadlines = (times i).deadlines; now = (times i).moment; least = least (clock i); faults = faults (clock i); readings = readings (clock i); mark = mark_view (mark i) }
 
   -- the clock was asked, and the rest stayed
-  pub seen_asked : (m : ℕ) (c c2 : ClockBox C) → c2.value.timers ≡ c.value.timers → c2.value.mark ≡ c.value.mark → least c.value.clock ≤ m → m < 2 ^ 62 → least c2.value.clock ≡ m → faults c2.value.clock ≡ faults c.value.clock → Tells (readings c.value.clock) (readings c2.value.clock) m → IsAnswered m (works c) (works c2)
+  pub seen_asked : (m : ℕ) (c c2 : ClockBox C) → c2.value.timers ≡ c.value.timers → c2.value.mark ≡ c.value.mark → least c.value.clock ≤ m → m < 2 ^ 62 → least c2.value.clock ≡ m → faults c2.value.clock ≡ faults c.value.clock → Tells (readings c.value.clock) (readings c2.value.clock) m → ClockAnswered m (works c) (works c2)
   seen_asked m c c2 times mark later bound now fault tells = record {
     deadlines = ap (λ t. t.deadlines) times;
     now = ap (λ t. t.moment) times;

@@ -29,7 +29,7 @@ use Rattle.ca_table.specs.declared.part.Part.{Part}
 use Rattle.ca_table.specs.declared.worker.Worker.{Worker}
 use Rattle.ca_pool.specs.Desk.{SameNumbers, holds_shards}
 use Rattle.ca_pool.specs.Named.{ports_to_hold}
-use Rattle.ca_pool.specs.Resolving.{HoldsNamed, HoldsThese, IsDecided, IsSeen, LeftOff, Took, Wants}
+use Rattle.ca_pool.specs.Resolving.{HoldsNeededBanks, HoldsThese, IsEventOrRefusal, IsSeen, LeftOff, Took, Wants}
 use Rattle.ca_pool.proofs.BanksHeld.{has_banks}
 
 pub ok_map : {X E P Q : Type 0} (r : Result X E) → (P → Q) → OnOk r P → OnOk r Q
@@ -64,7 +64,7 @@ pub same_both : {A C : Type 0} (o m n : Worker A C) → SameWorker o m → SameW
 same_both o m n p q = record { number = q.number ∙ p.number; workers = q.workers ∙ p.workers; program = q.program ∙ p.program; code = q.code ∙ p.code }
 
 -- a plan that is decided is one of an event, or a refusal
-pub event_else : (p : Plan) → IsDecided (plan_view p) → ((f : Fault) → p ≡ P.Refused f → ⊥) → IsEvent (plan_view p)
+pub event_else : (p : Plan) → IsEventOrRefusal (plan_view p) → ((f : Fault) → p ≡ P.Refused f → ⊥) → IsEvent (plan_view p)
 event_else (P.Refused f) d refuses = refuses f refl
 event_else (P.Look w) d refuses = d
 event_else (P.Prune port side place) d refuses = d
@@ -96,7 +96,7 @@ module _ {A : Type 0} (place : A → At) where
   pub wants_more : (old new : Homes) (p q : ℕ) (task : Task A) → ((i : ℕ) → has_home old i ≡ true → has_home new i ≡ true) → q ≡ p → Wants place old p task → Wants place new q task
   wants_more old new p q task more same wants = λ want at k e. more (home k) (wants want at k (subst (λ (x : ℕ). is_among k (ports_to_hold want.op x) ≡ true) same e))
 
-  pub named_held : (banks shards : Homes) (held : Held A) (task : Task A) → HoldsThese banks shards held → Wants place banks held.new_port task → HoldsNamed place held task
+  pub named_held : (banks shards : Homes) (held : Held A) (task : Task A) → HoldsThese banks shards held → Wants place banks held.new_port task → HoldsNeededBanks place held task
   named_held banks shards held task these wants = λ want at. has_banks held banks (λ p. is_among p (ports_to_hold want.op held.new_port) ≡ true) these.banks (wants want at)
 
 -- the shard of a new wait is held
@@ -116,7 +116,7 @@ seen_held banks shards held (to_prune p side i) these e = e
 seen_held banks shards held (to_refuse f) these e = e
 
 -- a plan that hangs on no other shard is one of an event, or one of these
-pub decided_else : (shards : ℕ → Bool) (v : ℕ) (p : Plan) → IsSeen shards v (plan_view p) → ((port : PortId) (side : Side) (place : ℕ) → p ≡ P.Prune port side place → ⊥) → IsDecided (plan_view p)
+pub decided_else : (shards : ℕ → Bool) (v : ℕ) (p : Plan) → IsSeen shards v (plan_view p) → ((port : PortId) (side : Side) (place : ℕ) → p ≡ P.Prune port side place → ⊥) → IsEventOrRefusal (plan_view p)
 decided_else shards v (P.Look w) seen prunes = seen
 decided_else shards v (P.Prune port side place) seen prunes = prunes port side place refl
 decided_else shards v (P.Done c) seen prunes = tt

@@ -11,10 +11,10 @@ use Rattle.ca_states.specs.declared.valid_code.ValidCode.{ValidCode}
 use Rattle.ca_turns.specs.Hands.{IsHolding, TableId}
 use Rattle.ca_turns.specs.Places.{total}
 use Rattle.ca_journal.specs.Merge.{entries}
-use Rattle.ca_pool.specs.Answers.{Answer, BeginsAlone, EachWorked, HoldsLaneAtMost, IsWorked, StopsAlone, WorkedAlone, WorkedAloneAt, WorkedAt, joined, joined_from}
+use Rattle.ca_pool.specs.Answers.{WorkAnswer, BeginsAlone, EachWorked, HoldsLaneAtMost, IsWorked, StopsAlone, WorkedAlone, WorkedAloneAt, WorkedAt, answers_joined, joined_from}
 use Rattle.ca_pool.specs.Lone.{IsLone, LoneStopped}
 use Rattle.ca_table.specs.Seen.{PartSeen}
-use Rattle.ca_table.specs.Worked.{HasWorked, any_drew, fails_clock, gives_up, has, has_drawn, leaves, spent}
+use Rattle.ca_table.specs.Worked.{HasWorked, any_drew, fails_clock, gives_up, some_turn, has_drawn, finds_run_end, spent}
 use Rattle.ca_table.specs.Workers.{IsReady, noted, stands_for}
 use Rattle.ca_table.specs.declared.worker.Worker.{Worker}
 use Rattle.ca_table.specs.declared.answer.PoolStop.TheVariants.{ClockFailed, OutOfMemory}
@@ -23,28 +23,28 @@ use Rattle.ca_table.specs.declared.answer.WorkEnd.TheVariants.{Over, Spent}
 use Rattle.ca_table.proofs.Drawing.{found_end, goes_on, spent_more}
 use Rattle.ca_table.proofs.Having.{both_false, first_true, has_append, second_true}
 
-pub on_ok : (r : Answer) (P : Type 0) → ((e : WorkEnd) → r ≡ Ok e → P) → OnOk r P
+pub on_ok : (r : WorkAnswer) (P : Type 0) → ((e : WorkEnd) → r ≡ Ok e → P) → OnOk r P
 on_ok (Ok e) P f = f e refl
 on_ok (Err x) P f = tt
 
-pub any_ok : {P : Type 0} (r : Answer) → P → OnOk r P
+pub any_ok : {P : Type 0} (r : WorkAnswer) → P → OnOk r P
 any_ok (Ok e) p = p
 any_ok (Err x) p = tt
 
-pub if_ok : (r : Answer) (P : WorkEnd → Type 0) → ((e : WorkEnd) → r ≡ Ok e → P e) → IfOk r P
+pub if_ok : (r : WorkAnswer) (P : WorkEnd → Type 0) → ((e : WorkEnd) → r ≡ Ok e → P e) → IfOk r P
 if_ok (Ok e) P f = f e refl
 if_ok (Err x) P f = tt
 
-of_ok : (r : Answer) (P : Type 0) (e : WorkEnd) → r ≡ Ok e → OnOk r P → P
-of_ok r P e is h = subst (λ (a : Answer). OnOk a P) is h
+of_ok : (r : WorkAnswer) (P : Type 0) (e : WorkEnd) → r ≡ Ok e → OnOk r P → P
+of_ok r P e is h = subst (λ (a : WorkAnswer). OnOk a P) is h
 
-at_ok : (r : Answer) (P : WorkEnd → Type 0) (e : WorkEnd) → r ≡ Ok e → IfOk r P → P e
-at_ok r P e is h = subst (λ (a : Answer). IfOk a P) is h
+at_ok : (r : WorkAnswer) (P : WorkEnd → Type 0) (e : WorkEnd) → r ≡ Ok e → IfOk r P → P e
+at_ok r P e is h = subst (λ (a : WorkAnswer). IfOk a P) is h
 
-abbrev Comes : Answer → Type 0
+abbrev Comes : WorkAnswer → Type 0
 Comes a = (e : WorkEnd) × (a ≡ Ok e)
 
-both_come : (a b : Answer) (e : WorkEnd) → joined a b ≡ Ok e → Comes a × Comes b
+both_come : (a b : WorkAnswer) (e : WorkEnd) → answers_joined a b ≡ Ok e → Comes a × Comes b
 both_come (Err OutOfMemory) b e h = absurd (let z : Err OutOfMemory ≡ Ok e = h in cc)
 both_come (Err ClockFailed) (Err OutOfMemory) e h = absurd (let z : Err OutOfMemory ≡ Ok e = h in cc)
 both_come (Err ClockFailed) (Err ClockFailed) e h = absurd (let z : Err ClockFailed ≡ Ok e = h in cc)
@@ -53,7 +53,7 @@ both_come (Ok f) (Err x) e h = absurd (let z : Err x ≡ Ok e = h in cc)
 both_come (Ok f) (Ok Spent) e h = ((f, refl), (Spent, refl))
 both_come (Ok f) (Ok Over) e h = ((f, refl), (Over, refl))
 
-both_spent : (a b : Answer) → joined a b ≡ Ok Spent → (a ≡ Ok Spent) × (b ≡ Ok Spent)
+both_spent : (a b : WorkAnswer) → answers_joined a b ≡ Ok Spent → (a ≡ Ok Spent) × (b ≡ Ok Spent)
 both_spent (Err OutOfMemory) b h = absurd (let z : Err OutOfMemory ≡ Ok Spent = h in cc)
 both_spent (Err ClockFailed) (Err OutOfMemory) h = absurd (let z : Err OutOfMemory ≡ Ok Spent = h in cc)
 both_spent (Err ClockFailed) (Err ClockFailed) h = absurd (let z : Err ClockFailed ≡ Ok Spent = h in cc)
@@ -62,7 +62,7 @@ both_spent (Ok f) (Err x) h = absurd (let z : Err x ≡ Ok Spent = h in cc)
 both_spent (Ok f) (Ok Spent) h = (h, refl)
 both_spent (Ok f) (Ok Over) h = absurd (let z : Ok Over ≡ Ok Spent = h in cc)
 
-one_over : (a b : Answer) → joined a b ≡ Ok Over → (a ≡ Ok Over) ⊎ (b ≡ Ok Over)
+one_over : (a b : WorkAnswer) → answers_joined a b ≡ Ok Over → (a ≡ Ok Over) ⊎ (b ≡ Ok Over)
 one_over (Err OutOfMemory) b h = absurd (let z : Err OutOfMemory ≡ Ok Over = h in cc)
 one_over (Err ClockFailed) (Err OutOfMemory) h = absurd (let z : Err OutOfMemory ≡ Ok Over = h in cc)
 one_over (Err ClockFailed) (Err ClockFailed) h = absurd (let z : Err ClockFailed ≡ Ok Over = h in cc)
@@ -72,10 +72,10 @@ one_over (Ok f) (Ok Spent) h = inl h
 one_over (Ok f) (Ok Over) h = inr refl
 
 -- the clock failed for one of two, and neither wants memory
-abbrev Lasts : Answer → Type 0
+abbrev Lasts : WorkAnswer → Type 0
 Lasts a = Comes a ⊎ (a ≡ Err ClockFailed)
 
-both_last : (a b : Answer) → joined a b ≡ Err ClockFailed → Lasts a × Lasts b × ((a ≡ Err ClockFailed) ⊎ (b ≡ Err ClockFailed))
+both_last : (a b : WorkAnswer) → answers_joined a b ≡ Err ClockFailed → Lasts a × Lasts b × ((a ≡ Err ClockFailed) ⊎ (b ≡ Err ClockFailed))
 both_last (Err OutOfMemory) b h = absurd (let z : Err OutOfMemory ≡ Err ClockFailed = h in cc)
 both_last (Err ClockFailed) (Err OutOfMemory) h = absurd (let z : Err OutOfMemory ≡ Err ClockFailed = h in cc)
 both_last (Err ClockFailed) (Err ClockFailed) h = (inr refl, inr refl, inl refl)
@@ -84,7 +84,7 @@ both_last (Ok f) (Err x) h = (inl (f, refl), inr h, inr h)
 both_last (Ok f) (Ok Spent) h = absurd (let z : Ok f ≡ Err ClockFailed = h in cc)
 both_last (Ok f) (Ok Over) h = absurd (let z : Ok Over ≡ Err ClockFailed = h in cc)
 
-both_lasting : (a b : Answer) → Lasts (joined a b) → Lasts a × Lasts b
+both_lasting : (a b : WorkAnswer) → Lasts (answers_joined a b) → Lasts a × Lasts b
 both_lasting a b h = ⊎_elim (λ k. let r = both_come a b k.0 k.1 in (inl r.0, inl r.1)) (λ k. let r = both_last a b k in (r.0, r.1)) h
 
 module _ {A C : Type 0} where
@@ -109,30 +109,30 @@ module _ {A C : Type 0} where
   SomeOver [] = ⊥
   SomeOver (w ∷ ws) = (w.answer ≡ Ok Over) ⊎ SomeOver ws
 
-  all_come : (a : Answer) (ws : List (Worker A C)) (e : WorkEnd) → joined_from a ws ≡ Ok e → Comes a × AllCome ws
+  all_come : (a : WorkAnswer) (ws : List (Worker A C)) (e : WorkEnd) → joined_from a ws ≡ Ok e → Comes a × AllCome ws
   all_come a [] e h = ((e, h), tt)
-  all_come a (w ∷ ws) e h = let r = all_come (joined a w.answer) ws e h in let b = both_come a w.answer r.0.0 r.0.1 in (b.0, (b.1, r.1))
+  all_come a (w ∷ ws) e h = let r = all_come (answers_joined a w.answer) ws e h in let b = both_come a w.answer r.0.0 r.0.1 in (b.0, (b.1, r.1))
 
-  all_spent : (a : Answer) (ws : List (Worker A C)) → joined_from a ws ≡ Ok Spent → (a ≡ Ok Spent) × AllSpent ws
+  all_spent : (a : WorkAnswer) (ws : List (Worker A C)) → joined_from a ws ≡ Ok Spent → (a ≡ Ok Spent) × AllSpent ws
   all_spent a [] h = (h, tt)
-  all_spent a (w ∷ ws) h = let r = all_spent (joined a w.answer) ws h in let b = both_spent a w.answer r.0 in (b.0, (b.1, r.1))
+  all_spent a (w ∷ ws) h = let r = all_spent (answers_joined a w.answer) ws h in let b = both_spent a w.answer r.0 in (b.0, (b.1, r.1))
 
   come_at : (ws : List (Worker A C)) → AllCome ws → (k : ℕ) (d : Worker A C) → k < length ws → Comes (slice_index_or ws k d).answer
   come_at [] all k d lt = absurd (omega (arith, lt))
   come_at (w ∷ ws) all zero d lt = all.0
   come_at (w ∷ ws) all (suc k) d lt = come_at ws all.1 k d (omega (arith, lt))
 
-  some_over : (a : Answer) (ws : List (Worker A C)) → joined_from a ws ≡ Ok Over → (a ≡ Ok Over) ⊎ SomeOver ws
+  some_over : (a : WorkAnswer) (ws : List (Worker A C)) → joined_from a ws ≡ Ok Over → (a ≡ Ok Over) ⊎ SomeOver ws
   some_over a [] h = inl h
-  some_over a (w ∷ ws) h = ⊎_elim (λ k. ⊎_elim inl (λ q. inr (inl q)) (one_over a w.answer k)) (λ k. inr (inr k)) (some_over (joined a w.answer) ws h)
+  some_over a (w ∷ ws) h = ⊎_elim (λ k. ⊎_elim inl (λ q. inr (inl q)) (one_over a w.answer k)) (λ k. inr (inr k)) (some_over (answers_joined a w.answer) ws h)
 
-  all_last : (a : Answer) (ws : List (Worker A C)) → Lasts (joined_from a ws) → Lasts a × AllLast ws
+  all_last : (a : WorkAnswer) (ws : List (Worker A C)) → Lasts (joined_from a ws) → Lasts a × AllLast ws
   all_last a [] h = (h, tt)
-  all_last a (w ∷ ws) h = let r = all_last (joined a w.answer) ws h in let b = both_lasting a w.answer r.0 in (b.0, (b.1, r.1))
+  all_last a (w ∷ ws) h = let r = all_last (answers_joined a w.answer) ws h in let b = both_lasting a w.answer r.0 in (b.0, (b.1, r.1))
 
-  some_failed : (a : Answer) (ws : List (Worker A C)) → joined_from a ws ≡ Err ClockFailed → (a ≡ Err ClockFailed) ⊎ SomeFailed ws
+  some_failed : (a : WorkAnswer) (ws : List (Worker A C)) → joined_from a ws ≡ Err ClockFailed → (a ≡ Err ClockFailed) ⊎ SomeFailed ws
   some_failed a [] h = inl h
-  some_failed a (w ∷ ws) h = ⊎_elim (λ k. ⊎_elim inl (λ q. inr (inl q)) (both_last a w.answer k).2) (λ k. inr (inr k)) (some_failed (joined a w.answer) ws h)
+  some_failed a (w ∷ ws) h = ⊎_elim (λ k. ⊎_elim inl (λ q. inr (inl q)) (both_last a w.answer k).2) (λ k. inr (inr k)) (some_failed (answers_joined a w.answer) ws h)
 
   -- what each worker's call did, one after another
   abbrev Pairs : ℕ → List (Worker A C) → List (Worker A C) → Type 0
@@ -148,8 +148,8 @@ module _ {A C : Type 0} where
   pairs allowance (x ∷ xs) (y ∷ ys) e h = (h 0 x (omega arith), pairs allowance xs ys (omega (arith, e)) (λ k d lt. h (suc k) d (omega (arith, lt))))
 
   -- a call with that answer
-  answering : {allowance : ℕ} {x y : Worker A C} (a : Answer) → y.answer ≡ a → HasWorked allowance y.answer x y → HasWorked allowance a x y
-  answering {allowance} {x} {y} a is h = subst (λ (b : Answer). HasWorked allowance b x y) is h
+  answering : {allowance : ℕ} {x y : Worker A C} (a : WorkAnswer) → y.answer ≡ a → HasWorked allowance y.answer x y → HasWorked allowance a x y
+  answering {allowance} {x} {y} a is h = subst (λ (b : WorkAnswer). HasWorked allowance b x y) is h
 
   stay_each : (allowance : ℕ) (xs ys : List (Worker A C)) → Pairs allowance xs ys → total stands_for ys ≡ total stands_for xs
   stay_each allowance [] [] p = refl
@@ -181,16 +181,16 @@ module _ {A C : Type 0} where
         one_more : (m : ℕ) → allowance + spent x ≤ spent y → m + total spent xs ≤ total spent ys → (m + allowance) + (spent x + total spent xs) ≤ spent y + total spent ys
         one_more m a b = omega (arith, a, b)
 
-  over_each : (allowance : ℕ) (xs ys : List (Worker A C)) → Pairs allowance xs ys → SomeOver ys → any_drew leaves ys ≡ true
+  over_each : (allowance : ℕ) (xs ys : List (Worker A C)) → Pairs allowance xs ys → SomeOver ys → any_drew finds_run_end ys ≡ true
   over_each allowance [] [] p some = absurd some
   over_each allowance [] (y ∷ ys) p some = absurd p
   over_each allowance (x ∷ xs) [] p some = absurd p
   over_each allowance (x ∷ xs) (y ∷ ys) p some = ⊎_elim
-      (λ is. first_true (has_drawn leaves y) (any_drew leaves ys) (found_end (answering (Ok Over) is p.0)))
-      (λ k. second_true (has_drawn leaves y) (any_drew leaves ys) (over_each allowance xs ys p.1 k)) some
+      (λ is. first_true (has_drawn finds_run_end y) (any_drew finds_run_end ys) (found_end (answering (Ok Over) is p.0)))
+      (λ k. second_true (has_drawn finds_run_end y) (any_drew finds_run_end ys) (over_each allowance xs ys p.1 k)) some
 
   failed_one : (allowance : ℕ) (x y : Worker A C) → HasWorked allowance (Err ClockFailed) x y → has_drawn fails_clock y ≡ true
-  failed_one allowance x y h = ap (has fails_clock) h.drew ∙ has_append fails_clock x.hand.view.turns h.more ∙ second_true (has fails_clock x.hand.view.turns) (has fails_clock h.more) h.answers.0
+  failed_one allowance x y h = ap (some_turn fails_clock) h.drew ∙ has_append fails_clock x.hand.view.turns h.more ∙ second_true (some_turn fails_clock x.hand.view.turns) (some_turn fails_clock h.more) h.answers.0
 
   failed_each : (allowance : ℕ) (xs ys : List (Worker A C)) → Pairs allowance xs ys → SomeFailed ys → any_drew fails_clock ys ≡ true
   failed_each allowance [] [] p some = absurd some
@@ -202,7 +202,7 @@ module _ {A C : Type 0} where
 
 module _ {A C : Type 0} (over : CodeView → A → Type 0) (stands_as : ProgramView → A → TaskBody → Type 0) (program : ProgramView) (code : CodeView) (id : TableId) (n allowance : ℕ) where
   -- what a round says of its workers, before and after it
-  pub record IsRound (r : Answer) (xs ys : List (Worker A C)) : Type 0 where
+  pub record IsRound (r : WorkAnswer) (xs ys : List (Worker A C)) : Type 0 where
     pub before : All (IsReady over stands_as program code id n) xs
     pub many : length ys ≡ length xs
     pub ready : OnOk r (All (IsReady over stands_as program code id n) ys)
@@ -210,7 +210,7 @@ module _ {A C : Type 0} (over : CodeView → A → Type 0) (stands_as : ProgramV
     pub worked : EachWorked allowance xs ys
     pub answer : r ≡ joined_from (Ok Spent) ys
 
-  module _ (r : Answer) (xs ys : List (Worker A C)) where
+  module _ (r : WorkAnswer) (xs ys : List (Worker A C)) where
     last_at : (ws : List (Worker A C)) → AllLast ws → (k : ℕ) (d : Worker A C) → k < length ws → Lasts (slice_index_or ws k d).answer
     last_at [] all k d lt = absurd (omega (arith, lt))
     last_at (w ∷ ws) all zero d lt = all.0
@@ -222,7 +222,7 @@ module _ {A C : Type 0} (over : CodeView → A → Type 0) (stands_as : ProgramV
         ⊎_elim (λ come. of_ok y.answer (IsReady over stands_as program code id n y) come.0 come.1 h.ready) h.failed (last_at ys all k d lt)
 
     -- and whatever a worker answered, it has its lane at most
-    kept_one : (a : Answer) (x y : Worker A C) → y.answer ≡ a → IsWorked over stands_as program code id n allowance x y → HoldsLaneAtMost y
+    kept_one : (a : WorkAnswer) (x y : Worker A C) → y.answer ≡ a → IsWorked over stands_as program code id n allowance x y → HoldsLaneAtMost y
     kept_one (Ok e) x y is w i holds = absurd ((of_ok y.answer (IsReady over stands_as program code id n y) e is w.ready).nothing i holds.0 holds.1)
     kept_one (Err ClockFailed) x y is w i holds = absurd ((w.failed is).nothing i holds.0 holds.1)
     kept_one (Err OutOfMemory) x y is w i holds = w.kept is i holds
@@ -259,7 +259,7 @@ module _ {A C : Type 0} (over : CodeView → A → Type 0) (stands_as : ProgramV
       pub round_spent : IfOk r (λ e. e ≡ Spent → length xs * allowance + total spent xs ≤ total spent ys)
       round_spent = if_ok r _ (λ e k s. spent_each allowance xs ys pairs_in (all_spent (Ok Spent) ys (sym round.answer ∙ k ∙ ap Ok s)).1 (noted_all xs round.before) (noted_all ys (of_ok r _ e k round.ready)))
 
-      pub round_over : IfOk r (λ e. e ≡ Over → any_drew leaves ys ≡ true)
+      pub round_over : IfOk r (λ e. e ≡ Over → any_drew finds_run_end ys ≡ true)
       round_over = if_ok r _ (λ e k s. over_each allowance xs ys pairs_in (⊎_elim (λ never. absurd (let z : Ok Spent ≡ Ok Over = never in cc)) (λ some. some) (some_over (Ok Spent) ys (sym round.answer ∙ k ∙ ap Ok s))))
 
       pub round_failed : r ≡ Err ClockFailed → any_drew fails_clock ys ≡ true
@@ -273,17 +273,17 @@ module _ {A C : Type 0} (over : CodeView → A → Type 0) (stands_as : ProgramV
   shared_ready : (old w : Worker A C) → IsReady over stands_as program code id n old → IsReady over stands_as (program_view old.program.value) code id old.workers w → IsReady over stands_as program code id n w
   shared_ready old w r h = subst (λ (m : ℕ). IsReady over stands_as program code id m w) r.one.of (subst (λ (p : ProgramView). IsReady over stands_as p code id old.workers w) r.one.of_program h)
 
-  keeps_ready : (w : Worker A C) (a : Answer) → IsReady over stands_as program code id n w → IsReady over stands_as program code id n (record w { answer = a })
+  keeps_ready : (w : Worker A C) (a : WorkAnswer) → IsReady over stands_as program code id n w → IsReady over stands_as program code id n (record w { answer = a })
   keeps_ready w a r = record {
     one = record { table = r.one.table; slots = r.one.slots; of = r.one.of; few = r.one.few; below = r.one.below; of_program = r.one.of_program; of_code = r.one.of_code; knows = r.one.knows; opened_for = r.one.opened_for; above = r.one.above; notes = r.one.notes; left = r.one.left };
     nothing = r.nothing;
   }
 
   -- a worker that keeps the answer of its call
-  keeps_worked : (allowance : ℕ) (old w : Worker A C) (a : Answer) → HasWorked allowance a old w → HasWorked allowance a old (record w { answer = a })
+  keeps_worked : (allowance : ℕ) (old w : Worker A C) (a : WorkAnswer) → HasWorked allowance a old w → HasWorked allowance a old (record w { answer = a })
   keeps_worked allowance old w a h = record { number = h.number; table = h.table; opening = h.opening; stays_for = h.stays_for; more = h.more; drew = h.drew; sparing = h.sparing; answers = h.answers }
 
-  pub answered : (allowance : ℕ) (old w : Worker A C) (a : Answer) → IsReady over stands_as program code id n old
+  pub answered : (allowance : ℕ) (old w : Worker A C) (a : WorkAnswer) → IsReady over stands_as program code id n old
       → OnOk a (IsReady over stands_as (program_view old.program.value) code id old.workers w) → (a ≡ Err ClockFailed → IsReady over stands_as (program_view old.program.value) code id old.workers w) → (a ≡ Err OutOfMemory → (i : ℕ) → IsHolding w.hand i → i ≡ old.number) → HasWorked allowance a old w
       → IsWorked over stands_as program code id n allowance old (record w { answer = a })
   answered allowance old w a r ready failed kept worked = record {
@@ -298,7 +298,7 @@ module _ {A C : Type 0} (over : CodeView → A → Type 0) (place : A → At) (s
   Stops opening w = StopsAlone over place stands_as advances gives starts code allowance opening w
 
   -- an only worker that keeps the answer of its first call
-  pub answered_alone : (old w : Worker A C) (a : Answer) → HasWorked allowance a old w
+  pub answered_alone : (old w : Worker A C) (a : WorkAnswer) → HasWorked allowance a old w
       → IfOk a (λ e. IsLone old → old.hand.view.turns ≡ [] → 0 < allowance → LoneStopped over place stands_as advances gives starts code allowance w)
       → WorkedAlone over place stands_as advances gives starts code allowance old (record w { answer = a })
   answered_alone old w a worked solo = on_ok a ((opening : List (PartSeen A)) → 0 < allowance → BeginsAlone opening old → Stops opening (record w { answer = a })) (λ e k opening some b.
@@ -307,7 +307,7 @@ module _ {A C : Type 0} (over : CodeView → A → Type 0) (place : A → At) (s
         opened = worked.opening ∙ b.opened;
       }))
 
-  pub round_alone : (xs ys : List (Worker A C)) (r : Answer) → r ≡ joined_from (Ok Spent) ys → length ys ≡ length xs → WorkedAloneAt over place stands_as advances gives starts code allowance xs ys
+  pub round_alone : (xs ys : List (Worker A C)) (r : WorkAnswer) → r ≡ joined_from (Ok Spent) ys → length ys ≡ length xs → WorkedAloneAt over place stands_as advances gives starts code allowance xs ys
       → OnOk r ((opening : List (PartSeen A)) → 0 < allowance → All (BeginsAlone opening) xs → All (Stops opening) ys)
   round_alone xs ys r is many worked = on_ok r ((opening : List (PartSeen A)) → 0 < allowance → All (BeginsAlone opening) xs → All (Stops opening) ys) (λ e came opening some begins k d lt.
       (let had : k < length xs = omega (arith, lt, many) in let c = come_at ys (all_come (Ok Spent) ys e (sym is ∙ came)).1 k d lt in

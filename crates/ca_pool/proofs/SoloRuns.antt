@@ -11,7 +11,7 @@ use Rattle.ca_term.specs.Operation.{SeedView}
 use Rattle.ca_term.specs.Program.{ProgramParts, ProgramView, program_view}
 use Rattle.ca_meaning.specs.Body.{At}
 use Rattle.ca_meaning.specs.Ends.{IsWithin}
-use Rattle.ca_meaning.specs.Legal.{GoesOn}
+use Rattle.ca_meaning.specs.Legal.{EndsLast}
 use Rattle.ca_meaning.specs.Solo.{Solo}
 use Rattle.ca_meaning.specs.State.{State}
 use Rattle.ca_meaning.specs.Task.{TaskBody}
@@ -21,13 +21,13 @@ use Rattle.ca_states.specs.declared.valid_code.ValidCode.{ValidCode}
 use Rattle.ca_agent.specs.Agents.{Advanced, Answered, Started}
 use Rattle.ca_turns.specs.Hands.{TableId}
 use Rattle.ca_commit.specs.Agents.{TaskAgent}
-use Rattle.ca_commit.specs.Contents.{Content, Held, TimersPart, a_bank, a_lane, a_ready, a_shard, away, the_timers}
+use Rattle.ca_commit.specs.Contents.{Content, PartContents, TimersPart, a_bank, a_lane, a_ready, a_shard, away, the_timers}
 use Rattle.ca_commit.specs.Gathered.{kind_of_part, parts_of, sorted, timers_kind, timers_of}
 use Rattle.ca_commit.specs.Opening.{unasked}
 use Rattle.ca_commit.proofs.Seats.{some_same}
 use Rattle.ca_table.specs.Carrying.{timers_place}
 use Rattle.ca_table.specs.Draws.{drawn_moves}
-use Rattle.ca_table.specs.Moments.{WentOn}
+use Rattle.ca_table.specs.Moments.{ToldWentOn}
 use Rattle.ca_table.specs.Opening.{opening_list}
 use Rattle.ca_table.specs.Parts.{clockwork_seen, contents_seen, part_seen}
 use Rattle.ca_table.specs.Running.{TableStands, as_option, contents_at}
@@ -82,7 +82,7 @@ module _ {A C : Type 0} (least faults : C → ℕ) (readings : C → Option (Lis
     pub timers_kind_in : 0 < n → (p : Part A C) → kind_of_part (held_of (contents_seen least faults readings (slice_index_or ps (n + 32) p).contents)) ≡ timers_kind
     timers_kind_in some p = (run.kinds (n + 32) (content_of (part_seen least faults readings (slice_index_or ps (n + 32) p))) (lies ps (n + 32) p timers_in)).1 ∙ kind_placed n 0 some timers_place tt
 
-  same_timers : (x : Held (TaskAgent A)) (t u : TimersPart) → x ≡ the_timers t → x ≡ the_timers u → t ≡ u
+  same_timers : (x : PartContents (TaskAgent A)) (t u : TimersPart) → x ≡ the_timers t → x ≡ the_timers u → t ≡ u
   same_timers x t u e f = cc
 
   -- a clock that lay in the timers
@@ -95,7 +95,7 @@ module _ {A C : Type 0} (least faults : C → ℕ) (readings : C → Option (Lis
   pub timers_are : (n : ℕ) (ps : List (Part A C)) (p : Part A C) (t : TimersPart) → n + 32 < length ps → kind_of_part (held_of (contents_seen least faults readings (slice_index_or ps (n + 32) p).contents)) ≡ timers_kind
       → (parts_of n (contents_at (Seen ps))).timers ≡ Some t → held_of (contents_seen least faults readings (slice_index_or ps (n + 32) p).contents) ≡ the_timers t
   timers_are n ps p t lt kind e = of_kind (held_of (contents_seen least faults readings (slice_index_or ps (n + 32) p).contents)) kind (sym (ap (sorted timers_of) (lies ps (n + 32) p lt)) ∙ e) where
-    of_kind : (h : Held (TaskAgent A)) → kind_of_part h ≡ timers_kind → timers_of h ≡ Some t → h ≡ the_timers t
+    of_kind : (h : PartContents (TaskAgent A)) → kind_of_part h ≡ timers_kind → timers_of h ≡ Some t → h ≡ the_timers t
     of_kind (the_timers u) k f = ap the_timers (some_same u t f)
     of_kind (a_lane l) k f = absurd (let z : None ≡ Some t = f in cc)
     of_kind (a_bank b) k f = absurd (let z : None ≡ Some t = f in cc)
@@ -123,7 +123,7 @@ module _ {A C : Type 0} (over : CodeView → A → Type 0) (place : A → At) (s
 
     pub is_solo : (ws : List (Worker A C)) → length ws ≡ n → n ≡ 1 → All (IsReady over stands_as program (valid_code code) id n) ws → All (StopsAlone over place stands_as advances gives starts code allowance (opening_list n (valid_code code) texts main clock)) ws
         → All (RanAlone (drawn_moves over place advances gives starts) journal parts) ws → ((t : TimersPart) → (parts_of n (contents_at parts)).timers ≡ Some t → (least last ≡ t.least) × (readings last ≡ t.readings) × (faults last ≡ t.faults))
-        → IsSolo program journal (least first) (readings first) (readings last) × IsWithin allowance journal × GoesOn journal
+        → IsSolo program journal (least first) (readings first) (readings last) × IsWithin allowance journal × EndsLast journal
     is_solo [] many one ready stops ran told = absurd (let k : 0 ≡ n = many in omega (arith, k, one))
     is_solo (w ∷ ws) many one ready stops ran told =
         let s = stops 0 w (omega arith) in
@@ -137,8 +137,8 @@ module _ {A C : Type 0} (over : CodeView → A → Type 0) (place : A → At) (s
             solo = subst (λ (p : ProgramView). Solo p k.answers journal) own (subst (λ (es : List EventView). Solo (program_view w.program.value) k.answers es) (sym r.shown) k.solo);
             last = given.clock.least;
             rise = given.gave.rise;
-            told = subst (λ (o : Option (List ℕ)). WentOn k.answers (readings first) o) (sym after.1) given.gave.told;
+            told = subst (λ (o : Option (List ℕ)). ToldWentOn k.answers (readings first) o) (sym after.1) given.gave.told;
           },
           subst (λ (es : List EventView). IsWithin allowance es) (sym r.shown) k.within,
-          subst GoesOn (sym r.shown) k.goes_on,
+          subst EndsLast (sym r.shown) k.goes_on,
         )

@@ -15,7 +15,7 @@ use Rattle.ca_bank.specs.declared.bank.Bank.{Bank}
 use Rattle.ca_bank.proofs.Places.{has_place}
 use Rattle.ca_commit.specs.Contents.{Kept}
 use Rattle.ca_commit.specs.Holds.{live_of}
-use Rattle.ca_pool.specs.Surveys.{AllRest, Rests, rests_anyway}
+use Rattle.ca_pool.specs.Surveys.{AllRest, ChannelRests, rests_anyway}
 
 both_true : (a b : Bool) → a && b ≡ true → (a ≡ true) × (b ≡ true)
 both_true true true e = (refl, refl)
@@ -47,7 +47,7 @@ module _ (alive : ℕ → Bool) where
   no_putter c true [] taker r none = none
   no_putter c true (g ∷ q) taker r none = absurd (not_both true (nat_lt 0 (length (g ∷ q))) r refl (some_wait g q))
 
-pub rests_by : (k : Kept) → rests_anyway (Some k) ≡ true → Rests k
+pub rests_by : (k : Kept) → rests_anyway (Some k) ≡ true → ChannelRests k
 rests_by k e alive = let r = both_true _ _ e in
     no_putter alive k.channel (is_fixed k.channel.policy && has_room k.channel) k.puts (head (live_of alive k.takes)) r.0 (no_taker alive k.channel k.channel.held k.channel.closed k.takes refl r.1)
 

@@ -9,7 +9,7 @@ use Rattle.ca_journal.specs.Cut.{end_in}
 use Rattle.ca_turns.specs.declared.rule.Turn.{Turn}
 use Rattle.ca_turns.specs.Places.{total}
 use Rattle.ca_table.specs.Draws.{turn_view}
-use Rattle.ca_table.specs.Worked.{HasDrawnNothing, HasMainEnd, any_drew, ends_main, gives_up, has, has_drawn, leaves, obeys_mark, spent, stays_stuck}
+use Rattle.ca_table.specs.Worked.{HasDrawnNothing, HasMainEnd, any_drew, ends_main, gives_up, some_turn, has_drawn, finds_run_end, obeys_mark, spent, stays_stuck}
 use Rattle.ca_table.specs.declared.drawn.Drawn.{Drawn}
 use Rattle.ca_table.specs.declared.worker.Worker.{Worker}
 use Rattle.ca_table.specs.declared.answer.WorkEnd.{WorkEnd}
@@ -41,25 +41,25 @@ either_three false false false x y z h = ⊎_elim (λ k. ⊎_elim (λ q. absurd 
   never : false ≡ true → ⊥
   never q = cc
 
-has_left : {C : Type 0} (ts : List (Turn C Drawn)) → has leaves ts ≡ true → Three (has stays_stuck ts) (has obeys_mark ts) (has ends_main ts)
+has_left : {C : Type 0} (ts : List (Turn C Drawn)) → some_turn finds_run_end ts ≡ true → Three (some_turn stays_stuck ts) (some_turn obeys_mark ts) (some_turn ends_main ts)
 has_left [] e = absurd (let z : false ≡ true = e in cc)
-has_left (t ∷ ts) e = let w = turn_view t.event.what in either_three (stays_stuck w) (obeys_mark w) (ends_main w) (has stays_stuck ts) (has obeys_mark ts) (has ends_main ts)
-    (⊎_elim (λ k. inl (three (stays_stuck w) (obeys_mark w) (ends_main w) k)) (λ k. inr (has_left ts k)) (either_true (leaves w) (has leaves ts) e))
+has_left (t ∷ ts) e = let w = turn_view t.event.what in either_three (stays_stuck w) (obeys_mark w) (ends_main w) (some_turn stays_stuck ts) (some_turn obeys_mark ts) (some_turn ends_main ts)
+    (⊎_elim (λ k. inl (three (stays_stuck w) (obeys_mark w) (ends_main w) k)) (λ k. inr (has_left ts k)) (either_true (finds_run_end w) (some_turn finds_run_end ts) e))
 
 module _ {A C : Type 0} where
-  any_left : (ws : List (Worker A C)) → any_drew leaves ws ≡ true → Three (any_drew stays_stuck ws) (any_drew obeys_mark ws) (any_drew ends_main ws)
+  any_left : (ws : List (Worker A C)) → any_drew finds_run_end ws ≡ true → Three (any_drew stays_stuck ws) (any_drew obeys_mark ws) (any_drew ends_main ws)
   any_left [] e = absurd (let z : false ≡ true = e in cc)
   any_left (w ∷ ws) e = either_three (has_drawn stays_stuck w) (has_drawn obeys_mark w) (has_drawn ends_main w) (any_drew stays_stuck ws) (any_drew obeys_mark ws) (any_drew ends_main ws)
-      (⊎_elim (λ k. inl (has_left w.hand.view.turns k)) (λ k. inr (any_left ws k)) (either_true (has_drawn leaves w) (any_drew leaves ws) e))
+      (⊎_elim (λ k. inl (has_left w.hand.view.turns k)) (λ k. inr (any_left ws k)) (either_true (has_drawn finds_run_end w) (any_drew finds_run_end ws) e))
 
   -- nobody has given up before the first call
   pub none_yet : (ws : List (Worker A C)) → All HasDrawnNothing ws → any_drew gives_up ws ≡ false
   none_yet [] all = refl
-  none_yet (w ∷ ws) all = ap (λ b. b || any_drew gives_up ws) (ap (has gives_up) (all 0 w (omega arith))) ∙ none_yet ws (λ k d lt. all (suc k) d (omega (arith, lt)))
+  none_yet (w ∷ ws) all = ap (λ b. b || any_drew gives_up ws) (ap (some_turn gives_up) (all 0 w (omega arith))) ∙ none_yet ws (λ k d lt. all (suc k) d (omega (arith, lt)))
 
   -- so where no end is found in the journal the run is quiet
   pub quiet_by : (ws : List (Worker A C)) (e : WorkEnd) (es : List EventView) (s : State) (budget all before : ℕ) → 0 < budget → budget ≤ all
-      → (e ≡ Spent → all + before ≤ total spent ws) → cost es ≡ total spent ws → (e ≡ Over → any_drew leaves ws ≡ true) → any_drew gives_up ws ≡ false
+      → (e ≡ Spent → all + before ≤ total spent ws) → cost es ≡ total spent ws → (e ≡ Over → any_drew finds_run_end ws ≡ true) → any_drew gives_up ws ≡ false
       → (any_drew stays_stuck ws ≡ true → IsQuiet s) → (any_drew ends_main ws ≡ true → HasMainEnd es) → (any_drew gives_up ws ≡ false → any_drew obeys_mark ws ≡ true → HasMainEnd es)
       → end_in budget es ≡ None → IsQuiet s
   quiet_by ws Spent es s budget all before lt enough spends costs over none stuck main marked h = cut_by_cost budget es lt (let a = spends refl in omega (arith, a, costs, enough)) h

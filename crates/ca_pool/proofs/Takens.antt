@@ -17,25 +17,25 @@ use Rattle.ca_turns.specs.Hands.{TableId}
 use Rattle.ca_table.specs.Bearing.{ShowSame}
 use Rattle.ca_table.specs.Carriers.{IsCarrying, just_lane}
 use Rattle.ca_table.specs.Carrying.{Carries}
-use Rattle.ca_table.specs.Parts.{away, clockwork_seen, part_seen}
+use Rattle.ca_table.specs.Parts.{part_away, clockwork_seen, part_seen}
 use Rattle.ca_table.specs.Seen.{PartSeen, seen_timers}
 use Rattle.ca_table.specs.Workers.{SameWorker}
 use Rattle.ca_table.specs.declared.part.Lane.{Lane}
 use Rattle.ca_table.specs.declared.part.Part.{Part}
 use Rattle.ca_table.specs.declared.worker.Worker.{Worker}
-use Rattle.ca_pool.specs.Desk.{ClockBox, IsBare, taken}
+use Rattle.ca_pool.specs.Desk.{ClockBox, IsBare, desk_taken}
 use Rattle.ca_pool.proofs.Desk.{bare_taken, some_map, taken_same}
 use Rattle.ca_pool.proofs.Stays.{still_carries}
 
 -- a clockwork that shows the same is taken as the same
 clock_taken : {A C : Type 0} (least faults : C → ℕ) (readings : C → Option (List ℕ)) (n : ℕ) (code : ValidCode) (w : ℕ) (l : Lane A) (a b : ClockBox C) (held : Held A) → clockwork_seen least faults readings b.value ≡ clockwork_seen least faults readings a.value
-    → taken (part_seen least faults readings) n code w l (Some a) held ≡ taken (part_seen least faults readings) n code w l (Some b) held
+    → desk_taken (part_seen least faults readings) n code w l (Some a) held ≡ desk_taken (part_seen least faults readings) n code w l (Some b) held
 clock_taken least faults readings n code w l a b held e = λ t. record {
-  lane = (taken (part_seen least faults readings) n code w l (Some a) held).lane;
-  banks = (taken (part_seen least faults readings) n code w l (Some a) held).banks;
-  shards = (taken (part_seen least faults readings) n code w l (Some a) held).shards;
-  timers = Some (away n code, record { workers = n; code = valid_code code; held = seen_timers (sym e t) });
-  ready = (taken (part_seen least faults readings) n code w l (Some a) held).ready;
+  lane = (desk_taken (part_seen least faults readings) n code w l (Some a) held).lane;
+  banks = (desk_taken (part_seen least faults readings) n code w l (Some a) held).banks;
+  shards = (desk_taken (part_seen least faults readings) n code w l (Some a) held).shards;
+  timers = Some (part_away n code, record { workers = n; code = valid_code code; held = seen_timers (sym e t) });
+  ready = (desk_taken (part_seen least faults readings) n code w l (Some a) held).ready;
 }
 
 module _ {A C : Type 0} (over : CodeView → A → Type 0) (stands_as : ProgramView → A → TaskBody → Type 0) (least faults : C → ℕ) (readings : C → Option (List ℕ)) (program : ProgramView) (code : ValidCode) (id : TableId) (n : ℕ) (w : Worker A C) (l : Lane A) where
@@ -43,7 +43,7 @@ module _ {A C : Type 0} (over : CodeView → A → Type 0) (stands_as : ProgramV
   Has = IsCarrying over stands_as program code id n w
 
   abbrev Takes : ℕ → Option (ClockBox C) → Held A → Carries (Part A C × PartSeen A)
-  Takes k clock held = taken (part_seen least faults readings) n code k l clock held
+  Takes k clock held = desk_taken (part_seen least faults readings) n code k l clock held
 
   -- where nothing is held
   pub bare_in : (k : ℕ) (held : Held A) → IsBare held → Has (just_lane n code l) → Has (Takes k None held)
@@ -67,9 +67,9 @@ module _ {A C : Type 0} (over : CodeView → A → Type 0) (stands_as : ProgramV
 module _ {A C : Type 0} (over : CodeView → A → Type 0) (stands_as : ProgramView → A → TaskBody → Type 0) (least faults : C → ℕ) (readings : C → Option (List ℕ)) (program : ProgramView) (code : ValidCode) (id : TableId) (n : ℕ) (t p : Worker A C) (l : Lane A) where
   -- room was made for what is to come, and what is held shows the same
   pub made_room : (k : ℕ) (clock : Option (ClockBox C)) (old new : Held A) → SameWorker t p → p.hand ≡ t.hand → entries p.entries ≡ entries t.entries → p.number ≡ k → ShowSame old new
-      → IsCarrying over stands_as program code id n t (taken (part_seen least faults readings) n code k l clock old) → IsCarrying over stands_as program code id n p (taken (part_seen least faults readings) n code p.number l clock new)
+      → IsCarrying over stands_as program code id n t (desk_taken (part_seen least faults readings) n code k l clock old) → IsCarrying over stands_as program code id n p (desk_taken (part_seen least faults readings) n code p.number l clock new)
   made_room k clock old new same hand entries number show s = as_number over stands_as least faults readings program code id n p l k p.number clock new number
-      (still_carries over stands_as program id n t p same entries code (taken (part_seen least faults readings) n code k l clock new) hand (as_shown over stands_as least faults readings program code id n t l k clock old new show s))
+      (still_carries over stands_as program id n t p same entries code (desk_taken (part_seen least faults readings) n code k l clock new) hand (as_shown over stands_as least faults readings program code id n t l k clock old new show s))
 
 -- what shows the same settles the same
 pub served_same : {A : Type 0} (old new : Held A) (p : ℕ) → ShowSame old new → served_in new p ≡ served_in old p

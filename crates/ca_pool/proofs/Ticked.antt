@@ -18,7 +18,7 @@ use Rattle.ca_table.specs.Bearing.{ShowSame}
 use Rattle.ca_table.specs.Homes.{has_home}
 use Rattle.ca_table.specs.Parts.{clockwork_seen}
 use Rattle.ca_table.specs.declared.homes.Homes.{Homes}
-use Rattle.ca_pool.specs.Asking.{HasBanksOf, HasHomes, IsAsked, TimesBy, passed}
+use Rattle.ca_pool.specs.Asking.{HasBanksOf, HasHomes, IsAsked, TimesBy, moment_passed}
 use Rattle.ca_pool.specs.Desk.{ClockBox}
 use Rattle.ca_pool.proofs.Asides.{Ticks, asked_before, asked_reads}
 
@@ -37,11 +37,11 @@ module _ {A C : Type 0} (least faults : C → ℕ) (readings : C → Option (Lis
   abbrev ps : List ℕ
   ps = due m clock1.value.timers.deadlines
 
-  pub ticks_by : (e : Event) → o ≡ Some e → IsAsked m (shows clock0) (shows clock1) → IfSome o (λ e. (event_view e ≡ ticked m ps) × (ps ≢ []) × (shows clock2 ≡ passed m (shows clock1))) → Placed (channels_held held0.banks) → HasBanksOf held0 ps
+  pub ticks_by : (e : Event) → o ≡ Some e → IsAsked m (shows clock0) (shows clock1) → IfSome o (λ e. (event_view e ≡ ticked m ps) × (ps ≢ []) × (shows clock2 ≡ moment_passed m (shows clock1))) → Placed (channels_held held0.banks) → HasBanksOf held0 ps
       → ((i : ℕ) → channels_held held.banks i ≡ closed_all ps (channels_held held0.banks) i) → ((i : ℕ) → registries_held held.banks i ≡ registries_held held0.banks i) → held.shards ≡ held0.shards → held.ready ≡ held0.ready → held0.ready ≡ None
       → Ticks least faults readings clock0 clock2 held0 held m (shows clock1) (event_view e)
   ticks_by e is asked some placed there channels registries shards ready none =
-      let s = for_some (λ e. (event_view e ≡ ticked m ps) × (ps ≢ []) × (shows clock2 ≡ passed m (shows clock1))) o e is some in
+      let s = for_some (λ e. (event_view e ≡ ticked m ps) × (ps ≢ []) × (shows clock2 ≡ moment_passed m (shows clock1))) o e is some in
       record { asked = asked; passed_by = s.2; event = s.0; some = s.1; placed = placed; there = there; channels = channels; registries = registries; shards = shards; ready = ready; none = none }
 
   pub same_by : o ≡ None → IfNone o ((ps ≡ []) × (shows clock2 ≡ shows clock1)) → ((i : ℕ) → channels_held held.banks i ≡ closed_all ps (channels_held held0.banks) i) → ((i : ℕ) → registries_held held.banks i ≡ registries_held held0.banks i) → held.shards ≡ held0.shards → held.ready ≡ held0.ready → ShowSame held0 held
@@ -60,8 +60,8 @@ module _ {C : Type 0} (least faults : C → ℕ) (readings : C → Option (List 
   abbrev closes : List ℕ
   closes = due m clock.value.timers.deadlines
 
-  pub event_is : (e : Event) → o ≡ Some e → IfSome o (λ e. (event_view e ≡ ticked m closes) × (closes ≢ []) × (clockwork_seen least faults readings clock2.value ≡ passed m (clockwork_seen least faults readings clock.value))) → event_view e ≡ ticked m closes
-  event_is e is some = (for_some (λ e. (event_view e ≡ ticked m closes) × (closes ≢ []) × (clockwork_seen least faults readings clock2.value ≡ passed m (clockwork_seen least faults readings clock.value))) o e is some).0
+  pub event_is : (e : Event) → o ≡ Some e → IfSome o (λ e. (event_view e ≡ ticked m closes) × (closes ≢ []) × (clockwork_seen least faults readings clock2.value ≡ moment_passed m (clockwork_seen least faults readings clock.value))) → event_view e ≡ ticked m closes
+  event_is e is some = (for_some (λ e. (event_view e ≡ ticked m closes) × (closes ≢ []) × (clockwork_seen least faults readings clock2.value ≡ moment_passed m (clockwork_seen least faults readings clock.value))) o e is some).0
 
   pub none_due : o ≡ None → IfNone o ((closes ≡ []) × (clockwork_seen least faults readings clock2.value ≡ clockwork_seen least faults readings clock.value)) → closes ≡ []
   none_due is none = (for_none ((closes ≡ []) × (clockwork_seen least faults readings clock2.value ≡ clockwork_seen least faults readings clock.value)) o is none).0

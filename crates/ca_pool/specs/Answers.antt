@@ -19,24 +19,24 @@ use Rattle.ca_table.specs.declared.answer.WorkEnd.{WorkEnd}
 use Rattle.ca_table.specs.declared.answer.WorkEnd.TheVariants.{Over, Spent}
 use Rattle.ca_pool.specs.Lone.{IsLone, LoneStopped}
 
-abbrev pub Answer : Type 0
-Answer = Result WorkEnd PoolStop
+abbrev pub WorkAnswer : Type 0
+WorkAnswer = Result WorkEnd PoolStop
 
 -- want of memory comes before a clock that failed, and that before an end
-abbrev pub joined : Answer → Answer → Answer
-joined (Err OutOfMemory) other = Err OutOfMemory
-joined (Err ClockFailed) (Err OutOfMemory) = Err OutOfMemory
-joined (Err ClockFailed) (Err ClockFailed) = Err ClockFailed
-joined (Err ClockFailed) (Ok e) = Err ClockFailed
-joined (Ok e) (Err stop) = Err stop
-joined (Ok e) (Ok Spent) = Ok e
-joined (Ok e) (Ok Over) = Ok Over
+abbrev pub answers_joined : WorkAnswer → WorkAnswer → WorkAnswer
+answers_joined (Err OutOfMemory) other = Err OutOfMemory
+answers_joined (Err ClockFailed) (Err OutOfMemory) = Err OutOfMemory
+answers_joined (Err ClockFailed) (Err ClockFailed) = Err ClockFailed
+answers_joined (Err ClockFailed) (Ok e) = Err ClockFailed
+answers_joined (Ok e) (Err stop) = Err stop
+answers_joined (Ok e) (Ok Spent) = Ok e
+answers_joined (Ok e) (Ok Over) = Ok Over
 
 module _ {A C : Type 0} where
   -- with the answers of these workers
-  abbrev pub joined_from : Answer → List (Worker A C) → Answer
+  abbrev pub joined_from : WorkAnswer → List (Worker A C) → WorkAnswer
   joined_from answer [] = answer
-  joined_from answer (w ∷ ws) = joined_from (joined answer w.answer) ws
+  joined_from answer (w ∷ ws) = joined_from (answers_joined answer w.answer) ws
 
   -- it holds no part but its lane, if that
   abbrev pub HoldsLaneAtMost : Worker A C → Type 0

@@ -7,7 +7,7 @@ use Rattle.ca_commit.specs.Listings.{parts}
 use Rattle.ca_commit.specs.Numbers.{number_of_bank}
 use Rattle.ca_commit.specs.SilentMoves as silent
 use Rattle.ca_commit.specs.TaskMoves.{GoOnBy}
-use Rattle.ca_commit.specs.Ticking.{ports_in}
+use Rattle.ca_commit.specs.Ticking.{numbers_of_ports}
 use Rattle.ca_commit.specs.Touched as said
 use Rattle.ca_commit.specs.declared.held.Held.{Held}
 use Rattle.ca_meaning.specs.TaskSteps.{moments}
@@ -16,8 +16,8 @@ use Rattle.ca_table.specs.Homes.{has_home}
 use Rattle.ca_table.specs.declared.homes.Homes.{Homes}
 
 -- that is the moment of the first of them
-abbrev pub IsFirst : ℕ → List Deadline → Type 0
-IsFirst first ds = option_map (λ (d : Deadline). d.moment) (slice_get ds 0) ≡ Some first
+abbrev pub IsFirstMoment : ℕ → List Deadline → Type 0
+IsFirstMoment first ds = option_map (λ (d : Deadline). d.moment) (slice_get ds 0) ≡ Some first
 
 -- the clock answered m; deadlines, the moment of the run and the mark stay
 pub record IsAsked (m : ℕ) (c c2 : TimersPart) : Type 0 where
@@ -55,12 +55,12 @@ TimesBy said.halts c c2 = silent.Marked c c2
 TimesBy other c c2 = ⊥
 
 -- what is due at m is gone, and m is the moment of the run
-abbrev pub passed : ℕ → TimersPart → TimersPart
-passed m c = record { deadlines = open_after m c.deadlines; now = m; least = c.least; faults = c.faults; readings = c.readings; mark = c.mark }
+abbrev pub moment_passed : ℕ → TimersPart → TimersPart
+moment_passed m c = record { deadlines = open_after m c.deadlines; now = m; least = c.least; faults = c.faults; readings = c.readings; mark = c.mark }
 
 -- the list of the ports that are due was made
-abbrev pub IsMadeFor : {A : Type 0} → Held A → TimersPart → ℕ → Type 0
-IsMadeFor h c m = option_map ports_in h.spare.ports ≡ Some (due m c.deadlines)
+abbrev pub AreDuePortsMade : {A : Type 0} → Held A → TimersPart → ℕ → Type 0
+AreDuePortsMade h c m = option_map numbers_of_ports h.spare.ports ≡ Some (due m c.deadlines)
 
 -- the banks of all these ports are among them
 abbrev pub HasHomes : Homes → List ℕ → Type 0

@@ -8,7 +8,7 @@ use Rattle.ca_turns.specs.Hands.{TableId}
 use Rattle.ca_commit.specs.Contents.{Counts}
 use Rattle.ca_commit.specs.PlanMoves.{next_port, next_task, next_wait}
 use Rattle.ca_commit.specs.declared.held.Held.{Held}
-use Rattle.ca_pool.specs.Desk.{ClockBox, taken}
+use Rattle.ca_pool.specs.Desk.{ClockBox, desk_taken}
 use Rattle.ca_table.specs.Carriers.{IsCarrying, just_lane}
 use Rattle.ca_table.specs.Seen.{PartSeen}
 use Rattle.ca_table.specs.declared.part.Lane.{Lane}
@@ -22,7 +22,7 @@ module _ {A C : Type 0} (over : CodeView → A → Type 0) (stands_as : ProgramV
 
   -- the clockwork too, if that is there, and what is held, as all of it was settled
   abbrev pub HasTaken : (Part A C → PartSeen A) → Option (ClockBox C) → Held A → Worker A C → Type 0
-  HasTaken seen clock held w = IsCarrying over stands_as program code id n w (taken seen n code w.number l clock held)
+  HasTaken seen clock held w = IsCarrying over stands_as program code id n w (desk_taken seen n code w.number l clock held)
 
 -- the numbers that worker w of n gives next
 pub record HasNumbers {A : Type 0} (w n : ℕ) (counts : Counts) (held : Held A) : Type 0 where

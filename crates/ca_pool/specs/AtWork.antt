@@ -14,7 +14,7 @@ use Rattle.ca_table.specs.Carriers.{IsCarrying, just_lane}
 use Rattle.ca_table.specs.Grips.{SameHand}
 use Rattle.ca_table.specs.Running.{shown_by}
 use Rattle.ca_table.specs.Seen.{PartSeen}
-use Rattle.ca_table.specs.Worked.{AnswersFor, Sparing, finds_end, gives_up, has}
+use Rattle.ca_table.specs.Worked.{AnswersFor, Sparing, finds_end, gives_up, some_turn}
 use Rattle.ca_table.specs.Workers.{IsReady, IsSeated, SameWorker}
 use Rattle.ca_table.specs.declared.answer.PoolStop.{PoolStop}
 use Rattle.ca_table.specs.declared.answer.PoolStop.TheVariants.{ClockFailed, OutOfMemory}
@@ -49,7 +49,7 @@ module _ {A C : Type 0} where
     pub hand : SameHand old.hand new.hand
     pub more : List (Turn (PartSeen A) Drawn)
     pub turns : new.hand.view.turns ≡ old.hand.view.turns ++ more
-    pub going : has gives_up more ≡ false
+    pub going : some_turn gives_up more ≡ false
     pub finds : found ≡ true → finds_end more ≡ true
     pub within : Sparing start (shown_by more)
     pub left_is : left ≡ start - cost (shown_by more)

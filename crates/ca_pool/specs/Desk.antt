@@ -19,7 +19,7 @@ use Rattle.ca_table.specs.Carrying.{Carries, lane_place, with_at}
 use Rattle.ca_table.specs.Homes.{has_home}
 use Rattle.ca_table.specs.Lifting.{SettledIf, laid_back, lifted}
 use Rattle.ca_table.specs.Needing.{drawn_with}
-use Rattle.ca_table.specs.Parts.{away, part_of}
+use Rattle.ca_table.specs.Parts.{part_away, part_of}
 use Rattle.ca_table.specs.Seen.{PartSeen}
 use Rattle.ca_table.specs.Workers.{part_of_lane}
 use Rattle.ca_table.specs.declared.part.Clockwork.{Clockwork}
@@ -38,19 +38,19 @@ module _ {A C : Type 0} (seen : Part A C → PartSeen A) (n : ℕ) (code : Valid
 
   -- Worker w carries its lane, which was settled as l, the clockwork if that is there, and what is held. All of it is
   -- moved out of the hand, and is as it was settled.
-  abbrev pub taken : ℕ → Lane A → Option (ClockBox C) → Held A → Carries (Part A C × PartSeen A)
-  taken w l clock held = record {
-    lane = Some (away n code, part_of_lane n code l);
+  abbrev pub desk_taken : ℕ → Lane A → Option (ClockBox C) → Held A → Carries (Part A C × PartSeen A)
+  desk_taken w l clock held = record {
+    lane = Some (part_away n code, part_of_lane n code l);
     banks = lifted n code V.Bank seen number_of_bank (parts held.banks);
     shards = lifted n code V.Shard seen number_of_shard (parts held.shards);
-    timers = option_map (λ t. (away n code, settled_as (V.Timers t))) clock;
-    ready = λ r. cond (eqb w r) (option_map (λ q. (away n code, settled_as (V.Ready q))) held.ready) None;
+    timers = option_map (λ t. (part_away n code, settled_as (V.Timers t))) clock;
+    ready = λ r. cond (eqb w r) (option_map (λ q. (part_away n code, settled_as (V.Ready q))) held.ready) None;
   }
 
   -- The same where the clockwork and what is held, settled as the first, lie in the hand again, as the second.
-  abbrev pub laid : ℕ → Lane A → Option (ClockBox C) → Held A → Option (ClockBox C) → Held A → Carries (Part A C × PartSeen A)
-  laid w l clock held clock2 held2 = record {
-    lane = Some (away n code, part_of_lane n code l);
+  abbrev pub laid_again : ℕ → Lane A → Option (ClockBox C) → Held A → Option (ClockBox C) → Held A → Carries (Part A C × PartSeen A)
+  laid_again w l clock held clock2 held2 = record {
+    lane = Some (part_away n code, part_of_lane n code l);
     banks = λ i. laid_back n code V.Bank (listed number_of_bank (parts held2.banks) i) (option_map (λ b. settled_as (V.Bank b)) (listed number_of_bank (parts held.banks) i));
     shards = λ i. laid_back n code V.Shard (listed number_of_shard (parts held2.shards) i) (option_map (λ s. settled_as (V.Shard s)) (listed number_of_shard (parts held.shards) i));
     timers = laid_back n code V.Timers clock2 (option_map (λ t. settled_as (V.Timers t)) clock);
@@ -59,11 +59,11 @@ module _ {A C : Type 0} (seen : Part A C → PartSeen A) (n : ℕ) (code : Valid
 
   -- all but the lane, which an event beside it leaves alone
   abbrev pub laid_aside : ℕ → Lane A → Option (ClockBox C) → Held A → Option (ClockBox C) → Held A → Carries (Part A C × PartSeen A)
-  laid_aside w l clock held clock2 held2 = with_at lane_place None (laid w l clock held clock2 held2)
+  laid_aside w l clock held clock2 held2 = with_at lane_place None (laid_again w l clock held clock2 held2)
 
   -- and the lane lies in the hand, too
   abbrev pub all_laid : ℕ → Lane A → LaneBox A → Option (ClockBox C) → Held A → Option (ClockBox C) → Held A → Carries (Part A C × PartSeen A)
-  all_laid w l lane clock held clock2 held2 = with_at lane_place (Some (part_of n code (V.Lane lane), part_of_lane n code l)) (laid w l clock held clock2 held2)
+  all_laid w l lane clock held clock2 held2 = with_at lane_place (Some (part_of n code (V.Lane lane), part_of_lane n code l)) (laid_again w l clock held clock2 held2)
 
 -- which banks are held, and which shards, by their numbers
 abbrev pub holds_banks : {A : Type 0} → Held A → ℕ → Bool

@@ -39,8 +39,8 @@ module _ {A C : Type 0} (over_code : CodeView → A → Type 0) (place : A → A
       → IsMoved over_code place advances gives starts seen code n w (drawn_with w n (shown (over task.number ending)) ports looked) h)
 
   -- it may fault so, and close the channel of its result
-  abbrev pub MayFault : Fault → Place → Task A → Held A → Type 0
-  MayFault fault at task held = (held2 : Held A) → ClosesIts task held held2 → MayEnd (Faulted fault at task.result) task held held2
+  abbrev pub MayEndFaulted : Fault → Place → Task A → Held A → Type 0
+  MayEndFaulted fault at task held = (held2 : Held A) → ClosesIts task held held2 → MayEnd (Faulted fault at task.result) task held held2
 
 -- the worker has its lane, the timers for the end of the main text, and what is held as it was settled, and the task ends
 pub record IsEnding {A C : Type 0} (over_code : CodeView → A → Type 0) (stands_as : ProgramView → A → TaskBody → Type 0) (place : A → At) (advances : ProgramView → A → A → Type 0) (gives : A → Tree → A → Type 0) (starts : ProgramView → SeedView → A → Type 0) (seen : Part A C → PartSeen A) (code : ValidCode) (id : TableId) (program : ProgramView) (n : ℕ) (l : Lane A)

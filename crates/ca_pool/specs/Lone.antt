@@ -9,7 +9,7 @@ use Rattle.ca_meaning.specs.Task.{TaskBody}
 use Rattle.ca_states.specs.Code.{CodeView}
 use Rattle.ca_states.specs.ValidCode.{valid_code}
 use Rattle.ca_states.specs.declared.valid_code.ValidCode.{ValidCode}
-use Rattle.ca_turns.specs.Views.{stands}
+use Rattle.ca_turns.specs.Views.{hands_stood_for}
 use Rattle.ca_turns.specs.declared.rule.Turn.{Turn}
 use Rattle.ca_commit.specs.Touched as said
 use Rattle.ca_table.specs.Draws.{turn_view}
@@ -29,7 +29,7 @@ use Rattle.ca_pool.specs.declared.settle.Settling.TheVariants as S
 
 -- it is the only one of its run
 abbrev pub IsLone : {A C : Type 0} → Worker A C → Type 0
-IsLone w = (w.workers ≡ 1) × (stands w.hand.view ≡ w.hand.view.hands)
+IsLone w = (w.workers ≡ 1) × (hands_stood_for w.hand.view ≡ w.hand.view.hands)
 
 -- a turn that is no move of the schedule: a stale handler leaves its queue, or the worker leaves the run
 abbrev pub IsNoMove : said.Turn → Type 0

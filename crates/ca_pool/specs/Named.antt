@@ -23,12 +23,12 @@ ports_to_hold (registering name args) p = named_ports (registering name args)
 ports_to_hold (printing line) p = named_ports (printing line)
 
 -- whether home i is wanted once a port is, where it was wanted before or not
-abbrev pub with_port : ℕ → ℕ → Bool → Bool
-with_port n i was = cond (eqb (home n) i) true was
+abbrev pub home_wanted : ℕ → ℕ → Bool → Bool
+home_wanted n i was = cond (eqb (home n) i) true was
 
 -- the same of a value, where it is a port, and of values one after another
 abbrev pub with_value : Tree → ℕ → Bool → Bool
-with_value (port n) i was = with_port n i was
+with_value (port n) i was = home_wanted n i was
 with_value v i was = was
 
 abbrev pub with_values : Trees → ℕ → Bool → Bool
@@ -56,7 +56,7 @@ with_toggle other args i was = was
 
 -- of a go block its result port, and of another task the ports among its values
 abbrev pub with_seed : SeedView → ℕ → Bool → Bool
-with_seed (go n values result place) i was = with_port result i was
+with_seed (go n values result place) i was = home_wanted result i was
 with_seed (system kind values place) i was = with_values values i was
 
 -- of the operands of an operation, and of the port that it makes, which has number p
@@ -65,7 +65,7 @@ with_operands (taking c) p i was = with_value c i was
 with_operands (putting c v) p i was = with_value c i was
 with_operands (posting c v) p i was = with_value c i was
 with_operands (choosing ports priority default) p i was = with_items ports i was
-with_operands (making what) p i was = with_values (operands_to_make what) i (with_port p i was)
+with_operands (making what) p i was = with_values (operands_to_make what) i (home_wanted p i was)
 with_operands (spawning seed) p i was = with_seed seed i was
 with_operands (closing c) p i was = with_value c i was
 with_operands (registering name args) p i was = with_toggle name args i (with_values args i was)

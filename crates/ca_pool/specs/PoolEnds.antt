@@ -6,7 +6,7 @@ use Rattle.ca_meaning.specs.Ends.{RunEnd, ended, faulted, limit, stuck}
 use Rattle.ca_meaning.specs.Solo.{Solo}
 use Rattle.ca_journal.specs.Cut.{end_of}
 use Rattle.ca_journal.specs.declared.cut.CutAt.{CutAt}
-use Rattle.ca_table.specs.Moments.{NeverFall, WentOn}
+use Rattle.ca_table.specs.Moments.{NeverFall, ToldWentOn}
 use Rattle.ca_pool.specs.declared.run_end.PoolEnd.{PoolEnd}
 use Rattle.ca_pool.specs.declared.run_end.PoolEnd.TheVariants.{Ended, Faulted, Limit, Stuck}
 
@@ -29,4 +29,4 @@ pub record IsSolo (program : ProgramView) (journal : List EventView) (least : â„
   pub solo : Solo program answers journal
   pub last : â„•
   pub rise : NeverFall least answers last
-  pub told : WentOn answers before after
+  pub told : ToldWentOn answers before after

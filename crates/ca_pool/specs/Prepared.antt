@@ -20,7 +20,7 @@ use Rattle.ca_pool.specs.AtEvent.{HasNumbers}
 use Rattle.ca_pool.specs.Desk.{ClockBox}
 use Rattle.ca_pool.specs.Leaving.{HasLeft}
 use Rattle.ca_pool.specs.OwnPlans.{IsOwnPlanFor}
-use Rattle.ca_pool.specs.Preparing.{AskedFor, IsTimely, StartsFor, clock_seen, clock_with}
+use Rattle.ca_pool.specs.Preparing.{AskedFor, AreTimersTimely, StartsFor, clock_seen, clock_with}
 use Rattle.ca_table.specs.Needing.{needs_ready, needs_timers}
 use Rattle.ca_table.specs.declared.part.Lane.{Lane}
 
@@ -52,9 +52,9 @@ pub record IsStarted {A : Type 0} (place : A → At) (starts : ProgramView → S
   pub within : (s : Task A) → spawned ≡ Some s → over code s.agent
 
 -- the clockwork was settled as the first, and has answered for a timeout; the timers are held
-pub record IsAsked {A C : Type 0} (least faults : C → ℕ) (readings : C → Option (List ℕ)) (q : Planned) (clock0 clock : Option (ClockBox C)) (held : Held A) : Type 0 where
+pub record IsClockworkAsked {A C : Type 0} (least faults : C → ℕ) (readings : C → Option (List ℕ)) (q : Planned) (clock0 clock : Option (ClockBox C)) (held : Held A) : Type 0 where
   pub needed : is_some clock0 ≡ needs_timers q
-  pub timely : IsTimely (clock_seen least faults readings clock0)
+  pub timely : AreTimersTimely (clock_seen least faults readings clock0)
   pub there : is_some clock ≡ is_some clock0
   pub timers : is_some held.timers ≡ is_some clock0
   pub asked : AskedFor held.moment (clock_seen least faults readings clock0) (clock_with least faults readings clock held.timers)

@@ -32,7 +32,7 @@ module _ {C : Type 0} (least faults : C → ℕ) (readings : C → Option (List 
   clock_with (Some t) o = Some (in_place (clockwork_seen least faults readings t.value) o)
 
 -- the clock answered moment m, and nothing else happened
-pub record IsAnswered (m : ℕ) (c c2 : TimersPart) : Type 0 where
+pub record ClockAnswered (m : ℕ) (c c2 : TimersPart) : Type 0 where
   pub deadlines : c2.deadlines ≡ c.deadlines
   pub now : c2.now ≡ c.now
   pub later : c.least ≤ m
@@ -45,12 +45,12 @@ pub record IsAnswered (m : ℕ) (c c2 : TimersPart) : Type 0 where
 -- if there is a clock
 abbrev pub AskedFor : ℕ → Option TimersPart → Option TimersPart → Type 0
 AskedFor m None new = new ≡ None
-AskedFor m (Some c) new = (c2 : TimersPart) × (new ≡ Some c2) × IsAnswered m c c2
+AskedFor m (Some c) new = (c2 : TimersPart) × (new ≡ Some c2) × ClockAnswered m c c2
 
 -- no answer of the clock lies before its timers' moment
-abbrev pub IsTimely : Option TimersPart → Type 0
-IsTimely None = Unit {0}
-IsTimely (Some c) = c.now ≤ c.least
+abbrev pub AreTimersTimely : Option TimersPart → Type 0
+AreTimersTimely None = Unit {0}
+AreTimersTimely (Some c) = c.now ≤ c.least
 
 -- all is as before but the timers
 pub record ButTimers {A : Type 0} (old new : Held A) : Type 0 where

@@ -43,12 +43,12 @@ module _ {A : Type 0} (place : A → At) where
     pub timers : held.timers ≡ None
 
   -- the names that the operation brings, at which the task is paused, are apart
-  abbrev pub BringsApart : Task A → Type 0
-  BringsApart task = (want : WantView) → place task.agent ≡ at_op want → (s : State) → AreApart s want.op
+  abbrev pub TaskBringsApart : Task A → Type 0
+  TaskBringsApart task = (want : WantView) → place task.agent ≡ at_op want → (s : State) → AreApart s want.op
 
   -- the banks of the ports that the operation needs are held, among others
-  abbrev pub HoldsNamed : Held A → Task A → Type 0
-  HoldsNamed held task = (want : WantView) → place task.agent ≡ at_op want → HasBanks held (λ p. is_among p (ports_to_hold want.op held.new_port) ≡ true)
+  abbrev pub HoldsNeededBanks : Held A → Task A → Type 0
+  HoldsNeededBanks held task = (want : WantView) → place task.agent ≡ at_op want → HasBanks held (λ p. is_among p (ports_to_hold want.op held.new_port) ≡ true)
 
 -- these banks and shards are held, and no others
 pub record HoldsThese {A : Type 0} (bs ss : Homes) (held : Held A) : Type 0 where
@@ -79,17 +79,17 @@ IsSeen shards v (to_post bs) = shards (home v) ≡ true
 IsSeen shards v other = Unit {0}
 
 -- it is an event or a refusal
-abbrev pub IsDecided : Planned → Type 0
-IsDecided (to_look w) = ⊥
-IsDecided (to_prune p side place) = ⊥
-IsDecided other = Unit {0}
+abbrev pub IsEventOrRefusal : Planned → Type 0
+IsEventOrRefusal (to_look w) = ⊥
+IsEventOrRefusal (to_prune p side place) = ⊥
+IsEventOrRefusal other = Unit {0}
 
 module _ {A : Type 0} (place : A → At) where
   -- the plan of the task's operation, with all the banks and shards that are needed for it
   pub record IsResolved (held : Held A) (task : Task A) (p : Plan) : Type 0 where
     pub plan_for : IsOwnPlanFor place held (plan_view p) (agent_of task)
     pub copies : HasCopies p
-    pub decided : IsDecided (plan_view p)
+    pub decided : IsEventOrRefusal (plan_view p)
     pub seen : IsSeen (holds_shards held) held.new_wait (plan_view p)
-    pub named : HoldsNamed place held task
+    pub named : HoldsNeededBanks place held task
     pub result : (f : Fault) → plan_view p ≡ to_refuse f → HasBanks held (λ q. option_map port_number task.result ≡ Some q)

@@ -6,7 +6,7 @@ use Rattle.ca_term.specs.declared.event.Side.TheVariants.{Put, Take}
 use Rattle.ca_meaning.specs.Row.{settle_row, unsettled}
 use Rattle.ca_meaning.specs.Wait.{head}
 use Rattle.ca_bank.specs.Kept.{is_closed_at, queue_at, takes_one_more}
-use Rattle.ca_commit.specs.Contents.{Held, Kept, a_bank, a_lane, a_ready, the_timers}
+use Rattle.ca_commit.specs.Contents.{PartContents, Kept, a_bank, a_lane, a_ready, the_timers}
 use Rattle.ca_commit.specs.Finding.{holds_one, is_fixed_at}
 use Rattle.ca_commit.specs.Holds.{live_of}
 use Rattle.ca_states.specs.Code.{CodeView}
@@ -24,21 +24,21 @@ abbrev pub rests_anyway : Option Kept → Bool
 rests_anyway o = not ((is_fixed_at o && takes_one_more o) && nat_lt 0 (length (queue_at Put o))) && not ((holds_one o || is_closed_at o) && nat_lt 0 (length (queue_at Take o)))
 
 -- the channel settles nothing, whichever waits live
-abbrev pub Rests : Kept → Type 0
-Rests k = (alive : ℕ → Bool) → settle_row k.channel (head (live_of alive k.takes)) (head (live_of alive k.puts)) ≡ unsettled
+abbrev pub ChannelRests : Kept → Type 0
+ChannelRests k = (alive : ℕ → Bool) → settle_row k.channel (head (live_of alive k.takes)) (head (live_of alive k.puts)) ≡ unsettled
 
 abbrev pub AllRest : (ℕ → Option Kept) → Type 0
-AllRest f = (p : ℕ) (k : Kept) → f p ≡ Some k → Rests k
+AllRest f = (p : ℕ) (k : Kept) → f p ≡ Some k → ChannelRests k
 
 module _ {A : Type 0} where
   -- a lane or a ready part without a task, or a bank whose channels rest; the other parts are always still
-  abbrev pub IsStill : Held A → Type 0
+  abbrev pub IsStill : PartContents A → Type 0
   IsStill (a_lane l) = l.task ≡ None
   IsStill (a_ready q) = q ≡ []
   IsStill (a_bank b) = AllRest b.channels
   IsStill other = Unit {0}
 
-  abbrev pub HasNoDeadline : Held A → Type 0
+  abbrev pub HasNoDeadline : PartContents A → Type 0
   HasNoDeadline (the_timers c) = c.deadlines ≡ []
   HasNoDeadline other = Unit {0}
 

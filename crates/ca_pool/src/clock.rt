@@ -5,7 +5,7 @@ ghost use lib.ListN.{get_elem?};
 ghost use Rattle.ca_value.specs.Deadlines.{due};
 ghost use Rattle.ca_term.specs.Program.{ProgramView};
 ghost use Rattle.ca_journal.specs.Merge.{entries, room};
-ghost use Rattle.ca_turns.specs.Views.{stands};
+ghost use Rattle.ca_turns.specs.Views.{hands_stood_for};
 ghost use Rattle.ca_commit.specs.Contents.{unmarked};
 ghost use Rattle.ca_commit.specs.Moving.{visible};
 ghost use Rattle.ca_commit.specs.TaskMoves.{with_mark};
@@ -15,16 +15,16 @@ ghost use Rattle.ca_table.specs.Bearing.{ShowSame};
 ghost use Rattle.ca_table.specs.Carriers.{IsCarrying, just_lane};
 ghost use Rattle.ca_table.specs.Draws.{turn_view, drawn_touches};
 ghost use Rattle.ca_table.specs.Parts.{clockwork_seen, mark_view, part_seen};
-ghost use Rattle.ca_table.specs.Worked.{Drew, gives_up, leaves};
+ghost use Rattle.ca_table.specs.Worked.{Drew, gives_up, finds_run_end};
 ghost use Rattle.ca_table.specs.Workers.{SameWorker};
 ghost use Rattle.ca_table.specs.declared.part.Lane.{Lane};
 ghost use Rattle.ca_table.specs.Grips.{SameHand};
 ghost use Rattle.ca_table.specs.LoneHands.{DrewTurn, left_now};
 ghost use Rattle.ca_table.specs.declared.part.Contents.TheVariants.{Timers};
 ghost use Rattle.ca_alone.specs.Schedule.{AtPicked};
-ghost use Rattle.ca_pool.specs.Asking.{HasFailed, IsAsked, TimesBy, IsFirst};
+ghost use Rattle.ca_pool.specs.Asking.{HasFailed, IsAsked, TimesBy, IsFirstMoment};
 ghost use Rattle.ca_pool.specs.Costs.{cost_asked, is_marked};
-ghost use Rattle.ca_pool.specs.Desk.{ClockBox, IsBare, taken, settled_as};
+ghost use Rattle.ca_pool.specs.Desk.{ClockBox, IsBare, desk_taken, settled_as};
 ghost use Rattle.ca_pool.specs.Lone.{HasAsked, MayGo};
 
 use crate::draw::draw_aside;
@@ -149,15 +149,15 @@ pub(crate) fn draw_clock<R: Wait, A: Agent, C: Clock + Drop>(
     clockwork: Box<Clockwork<C>>,
     what: Turned,
 )
-    requires carries { (program : ProgramView) × (n : ℕ) × (l : Lane A) × (clock0 : ClockBox C) × (held0 : Held A) × IsCarrying A.over A.stands program code.now table.now.id n worker.old (taken (part_seen C.least C.faults C.readings) n code.now worker.old.number l (Some clock0) held0) × ShowSame held0 held.old × TimesBy (turn_view what) (clockwork_seen C.least C.faults C.readings clock0.value) (clockwork_seen C.least C.faults C.readings clockwork.value) }
+    requires carries { (program : ProgramView) × (n : ℕ) × (l : Lane A) × (clock0 : ClockBox C) × (held0 : Held A) × IsCarrying A.over A.stands program code.now table.now.id n worker.old (desk_taken (part_seen C.least C.faults C.readings) n code.now worker.old.number l (Some clock0) held0) × ShowSame held0 held.old × TimesBy (turn_view what) (clockwork_seen C.least C.faults C.readings clock0.value) (clockwork_seen C.least C.faults C.readings clockwork.value) }
     requires hidden { visible (turn_view what) ≡ [] }
     requires ready { held.old.ready ≡ None }
     requires timers { held.old.timers ≡ None }
     ensures same { SameWorker worker.old worker.new }
     ensures bare { IsBare held.new }
-    ensures drew { gives_up (turn_view what) ≡ false → Drew 0 (leaves (turn_view what)) worker.old worker.new }
-    ensures carries { (program : ProgramView) (n : ℕ) (l : Lane A) (clock0 : ClockBox C) (held0 : Held A) → IsCarrying A.over A.stands program code.now table.now.id n worker.old (taken (part_seen C.least C.faults C.readings) n code.now worker.old.number l (Some clock0) held0) → ShowSame held0 held.old → TimesBy (turn_view what) (clockwork_seen C.least C.faults C.readings clock0.value) (clockwork_seen C.least C.faults C.readings clockwork.value) → IsCarrying A.over A.stands program code.now table.now.id n worker.new (just_lane n code.now l) }
-    ensures timed { (program : ProgramView) (n : ℕ) (l : Lane A) (clock0 : ClockBox C) (held0 : Held A) → IsCarrying A.over A.stands program code.now table.now.id n worker.old (taken (part_seen C.least C.faults C.readings) n code.now worker.old.number l (Some clock0) held0) → ShowSame held0 held.old → TimesBy (turn_view what) (clockwork_seen C.least C.faults C.readings clock0.value) (clockwork_seen C.least C.faults C.readings clockwork.value) → stands worker.old.hand.view ≡ worker.old.hand.view.hands → get_elem? (left_now drawn_touches worker.new.hand.view) (n + 32) ≡ some (settled_as (part_seen C.least C.faults C.readings) n code.now (Timers clockwork)) }
+    ensures drew { gives_up (turn_view what) ≡ false → Drew 0 (finds_run_end (turn_view what)) worker.old worker.new }
+    ensures carries { (program : ProgramView) (n : ℕ) (l : Lane A) (clock0 : ClockBox C) (held0 : Held A) → IsCarrying A.over A.stands program code.now table.now.id n worker.old (desk_taken (part_seen C.least C.faults C.readings) n code.now worker.old.number l (Some clock0) held0) → ShowSame held0 held.old → TimesBy (turn_view what) (clockwork_seen C.least C.faults C.readings clock0.value) (clockwork_seen C.least C.faults C.readings clockwork.value) → IsCarrying A.over A.stands program code.now table.now.id n worker.new (just_lane n code.now l) }
+    ensures timed { (program : ProgramView) (n : ℕ) (l : Lane A) (clock0 : ClockBox C) (held0 : Held A) → IsCarrying A.over A.stands program code.now table.now.id n worker.old (desk_taken (part_seen C.least C.faults C.readings) n code.now worker.old.number l (Some clock0) held0) → ShowSame held0 held.old → TimesBy (turn_view what) (clockwork_seen C.least C.faults C.readings clock0.value) (clockwork_seen C.least C.faults C.readings clockwork.value) → hands_stood_for worker.old.hand.view ≡ worker.old.hand.view.hands → get_elem? (left_now drawn_touches worker.new.hand.view) (n + 32) ≡ some (settled_as (part_seen C.least C.faults C.readings) n code.now (Timers clockwork)) }
     ensures hand { SameHand worker.old.hand worker.new.hand }
     ensures turn { DrewTurn (turn_view what) worker.old.hand.view worker.new.hand.view }
 {
@@ -182,7 +182,7 @@ fn read_now<R: Wait, A: Agent, C: Clock + Drop>(
     ports: &mut Vec<u64>,
 ) -> Result<Asked, OutOfMemory>
     requires bare { IsBare held.old }
-    requires carries { (program : ProgramView) × (n : ℕ) × (l : Lane A) × IsCarrying A.over A.stands program code.now table.now.id n worker.old (taken (part_seen C.least C.faults C.readings) n code.now worker.old.number l (Some clockwork) held.old) }
+    requires carries { (program : ProgramView) × (n : ℕ) × (l : Lane A) × IsCarrying A.over A.stands program code.now table.now.id n worker.old (desk_taken (part_seen C.least C.faults C.readings) n code.now worker.old.number l (Some clockwork) held.old) }
     requires timely { clockwork.value.timers.moment ≤ C.least clockwork.value.clock }
     requires asking { 0 < C.spare clockwork.value.clock }
     requires room { 0 < room worker.old.entries }
@@ -190,8 +190,8 @@ fn read_now<R: Wait, A: Agent, C: Clock + Drop>(
     ensures bare { IsBare held.new }
     ensures drew { IfOk result (λ a. Drew (cost_asked a) (is_marked a) worker.old worker.new) }
     ensures refused { OnErr result (Drew 0 false worker.old worker.new) }
-    ensures carries { (program : ProgramView) (n : ℕ) (l : Lane A) → IsCarrying A.over A.stands program code.now table.now.id n worker.old (taken (part_seen C.least C.faults C.readings) n code.now worker.old.number l (Some clockwork) held.old) → IsCarrying A.over A.stands program code.now table.now.id n worker.new (just_lane n code.now l) }
-    ensures solo { IfOk result (λ a. (most : ℕ) → ports.old.items ≡ [] → IsFirst first clockwork.value.timers.deadlines → MayGo A.over A.place A.stands A.advances A.gives A.starts code.now AtPicked most worker.old → HasAsked A.over A.place A.stands A.advances A.gives A.starts code.now ports.new.items most a worker.new) }
+    ensures carries { (program : ProgramView) (n : ℕ) (l : Lane A) → IsCarrying A.over A.stands program code.now table.now.id n worker.old (desk_taken (part_seen C.least C.faults C.readings) n code.now worker.old.number l (Some clockwork) held.old) → IsCarrying A.over A.stands program code.now table.now.id n worker.new (just_lane n code.now l) }
+    ensures solo { IfOk result (λ a. (most : ℕ) → ports.old.items ≡ [] → IsFirstMoment first clockwork.value.timers.deadlines → MayGo A.over A.place A.stands A.advances A.gives A.starts code.now AtPicked most worker.old → HasAsked A.over A.place A.stands A.advances A.gives A.starts code.now ports.new.items most a worker.new) }
 {
     let (clockwork, now) = answer_now(clockwork);
     if now < first {
@@ -214,14 +214,14 @@ fn read<R: Wait, A: Agent, C: Clock + Drop>(
     ports: &mut Vec<u64>,
 ) -> Result<Asked, OutOfMemory>
     requires bare { IsBare held.old }
-    requires carries { (program : ProgramView) × (n : ℕ) × (l : Lane A) × IsCarrying A.over A.stands program code.now table.now.id n worker.old (taken (part_seen C.least C.faults C.readings) n code.now worker.old.number l (Some clockwork) held.old) }
+    requires carries { (program : ProgramView) × (n : ℕ) × (l : Lane A) × IsCarrying A.over A.stands program code.now table.now.id n worker.old (desk_taken (part_seen C.least C.faults C.readings) n code.now worker.old.number l (Some clockwork) held.old) }
     requires timely { clockwork.value.timers.moment ≤ C.least clockwork.value.clock }
     ensures same { SameWorker worker.old worker.new }
     ensures bare { IsBare held.new }
     ensures drew { IfOk result (λ a. Drew (cost_asked a) (is_marked a) worker.old worker.new) }
     ensures refused { OnErr result (Drew 0 false worker.old worker.new) }
-    ensures carries { (program : ProgramView) (n : ℕ) (l : Lane A) → IsCarrying A.over A.stands program code.now table.now.id n worker.old (taken (part_seen C.least C.faults C.readings) n code.now worker.old.number l (Some clockwork) held.old) → IsCarrying A.over A.stands program code.now table.now.id n worker.new (just_lane n code.now l) }
-    ensures solo { IfOk result (λ a. (most : ℕ) → ports.old.items ≡ [] → IsFirst first clockwork.value.timers.deadlines → MayGo A.over A.place A.stands A.advances A.gives A.starts code.now AtPicked most worker.old → HasAsked A.over A.place A.stands A.advances A.gives A.starts code.now ports.new.items most a worker.new) }
+    ensures carries { (program : ProgramView) (n : ℕ) (l : Lane A) → IsCarrying A.over A.stands program code.now table.now.id n worker.old (desk_taken (part_seen C.least C.faults C.readings) n code.now worker.old.number l (Some clockwork) held.old) → IsCarrying A.over A.stands program code.now table.now.id n worker.new (just_lane n code.now l) }
+    ensures solo { IfOk result (λ a. (most : ℕ) → ports.old.items ≡ [] → IsFirstMoment first clockwork.value.timers.deadlines → MayGo A.over A.place A.stands A.advances A.gives A.starts code.now AtPicked most worker.old → HasAsked A.over A.place A.stands A.advances A.gives A.starts code.now ports.new.items most a worker.new) }
 {
     let (clockwork, made) = ready_to_ask(worker, clockwork);
     match made {
@@ -247,13 +247,13 @@ fn look<R: Wait, A: Agent, C: Clock + Drop>(
     ports: &mut Vec<u64>,
 ) -> Result<Asked, OutOfMemory>
     requires bare { IsBare held.old }
-    requires carries { (program : ProgramView) × (n : ℕ) × (l : Lane A) × IsCarrying A.over A.stands program code.now table.now.id n worker.old (taken (part_seen C.least C.faults C.readings) n code.now worker.old.number l (Some clockwork) held.old) }
+    requires carries { (program : ProgramView) × (n : ℕ) × (l : Lane A) × IsCarrying A.over A.stands program code.now table.now.id n worker.old (desk_taken (part_seen C.least C.faults C.readings) n code.now worker.old.number l (Some clockwork) held.old) }
     requires timely { clockwork.value.timers.moment ≤ C.least clockwork.value.clock }
     ensures same { SameWorker worker.old worker.new }
     ensures bare { IsBare held.new }
     ensures drew { IfOk result (λ a. Drew (cost_asked a) (is_marked a) worker.old worker.new) }
     ensures refused { OnErr result (Drew 0 false worker.old worker.new) }
-    ensures carries { (program : ProgramView) (n : ℕ) (l : Lane A) → IsCarrying A.over A.stands program code.now table.now.id n worker.old (taken (part_seen C.least C.faults C.readings) n code.now worker.old.number l (Some clockwork) held.old) → IsCarrying A.over A.stands program code.now table.now.id n worker.new (just_lane n code.now l) }
+    ensures carries { (program : ProgramView) (n : ℕ) (l : Lane A) → IsCarrying A.over A.stands program code.now table.now.id n worker.old (desk_taken (part_seen C.least C.faults C.readings) n code.now worker.old.number l (Some clockwork) held.old) → IsCarrying A.over A.stands program code.now table.now.id n worker.new (just_lane n code.now l) }
     ensures solo { IfOk result (λ a. (most : ℕ) → ports.old.items ≡ [] → MayGo A.over A.place A.stands A.advances A.gives A.starts code.now AtPicked most worker.old → HasAsked A.over A.place A.stands A.advances A.gives A.starts code.now ports.new.items most a worker.new) }
 {
     if is_marked(clockwork.mark) {

@@ -32,8 +32,8 @@ ghost use Rattle.ca_alone.specs.Schedule.{MaySettle, to_turn};
 ghost use Rattle.ca_pool.specs.AtEvent.{HasLane, HasNumbers, HasTaken};
 ghost use Rattle.ca_pool.specs.Desk.{ClockBox, IsBare};
 ghost use Rattle.ca_pool.specs.Leaving.{TaskOver};
-ghost use Rattle.ca_pool.specs.Prepared.{HasGone, IsAsked, IsReadied, IsStarted};
-ghost use Rattle.ca_pool.specs.Resolving.{BringsApart, IsHeld, IsResolved, LeftOff};
+ghost use Rattle.ca_pool.specs.Prepared.{HasGone, IsClockworkAsked, IsReadied, IsStarted};
+ghost use Rattle.ca_pool.specs.Resolving.{TaskBringsApart, IsHeld, IsResolved, LeftOff};
 ghost use Rattle.ca_pool.specs.Lone.{HasStepped, MayGo};
 ghost use Rattle.ca_pool.specs.Stirred.{stirred_of};
 
@@ -205,7 +205,7 @@ fn draw_plan<R: Wait, A: Agent, C: Clock + Drop>(
     plan: Plan,
     spawned: Option<Task<A>>,
 ) -> Stepped<A>
-    requires carries { (program : ProgramView) × (n : ℕ) × (l : Lane A) × (clock0 : Option (ClockBox C)) × HasTaken A.over A.stands code.now table.now.id program n l (part_seen C.least C.faults C.readings) clock0 held.old worker.old × HasGone A.over A.advances program code.now l lane.value task × IsAsked C.least C.faults C.readings (plan_view plan) clock0 clock held.old × IsStarted A.place A.starts A.over program (valid_code code.now) held.old.new_task task spawned }
+    requires carries { (program : ProgramView) × (n : ℕ) × (l : Lane A) × (clock0 : Option (ClockBox C)) × HasTaken A.over A.stands code.now table.now.id program n l (part_seen C.least C.faults C.readings) clock0 held.old worker.old × HasGone A.over A.advances program code.now l lane.value task × IsClockworkAsked C.least C.faults C.readings (plan_view plan) clock0 clock held.old × IsStarted A.place A.starts A.over program (valid_code code.now) held.old.new_task task spawned }
     requires ready { IsReadied A.place (counts_view lane.value.counts) worker.old.number worker.old.workers held.old task plan spawned }
     requires count { task.alts + 1 < 2 ^ 64 }
     requires counts { CanCount (counts_view lane.value.counts) }
@@ -216,7 +216,7 @@ fn draw_plan<R: Wait, A: Agent, C: Clock + Drop>(
     ensures bare { IsBare held.new }
     ensures drew { Drew result.cost result.over worker.old worker.new }
     ensures over { TaskOver A.over code.now result.lane.value }
-    ensures stepped { (program : ProgramView) (n : ℕ) (l : Lane A) (clock0 : Option (ClockBox C)) → HasTaken A.over A.stands code.now table.now.id program n l (part_seen C.least C.faults C.readings) clock0 held.old worker.old → HasGone A.over A.advances program code.now l lane.value task → IsAsked C.least C.faults C.readings (plan_view plan) clock0 clock held.old → IsStarted A.place A.starts A.over program (valid_code code.now) held.old.new_task task spawned → IsSeated A.over A.stands program code.now table.now.id n worker.new result.lane.value }
+    ensures stepped { (program : ProgramView) (n : ℕ) (l : Lane A) (clock0 : Option (ClockBox C)) → HasTaken A.over A.stands code.now table.now.id program n l (part_seen C.least C.faults C.readings) clock0 held.old worker.old → HasGone A.over A.advances program code.now l lane.value task → IsClockworkAsked C.least C.faults C.readings (plan_view plan) clock0 clock held.old → IsStarted A.place A.starts A.over program (valid_code code.now) held.old.new_task task spawned → IsSeated A.over A.stands program code.now table.now.id n worker.new result.lane.value }
     ensures solo { lane.value.since < patience → (most : ℕ) → MayGo A.over A.place A.stands A.advances A.gives A.starts code.now (MaySettle to_turn []) most worker.old → HasStepped A.over A.place A.stands A.advances A.gives A.starts code.now (port_if (option_map port_number result.stirred)) result.over most worker.new }
 {
     check_turns(rt, worker);
@@ -252,7 +252,7 @@ pub(crate) fn commit<R: Wait, A: Starting, C: Clock + Drop>(
     requires event { IsEvent (plan_view plan) }
     requires numbers { HasNumbers worker.old.number worker.old.workers (counts_view lane.value.counts) held.old }
     requires at { is_at_op (A.place task.agent) ≡ true }
-    requires apart { BringsApart A.place task }
+    requires apart { TaskBringsApart A.place task }
     requires over { A.over (valid_code code.now) task.agent }
     requires lowered { Lowered (program_view worker.old.program.value) (valid_code code.now) }
     requires gos { SameGos (program_view worker.old.program.value) (valid_code code.now) }

@@ -6,7 +6,7 @@ ghost use Rattle.ca_term.specs.Program.{ProgramView};
 ghost use Rattle.ca_meaning.specs.Cost.{cost};
 ghost use Rattle.ca_journal.specs.Merge.{room};
 ghost use Rattle.ca_turns.specs.declared.rule.Turn.{Turn};
-ghost use Rattle.ca_turns.specs.Views.{stands};
+ghost use Rattle.ca_turns.specs.Views.{hands_stood_for};
 ghost use Rattle.ca_commit.specs.Moving.{visible};
 ghost use Rattle.ca_table.specs.Beside.{beside_lane, settled_beside};
 ghost use Rattle.ca_table.specs.Carriers.{IsCarrying, just_lane};
@@ -17,14 +17,14 @@ ghost use Rattle.ca_table.specs.Homes.{has_home, members};
 ghost use Rattle.ca_table.specs.Needing.{drawn_with};
 ghost use Rattle.ca_table.specs.Parts.{part_seen};
 ghost use Rattle.ca_table.specs.Seen.{PartSeen};
-ghost use Rattle.ca_table.specs.Worked.{Drew, gives_up, leaves};
+ghost use Rattle.ca_table.specs.Worked.{Drew, gives_up, finds_run_end};
 ghost use Rattle.ca_table.specs.Workers.{SameWorker};
 ghost use Rattle.ca_table.specs.declared.drawn.Drawn.{Drawn};
 ghost use Rattle.ca_table.specs.declared.part.Lane.{Lane};
 ghost use Rattle.ca_table.specs.declared.part.Part.{Part};
 ghost use Rattle.ca_table.specs.LoneHands.{left_now};
 ghost use Rattle.ca_table.specs.declared.part.Contents.TheVariants.{Timers};
-ghost use Rattle.ca_pool.specs.Desk.{ClockBox, IsBare, IsMovedWith, SameHeld, SameNumbers, all_laid, holds_banks, holds_shards, laid_aside, taken, settled_as};
+ghost use Rattle.ca_pool.specs.Desk.{ClockBox, IsBare, IsMovedWith, SameHeld, SameNumbers, all_laid, holds_banks, holds_shards, laid_aside, desk_taken, settled_as};
 
 use crate::release::{Laid, give_back, lay_back};
 use ca_agent::agent::Agent;
@@ -112,7 +112,7 @@ pub(crate) fn draw_aside<A: Agent, C: Clock + Drop>(
     clock: Option<Box<Clockwork<C>>>,
     what: Turned,
 )
-    requires moved { (program : ProgramView) × (n : ℕ) × (l : Lane A) × (clock0 : Option (ClockBox C)) × (held0 : Held A) × IsCarrying A.over A.stands program code.now table.now.id n worker.old (taken (part_seen C.least C.faults C.readings) n code.now worker.old.number l clock0 held0) × SameHeld clock0 clock held0 held.old × IsMovedWith A.over A.place A.advances A.gives A.starts (part_seen C.least C.faults C.readings) code.now n worker.old.number (holds_banks held.old) (holds_shards held.old) (turn_view what) (laid_aside (part_seen C.least C.faults C.readings) n code.now worker.old.number l clock0 held0 clock held.old) }
+    requires moved { (program : ProgramView) × (n : ℕ) × (l : Lane A) × (clock0 : Option (ClockBox C)) × (held0 : Held A) × IsCarrying A.over A.stands program code.now table.now.id n worker.old (desk_taken (part_seen C.least C.faults C.readings) n code.now worker.old.number l clock0 held0) × SameHeld clock0 clock held0 held.old × IsMovedWith A.over A.place A.advances A.gives A.starts (part_seen C.least C.faults C.readings) code.now n worker.old.number (holds_banks held.old) (holds_shards held.old) (turn_view what) (laid_aside (part_seen C.least C.faults C.readings) n code.now worker.old.number l clock0 held0 clock held.old) }
     requires allows { (i : ℕ) → MayHold worker.old.number worker.old.workers (turn_view what) i }
     requires room { length (visible (turn_view what)) ≤ room worker.old.entries }
     requires turns { length worker.old.hand.view.turns < 2 ^ 59 }
@@ -121,11 +121,11 @@ pub(crate) fn draw_aside<A: Agent, C: Clock + Drop>(
     ensures room { room worker.old.entries ≤ room worker.new.entries + length (visible (turn_view what)) }
     ensures hand { SameHand worker.old.hand worker.new.hand }
     ensures turns { (t : Turn (PartSeen A) Drawn) × (worker.new.hand.view.turns ≡ worker.old.hand.view.turns ++ t ∷ []) × (t.event.what ≡ what) }
-    ensures drew { gives_up (turn_view what) ≡ false → Drew (cost (visible (turn_view what))) (leaves (turn_view what)) worker.old worker.new }
+    ensures drew { gives_up (turn_view what) ≡ false → Drew (cost (visible (turn_view what))) (finds_run_end (turn_view what)) worker.old worker.new }
     ensures bare { IsBare held.new }
     ensures numbers { SameNumbers held.old held.new }
-    ensures carries { (program : ProgramView) (n : ℕ) (l : Lane A) (clock0 : Option (ClockBox C)) (held0 : Held A) → IsCarrying A.over A.stands program code.now table.now.id n worker.old (taken (part_seen C.least C.faults C.readings) n code.now worker.old.number l clock0 held0) → SameHeld clock0 clock held0 held.old → IsMovedWith A.over A.place A.advances A.gives A.starts (part_seen C.least C.faults C.readings) code.now n worker.old.number (holds_banks held.old) (holds_shards held.old) (turn_view what) (laid_aside (part_seen C.least C.faults C.readings) n code.now worker.old.number l clock0 held0 clock held.old) → IsCarrying A.over A.stands program code.now table.now.id n worker.new (just_lane n code.now l) }
-    ensures timed { (program : ProgramView) (n : ℕ) (l : Lane A) (clock0 : Option (ClockBox C)) (held0 : Held A) → IsCarrying A.over A.stands program code.now table.now.id n worker.old (taken (part_seen C.least C.faults C.readings) n code.now worker.old.number l clock0 held0) → SameHeld clock0 clock held0 held.old → IsMovedWith A.over A.place A.advances A.gives A.starts (part_seen C.least C.faults C.readings) code.now n worker.old.number (holds_banks held.old) (holds_shards held.old) (turn_view what) (laid_aside (part_seen C.least C.faults C.readings) n code.now worker.old.number l clock0 held0 clock held.old) → stands worker.old.hand.view ≡ worker.old.hand.view.hands → IfSome clock (λ t. get_elem? (left_now drawn_touches worker.new.hand.view) (n + 32) ≡ some (settled_as (part_seen C.least C.faults C.readings) n code.now (Timers t))) }
+    ensures carries { (program : ProgramView) (n : ℕ) (l : Lane A) (clock0 : Option (ClockBox C)) (held0 : Held A) → IsCarrying A.over A.stands program code.now table.now.id n worker.old (desk_taken (part_seen C.least C.faults C.readings) n code.now worker.old.number l clock0 held0) → SameHeld clock0 clock held0 held.old → IsMovedWith A.over A.place A.advances A.gives A.starts (part_seen C.least C.faults C.readings) code.now n worker.old.number (holds_banks held.old) (holds_shards held.old) (turn_view what) (laid_aside (part_seen C.least C.faults C.readings) n code.now worker.old.number l clock0 held0 clock held.old) → IsCarrying A.over A.stands program code.now table.now.id n worker.new (just_lane n code.now l) }
+    ensures timed { (program : ProgramView) (n : ℕ) (l : Lane A) (clock0 : Option (ClockBox C)) (held0 : Held A) → IsCarrying A.over A.stands program code.now table.now.id n worker.old (desk_taken (part_seen C.least C.faults C.readings) n code.now worker.old.number l clock0 held0) → SameHeld clock0 clock held0 held.old → IsMovedWith A.over A.place A.advances A.gives A.starts (part_seen C.least C.faults C.readings) code.now n worker.old.number (holds_banks held.old) (holds_shards held.old) (turn_view what) (laid_aside (part_seen C.least C.faults C.readings) n code.now worker.old.number l clock0 held0 clock held.old) → hands_stood_for worker.old.hand.view ≡ worker.old.hand.view.hands → IfSome clock (λ t. get_elem? (left_now drawn_touches worker.new.hand.view) (n + 32) ≡ some (settled_as (part_seen C.least C.faults C.readings) n code.now (Timers t))) }
 {
     let laid = lay_back(code, worker, held, clock);
     draw_laid_aside(table, code, worker, &laid, what);
@@ -142,7 +142,7 @@ pub(crate) fn draw_turn<A: Agent, C: Clock + Drop>(
     lane: Box<Lane<A>>,
     what: Turned,
 ) -> Box<Lane<A>>
-    requires moved { (program : ProgramView) × (n : ℕ) × (l : Lane A) × (clock0 : Option (ClockBox C)) × (held0 : Held A) × IsCarrying A.over A.stands program code.now table.now.id n worker.old (taken (part_seen C.least C.faults C.readings) n code.now worker.old.number l clock0 held0) × SameHeld clock0 clock held0 held.old × IsMovedWith A.over A.place A.advances A.gives A.starts (part_seen C.least C.faults C.readings) code.now n worker.old.number (holds_banks held.old) (holds_shards held.old) (turn_view what) (all_laid (part_seen C.least C.faults C.readings) n code.now worker.old.number l lane clock0 held0 clock held.old) }
+    requires moved { (program : ProgramView) × (n : ℕ) × (l : Lane A) × (clock0 : Option (ClockBox C)) × (held0 : Held A) × IsCarrying A.over A.stands program code.now table.now.id n worker.old (desk_taken (part_seen C.least C.faults C.readings) n code.now worker.old.number l clock0 held0) × SameHeld clock0 clock held0 held.old × IsMovedWith A.over A.place A.advances A.gives A.starts (part_seen C.least C.faults C.readings) code.now n worker.old.number (holds_banks held.old) (holds_shards held.old) (turn_view what) (all_laid (part_seen C.least C.faults C.readings) n code.now worker.old.number l lane clock0 held0 clock held.old) }
     requires room { length (visible (turn_view what)) ≤ room worker.old.entries }
     requires turns { length worker.old.hand.view.turns < 2 ^ 59 }
     requires timers { held.old.timers ≡ None }
@@ -150,11 +150,11 @@ pub(crate) fn draw_turn<A: Agent, C: Clock + Drop>(
     ensures room { room worker.old.entries ≤ room worker.new.entries + length (visible (turn_view what)) }
     ensures hand { SameHand worker.old.hand worker.new.hand }
     ensures turns { (t : Turn (PartSeen A) Drawn) × (worker.new.hand.view.turns ≡ worker.old.hand.view.turns ++ t ∷ []) × (t.event.what ≡ what) }
-    ensures drew { gives_up (turn_view what) ≡ false → Drew (cost (visible (turn_view what))) (leaves (turn_view what)) worker.old worker.new }
+    ensures drew { gives_up (turn_view what) ≡ false → Drew (cost (visible (turn_view what))) (finds_run_end (turn_view what)) worker.old worker.new }
     ensures bare { IsBare held.new }
     ensures numbers { SameNumbers held.old held.new }
     ensures lane { result ≡ lane }
-    ensures carries { (program : ProgramView) (n : ℕ) (l : Lane A) (clock0 : Option (ClockBox C)) (held0 : Held A) → IsCarrying A.over A.stands program code.now table.now.id n worker.old (taken (part_seen C.least C.faults C.readings) n code.now worker.old.number l clock0 held0) → SameHeld clock0 clock held0 held.old → IsMovedWith A.over A.place A.advances A.gives A.starts (part_seen C.least C.faults C.readings) code.now n worker.old.number (holds_banks held.old) (holds_shards held.old) (turn_view what) (all_laid (part_seen C.least C.faults C.readings) n code.now worker.old.number l lane clock0 held0 clock held.old) → IsCarrying A.over A.stands program code.now table.now.id n worker.new (just_lane n code.now lane.value) }
+    ensures carries { (program : ProgramView) (n : ℕ) (l : Lane A) (clock0 : Option (ClockBox C)) (held0 : Held A) → IsCarrying A.over A.stands program code.now table.now.id n worker.old (desk_taken (part_seen C.least C.faults C.readings) n code.now worker.old.number l clock0 held0) → SameHeld clock0 clock held0 held.old → IsMovedWith A.over A.place A.advances A.gives A.starts (part_seen C.least C.faults C.readings) code.now n worker.old.number (holds_banks held.old) (holds_shards held.old) (turn_view what) (all_laid (part_seen C.least C.faults C.readings) n code.now worker.old.number l lane clock0 held0 clock held.old) → IsCarrying A.over A.stands program code.now table.now.id n worker.new (just_lane n code.now lane.value) }
 {
     let laid = lay_back(code, worker, held, clock);
     let number = worker.number;

@@ -3,11 +3,11 @@ ghost use Rattle.std.specs.Prelude.{◌≡◌, ◌≢◌, ℕ, ◌+◌, ◌<◌,
 ghost use Rattle.std.specs.Bool.{OnTrue};
 ghost use Rattle.ca_term.specs.Program.{ProgramView};
 ghost use Rattle.ca_states.specs.ValidCode.{valid_code};
-ghost use Rattle.ca_turns.specs.Views.{stands};
+ghost use Rattle.ca_turns.specs.Views.{hands_stood_for};
 ghost use Rattle.ca_commit.specs.Contents.{whole};
 ghost use Rattle.ca_commit.specs.Gathered.{bank_kind};
 ghost use Rattle.ca_commit.specs.Listing.{listed};
-ghost use Rattle.ca_commit.specs.Listings.{parts, spare};
+ghost use Rattle.ca_commit.specs.Listings.{parts, spare_parts};
 ghost use Rattle.ca_commit.specs.Numbers.{number_of_bank, number_of_shard};
 ghost use Rattle.ca_commit.specs.Running.{Placed};
 ghost use Rattle.ca_commit.specs.Showing.{channels_held, waits_held};
@@ -17,7 +17,7 @@ ghost use Rattle.ca_table.specs.Carriers.{IsCarrying};
 ghost use Rattle.ca_table.specs.Carrying.{Carries};
 ghost use Rattle.ca_table.specs.Grips.{SameTurns};
 ghost use Rattle.ca_table.specs.Homes.{has_home};
-ghost use Rattle.ca_table.specs.Lifting.{HasNone, bank_row, contents_kind, lifted, with_all};
+ghost use Rattle.ca_table.specs.Lifting.{HasNone, bank_row, contents_kind, lifted, with_row};
 ghost use Rattle.ca_table.specs.Parts.{contents_seen, part_seen};
 ghost use Rattle.ca_table.specs.Seen.{PartSeen, held_of};
 ghost use Rattle.ca_table.specs.Sound.{IsSound};
@@ -25,7 +25,7 @@ ghost use Rattle.ca_table.specs.Workers.{SameWorker};
 ghost use Rattle.ca_table.specs.declared.part.Contents.TheVariants.{Bank};
 ghost use Rattle.ca_table.specs.declared.part.Lane.{Lane};
 ghost use Rattle.ca_table.specs.declared.part.Part.{Part};
-ghost use Rattle.ca_pool.specs.Desk.{ButBanks, ButReady, ButShards, ClockBox, IsBare, taken};
+ghost use Rattle.ca_pool.specs.Desk.{ButBanks, ButReady, ButShards, ClockBox, IsBare, desk_taken};
 
 use ca_agent::agent::Agent;
 use ca_commit::held::{Banks, Held, HeldBank};
@@ -56,7 +56,7 @@ pub(crate) fn take_banks<R: Wait, A: Agent, C: Clock + Drop>(
     homes: &Homes,
     held: &mut Held<A>,
 ) -> Result<(), OutOfMemory>
-    requires carries { (program : ProgramView) × (n : ℕ) × (l : Lane A) × IsCarrying A.over A.stands program code.now table.now.id n worker.old (taken (part_seen C.least C.faults C.readings) n code.now worker.old.number l None held.old) }
+    requires carries { (program : ProgramView) × (n : ℕ) × (l : Lane A) × IsCarrying A.over A.stands program code.now table.now.id n worker.old (desk_taken (part_seen C.least C.faults C.readings) n code.now worker.old.number l None held.old) }
     requires bare { IsBare held.old }
     ensures same { SameWorker worker.old worker.new }
     ensures turns { SameTurns worker.old.hand worker.new.hand }
@@ -65,7 +65,7 @@ pub(crate) fn take_banks<R: Wait, A: Agent, C: Clock + Drop>(
     ensures placed { OnOk result (Placed (channels_held held.new.banks)) }
     ensures refused { OnErr result (IsBare held.new) }
     ensures others { ButBanks held.old held.new }
-    ensures carries { (program : ProgramView) (n : ℕ) (l : Lane A) → IsCarrying A.over A.stands program code.now table.now.id n worker.old (taken (part_seen C.least C.faults C.readings) n code.now worker.old.number l None held.old) → IsCarrying A.over A.stands program code.now table.now.id n worker.new (taken (part_seen C.least C.faults C.readings) n code.now worker.old.number l None held.new) }
+    ensures carries { (program : ProgramView) (n : ℕ) (l : Lane A) → IsCarrying A.over A.stands program code.now table.now.id n worker.old (desk_taken (part_seen C.least C.faults C.readings) n code.now worker.old.number l None held.old) → IsCarrying A.over A.stands program code.now table.now.id n worker.new (desk_taken (part_seen C.least C.faults C.readings) n code.now worker.old.number l None held.new) }
 {
     held.banks.reserve(ALL)?;
     load(rt, table, code, worker, homes, &mut held.banks);
@@ -82,7 +82,7 @@ pub(crate) fn take_shards<R: Wait, A: Agent, C: Clock + Drop>(
     homes: &Homes,
     held: &mut Held<A>,
 ) -> Result<(), OutOfMemory>
-    requires carries { (program : ProgramView) × (n : ℕ) × (l : Lane A) × IsCarrying A.over A.stands program code.now table.now.id n worker.old (taken (part_seen C.least C.faults C.readings) n code.now worker.old.number l None held.old) }
+    requires carries { (program : ProgramView) × (n : ℕ) × (l : Lane A) × IsCarrying A.over A.stands program code.now table.now.id n worker.old (desk_taken (part_seen C.least C.faults C.readings) n code.now worker.old.number l None held.old) }
     requires shards { parts held.old.shards ≡ [] }
     requires ready { held.old.ready ≡ None }
     ensures same { SameWorker worker.old worker.new }
@@ -92,7 +92,7 @@ pub(crate) fn take_shards<R: Wait, A: Agent, C: Clock + Drop>(
     ensures paused { (w : ℕ) → IsPaused A.place (whole (waits_held held.new.shards) w) }
     ensures refused { OnErr result (parts held.new.shards ≡ []) }
     ensures others { ButShards held.old held.new }
-    ensures carries { (program : ProgramView) (n : ℕ) (l : Lane A) → IsCarrying A.over A.stands program code.now table.now.id n worker.old (taken (part_seen C.least C.faults C.readings) n code.now worker.old.number l None held.old) → IsCarrying A.over A.stands program code.now table.now.id n worker.new (taken (part_seen C.least C.faults C.readings) n code.now worker.old.number l None held.new) }
+    ensures carries { (program : ProgramView) (n : ℕ) (l : Lane A) → IsCarrying A.over A.stands program code.now table.now.id n worker.old (desk_taken (part_seen C.least C.faults C.readings) n code.now worker.old.number l None held.old) → IsCarrying A.over A.stands program code.now table.now.id n worker.new (desk_taken (part_seen C.least C.faults C.readings) n code.now worker.old.number l None held.new) }
 {
     held.shards.reserve(ALL)?;
     load(rt, table, code, worker, homes, &mut held.shards);
@@ -108,7 +108,7 @@ pub(crate) fn take_shard<R: Wait, A: Agent, C: Clock + Drop>(
     number: u64,
     held: &mut Held<A>,
 ) -> Result<(), OutOfMemory>
-    requires carries { (program : ProgramView) × (n : ℕ) × (l : Lane A) × IsCarrying A.over A.stands program code.now table.now.id n worker.old (taken (part_seen C.least C.faults C.readings) n code.now worker.old.number l None held.old) }
+    requires carries { (program : ProgramView) × (n : ℕ) × (l : Lane A) × IsCarrying A.over A.stands program code.now table.now.id n worker.old (desk_taken (part_seen C.least C.faults C.readings) n code.now worker.old.number l None held.old) }
     requires number { number < 16 }
     requires above { (i : ℕ) → number ≤ i → listed number_of_shard (parts held.old.shards) i ≡ None }
     requires ready { held.old.ready ≡ None }
@@ -121,7 +121,7 @@ pub(crate) fn take_shard<R: Wait, A: Agent, C: Clock + Drop>(
     ensures paused { (w : ℕ) → IsPaused A.place (whole (waits_held held.new.shards) w) }
     ensures refused { OnErr result (parts held.new.shards ≡ parts held.old.shards) }
     ensures others { ButShards held.old held.new }
-    ensures carries { (program : ProgramView) (n : ℕ) (l : Lane A) → IsCarrying A.over A.stands program code.now table.now.id n worker.old (taken (part_seen C.least C.faults C.readings) n code.now worker.old.number l None held.old) → IsCarrying A.over A.stands program code.now table.now.id n worker.new (taken (part_seen C.least C.faults C.readings) n code.now worker.old.number l None held.new) }
+    ensures carries { (program : ProgramView) (n : ℕ) (l : Lane A) → IsCarrying A.over A.stands program code.now table.now.id n worker.old (desk_taken (part_seen C.least C.faults C.readings) n code.now worker.old.number l None held.old) → IsCarrying A.over A.stands program code.now table.now.id n worker.new (desk_taken (part_seen C.least C.faults C.readings) n code.now worker.old.number l None held.new) }
 {
     held.shards.reserve(1)?;
     load_one(rt, table, code, worker, number, &mut held.shards);
@@ -136,14 +136,14 @@ pub(crate) fn take_ready<R: Wait, A: Agent, C: Clock + Drop>(
     worker: &mut Worker<A, C>,
     held: &mut Held<A>,
 )
-    requires carries { (program : ProgramView) × (n : ℕ) × (l : Lane A) × (clock : Option (ClockBox C)) × IsCarrying A.over A.stands program code.now table.now.id n worker.old (taken (part_seen C.least C.faults C.readings) n code.now worker.old.number l clock held.old) }
+    requires carries { (program : ProgramView) × (n : ℕ) × (l : Lane A) × (clock : Option (ClockBox C)) × IsCarrying A.over A.stands program code.now table.now.id n worker.old (desk_taken (part_seen C.least C.faults C.readings) n code.now worker.old.number l clock held.old) }
     requires ready { held.old.ready ≡ None }
     ensures same { SameWorker worker.old worker.new }
     ensures turns { SameTurns worker.old.hand worker.new.hand }
     ensures entries { worker.new.entries ≡ worker.old.entries }
     ensures there { IsSome held.new.ready }
     ensures others { ButReady held.old held.new }
-    ensures carries { (program : ProgramView) (n : ℕ) (l : Lane A) (clock : Option (ClockBox C)) → IsCarrying A.over A.stands program code.now table.now.id n worker.old (taken (part_seen C.least C.faults C.readings) n code.now worker.old.number l clock held.old) → IsCarrying A.over A.stands program code.now table.now.id n worker.new (taken (part_seen C.least C.faults C.readings) n code.now worker.old.number l clock held.new) }
+    ensures carries { (program : ProgramView) (n : ℕ) (l : Lane A) (clock : Option (ClockBox C)) → IsCarrying A.over A.stands program code.now table.now.id n worker.old (desk_taken (part_seen C.least C.faults C.readings) n code.now worker.old.number l clock held.old) → IsCarrying A.over A.stands program code.now table.now.id n worker.new (desk_taken (part_seen C.least C.faults C.readings) n code.now worker.old.number l clock held.new) }
 {
     let number = worker.number;
     held.ready = Some(hold_ready(rt, table, code, worker, number));
@@ -157,13 +157,13 @@ pub(crate) fn take_clock<R: Wait, A: Agent, C: Clock + Drop>(
     worker: &mut Worker<A, C>,
     held: &Held<A>,
 ) -> Box<Clockwork<C>>
-    requires carries { (program : ProgramView) × (n : ℕ) × (l : Lane A) × IsCarrying A.over A.stands program code.now table.now.id n worker.old (taken (part_seen C.least C.faults C.readings) n code.now worker.old.number l None held.now) }
+    requires carries { (program : ProgramView) × (n : ℕ) × (l : Lane A) × IsCarrying A.over A.stands program code.now table.now.id n worker.old (desk_taken (part_seen C.least C.faults C.readings) n code.now worker.old.number l None held.now) }
     requires ready { held.now.ready ≡ None }
     ensures same { SameWorker worker.old worker.new }
     ensures turns { SameTurns worker.old.hand worker.new.hand }
     ensures entries { worker.new.entries ≡ worker.old.entries }
     ensures timely { result.value.timers.moment ≤ C.least result.value.clock }
-    ensures carries { (program : ProgramView) (n : ℕ) (l : Lane A) → IsCarrying A.over A.stands program code.now table.now.id n worker.old (taken (part_seen C.least C.faults C.readings) n code.now worker.old.number l None held.now) → IsCarrying A.over A.stands program code.now table.now.id n worker.new (taken (part_seen C.least C.faults C.readings) n code.now worker.old.number l (Some result) held.now) }
+    ensures carries { (program : ProgramView) (n : ℕ) (l : Lane A) → IsCarrying A.over A.stands program code.now table.now.id n worker.old (desk_taken (part_seen C.least C.faults C.readings) n code.now worker.old.number l None held.now) → IsCarrying A.over A.stands program code.now table.now.id n worker.new (desk_taken (part_seen C.least C.faults C.readings) n code.now worker.old.number l (Some result) held.now) }
 {
     let place = worker.workers + 32;
     match hold_at(rt, table, code, worker, place) {
@@ -179,13 +179,13 @@ pub(crate) fn try_clock<A: Agent, C: Clock + Drop>(
     worker: &mut Worker<A, C>,
     held: &Held<A>,
 ) -> Option<Box<Clockwork<C>>>
-    requires carries { (program : ProgramView) × (n : ℕ) × (l : Lane A) × IsCarrying A.over A.stands program code.now table.now.id n worker.old (taken (part_seen C.least C.faults C.readings) n code.now worker.old.number l None held.now) }
+    requires carries { (program : ProgramView) × (n : ℕ) × (l : Lane A) × IsCarrying A.over A.stands program code.now table.now.id n worker.old (desk_taken (part_seen C.least C.faults C.readings) n code.now worker.old.number l None held.now) }
     ensures same { SameWorker worker.old worker.new }
     ensures turns { SameTurns worker.old.hand worker.new.hand }
     ensures entries { worker.new.entries ≡ worker.old.entries }
     ensures timely { IfSome result (λ t. t.value.timers.moment ≤ C.least t.value.clock) }
-    ensures carries { (program : ProgramView) (n : ℕ) (l : Lane A) → IsCarrying A.over A.stands program code.now table.now.id n worker.old (taken (part_seen C.least C.faults C.readings) n code.now worker.old.number l None held.now) → IsCarrying A.over A.stands program code.now table.now.id n worker.new (taken (part_seen C.least C.faults C.readings) n code.now worker.old.number l result held.now) }
-    ensures free { IfNone result (stands worker.old.hand.view < worker.old.hand.view.hands) }
+    ensures carries { (program : ProgramView) (n : ℕ) (l : Lane A) → IsCarrying A.over A.stands program code.now table.now.id n worker.old (desk_taken (part_seen C.least C.faults C.readings) n code.now worker.old.number l None held.now) → IsCarrying A.over A.stands program code.now table.now.id n worker.new (desk_taken (part_seen C.least C.faults C.readings) n code.now worker.old.number l result held.now) }
+    ensures free { IfNone result (hands_stood_for worker.old.hand.view < worker.old.hand.view.hands) }
 {
     let place = worker.workers + 32;
     match try_hold_at(table, code, worker, place) {
@@ -206,19 +206,19 @@ fn try_bank<R: Wait, A: Agent, C: Clock + Drop>(
     number: u64,
     banks: &mut Banks,
 ) -> bool
-    requires carries { (program : ProgramView) × (n : ℕ) × (h : Carries (Part A C × PartSeen A)) × IsCarrying A.over A.stands program code.now table.now.id n worker.old (with_all bank_row (lifted n code.now Bank (part_seen C.least C.faults C.readings) number_of_bank (parts banks.old)) h) }
+    requires carries { (program : ProgramView) × (n : ℕ) × (h : Carries (Part A C × PartSeen A)) × IsCarrying A.over A.stands program code.now table.now.id n worker.old (with_row bank_row (lifted n code.now Bank (part_seen C.least C.faults C.readings) number_of_bank (parts banks.old)) h) }
     requires number { number < 16 }
     requires none { listed number_of_bank (parts banks.old) number ≡ None }
-    requires room { 0 < spare banks.old }
+    requires room { 0 < spare_parts banks.old }
     ensures same { SameWorker worker.old worker.new }
     ensures turns { SameTurns worker.old.hand worker.new.hand }
     ensures entries { worker.new.entries ≡ worker.old.entries }
     ensures told { OnTrue result (is_some (listed number_of_bank (parts banks.new) number) ≡ true) }
     ensures kept { (i : ℕ) → i ≢ number → listed number_of_bank (parts banks.new) i ≡ listed number_of_bank (parts banks.old) i }
     ensures sound { (x : HeldBank) → listed number_of_bank (parts banks.new) number ≡ Some x → IsSound A.over A.place (valid_code code.now) worker.old.workers (worker.old.workers + number) (held_of (contents_seen C.least C.faults C.readings (Bank x))) }
-    ensures room { spare banks.old ≤ spare banks.new + 1 }
-    ensures carries { (program : ProgramView) (n : ℕ) (h : Carries (Part A C × PartSeen A)) → IsCarrying A.over A.stands program code.now table.now.id n worker.old (with_all bank_row (lifted n code.now Bank (part_seen C.least C.faults C.readings) number_of_bank (parts banks.old)) h) → IsCarrying A.over A.stands program code.now table.now.id n worker.new (with_all bank_row (lifted n code.now Bank (part_seen C.least C.faults C.readings) number_of_bank (parts banks.new)) h) }
-    ensures free { result ≡ false → stands worker.old.hand.view < worker.old.hand.view.hands }
+    ensures room { spare_parts banks.old ≤ spare_parts banks.new + 1 }
+    ensures carries { (program : ProgramView) (n : ℕ) (h : Carries (Part A C × PartSeen A)) → IsCarrying A.over A.stands program code.now table.now.id n worker.old (with_row bank_row (lifted n code.now Bank (part_seen C.least C.faults C.readings) number_of_bank (parts banks.old)) h) → IsCarrying A.over A.stands program code.now table.now.id n worker.new (with_row bank_row (lifted n code.now Bank (part_seen C.least C.faults C.readings) number_of_bank (parts banks.new)) h) }
+    ensures free { result ≡ false → hands_stood_for worker.old.hand.view < worker.old.hand.view.hands }
 {
     let place = worker.workers + number;
     match try_hold_at(table, code, worker, place) {
@@ -246,19 +246,19 @@ fn try_wanted<R: Wait, A: Agent, C: Clock + Drop>(
     number: u64,
     banks: &mut Banks,
 ) -> bool
-    requires carries { (program : ProgramView) × (n : ℕ) × (h : Carries (Part A C × PartSeen A)) × IsCarrying A.over A.stands program code.now table.now.id n worker.old (with_all bank_row (lifted n code.now Bank (part_seen C.least C.faults C.readings) number_of_bank (parts banks.old)) h) }
+    requires carries { (program : ProgramView) × (n : ℕ) × (h : Carries (Part A C × PartSeen A)) × IsCarrying A.over A.stands program code.now table.now.id n worker.old (with_row bank_row (lifted n code.now Bank (part_seen C.least C.faults C.readings) number_of_bank (parts banks.old)) h) }
     requires number { number < 16 }
     requires none { listed number_of_bank (parts banks.old) number ≡ None }
-    requires room { 0 < spare banks.old }
+    requires room { 0 < spare_parts banks.old }
     ensures same { SameWorker worker.old worker.new }
     ensures turns { SameTurns worker.old.hand worker.new.hand }
     ensures entries { worker.new.entries ≡ worker.old.entries }
     ensures told { OnTrue result (is_some (listed number_of_bank (parts banks.new) number) ≡ wanted) }
     ensures kept { (i : ℕ) → i ≢ number → listed number_of_bank (parts banks.new) i ≡ listed number_of_bank (parts banks.old) i }
     ensures sound { (x : HeldBank) → listed number_of_bank (parts banks.new) number ≡ Some x → IsSound A.over A.place (valid_code code.now) worker.old.workers (worker.old.workers + number) (held_of (contents_seen C.least C.faults C.readings (Bank x))) }
-    ensures room { spare banks.old ≤ spare banks.new + 1 }
-    ensures carries { (program : ProgramView) (n : ℕ) (h : Carries (Part A C × PartSeen A)) → IsCarrying A.over A.stands program code.now table.now.id n worker.old (with_all bank_row (lifted n code.now Bank (part_seen C.least C.faults C.readings) number_of_bank (parts banks.old)) h) → IsCarrying A.over A.stands program code.now table.now.id n worker.new (with_all bank_row (lifted n code.now Bank (part_seen C.least C.faults C.readings) number_of_bank (parts banks.new)) h) }
-    ensures free { result ≡ false → stands worker.old.hand.view < worker.old.hand.view.hands }
+    ensures room { spare_parts banks.old ≤ spare_parts banks.new + 1 }
+    ensures carries { (program : ProgramView) (n : ℕ) (h : Carries (Part A C × PartSeen A)) → IsCarrying A.over A.stands program code.now table.now.id n worker.old (with_row bank_row (lifted n code.now Bank (part_seen C.least C.faults C.readings) number_of_bank (parts banks.old)) h) → IsCarrying A.over A.stands program code.now table.now.id n worker.new (with_row bank_row (lifted n code.now Bank (part_seen C.least C.faults C.readings) number_of_bank (parts banks.new)) h) }
+    ensures free { result ≡ false → hands_stood_for worker.old.hand.view < worker.old.hand.view.hands }
 {
     if wanted {
         try_bank(rt, table, code, worker, number, banks)
@@ -290,14 +290,14 @@ fn try_load<R: Wait, A: Agent, C: Clock + Drop>(
 ) -> bool
     requires carries { (program : ProgramView) × (n : ℕ) × (h : Carries (Part A C × PartSeen A)) × HasNone bank_row h × IsCarrying A.over A.stands program code.now table.now.id n worker.old h }
     requires empty { parts banks.old ≡ [] }
-    requires room { 16 ≤ spare banks.old }
+    requires room { 16 ≤ spare_parts banks.old }
     ensures same { SameWorker worker.old worker.new }
     ensures turns { SameTurns worker.old.hand worker.new.hand }
     ensures entries { worker.new.entries ≡ worker.old.entries }
     ensures homes { OnTrue result ((i : ℕ) → i < 16 → is_some (listed number_of_bank (parts banks.new) i) ≡ has_home homes.now i) }
     ensures sound { (i : ℕ) (x : HeldBank) → listed number_of_bank (parts banks.new) i ≡ Some x → IsSound A.over A.place (valid_code code.now) worker.old.workers (worker.old.workers + i) (held_of (contents_seen C.least C.faults C.readings (Bank x))) }
-    ensures carries { (program : ProgramView) (n : ℕ) (h : Carries (Part A C × PartSeen A)) → HasNone bank_row h → IsCarrying A.over A.stands program code.now table.now.id n worker.old h → IsCarrying A.over A.stands program code.now table.now.id n worker.new (with_all bank_row (lifted n code.now Bank (part_seen C.least C.faults C.readings) number_of_bank (parts banks.new)) h) }
-    ensures free { result ≡ false → stands worker.old.hand.view < worker.old.hand.view.hands }
+    ensures carries { (program : ProgramView) (n : ℕ) (h : Carries (Part A C × PartSeen A)) → HasNone bank_row h → IsCarrying A.over A.stands program code.now table.now.id n worker.old h → IsCarrying A.over A.stands program code.now table.now.id n worker.new (with_row bank_row (lifted n code.now Bank (part_seen C.least C.faults C.readings) number_of_bank (parts banks.new)) h) }
+    ensures free { result ≡ false → hands_stood_for worker.old.hand.view < worker.old.hand.view.hands }
 {
     for number in 0..ALL {
         let free = try_wanted(rt, table, code, worker, homes.has(number), number, banks);
@@ -318,7 +318,7 @@ pub(crate) fn try_banks<R: Wait, A: Agent, C: Clock + Drop>(
     homes: &Homes,
     held: &mut Held<A>,
 ) -> Result<bool, OutOfMemory>
-    requires carries { (program : ProgramView) × (n : ℕ) × (l : Lane A) × (clock : Option (ClockBox C)) × IsCarrying A.over A.stands program code.now table.now.id n worker.old (taken (part_seen C.least C.faults C.readings) n code.now worker.old.number l clock held.old) }
+    requires carries { (program : ProgramView) × (n : ℕ) × (l : Lane A) × (clock : Option (ClockBox C)) × IsCarrying A.over A.stands program code.now table.now.id n worker.old (desk_taken (part_seen C.least C.faults C.readings) n code.now worker.old.number l clock held.old) }
     requires banks { parts held.old.banks ≡ [] }
     ensures same { SameWorker worker.old worker.new }
     ensures turns { SameTurns worker.old.hand worker.new.hand }
@@ -326,8 +326,8 @@ pub(crate) fn try_banks<R: Wait, A: Agent, C: Clock + Drop>(
     ensures banks { IfOk result (λ b. b ≡ true → (i : ℕ) → i < 16 → is_some (listed number_of_bank (parts held.new.banks) i) ≡ has_home homes.now i) }
     ensures placed { Placed (channels_held held.new.banks) }
     ensures others { ButBanks held.old held.new }
-    ensures carries { (program : ProgramView) (n : ℕ) (l : Lane A) (clock : Option (ClockBox C)) → IsCarrying A.over A.stands program code.now table.now.id n worker.old (taken (part_seen C.least C.faults C.readings) n code.now worker.old.number l clock held.old) → IsCarrying A.over A.stands program code.now table.now.id n worker.new (taken (part_seen C.least C.faults C.readings) n code.now worker.old.number l clock held.new) }
-    ensures free { IfOk result (λ b. b ≡ false → stands worker.old.hand.view < worker.old.hand.view.hands) }
+    ensures carries { (program : ProgramView) (n : ℕ) (l : Lane A) (clock : Option (ClockBox C)) → IsCarrying A.over A.stands program code.now table.now.id n worker.old (desk_taken (part_seen C.least C.faults C.readings) n code.now worker.old.number l clock held.old) → IsCarrying A.over A.stands program code.now table.now.id n worker.new (desk_taken (part_seen C.least C.faults C.readings) n code.now worker.old.number l clock held.new) }
+    ensures free { IfOk result (λ b. b ≡ false → hands_stood_for worker.old.hand.view < worker.old.hand.view.hands) }
 {
     held.banks.reserve(ALL)?;
     Ok(try_load(rt, table, code, worker, homes, &mut held.banks))

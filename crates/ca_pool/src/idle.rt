@@ -11,10 +11,10 @@ ghost use Rattle.ca_table.specs.declared.part.Lane.{Lane};
 ghost use Rattle.ca_alone.specs.Schedule.{AtEmpty, MaySettle, to_rest};
 ghost use Rattle.ca_pool.specs.AtWork.{GaveUp};
 ghost use Rattle.ca_pool.specs.Costs.{cost_asked, cost_idle, is_marked, is_over};
-ghost use Rattle.ca_pool.specs.Desk.{IsBare, taken};
+ghost use Rattle.ca_pool.specs.Desk.{IsBare, desk_taken};
 ghost use Rattle.ca_pool.specs.Leaving.{TaskOver};
 ghost use Rattle.ca_pool.specs.Surveys.{is_stuck};
-ghost use Rattle.ca_pool.specs.Asking.{IsFirst};
+ghost use Rattle.ca_pool.specs.Asking.{IsFirstMoment};
 ghost use Rattle.ca_pool.specs.Lone.{MayGo, Stayed, Went};
 
 use crate::clock::{Asked, answer_late, draw_clock, is_marked, ready_to_ask, with_mark};
@@ -111,7 +111,7 @@ fn wait_late<R: Wait, A: Agent, C: Clock + Drop>(
     ports: &mut Vec<u64>,
 ) -> Result<Rested, PoolStop>
     requires bare { IsBare held.old }
-    requires carries { (program : ProgramView) × (n : ℕ) × (l : Lane A) × IsCarrying A.over A.stands program code.now table.now.id n worker.old (taken (part_seen C.least C.faults C.readings) n code.now worker.old.number l (Some clockwork) held.old) }
+    requires carries { (program : ProgramView) × (n : ℕ) × (l : Lane A) × IsCarrying A.over A.stands program code.now table.now.id n worker.old (desk_taken (part_seen C.least C.faults C.readings) n code.now worker.old.number l (Some clockwork) held.old) }
     requires timely { clockwork.value.timers.moment ≤ C.least clockwork.value.clock }
     requires asking { 0 < C.spare clockwork.value.clock }
     requires bound { first < 2 ^ 62 }
@@ -120,8 +120,8 @@ fn wait_late<R: Wait, A: Agent, C: Clock + Drop>(
     ensures bare { IsBare held.new }
     ensures drew { IfOk result (λ i. Drew (cost_idle i) (is_over i) worker.old worker.new) }
     ensures stopped { IfErr result (λ s. GaveUp s worker.old worker.new) }
-    ensures carries { (program : ProgramView) (n : ℕ) (l : Lane A) → IsCarrying A.over A.stands program code.now table.now.id n worker.old (taken (part_seen C.least C.faults C.readings) n code.now worker.old.number l (Some clockwork) held.old) → IsCarrying A.over A.stands program code.now table.now.id n worker.new (just_lane n code.now l) }
-    ensures solo { IfOk result (λ r. IsFirst first clockwork.value.timers.deadlines → (most : ℕ) → MayGo A.over A.place A.stands A.advances A.gives A.starts code.now AtEmpty most worker.old → Went A.over A.place A.stands A.advances A.gives A.starts code.now (MaySettle to_rest ports.new.items) most worker.new) }
+    ensures carries { (program : ProgramView) (n : ℕ) (l : Lane A) → IsCarrying A.over A.stands program code.now table.now.id n worker.old (desk_taken (part_seen C.least C.faults C.readings) n code.now worker.old.number l (Some clockwork) held.old) → IsCarrying A.over A.stands program code.now table.now.id n worker.new (just_lane n code.now l) }
+    ensures solo { IfOk result (λ r. IsFirstMoment first clockwork.value.timers.deadlines → (most : ℕ) → MayGo A.over A.place A.stands A.advances A.gives A.starts code.now AtEmpty most worker.old → Went A.over A.place A.stands A.advances A.gives A.starts code.now (MaySettle to_rest ports.new.items) most worker.new) }
 {
     let (clockwork, answer) = answer_late(clockwork, first);
     match answer {
@@ -139,7 +139,7 @@ fn wait_late<R: Wait, A: Agent, C: Clock + Drop>(
 
 // Whether that is the first deadline.
 fn is_first(timers: &Timers, first: u64) -> bool
-    ensures { result ≡ true → IsFirst first timers.now.deadlines }
+    ensures { result ≡ true → IsFirstMoment first timers.now.deadlines }
 {
     match timers.first() {
         Some(moment) => moment == first,
@@ -161,13 +161,13 @@ fn wait_with<R: Wait, A: Agent, C: Clock + Drop>(
     ports: &mut Vec<u64>,
 ) -> Result<Rested, PoolStop>
     requires bare { IsBare held.old }
-    requires carries { (program : ProgramView) × (n : ℕ) × (l : Lane A) × IsCarrying A.over A.stands program code.now table.now.id n worker.old (taken (part_seen C.least C.faults C.readings) n code.now worker.old.number l (Some clockwork) held.old) }
+    requires carries { (program : ProgramView) × (n : ℕ) × (l : Lane A) × IsCarrying A.over A.stands program code.now table.now.id n worker.old (desk_taken (part_seen C.least C.faults C.readings) n code.now worker.old.number l (Some clockwork) held.old) }
     requires timely { clockwork.value.timers.moment ≤ C.least clockwork.value.clock }
     ensures same { SameWorker worker.old worker.new }
     ensures bare { IsBare held.new }
     ensures drew { IfOk result (λ i. Drew (cost_idle i) (is_over i) worker.old worker.new) }
     ensures stopped { IfErr result (λ s. GaveUp s worker.old worker.new) }
-    ensures carries { (program : ProgramView) (n : ℕ) (l : Lane A) → IsCarrying A.over A.stands program code.now table.now.id n worker.old (taken (part_seen C.least C.faults C.readings) n code.now worker.old.number l (Some clockwork) held.old) → IsCarrying A.over A.stands program code.now table.now.id n worker.new (just_lane n code.now l) }
+    ensures carries { (program : ProgramView) (n : ℕ) (l : Lane A) → IsCarrying A.over A.stands program code.now table.now.id n worker.old (desk_taken (part_seen C.least C.faults C.readings) n code.now worker.old.number l (Some clockwork) held.old) → IsCarrying A.over A.stands program code.now table.now.id n worker.new (just_lane n code.now l) }
     ensures solo { IfOk result (λ r. (most : ℕ) → MayGo A.over A.place A.stands A.advances A.gives A.starts code.now AtEmpty most worker.old → Went A.over A.place A.stands A.advances A.gives A.starts code.now (MaySettle to_rest ports.new.items) most worker.new) }
 {
     if is_marked(clockwork.mark) {

@@ -6,7 +6,7 @@ ghost use Rattle.ca_meaning.specs.Cost.{cost};
 ghost use Rattle.ca_meaning.specs.ChannelLaw.{ChannelLaw};
 ghost use Rattle.ca_meaning.specs.Ends.{HasEnd, IsWithin};
 ghost use Rattle.ca_meaning.specs.EndsLaw.{IsQuiet};
-ghost use Rattle.ca_meaning.specs.Legal.{GoesOn, Legal, Reaches};
+ghost use Rattle.ca_meaning.specs.Legal.{EndsLast, Legal, Reaches};
 ghost use Rattle.ca_meaning.specs.State.{State};
 ghost use Rattle.ca_meaning.specs.Task.{BodyRest, TaskBody, script};
 ghost use Rattle.ca_meaning.specs.WaitLaw.{WaitLaw};
@@ -29,7 +29,7 @@ ghost use Rattle.ca_table.specs.Parts.{contents_seen, part_seen};
 ghost use Rattle.ca_table.specs.Running.{contents_at};
 ghost use Rattle.ca_table.specs.Seen.{PartSeen, held_of};
 ghost use Rattle.ca_table.specs.declared.part.Part.{Part};
-ghost use Rattle.ca_table.specs.Worked.{HasMainEnd, any_drew, ends_main, fails_clock, gives_up, leaves, obeys_mark, spent, stays_stuck};
+ghost use Rattle.ca_table.specs.Worked.{HasMainEnd, any_drew, ends_main, fails_clock, gives_up, finds_run_end, obeys_mark, spent, stays_stuck};
 ghost use Rattle.ca_table.specs.Workers.{IsOpenedWith, IsReady, stands_for};
 ghost use Rattle.ca_table.specs.declared.answer.PoolStop.TheVariants.{ClockFailed};
 ghost use Rattle.ca_table.specs.declared.answer.WorkEnd.TheVariants.{Over, Spent};
@@ -79,7 +79,7 @@ fn round_of<R: Threads + Wait + Sync, A: Starting + Send, C: Clock + Drop + Send
     ensures stay { OnOk result (total stands_for workers.new.items ≡ total stands_for workers.old.items) }
     ensures going { OnOk result (any_drew gives_up workers.old.items ≡ false → any_drew gives_up workers.new.items ≡ false) }
     ensures spent { IfOk result (λ e. e ≡ Spent → length workers.old.items * allowance + total spent workers.old.items ≤ total spent workers.new.items) }
-    ensures over { IfOk result (λ e. e ≡ Over → any_drew leaves workers.new.items ≡ true) }
+    ensures over { IfOk result (λ e. e ≡ Over → any_drew finds_run_end workers.new.items ≡ true) }
     ensures opening { (o : List (PartSeen A)) → All (IsOpenedWith o) workers.old.items → All (IsOpenedWith o) workers.new.items }
     ensures solo { OnOk result ((opening : List (PartSeen A)) → 0 < allowance → All (BeginsAlone opening) workers.old.items → All (StopsAlone A.over A.place A.stands A.advances A.gives A.starts code.now allowance opening) workers.new.items) }
 {
@@ -148,7 +148,7 @@ fn collect<A: Agent, C: Clock + Drop>(
     ensures marked { IfOk result (λ g. any_drew gives_up hands.items ≡ false → any_drew obeys_mark hands.items ≡ true → HasMainEnd (events g.0)) }
     ensures spent { IfOk result (λ g. cost (events g.0) ≡ total spent hands.items) }
     ensures clock { IfOk result (λ g. (main : A) (least faults : ℕ) (readings : Option (List ℕ)) → All (IsOpenedWith (opening_list workers (valid_code code.now) program.now main (unasked least faults readings))) hands.items → KeepsTime (events g.0) least readings (C.readings g.1) × (any_drew fails_clock hands.items ≡ true → Rose faults (C.faults g.1))) }
-    ensures solo { IfOk result (λ g. (main : A) (first : C) (allowance : ℕ) → workers ≡ 1 → All (StopsAlone A.over A.place A.stands A.advances A.gives A.starts code.now allowance (opening_list workers (valid_code code.now) program.now main (unasked (C.least first) (C.faults first) (C.readings first)))) hands.items → IsSolo (program_view program.now) (events g.0) (C.least first) (C.readings first) (C.readings g.1) × IsWithin allowance (events g.0) × GoesOn (events g.0)) }
+    ensures solo { IfOk result (λ g. (main : A) (first : C) (allowance : ℕ) → workers ≡ 1 → All (StopsAlone A.over A.place A.stands A.advances A.gives A.starts code.now allowance (opening_list workers (valid_code code.now) program.now main (unasked (C.least first) (C.faults first) (C.readings first)))) hands.items → IsSolo (program_view program.now) (events g.0) (C.least first) (C.readings first) (C.readings g.1) × IsWithin allowance (events g.0) × EndsLast (events g.0)) }
 {
     let gathered = gather(alloc, table, hands, program, code)?;
     let Gathered { journal, parts } = gathered;
@@ -183,7 +183,7 @@ fn work_through<
     ensures moments { IfOk result (λ j. KeepsTime (events j.0) (C.least clock) (C.readings clock) (C.readings j.1)) }
     ensures failed { (c : C) → result ≡ Err (RunStop.ClockFailed c) → Rose (C.faults clock) (C.faults c) }
     ensures solo { IfOk result (λ j. workers ≡ 1 → IsSolo (program_view program.now) (events j.0) (C.least clock) (C.readings clock) (C.readings j.1)) }
-    ensures whole { IfOk result (λ j. workers ≡ 1 → IsWithin budget (events j.0) × GoesOn (events j.0)) }
+    ensures whole { IfOk result (λ j. workers ≡ 1 → IsWithin budget (events j.0) × EndsLast (events j.0)) }
 {
     let opened = open_pool(alloc, program, code, main, workers, clock)?;
     let (table, mut hands) = opened;

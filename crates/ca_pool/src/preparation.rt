@@ -25,7 +25,7 @@ ghost use Rattle.ca_table.specs.Workers.{SameWorker};
 ghost use Rattle.ca_table.specs.declared.part.Lane.{Lane};
 ghost use Rattle.ca_pool.specs.AtEvent.{HasTaken, SameNext};
 ghost use Rattle.ca_pool.specs.Desk.{ButReady, ClockBox};
-ghost use Rattle.ca_pool.specs.Preparing.{AskedFor, ButTimers, HasRest, IsTimely, StartsFor, clock_seen, clock_with, in_place};
+ghost use Rattle.ca_pool.specs.Preparing.{AskedFor, ButTimers, HasRest, AreTimersTimely, StartsFor, clock_seen, clock_with, in_place};
 
 use crate::hold::{take_clock, take_ready};
 use ca_agent::agent::Agent;
@@ -99,7 +99,7 @@ fn take_timers<R: Wait, A: Agent, C: Clock + Drop>(
     ensures same { SameWorker worker.old worker.new }
     ensures turns { SameTurns worker.old.hand worker.new.hand }
     ensures there { is_some result ≡ needs_timers (plan_view plan.now) }
-    ensures timely { IsTimely (clock_seen C.least C.faults C.readings result) }
+    ensures timely { AreTimersTimely (clock_seen C.least C.faults C.readings result) }
     ensures carries { (program : ProgramView) (n : ℕ) (l : Lane A) → HasTaken A.over A.stands code.now table.now.id program n l (part_seen C.least C.faults C.readings) None held.now worker.old → HasTaken A.over A.stands code.now table.now.id program n l (part_seen C.least C.faults C.readings) result held.now worker.new }
 {
     if asks_clock(plan) {
@@ -145,7 +145,7 @@ pub(crate) fn take_others<R: Wait, A: Agent, C: Clock + Drop>(
     ensures same { SameWorker worker.old worker.new }
     ensures turns { SameTurns worker.old.hand worker.new.hand }
     ensures clock { is_some result ≡ needs_timers (plan_view plan.now) }
-    ensures timely { IsTimely (clock_seen C.least C.faults C.readings result) }
+    ensures timely { AreTimersTimely (clock_seen C.least C.faults C.readings result) }
     ensures there { is_some held.new.ready ≡ needs_ready (plan_view plan.now) }
     ensures others { ButReady held.old held.new }
     ensures carries { (program : ProgramView) (n : ℕ) (l : Lane A) → HasTaken A.over A.stands code.now table.now.id program n l (part_seen C.least C.faults C.readings) None held.old worker.old → HasTaken A.over A.stands code.now table.now.id program n l (part_seen C.least C.faults C.readings) result held.new worker.new }

@@ -13,7 +13,7 @@ ghost use Rattle.ca_table.specs.Workers.{SameWorker};
 ghost use Rattle.ca_table.specs.declared.part.Contents.TheVariants as V;
 ghost use Rattle.ca_table.specs.declared.part.Lane.{Lane};
 ghost use Rattle.ca_table.specs.declared.part.Part.{Part};
-ghost use Rattle.ca_pool.specs.Desk.{AreLaid, ClockBox, IsBare, SameHeld, SameNumbers, TellsOf, desk, laid, taken};
+ghost use Rattle.ca_pool.specs.Desk.{AreLaid, ClockBox, IsBare, SameHeld, SameNumbers, TellsOf, desk, laid_again, desk_taken};
 
 use ca_agent::agent::Agent;
 use ca_commit::held::Held;
@@ -90,7 +90,7 @@ pub(crate) fn lay_back<A: Agent, C: Clock + Drop>(
     held: &mut Held<A>,
     clock: Option<Box<Clockwork<C>>>,
 ) -> Laid
-    requires carries { (program : ProgramView) × (id : TableId) × (n : ℕ) × (l : Lane A) × (clock0 : Option (ClockBox C)) × (held0 : Held A) × SameHeld clock0 clock held0 held.old × IsCarrying A.over A.stands program code.now id n worker.old (taken (part_seen C.least C.faults C.readings) n code.now worker.old.number l clock0 held0) }
+    requires carries { (program : ProgramView) × (id : TableId) × (n : ℕ) × (l : Lane A) × (clock0 : Option (ClockBox C)) × (held0 : Held A) × SameHeld clock0 clock held0 held.old × IsCarrying A.over A.stands program code.now id n worker.old (desk_taken (part_seen C.least C.faults C.readings) n code.now worker.old.number l clock0 held0) }
     ensures same { SameWorker worker.old worker.new }
     ensures turns { SameTurns worker.old.hand worker.new.hand }
     ensures entries { worker.new.entries ≡ worker.old.entries }
@@ -100,7 +100,7 @@ pub(crate) fn lay_back<A: Agent, C: Clock + Drop>(
     ensures ready { held.new.ready ≡ None }
     ensures timers { held.new.timers ≡ held.old.timers }
     ensures numbers { SameNumbers held.old held.new }
-    ensures carries { (program : ProgramView) (id : TableId) (n : ℕ) (l : Lane A) (clock0 : Option (ClockBox C)) (held0 : Held A) → SameHeld clock0 clock held0 held.old → IsCarrying A.over A.stands program code.now id n worker.old (taken (part_seen C.least C.faults C.readings) n code.now worker.old.number l clock0 held0) → IsCarrying A.over A.stands program code.now id n worker.new (laid (part_seen C.least C.faults C.readings) n code.now worker.old.number l clock0 held0 clock held.old) }
+    ensures carries { (program : ProgramView) (id : TableId) (n : ℕ) (l : Lane A) (clock0 : Option (ClockBox C)) (held0 : Held A) → SameHeld clock0 clock held0 held.old → IsCarrying A.over A.stands program code.now id n worker.old (desk_taken (part_seen C.least C.faults C.readings) n code.now worker.old.number l clock0 held0) → IsCarrying A.over A.stands program code.now id n worker.new (laid_again (part_seen C.least C.faults C.readings) n code.now worker.old.number l clock0 held0 clock held.old) }
 {
     let banks = unload(code, worker, &mut held.banks);
     let shards = unload(code, worker, &mut held.shards);
@@ -160,14 +160,14 @@ pub(crate) fn put_off<A: Agent, C: Clock + Drop>(
     held: &mut Held<A>,
     clock: Option<Box<Clockwork<C>>>,
 )
-    requires carries { (program : ProgramView) × (n : ℕ) × (l : Lane A) × IsCarrying A.over A.stands program code.now table.now.id n worker.old (taken (part_seen C.least C.faults C.readings) n code.now worker.old.number l clock held.old) }
+    requires carries { (program : ProgramView) × (n : ℕ) × (l : Lane A) × IsCarrying A.over A.stands program code.now table.now.id n worker.old (desk_taken (part_seen C.least C.faults C.readings) n code.now worker.old.number l clock held.old) }
     requires timers { held.old.timers ≡ None }
     ensures same { SameWorker worker.old worker.new }
     ensures turns { SameTurns worker.old.hand worker.new.hand }
     ensures entries { worker.new.entries ≡ worker.old.entries }
     ensures bare { IsBare held.new }
     ensures numbers { SameNumbers held.old held.new }
-    ensures carries { (program : ProgramView) (n : ℕ) (l : Lane A) → IsCarrying A.over A.stands program code.now table.now.id n worker.old (taken (part_seen C.least C.faults C.readings) n code.now worker.old.number l clock held.old) → IsCarrying A.over A.stands program code.now table.now.id n worker.new (just_lane n code.now l) }
+    ensures carries { (program : ProgramView) (n : ℕ) (l : Lane A) → IsCarrying A.over A.stands program code.now table.now.id n worker.old (desk_taken (part_seen C.least C.faults C.readings) n code.now worker.old.number l clock held.old) → IsCarrying A.over A.stands program code.now table.now.id n worker.new (just_lane n code.now l) }
 {
     let laid = lay_back(code, worker, held, clock);
     give_back(table, worker, &laid);

@@ -18,7 +18,7 @@ ghost use Rattle.ca_table.specs.declared.part.Lane.{Lane};
 ghost use Rattle.ca_pool.specs.AtEvent.{HasLane, HasTaken};
 ghost use Rattle.ca_pool.specs.Desk.{IsBare, SameNumbers, holds_shards};
 ghost use Rattle.ca_pool.specs.OwnPlans.{IsOwnPlanFor};
-ghost use Rattle.ca_pool.specs.Resolving.{BringsApart, HoldsThese, IsHeld, IsResolved, IsSeen, LeftOff, Took, Wants};
+ghost use Rattle.ca_pool.specs.Resolving.{TaskBringsApart, HoldsThese, IsHeld, IsResolved, IsSeen, LeftOff, Took, Wants};
 ghost use Rattle.ca_pool.specs.Lone.{Stayed};
 
 use crate::ahead::wait_ahead;
@@ -351,7 +351,7 @@ fn try_once<R: Wait, A: Agent, C: Clock + Drop>(
     requires these { HoldsThese wanted.old.banks wanted.old.shards held.old }
     requires wants { Wants A.place wanted.old.banks held.old.new_port task.now }
     requires at { is_at_op (A.place task.now.agent) ≡ true }
-    requires apart { BringsApart A.place task.now }
+    requires apart { TaskBringsApart A.place task.now }
     ensures drew { Drew 0 false worker.old worker.new }
     ensures numbers { SameNumbers held.old held.new }
     ensures wants { Wants A.place wanted.new.banks held.new.new_port task.now }
@@ -421,7 +421,7 @@ pub(crate) fn resolve<R: Wait, A: Agent, C: Clock + Drop>(
     requires carries { (program : ProgramView) × (n : ℕ) × (l : Lane A) × HasLane A.over A.stands code.now table.now.id program n l worker.old }
     requires bare { IsBare held.old }
     requires at { is_at_op (A.place task.now.agent) ≡ true }
-    requires apart { BringsApart A.place task.now }
+    requires apart { TaskBringsApart A.place task.now }
     ensures drew { Drew 0 false worker.old worker.new }
     ensures numbers { SameNumbers held.old held.new }
     ensures held { OnOk result (IsHeld A.place held.new) }

@@ -4,7 +4,7 @@ ghost use Rattle.ca_term.specs.Program.{program_view};
 ghost use Rattle.ca_lower.specs.Gos.{SameGos};
 ghost use Rattle.ca_lower.specs.Lowered.{Lowered};
 ghost use Rattle.ca_states.specs.ValidCode.{valid_code};
-ghost use Rattle.ca_pool.specs.Answers.{BeginsAlone, CalledAt, EachWorked, HasCalled, HoldsLaneAtMost, StopsAlone, joined, joined_from};
+ghost use Rattle.ca_pool.specs.Answers.{BeginsAlone, CalledAt, EachWorked, HasCalled, HoldsLaneAtMost, StopsAlone, answers_joined, joined_from};
 ghost use Rattle.ca_table.specs.Seen.{PartSeen};
 ghost use Rattle.ca_table.specs.Workers.{IsReady};
 ghost use Rattle.ca_table.specs.declared.answer.PoolStop.TheVariants.{ClockFailed};
@@ -127,7 +127,7 @@ fn joined(
     one: Result<WorkEnd, PoolStop>,
     other: Result<WorkEnd, PoolStop>,
 ) -> Result<WorkEnd, PoolStop>
-    ensures { result ≡ joined one other }
+    ensures { result ≡ answers_joined one other }
 {
     match one {
         Err(PoolStop::OutOfMemory) => Err(PoolStop::OutOfMemory),

@@ -3,7 +3,7 @@ ghost use Rattle.std.specs.Prelude.{◌≡◌, ◌<◌, ℕ, List, None, Option,
 ghost use Rattle.ca_term.specs.Program.{ProgramView};
 ghost use Rattle.ca_meaning.specs.Ends.{HasEnd, IsWithin};
 ghost use Rattle.ca_meaning.specs.EndsLaw.{IsQuiet};
-ghost use Rattle.ca_meaning.specs.Legal.{GoesOn, Legal, Reaches};
+ghost use Rattle.ca_meaning.specs.Legal.{EndsLast, Legal, Reaches};
 ghost use Rattle.ca_meaning.specs.State.{State};
 ghost use Rattle.ca_journal.specs.Cut.{AllFit, end_in, kept};
 ghost use Rattle.ca_journal.specs.Events.{events};
@@ -82,7 +82,7 @@ pub(crate) fn end_run(journal: Journal, budget: u64) -> (Journal, PoolEnd)
     requires budget { 0 < budget }
     ensures ends { (program : ProgramView) (s : State) → Reaches program (events journal) s → (end_in budget (events journal) ≡ None → IsQuiet s) → Legal program (events result.0) × HasEnd program budget (events result.0) (end_view result.1) }
     ensures moments { (least : ℕ) (before after : Option (List ℕ)) → KeepsTime (events journal) least before after → KeepsTime (events result.0) least before after }
-    ensures whole { IsWithin budget (events journal) → GoesOn (events journal) → events result.0 ≡ events journal }
+    ensures whole { IsWithin budget (events journal) → EndsLast (events journal) → events result.0 ≡ events journal }
 {
     cut_run(journal, budget)
 }

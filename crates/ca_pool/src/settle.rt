@@ -15,7 +15,7 @@ ghost use Rattle.ca_table.specs.Worked.{Drew};
 ghost use Rattle.ca_table.specs.Workers.{SameWorker};
 ghost use Rattle.ca_table.specs.declared.part.Lane.{Lane};
 ghost use Rattle.ca_alone.specs.Schedule.{Follow, MaySettle};
-ghost use Rattle.ca_pool.specs.Desk.{IsBare, taken};
+ghost use Rattle.ca_pool.specs.Desk.{IsBare, desk_taken};
 ghost use Rattle.ca_pool.specs.Costs.{cost_settling};
 ghost use Rattle.ca_pool.specs.Lone.{HasLooked, HasSettled, MayGo, Went};
 
@@ -71,7 +71,7 @@ fn take_channel<R: Wait, A: Agent, C: Clock + Drop>(
     ensures ready { held.new.ready ≡ None }
     ensures timers { held.new.timers ≡ None }
     ensures paused { (w : ℕ) → IsPaused A.place (whole (waits_held held.new.shards) w) }
-    ensures carries { OnOk result ((program : ProgramView) (n : ℕ) (l : Lane A) → IsCarrying A.over A.stands program code.now table.now.id n worker.old (just_lane n code.now l) → IsCarrying A.over A.stands program code.now table.now.id n worker.new (taken (part_seen C.least C.faults C.readings) n code.now worker.old.number l None held.new)) }
+    ensures carries { OnOk result ((program : ProgramView) (n : ℕ) (l : Lane A) → IsCarrying A.over A.stands program code.now table.now.id n worker.old (just_lane n code.now l) → IsCarrying A.over A.stands program code.now table.now.id n worker.new (desk_taken (part_seen C.least C.faults C.readings) n code.now worker.old.number l None held.new)) }
     ensures kept { OnErr result ((program : ProgramView) (n : ℕ) (l : Lane A) → IsCarrying A.over A.stands program code.now table.now.id n worker.old (just_lane n code.now l) → IsCarrying A.over A.stands program code.now table.now.id n worker.new (just_lane n code.now l)) }
     ensures turns { SameTurns worker.old.hand worker.new.hand }
     ensures bank { OnOk result (IsSome (channels_held held.new.banks (home port.n))) }
@@ -141,7 +141,7 @@ fn draw_served<R: Wait, A: Agent, C: Clock + Drop>(
     wait: WaitId,
     branch: u64,
 ) -> u64
-    requires carries { (program : ProgramView) × (n : ℕ) × (l : Lane A) × IsCarrying A.over A.stands program code.now table.now.id n worker.old (taken (part_seen C.least C.faults C.readings) n code.now worker.old.number l None held.old) }
+    requires carries { (program : ProgramView) × (n : ℕ) × (l : Lane A) × IsCarrying A.over A.stands program code.now table.now.id n worker.old (desk_taken (part_seen C.least C.faults C.readings) n code.now worker.old.number l None held.old) }
     requires serves { served_in held.old port.n ≡ serves side wait.n branch }
     requires paused { (w : ℕ) → IsPaused A.place (whole (waits_held held.old.shards) w) }
     requires made { IsMadeToSettle A.place held.old port.n (served_in held.old port.n) }
@@ -151,7 +151,7 @@ fn draw_served<R: Wait, A: Agent, C: Clock + Drop>(
     ensures same { SameWorker worker.old worker.new }
     ensures bare { IsBare held.new }
     ensures drew { Drew result false worker.old worker.new }
-    ensures carries { (program : ProgramView) (n : ℕ) (l : Lane A) → IsCarrying A.over A.stands program code.now table.now.id n worker.old (taken (part_seen C.least C.faults C.readings) n code.now worker.old.number l None held.old) → IsCarrying A.over A.stands program code.now table.now.id n worker.new (just_lane n code.now l) }
+    ensures carries { (program : ProgramView) (n : ℕ) (l : Lane A) → IsCarrying A.over A.stands program code.now table.now.id n worker.old (desk_taken (part_seen C.least C.faults C.readings) n code.now worker.old.number l None held.old) → IsCarrying A.over A.stands program code.now table.now.id n worker.new (just_lane n code.now l) }
     ensures solo { (k : Follow) (us : List ℕ) (most : ℕ) → MayGo A.over A.place A.stands A.advances A.gives A.starts code.now (MaySettle k (port.n ∷ us)) most worker.old → Went A.over A.place A.stands A.advances A.gives A.starts code.now (MaySettle k (port.n ∷ us)) most worker.new }
 {
     if !can_draw(worker) {
@@ -178,7 +178,7 @@ fn serve_taken<R: Wait, A: Agent, C: Clock + Drop>(
     wait: WaitId,
     branch: u64,
 ) -> Result<Settling, OutOfMemory>
-    requires carries { (program : ProgramView) × (n : ℕ) × (l : Lane A) × IsCarrying A.over A.stands program code.now table.now.id n worker.old (taken (part_seen C.least C.faults C.readings) n code.now worker.old.number l None held.old) }
+    requires carries { (program : ProgramView) × (n : ℕ) × (l : Lane A) × IsCarrying A.over A.stands program code.now table.now.id n worker.old (desk_taken (part_seen C.least C.faults C.readings) n code.now worker.old.number l None held.old) }
     requires serves { served_in held.old port.n ≡ serves side wait.n branch }
     requires paused { (w : ℕ) → IsPaused A.place (whole (waits_held held.old.shards) w) }
     requires ready { held.old.ready ≡ None }
@@ -187,7 +187,7 @@ fn serve_taken<R: Wait, A: Agent, C: Clock + Drop>(
     ensures bare { IsBare held.new }
     ensures drew { IfOk result (λ s. Drew (cost_settling s) false worker.old worker.new) }
     ensures refused { OnErr result (Drew 0 false worker.old worker.new) }
-    ensures carries { (program : ProgramView) (n : ℕ) (l : Lane A) → IsCarrying A.over A.stands program code.now table.now.id n worker.old (taken (part_seen C.least C.faults C.readings) n code.now worker.old.number l None held.old) → IsCarrying A.over A.stands program code.now table.now.id n worker.new (just_lane n code.now l) }
+    ensures carries { (program : ProgramView) (n : ℕ) (l : Lane A) → IsCarrying A.over A.stands program code.now table.now.id n worker.old (desk_taken (part_seen C.least C.faults C.readings) n code.now worker.old.number l None held.old) → IsCarrying A.over A.stands program code.now table.now.id n worker.new (just_lane n code.now l) }
     ensures solo { IfOk result (λ s. (k : Follow) (us : List ℕ) (most : ℕ) → MayGo A.over A.place A.stands A.advances A.gives A.starts code.now (MaySettle k (port.n ∷ us)) most worker.old → HasLooked A.over A.place A.stands A.advances A.gives A.starts code.now k port.n us most s worker.new) }
 {
     take_ready(rt, table, code, worker, held);

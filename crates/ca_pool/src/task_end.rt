@@ -22,7 +22,7 @@ ghost use Rattle.ca_table.specs.declared.part.Lane.{Lane};
 ghost use Rattle.ca_alone.specs.Schedule.{MaySettle, to_turn};
 ghost use Rattle.ca_pool.specs.AtEvent.{HasLane, HasTaken};
 ghost use Rattle.ca_pool.specs.Desk.{IsBare};
-ghost use Rattle.ca_pool.specs.Endings.{IsEnding, MayFault};
+ghost use Rattle.ca_pool.specs.Endings.{IsEnding, MayEndFaulted};
 ghost use Rattle.ca_pool.specs.Leaving.{HasLeft, TaskOver};
 ghost use Rattle.ca_pool.specs.Prepared.{HasGone};
 ghost use Rattle.ca_pool.specs.Resolving.{IsHeld, IsResolved};
@@ -177,7 +177,7 @@ fn finish_by_fault<R: Wait, A: Agent, C: Clock + Drop>(
     place: Place,
 ) -> Stepped<A>
     requires carries { (program : ProgramView) × (n : ℕ) × (l : Lane A) × HasTaken A.over A.stands code.now table.now.id program n l (part_seen C.least C.faults C.readings) None held.old worker.old × HasGone A.over A.advances program code.now l lane.value task.now }
-    requires may { MayFault A.over A.place A.advances A.gives A.starts (part_seen C.least C.faults C.readings) code.now fault place task.now held.old }
+    requires may { MayEndFaulted A.over A.place A.advances A.gives A.starts (part_seen C.least C.faults C.readings) code.now fault place task.now held.old }
     requires result { HasBanks held.old (λ q. option_map port_number task.now.result ≡ Some q) }
     requires ready { held.old.ready ≡ None }
     requires timers { held.old.timers ≡ None }

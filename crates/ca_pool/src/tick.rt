@@ -17,9 +17,9 @@ ghost use Rattle.ca_table.specs.declared.part.Lane.{Lane};
 ghost use Rattle.ca_solo.specs.Stirs.{Ordered};
 ghost use Rattle.ca_alone.specs.OwnTurn.{IsDue};
 ghost use Rattle.ca_alone.specs.Schedule.{Follow, MaySettle, MayTick};
-ghost use Rattle.ca_pool.specs.Asking.{HasBanksOf, HasHomes, IsAsked, IsMadeFor, passed};
+ghost use Rattle.ca_pool.specs.Asking.{HasBanksOf, HasHomes, IsAsked, AreDuePortsMade, moment_passed};
 ghost use Rattle.ca_pool.specs.Costs.{cost_asked, is_marked};
-ghost use Rattle.ca_pool.specs.Desk.{ClockBox, IsBare, taken};
+ghost use Rattle.ca_pool.specs.Desk.{ClockBox, IsBare, desk_taken};
 ghost use Rattle.ca_pool.specs.Lone.{MayGo, Went};
 ghost use Rattle.ca_pool.specs.declared.clock.Asked.TheVariants.{Ticked};
 
@@ -99,7 +99,7 @@ fn reserve_due<A: Agent, C: Clock + Drop>(
     ensures banks { held.new.banks ≡ held.old.banks }
     ensures shards { held.new.shards ≡ held.old.shards }
     ensures ready { held.new.ready ≡ held.old.ready }
-    ensures made { OnOk result.1 (IsMadeFor held.new (clockwork_seen C.least C.faults C.readings clockwork.value) now) }
+    ensures made { OnOk result.1 (AreDuePortsMade held.new (clockwork_seen C.least C.faults C.readings clockwork.value) now) }
 {
     let clockwork = lend_timers(alloc, held, clockwork);
     let made = reserve_tick(alloc, held, now);
@@ -143,8 +143,8 @@ fn tick_over<A: Agent, C: Clock + Drop>(
     now: u64,
 ) -> (Box<Clockwork<C>>, Option<Event>)
     requires later { clockwork.value.timers.moment ≤ now }
-    requires made { IsMadeFor held.old (clockwork_seen C.least C.faults C.readings clockwork.value) now }
-    ensures some { IfSome result.1 (λ e. (event_view e ≡ ticked now (due now clockwork.value.timers.deadlines)) × (due now clockwork.value.timers.deadlines ≢ []) × (clockwork_seen C.least C.faults C.readings result.0.value ≡ passed now (clockwork_seen C.least C.faults C.readings clockwork.value))) }
+    requires made { AreDuePortsMade held.old (clockwork_seen C.least C.faults C.readings clockwork.value) now }
+    ensures some { IfSome result.1 (λ e. (event_view e ≡ ticked now (due now clockwork.value.timers.deadlines)) × (due now clockwork.value.timers.deadlines ≢ []) × (clockwork_seen C.least C.faults C.readings result.0.value ≡ moment_passed now (clockwork_seen C.least C.faults C.readings clockwork.value))) }
     ensures none { IfNone result.1 ((due now clockwork.value.timers.deadlines ≡ []) × (clockwork_seen C.least C.faults C.readings result.0.value ≡ clockwork_seen C.least C.faults C.readings clockwork.value)) }
     ensures channels { (i : ℕ) → channels_held held.new.banks i ≡ closed_all (due now clockwork.value.timers.deadlines) (channels_held held.old.banks) i }
     ensures registries { (i : ℕ) → registries_held held.new.banks i ≡ registries_held held.old.banks i }
@@ -168,8 +168,8 @@ fn draw_tick<R: Wait, A: Agent, C: Clock + Drop>(
     clockwork: Box<Clockwork<C>>,
     now: u64,
 ) -> Asked
-    requires carries { (program : ProgramView) × (n : ℕ) × (l : Lane A) × (clock0 : ClockBox C) × IsCarrying A.over A.stands program code.now table.now.id n worker.old (taken (part_seen C.least C.faults C.readings) n code.now worker.old.number l (Some clock0) held.old) × IsAsked now (clockwork_seen C.least C.faults C.readings clock0.value) (clockwork_seen C.least C.faults C.readings clockwork.value) }
-    requires made { IsMadeFor held.old (clockwork_seen C.least C.faults C.readings clockwork.value) now }
+    requires carries { (program : ProgramView) × (n : ℕ) × (l : Lane A) × (clock0 : ClockBox C) × IsCarrying A.over A.stands program code.now table.now.id n worker.old (desk_taken (part_seen C.least C.faults C.readings) n code.now worker.old.number l (Some clock0) held.old) × IsAsked now (clockwork_seen C.least C.faults C.readings clock0.value) (clockwork_seen C.least C.faults C.readings clockwork.value) }
+    requires made { AreDuePortsMade held.old (clockwork_seen C.least C.faults C.readings clockwork.value) now }
     requires there { HasBanksOf held.old (due now clockwork.value.timers.deadlines) }
     requires placed { Placed (channels_held held.old.banks) }
     requires room { 0 < room worker.old.entries }
@@ -178,7 +178,7 @@ fn draw_tick<R: Wait, A: Agent, C: Clock + Drop>(
     ensures same { SameWorker worker.old worker.new }
     ensures bare { IsBare held.new }
     ensures drew { Drew (cost_asked result) (is_marked result) worker.old worker.new }
-    ensures carries { (program : ProgramView) (n : ℕ) (l : Lane A) (clock0 : ClockBox C) → IsCarrying A.over A.stands program code.now table.now.id n worker.old (taken (part_seen C.least C.faults C.readings) n code.now worker.old.number l (Some clock0) held.old) → IsAsked now (clockwork_seen C.least C.faults C.readings clock0.value) (clockwork_seen C.least C.faults C.readings clockwork.value) → IsCarrying A.over A.stands program code.now table.now.id n worker.new (just_lane n code.now l) }
+    ensures carries { (program : ProgramView) (n : ℕ) (l : Lane A) (clock0 : ClockBox C) → IsCarrying A.over A.stands program code.now table.now.id n worker.old (desk_taken (part_seen C.least C.faults C.readings) n code.now worker.old.number l (Some clock0) held.old) → IsAsked now (clockwork_seen C.least C.faults C.readings clock0.value) (clockwork_seen C.least C.faults C.readings clockwork.value) → IsCarrying A.over A.stands program code.now table.now.id n worker.new (just_lane n code.now l) }
     ensures solo { (k : Follow) (us : List ℕ) (most : ℕ) → IsDue clockwork.value.timers.deadlines now → Ordered (due now clockwork.value.timers.deadlines) us → MayGo A.over A.place A.stands A.advances A.gives A.starts code.now (MayTick k) most worker.old → (cost : ℕ) × (result ≡ Ticked cost) × Went A.over A.place A.stands A.advances A.gives A.starts code.now (MaySettle k us) most worker.new }
 {
     if !can_draw(worker) {
@@ -221,13 +221,13 @@ pub(crate) fn pass<R: Wait, A: Agent, C: Clock + Drop>(
     ports: &mut Vec<u64>,
 ) -> Result<Asked, OutOfMemory>
     requires bare { IsBare held.old }
-    requires carries { (program : ProgramView) × (n : ℕ) × (l : Lane A) × (clock0 : ClockBox C) × IsCarrying A.over A.stands program code.now table.now.id n worker.old (taken (part_seen C.least C.faults C.readings) n code.now worker.old.number l (Some clock0) held.old) × IsAsked now (clockwork_seen C.least C.faults C.readings clock0.value) (clockwork_seen C.least C.faults C.readings clockwork.value) }
+    requires carries { (program : ProgramView) × (n : ℕ) × (l : Lane A) × (clock0 : ClockBox C) × IsCarrying A.over A.stands program code.now table.now.id n worker.old (desk_taken (part_seen C.least C.faults C.readings) n code.now worker.old.number l (Some clock0) held.old) × IsAsked now (clockwork_seen C.least C.faults C.readings clock0.value) (clockwork_seen C.least C.faults C.readings clockwork.value) }
     requires room { 0 < room worker.old.entries }
     ensures same { SameWorker worker.old worker.new }
     ensures bare { IsBare held.new }
     ensures drew { IfOk result (λ a. Drew (cost_asked a) (is_marked a) worker.old worker.new) }
     ensures refused { OnErr result (Drew 0 false worker.old worker.new) }
-    ensures carries { (program : ProgramView) (n : ℕ) (l : Lane A) (clock0 : ClockBox C) → IsCarrying A.over A.stands program code.now table.now.id n worker.old (taken (part_seen C.least C.faults C.readings) n code.now worker.old.number l (Some clock0) held.old) → IsAsked now (clockwork_seen C.least C.faults C.readings clock0.value) (clockwork_seen C.least C.faults C.readings clockwork.value) → IsCarrying A.over A.stands program code.now table.now.id n worker.new (just_lane n code.now l) }
+    ensures carries { (program : ProgramView) (n : ℕ) (l : Lane A) (clock0 : ClockBox C) → IsCarrying A.over A.stands program code.now table.now.id n worker.old (desk_taken (part_seen C.least C.faults C.readings) n code.now worker.old.number l (Some clock0) held.old) → IsAsked now (clockwork_seen C.least C.faults C.readings clock0.value) (clockwork_seen C.least C.faults C.readings clockwork.value) → IsCarrying A.over A.stands program code.now table.now.id n worker.new (just_lane n code.now l) }
     ensures solo { IfOk result (λ a. (k : Follow) (most : ℕ) → IsDue clockwork.value.timers.deadlines now → MayGo A.over A.place A.stands A.advances A.gives A.starts code.now (MayTick k) most worker.old → (cost : ℕ) × (a ≡ Ticked cost) × Went A.over A.place A.stands A.advances A.gives A.starts code.now (MaySettle k ports.new.items) most worker.new) }
 {
     match banks_due(rt, &clockwork.timers, now, ports) {
@@ -250,7 +250,7 @@ fn tick_with<R: Wait, A: Agent, C: Clock + Drop>(
     clockwork: Box<Clockwork<C>>,
     now: u64,
 ) -> Result<Asked, OutOfMemory>
-    requires carries { (program : ProgramView) × (n : ℕ) × (l : Lane A) × (clock0 : ClockBox C) × IsCarrying A.over A.stands program code.now table.now.id n worker.old (taken (part_seen C.least C.faults C.readings) n code.now worker.old.number l (Some clock0) held.old) × IsAsked now (clockwork_seen C.least C.faults C.readings clock0.value) (clockwork_seen C.least C.faults C.readings clockwork.value) }
+    requires carries { (program : ProgramView) × (n : ℕ) × (l : Lane A) × (clock0 : ClockBox C) × IsCarrying A.over A.stands program code.now table.now.id n worker.old (desk_taken (part_seen C.least C.faults C.readings) n code.now worker.old.number l (Some clock0) held.old) × IsAsked now (clockwork_seen C.least C.faults C.readings clock0.value) (clockwork_seen C.least C.faults C.readings clockwork.value) }
     requires there { HasBanksOf held.old (due now clockwork.value.timers.deadlines) }
     requires placed { Placed (channels_held held.old.banks) }
     requires room { 0 < room worker.old.entries }
@@ -260,7 +260,7 @@ fn tick_with<R: Wait, A: Agent, C: Clock + Drop>(
     ensures bare { IsBare held.new }
     ensures drew { IfOk result (λ a. Drew (cost_asked a) (is_marked a) worker.old worker.new) }
     ensures refused { OnErr result (Drew 0 false worker.old worker.new) }
-    ensures carries { (program : ProgramView) (n : ℕ) (l : Lane A) (clock0 : ClockBox C) → IsCarrying A.over A.stands program code.now table.now.id n worker.old (taken (part_seen C.least C.faults C.readings) n code.now worker.old.number l (Some clock0) held.old) → IsAsked now (clockwork_seen C.least C.faults C.readings clock0.value) (clockwork_seen C.least C.faults C.readings clockwork.value) → IsCarrying A.over A.stands program code.now table.now.id n worker.new (just_lane n code.now l) }
+    ensures carries { (program : ProgramView) (n : ℕ) (l : Lane A) (clock0 : ClockBox C) → IsCarrying A.over A.stands program code.now table.now.id n worker.old (desk_taken (part_seen C.least C.faults C.readings) n code.now worker.old.number l (Some clock0) held.old) → IsAsked now (clockwork_seen C.least C.faults C.readings clock0.value) (clockwork_seen C.least C.faults C.readings clockwork.value) → IsCarrying A.over A.stands program code.now table.now.id n worker.new (just_lane n code.now l) }
     ensures solo { IfOk result (λ a. (k : Follow) (us : List ℕ) (most : ℕ) → IsDue clockwork.value.timers.deadlines now → Ordered (due now clockwork.value.timers.deadlines) us → MayGo A.over A.place A.stands A.advances A.gives A.starts code.now (MayTick k) most worker.old → (cost : ℕ) × (a ≡ Ticked cost) × Went A.over A.place A.stands A.advances A.gives A.starts code.now (MaySettle k us) most worker.new) }
 {
     let (clockwork, made) = reserve_due(alloc, held, clockwork, now);
@@ -286,14 +286,14 @@ fn close_due<R: Wait, A: Agent, C: Clock + Drop>(
     banks: &Homes,
 ) -> Result<Asked, OutOfMemory>
     requires bare { IsBare held.old }
-    requires carries { (program : ProgramView) × (n : ℕ) × (l : Lane A) × (clock0 : ClockBox C) × IsCarrying A.over A.stands program code.now table.now.id n worker.old (taken (part_seen C.least C.faults C.readings) n code.now worker.old.number l (Some clock0) held.old) × IsAsked now (clockwork_seen C.least C.faults C.readings clock0.value) (clockwork_seen C.least C.faults C.readings clockwork.value) }
+    requires carries { (program : ProgramView) × (n : ℕ) × (l : Lane A) × (clock0 : ClockBox C) × IsCarrying A.over A.stands program code.now table.now.id n worker.old (desk_taken (part_seen C.least C.faults C.readings) n code.now worker.old.number l (Some clock0) held.old) × IsAsked now (clockwork_seen C.least C.faults C.readings clock0.value) (clockwork_seen C.least C.faults C.readings clockwork.value) }
     requires homes { HasHomes banks.now (due now clockwork.value.timers.deadlines) }
     requires room { 0 < room worker.old.entries }
     ensures same { SameWorker worker.old worker.new }
     ensures bare { IsBare held.new }
     ensures drew { IfOk result (λ a. Drew (cost_asked a) (is_marked a) worker.old worker.new) }
     ensures refused { OnErr result (Drew 0 false worker.old worker.new) }
-    ensures carries { (program : ProgramView) (n : ℕ) (l : Lane A) (clock0 : ClockBox C) → IsCarrying A.over A.stands program code.now table.now.id n worker.old (taken (part_seen C.least C.faults C.readings) n code.now worker.old.number l (Some clock0) held.old) → IsAsked now (clockwork_seen C.least C.faults C.readings clock0.value) (clockwork_seen C.least C.faults C.readings clockwork.value) → IsCarrying A.over A.stands program code.now table.now.id n worker.new (just_lane n code.now l) }
+    ensures carries { (program : ProgramView) (n : ℕ) (l : Lane A) (clock0 : ClockBox C) → IsCarrying A.over A.stands program code.now table.now.id n worker.old (desk_taken (part_seen C.least C.faults C.readings) n code.now worker.old.number l (Some clock0) held.old) → IsAsked now (clockwork_seen C.least C.faults C.readings clock0.value) (clockwork_seen C.least C.faults C.readings clockwork.value) → IsCarrying A.over A.stands program code.now table.now.id n worker.new (just_lane n code.now l) }
     ensures solo { IfOk result (λ a. (k : Follow) (us : List ℕ) (most : ℕ) → IsDue clockwork.value.timers.deadlines now → Ordered (due now clockwork.value.timers.deadlines) us → MayGo A.over A.place A.stands A.advances A.gives A.starts code.now (MayTick k) most worker.old → (cost : ℕ) × (a ≡ Ticked cost) × Went A.over A.place A.stands A.advances A.gives A.starts code.now (MaySettle k us) most worker.new) }
 {
     match try_banks(rt, table, code, worker, banks, held) {

@@ -4,5 +4,5 @@ use Rattle.ca_value.specs.Seq.{list}
 use Rattle.ca_value.specs.declared.seq.Seq.{Seq}
 use Rattle.ca_value.specs.declared.value.PortId.{PortId}
 
-abbrev pub numbers : Seq PortId → List ℕ
-numbers ps = each_of (λ p. p.n) (list ps)
+abbrev pub port_numbers : Seq PortId → List ℕ
+port_numbers ps = each_of (λ p. p.n) (list ps)

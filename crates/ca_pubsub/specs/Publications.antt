@@ -11,16 +11,16 @@ use Rattle.ca_pubsub.specs.declared.publication.Ports.{Ports}
 use Rattle.ca_pubsub.specs.declared.publication.State.{State}
 use Rattle.ca_pubsub.specs.declared.publication.State.TheVariants.{Takes, Sorts, Finds, Puts, ReadsLast, Closes}
 
-abbrev pub ports_view : Ports → PubPorts
-ports_view p = record { publication = p.publication.n; source = p.source.n; topic = p.topic; keyword = view p.keyword }
+abbrev pub pub_ports_view : Ports → PubPorts
+pub_ports_view p = record { publication = p.publication.n; source = p.source.n; topic = p.topic; keyword = view p.keyword }
 
-abbrev pub state_view : State → PubState
-state_view Takes = pub_takes
-state_view (Sorts v) = pub_sorts (view v)
-state_view (Finds topic v) = pub_finds (view topic) (view v)
-state_view (Puts c v) = pub_puts c.n (view v)
-state_view ReadsLast = pub_reads_last
-state_view (Closes c left) = pub_closes c.n (each_of (λ p. p.n) (into_iter_items left))
+abbrev pub pub_state_view : State → PubState
+pub_state_view Takes = pub_takes
+pub_state_view (Sorts v) = pub_sorts (view v)
+pub_state_view (Finds topic v) = pub_finds (view topic) (view v)
+pub_state_view (Puts c v) = pub_puts c.n (view v)
+pub_state_view ReadsLast = pub_reads_last
+pub_state_view (Closes c left) = pub_closes c.n (each_of (λ p. p.n) (into_iter_items left))
 
 abbrev pub pub_body : Ports → Place → NextState State → SystemBody
-pub_body k p x = a_pub (ports_view k) p (next_view state_view x)
+pub_body k p x = a_pub (pub_ports_view k) p (next_view pub_state_view x)

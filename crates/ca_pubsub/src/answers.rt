@@ -4,7 +4,7 @@ ghost use Rattle.ca_value.specs.Tree.{vector};
 ghost use Rattle.ca_value.specs.View.{view, trees};
 ghost use Rattle.ca_meaning.specs.Asks.{ports_in, ports_of};
 ghost use Rattle.ca_meaning.specs.PubTable.{channel_of_pair};
-ghost use Rattle.ca_pubsub.specs.Numbers.{numbers};
+ghost use Rattle.ca_pubsub.specs.Numbers.{port_numbers};
 
 use ca_system::operand::port_in;
 use ca_value::memory::OutOfMemory;
@@ -34,7 +34,7 @@ fn channel_in(parts: &[Value]) -> Option<PortId>
 
 // The ports of a vector of ports, in order; None where the answer has another form.
 pub(crate) fn ports_in(alloc: Global, answer: &Value) -> Result<Option<Seq<PortId>>, OutOfMemory>
-    ensures { IfOk result (λ r. option_map numbers r ≡ ports_in (view answer.now)) }
+    ensures { IfOk result (λ r. option_map port_numbers r ≡ ports_in (view answer.now)) }
 {
     match answer {
         Value::Vector(items) => ports_of(alloc, items.as_slice()),
@@ -44,7 +44,7 @@ pub(crate) fn ports_in(alloc: Global, answer: &Value) -> Result<Option<Seq<PortI
 
 #[tactic(auto, using(crate::proofs::AnswerLaws::port_more, crate::proofs::AnswerLaws::port_wrong))]
 fn ports_of(alloc: Global, items: &[Value]) -> Result<Option<Seq<PortId>>, OutOfMemory>
-    ensures { IfOk result (λ r. option_map numbers r ≡ ports_of (trees items.now)) }
+    ensures { IfOk result (λ r. option_map port_numbers r ≡ ports_of (trees items.now)) }
 {
     let mut ports = Seq::new(alloc);
     ports.reserve(items.len() as u64)?;

@@ -5,16 +5,16 @@ ghost use Rattle.std.specs.Vec.Iter.{into_iter_items};
 ghost use Rattle.ca_value.specs.Seq.{list};
 ghost use Rattle.ca_value.specs.View.{view, trees};
 ghost use Rattle.ca_term.specs.declared.head.SystemTask.TheVariants.{Pub as pub_task};
-ghost use Rattle.ca_meaning.specs.Asks.{to, needing, closes_due, registers, one_of, two_of};
+ghost use Rattle.ca_meaning.specs.Asks.{to, needing, closes_due, ask_to_register, one_of, two_of};
 ghost use Rattle.ca_term.specs.declared.head.RegisterName.TheVariants.{Find, Topics};
 ghost use Rattle.ca_value.specs.Tree.{port};
 ghost use Rattle.ca_meaning.specs.Operands.{is_nil};
 ghost use Rattle.ca_meaning.specs.PubTable.{pub_next, pub_takes, pub_puts, pub_reads_last, pub_closes, channel_of_pair};
 ghost use Rattle.ca_meaning.specs.System.{new_system};
-ghost use Rattle.ca_system.specs.Applications.{applied, pending, topic_made};
+ghost use Rattle.ca_system.specs.Applications.{function_applied, pending_application, topic_returned};
 ghost use Rattle.ca_system.specs.Applied.{application_view, returned_view};
 ghost use Rattle.ca_system.specs.Stands.{running_body, stand_at, next_view};
-ghost use Rattle.ca_pubsub.specs.Publications.{pub_body, state_view};
+ghost use Rattle.ca_pubsub.specs.Publications.{pub_body, pub_state_view};
 
 use crate::answers::{channel_of, ports_in};
 use ca_asking::operands::{port_at, value_at};
@@ -89,7 +89,7 @@ pub fn new_pub(topic: PlainFunction, values: Items, place: Place) -> Pub
 
 /// The topic function with its value, where the task is about to apply it.
 pub fn pending_topic(task: &Pub) -> Option<Application<'_>>
-    ensures { option_map application_view result ≡ pending (running_body pub_body task.now) }
+    ensures { option_map application_view result ≡ pending_application (running_body pub_body task.now) }
 {
     match &task.state {
         Next::To(State::Sorts(value)) => Some(Application {
@@ -104,7 +104,7 @@ pub fn pending_topic(task: &Pub) -> Option<Application<'_>>
 
 /// Goes on with what the topic function came to.
 pub fn topic_made(task: &mut Pub, returned: Returned)
-    ensures { running_body pub_body task.new ≡ applied (returned_view returned) (running_body pub_body task.old) }
+    ensures { running_body pub_body task.new ≡ function_applied (returned_view returned) (running_body pub_body task.old) }
 {
     match mem::replace(&mut task.state, Next::Stop) {
         Next::To(state) => task.state = sorted(state, returned),
@@ -115,7 +115,7 @@ pub fn topic_made(task: &mut Pub, returned: Returned)
 
 // The channel of the topic is asked for, or the task has the function's fault.
 fn sorted(state: State, returned: Returned) -> Next<State>
-    ensures { next_view state_view result ≡ topic_made (returned_view returned) (to (state_view state)) }
+    ensures { next_view pub_state_view result ≡ topic_returned (returned_view returned) (to (pub_state_view state)) }
 {
     match (state, returned) {
         (State::Sorts(value), Returned::Value(topic)) => Next::To(State::Finds { topic, value }),
@@ -163,7 +163,7 @@ impl Kind for Ports {
 impl Ports {
     // It asks for the channel of the topic.
     fn find(&self, alloc: Global, topic: &Value, place: Place) -> Result<Stand, OutOfMemory>
-        ensures { IfOk result (λ s. stand_at s ≡ registers Find (two_of (port self.now.publication.n) (view topic.now)) place) }
+        ensures { IfOk result (λ s. stand_at s ≡ ask_to_register Find (two_of (port self.now.publication.n) (view topic.now)) place) }
     {
         let values = two(alloc, Value::Port(self.publication), topic.copy(alloc)?)?;
         Ok(registers(RegisterName::Find, values, place))
@@ -171,7 +171,7 @@ impl Ports {
 
     // It reads the topics' channels.
     fn topics(&self, alloc: Global, place: Place) -> Result<Stand, OutOfMemory>
-        ensures { IfOk result (λ s. stand_at s ≡ registers Topics (one_of (port self.now.publication.n)) place) }
+        ensures { IfOk result (λ s. stand_at s ≡ ask_to_register Topics (one_of (port self.now.publication.n)) place) }
     {
         let values = one(alloc, Value::Port(self.publication))?;
         Ok(registers(RegisterName::Topics, values, place))
@@ -180,7 +180,7 @@ impl Ports {
 
 // What follows on a value of the source, or on its end.
 fn taken(answer: Value) -> Next<State>
-    ensures { next_view state_view result ≡ pub_next (view answer) pub_takes }
+    ensures { next_view pub_state_view result ≡ pub_next (view answer) pub_takes }
 {
     if is_nil(&answer) {
         Next::To(State::ReadsLast)
@@ -191,7 +191,7 @@ fn taken(answer: Value) -> Next<State>
 
 // The value goes to the channel that the answer tells; where nobody has the topic, it is dropped.
 fn found(answer: &Value, value: Value) -> Next<State>
-    ensures { next_view state_view result ≡ cond (is_nil (view answer.now)) (to pub_takes) (needing (channel_of_pair (view answer.now)) (λ c. to (pub_puts c (view value)))) }
+    ensures { next_view pub_state_view result ≡ cond (is_nil (view answer.now)) (to pub_takes) (needing (channel_of_pair (view answer.now)) (λ c. to (pub_puts c (view value)))) }
 {
     if is_nil(answer) {
         return Next::To(State::Takes);
@@ -204,7 +204,7 @@ fn found(answer: &Value, value: Value) -> Next<State>
 
 // The topics' channels close, which the answer tells.
 fn closings(alloc: Global, answer: &Value) -> Result<Next<State>, OutOfMemory>
-    ensures { IfOk result (λ n. next_view state_view n ≡ pub_next (view answer.now) pub_reads_last) }
+    ensures { IfOk result (λ n. next_view pub_state_view n ≡ pub_next (view answer.now) pub_reads_last) }
 {
     match ports_in(alloc, answer)? {
         None => Ok(Next::Fail(Fault::WrongKind)),
@@ -214,7 +214,7 @@ fn closings(alloc: Global, answer: &Value) -> Result<Next<State>, OutOfMemory>
 
 // The first of these channels closes next; after the last one the task ends.
 fn closes_due(left: IntoIter<PortId, Global>) -> Next<State>
-    ensures { next_view state_view result ≡ closes_due pub_closes (map (λ p. p.n) (into_iter_items left)) }
+    ensures { next_view pub_state_view result ≡ closes_due pub_closes (map (λ p. p.n) (into_iter_items left)) }
 {
     let mut left = left;
     match left.next() {

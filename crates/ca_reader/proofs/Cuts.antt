@@ -9,7 +9,7 @@ use Rattle.std.proofs.lemmas.Grind.{common_steps}
 use Rattle.ca_reader.specs.declared.error.ReadErrorKind.{ReadErrorKind}
 use Rattle.ca_reader.specs.declared.error.ReadErrorKind.TheVariants.{UnclosedText, BadByte}
 use Rattle.ca_reader.specs.Form.{text}
-use Rattle.ca_reader.specs.Texts.{Letter, says, quote, missing, bad, escaped, escape_of, escape, character, letter, char_len, is_continuation, may_follow, TextCut, closed, unclosed, broken, further, text_step, text_within, text_cut}
+use Rattle.ca_reader.specs.Texts.{Letter, says, quote, missing, bad, byte_meant, escape_of, escape, character, letter, char_len, is_continuation, may_follow, TextCut, closed, unclosed, broken, with_letter, text_step, text_within, text_cut}
 use Rattle.ca_reader.specs.PieceView.{LetterFits}
 use Rattle.ca_reader.specs.Pieces.{one, First, found, wrong, text_first}
 
@@ -63,7 +63,7 @@ escape_of_fits most None h = omega arith
 
 pub escape_fits : (bs : List ℕ) → LetterFits (suc (length bs)) (escape bs)
 escape_fits [] = tt
-escape_fits (c ∷ bs) = escape_of_fits (suc (suc (length bs))) (escaped c) (omega arith)
+escape_fits (c ∷ bs) = escape_of_fits (suc (suc (length bs))) (byte_meant c) (omega arith)
 
 pub character_fits : (bs : List ℕ) (n : ℕ) → 0 < length bs → n ≤ length bs → LetterFits (length bs) (character bs n)
 character_fits bs n l h =
@@ -87,7 +87,7 @@ unfolding text_within
 text_within_step n bs = refl
 
 pub text_step_same : (f g : List ℕ → TextCut) (bs : List ℕ) (l : Letter) → LetterFits (length bs) l → ((m : ℕ) → 0 < m → m ≤ length bs → f (drop m bs) ≡ g (drop m bs)) → text_step f bs l ≡ text_step g bs l
-text_step_same f g bs (says x m) h same = ap (further x m) (same m h.0 h.1)
+text_step_same f g bs (says x m) h same = ap (with_letter x m) (same m h.0 h.1)
 text_step_same f g bs quote h same = refl
 text_step_same f g bs missing h same = refl
 text_step_same f g bs (bad k) h same = refl
@@ -118,7 +118,7 @@ so_far_start (closed s n) = let e : 1 + n ≡ suc n = omega arith in ap (found (
 so_far_start unclosed = refl
 so_far_start (broken k n) = let e : 1 + n ≡ suc n = omega arith in ap (wrong k) e
 
-pub so_far_further : (s x : List ℕ) (m i : ℕ) (t : TextCut) → so_far s m (further x i t) ≡ so_far (s ++ x) (m + i) t
+pub so_far_further : (s x : List ℕ) (m i : ℕ) (t : TextCut) → so_far s m (with_letter x i t) ≡ so_far (s ++ x) (m + i) t
 so_far_further s x m i (closed xs n) =
     let e = append_assoc s x xs in let f : m + (i + n) ≡ (m + i) + n = omega arith in cc
 so_far_further s x m i unclosed = refl

@@ -9,7 +9,7 @@ use Rattle.ca_reader.specs.declared.form.Bracket.TheVariants.{Round, Square, Cur
 use Rattle.ca_reader.specs.declared.error.ReadErrorKind.{ReadErrorKind}
 use Rattle.ca_reader.specs.Form.{Atom, FormTree, FormTrees, ShapeTree, form, atom, group, none, item}
 use Rattle.ca_reader.specs.Pieces.{Piece, one, opener, closer, Pieces, end, stop, piece, pieces}
-use Rattle.ca_reader.specs.Reads.{end_fault, Nest, NestForm, NestShape, Reads, ReadFault, Context, outside, inside, depth, Stands, piece_fault, fault_at, same_bracket, is_paired}
+use Rattle.ca_reader.specs.Reads.{end_fault, Nest, NestForm, NestShape, Reads, ReadFault, Context, outside, inside, depth, ReadingStands, piece_fault, reading_fault, same_bracket, is_paired}
 use Rattle.ca_reader.specs.Steps.{with_last, with_form, next, innermost}
 
 -- a reading from left to right, piece by piece
@@ -24,13 +24,13 @@ go (piece x p more) c = unless (piece_fault c x p) (go more (next c x p))
 
 abbrev pub Answered : Pieces → Result FormTrees (ReadErrorKind × Place) → Type 0
 Answered whole (Ok fs) = Nest 0 fs whole end
-Answered whole (Err e) = (c : Context) × (rest : Pieces) × Stands c whole rest × (fault_at c rest ≡ Some e)
+Answered whole (Err e) = (c : Context) × (rest : Pieces) × ReadingStands c whole rest × (reading_fault c rest ≡ Some e)
 
 pub nest_last : (fs : FormTrees) (d : ℕ) (f : FormTree) (ps mid rest : Pieces) → Nest d fs ps mid → NestForm d f mid rest → Nest d (with_last fs f) ps rest
 nest_last none d f ps mid rest e n = (rest, subst (λ (x : Pieces). NestForm d f x rest) (sym e) n, refl)
 nest_last (item g gs) d f ps mid rest n m = (n.0, n.1, nest_last gs d f n.0 mid rest n.2 m)
 
-pub stands_with : (c : Context) (f : FormTree) (whole ps rest : Pieces) → Stands c whole ps → NestForm (depth c) f ps rest → Stands (with_form c f) whole rest
+pub stands_with : (c : Context) (f : FormTree) (whole ps rest : Pieces) → ReadingStands c whole ps → NestForm (depth c) f ps rest → ReadingStands (with_form c f) whole rest
 stands_with (outside fs) f whole ps rest s n = nest_last fs 0 f whole ps rest s n
 stands_with (inside c b p fs) f whole ps rest s n = (s.0, s.1, s.2, nest_last fs (suc (depth c)) f s.1 ps rest s.3 n)
 
@@ -59,7 +59,7 @@ passes_both true true e f h = (refl, refl)
 passes_both true false e f h = cc
 passes_both false b e f h = cc
 
-pub stands_next : (c : Context) (x : Piece) (p : Place) (more whole : Pieces) → Stands c whole (piece x p more) → piece_fault c x p ≡ None → Stands (next c x p) whole more
+pub stands_next : (c : Context) (x : Piece) (p : Place) (more whole : Pieces) → ReadingStands c whole (piece x p more) → piece_fault c x p ≡ None → ReadingStands (next c x p) whole more
 stands_next c (one a) p more whole s e = stands_with c (form (atom a) p) whole (piece (one a) p more) more s refl
 stands_next c (opener b) p more whole s e = (ltb-true (depth c) 200 (passes (nat_lt (depth c) 200) (TooDeep, p) e), more, s, refl)
 stands_next (outside fs) (closer b) p more whole s e = cc
@@ -75,7 +75,7 @@ stands_next (inside c a q fs) (closer b) p more whole s e =
       subst (λ (x : Bracket). Nest (suc (depth c)) fs s.1 (piece (closer x) p more)) (sym same) s.3,
     )
 
-pub sound : (ps : Pieces) (c : Context) (whole : Pieces) → Stands c whole ps → Answered whole (go ps c)
+pub sound : (ps : Pieces) (c : Context) (whole : Pieces) → ReadingStands c whole ps → Answered whole (go ps c)
 unfolding go
 sound end (outside fs) whole s = s
 sound end (inside c b p fs) whole s = (inside c b p fs, end, s, refl)
@@ -148,7 +148,7 @@ mutual
       ∙ ap (go (piece (closer b) n.3 rest)) (with_forms_inside fs c b p none)
       ∙ go_closer c b p n.3 fs rest n.1
 
-pub go_stands : (c : Context) (ps rest : Pieces) → Stands c ps rest → go ps (outside none) ≡ go rest c
+pub go_stands : (c : Context) (ps rest : Pieces) → ReadingStands c ps rest → go ps (outside none) ≡ go rest c
 go_stands (outside fs) ps rest s = go_forms fs 0 ps rest (outside none) s refl ∙ ap (go rest) (with_forms_outside fs none)
 go_stands (inside c b p fs) ps rest s =
     go_stands c ps (piece (opener b) p s.1) s.2
@@ -156,7 +156,7 @@ go_stands (inside c b p fs) ps rest s =
     ∙ go_forms fs (suc (depth c)) s.1 rest (inside c b p none) s.3 refl
     ∙ ap (go rest) (with_forms_inside fs c b p none)
 
-pub go_fault : (c : Context) (rest : Pieces) (e : ReadErrorKind × Place) → fault_at c rest ≡ Some e → go rest c ≡ Err e
+pub go_fault : (c : Context) (rest : Pieces) (e : ReadErrorKind × Place) → reading_fault c rest ≡ Some e → go rest c ≡ Err e
 unfolding go
 go_fault c end e h = rw h refl
 go_fault c (stop k p) e h = cc

@@ -13,8 +13,8 @@ use Rattle.ca_reader.specs.Bytes.{past, start, is_token_byte, is_separator}
 use Rattle.ca_reader.specs.Tokens.{meaning}
 use Rattle.ca_reader.specs.Texts.{TextCut, closed, unclosed, broken, text_cut}
 use Rattle.ca_reader.specs.Pieces.{Piece, one, opener, closer, First, over, blank, found, wrong, first, text_first, token_first, bracket_first, token, Pieces, end, stop, piece, pieces_step, pieces_within, pieces_from, pieces}
-use Rattle.ca_reader.specs.Reads.{Nest, NestForm, NestShape, Reads, count, is_paired}
-use Rattle.ca_reader.specs.Printed.{atom_text, opening, closing, form_text, shape_text, forms_text, more_text, bare, bare_form, bare_shape, ReadsAside}
+use Rattle.ca_reader.specs.Reads.{Nest, NestForm, NestShape, Reads, form_count, is_paired}
+use Rattle.ca_reader.specs.Printed.{atom_text, opening, closing_bracket, form_text, shape_text, forms_text, more_text, bare_forms, bare_form, bare_shape, ReadsAside}
 use Rattle.ca_reader.proofs.Readings.{pieces_from_is, pieces_within_step}
 use Rattle.ca_reader.proofs.Spelling.{IsApart, IsSpelt, spelt_token, taken}
 use Rattle.ca_reader.proofs.TextSpelling.{SaysText, text_says, spelt_text}
@@ -128,11 +128,11 @@ mutual
 
 -- places are no part of a text
 mutual
-  pub forms_text_bare : (fs : FormTrees) → forms_text (bare fs) ≡ forms_text fs
+  pub forms_text_bare : (fs : FormTrees) → forms_text (bare_forms fs) ≡ forms_text fs
   forms_text_bare none = refl
   forms_text_bare (item f fs) = let e = form_text_bare f in let d = more_text_bare fs in cc
 
-  pub more_text_bare : (fs : FormTrees) → more_text (bare fs) ≡ more_text fs
+  pub more_text_bare : (fs : FormTrees) → more_text (bare_forms fs) ≡ more_text fs
   more_text_bare none = refl
   more_text_bare (item f fs) = let e = form_text_bare f in let d = more_text_bare fs in cc
 
@@ -141,17 +141,17 @@ mutual
 
   pub shape_text_bare : (s : ShapeTree) → shape_text (bare_shape s) ≡ shape_text s
   shape_text_bare (atom a) = refl
-  shape_text_bare (group b fs) = ap (λ (x : List ℕ). opening b ∷ (x ++ closing b ∷ [])) (forms_text_bare fs)
+  shape_text_bare (group b fs) = ap (λ (x : List ℕ). opening b ∷ (x ++ closing_bracket b ∷ [])) (forms_text_bare fs)
 
-pub count_bare : (fs : FormTrees) → count (bare fs) ≡ count fs
+pub count_bare : (fs : FormTrees) → form_count (bare_forms fs) ≡ form_count fs
 count_bare none = refl
 count_bare (item f fs) = ap suc (count_bare fs)
 
-pub paired_bare : (b : Bracket) (fs gs : FormTrees) → bare gs ≡ bare fs → is_paired b fs ≡ true → is_paired b gs ≡ true
+pub paired_bare : (b : Bracket) (fs gs : FormTrees) → bare_forms gs ≡ bare_forms fs → is_paired b fs ≡ true → is_paired b gs ≡ true
 paired_bare Round fs gs e h = refl
 paired_bare Square fs gs e h = refl
 paired_bare Curly fs gs e h =
-    let d : count gs ≡ count fs = sym (count_bare gs) ∙ ap count e ∙ count_bare fs in
+    let d : form_count gs ≡ form_count fs = sym (count_bare gs) ∙ ap form_count e ∙ count_bare fs in
     ap (λ (n : ℕ). n % 2 == 0) d ∙ h
 
 -- what stands at the front of a text is its first piece
@@ -171,13 +171,13 @@ first_opening Round tail = refl
 first_opening Square tail = refl
 first_opening Curly tail = refl
 
-pub first_closing : (b : Bracket) (tail : List ℕ) → first (closing b ∷ tail) ≡ found (closer b) 1
+pub first_closing : (b : Bracket) (tail : List ℕ) → first (closing_bracket b ∷ tail) ≡ found (closer b) 1
 unfolding first is_token_byte
 first_closing Round tail = refl
 first_closing Square tail = refl
 first_closing Curly tail = refl
 
-pub closing_apart : (b : Bracket) → is_token_byte (closing b) ≡ false
+pub closing_apart : (b : Bracket) → is_token_byte (closing_bracket b) ≡ false
 unfolding is_token_byte
 closing_apart Round = refl
 closing_apart Square = refl
@@ -193,7 +193,7 @@ more_apart (item f fs) tail a = space_apart
 
 -- these bytes begin with these forms, places aside, and go on with tail
 abbrev pub Begins : ℕ → FormTrees → Place → List ℕ → List ℕ → Type 0
-Begins d fs p bytes tail = (gs : FormTrees) × (q : Place) × (bare gs ≡ bare fs) × Nest d gs (pieces_from p bytes) (pieces_from q tail)
+Begins d fs p bytes tail = (gs : FormTrees) × (q : Place) × (bare_forms gs ≡ bare_forms fs) × Nest d gs (pieces_from p bytes) (pieces_from q tail)
 
 abbrev pub BeginsForm : ℕ → FormTree → Place → List ℕ → List ℕ → Type 0
 BeginsForm d f p bytes tail = (g : FormTree) × (q : Place) × (bare_form g ≡ bare_form f) × NestForm d g (pieces_from p bytes) (pieces_from q tail)
@@ -226,19 +226,19 @@ mutual
   pub begins_shape : (s : ShapeTree) (q : Place) (d : ℕ) (p : Place) (tail : List ℕ) → PrintsShape d s → IsApart tail → BeginsForm d (form s q) p (shape_text s ++ tail) tail
   begins_shape (atom t) q d p tail h a = (form (atom t) p, past p (atom_text t), refl, pieces_found p (atom_text t) tail (one t) (h tail a))
   begins_shape (group b fs) q d p tail h a =
-      let e = append_assoc (forms_text fs) (closing b ∷ []) tail in
-      let x = begins_forms fs (suc d) (past p (opening b ∷ [])) (closing b ∷ tail) h.2 (closing_apart b) in (
+      let e = append_assoc (forms_text fs) (closing_bracket b ∷ []) tail in
+      let x = begins_forms fs (suc d) (past p (opening b ∷ [])) (closing_bracket b ∷ tail) h.2 (closing_apart b) in (
         form (group b x.0) p,
-        past x.1 (closing b ∷ []),
+        past x.1 (closing_bracket b ∷ []),
         ap (λ (y : FormTrees). form (group b y) start) x.2,
         (
           h.0,
           paired_bare b fs x.0 x.2 h.1,
-          pieces_from (past p (opening b ∷ [])) (forms_text fs ++ closing b ∷ tail),
+          pieces_from (past p (opening b ∷ [])) (forms_text fs ++ closing_bracket b ∷ tail),
           x.1,
-          pieces_found p (opening b ∷ []) ((forms_text fs ++ closing b ∷ []) ++ tail) (opener b) (first_opening b _)
+          pieces_found p (opening b ∷ []) ((forms_text fs ++ closing_bracket b ∷ []) ++ tail) (opener b) (first_opening b _)
               ∙ ap (λ (bs : List ℕ). piece (opener b) p (pieces_from (past p (opening b ∷ [])) bs)) e,
-          subst (Nest (suc d) x.0 (pieces_from (past p (opening b ∷ [])) (forms_text fs ++ closing b ∷ tail))) (pieces_found x.1 (closing b ∷ []) tail (closer b) (first_closing b tail)) x.3,
+          subst (Nest (suc d) x.0 (pieces_from (past p (opening b ∷ [])) (forms_text fs ++ closing_bracket b ∷ tail))) (pieces_found x.1 (closing_bracket b ∷ []) tail (closer b) (first_closing b tail)) x.3,
         ),
       )
 

@@ -15,7 +15,7 @@ use Rattle.ca_reader.specs.Pieces.{Piece, over, blank, found, wrong, first, piec
 use Rattle.ca_reader.specs.Reads.{Context, Reads, ReadFault, IsFaultOf, end_fault, piece_fault}
 use Rattle.ca_reader.specs.Printed.{ReadsAside}
 use Rattle.ca_reader.specs.Steps.{next, innermost}
-use Rattle.ca_reader.specs.NestView.{Tells}
+use Rattle.ca_reader.specs.NestView.{TellsFault}
 use Rattle.ca_reader.proofs.Cuts.{slice_from, slice_from_is}
 use Rattle.ca_reader.proofs.Nesting.{unless, go, answer, reads_answer, faults_answer}
 use Rattle.ca_reader.proofs.Readings.{go_over, go_blank, go_wrong, go_found, go_refused}
@@ -40,7 +40,7 @@ turn_found bytes p q rest c d x m g e h n s =
 pub turn_bound : (rest : List ℕ) (m x p most : ℕ) → p + length rest ≤ most → m ≤ length rest → x ≤ p + length (take m rest) → x + length (slice_from rest m) ≤ most
 turn_bound rest m x p most h k l = grind (arith, common_steps)
 
-pub turn_refused : (bytes : List ℕ) (p : Place) (rest : List ℕ) (c : Context) (x : Piece) (m : ℕ) (error : ReadError) → Goes bytes p rest c → found x m ≡ first rest → Tells error (piece_fault c x p) → IsFaultOf bytes error
+pub turn_refused : (bytes : List ℕ) (p : Place) (rest : List ℕ) (c : Context) (x : Piece) (m : ℕ) (error : ReadError) → Goes bytes p rest c → found x m ≡ first rest → TellsFault error (piece_fault c x p) → IsFaultOf bytes error
 turn_refused bytes p rest c x m (Fault k q) g e t = faults_answer bytes k q (sym g ∙ go_refused p rest c x m (k, q) e t)
 turn_refused bytes p rest c x m OutOfMemory g e t = tt
 
@@ -53,7 +53,7 @@ end_reads bytes p rest c (Ok fs) g e h n =
     reads_answer bytes (form_trees (list fs)) (sym g ∙ go_over p rest c e ∙ ap (λ o. unless o (Ok (innermost c))) n ∙ ap Ok (sym h))
 end_reads bytes p rest c (Err error) g e h n = tt
 
-pub end_faults : (bytes : List ℕ) (p : Place) (rest : List ℕ) (c : Context) (r : Result (Seq Form) ReadError) → Goes bytes p rest c → over ≡ first rest → IfErr r (λ error. Tells error (end_fault c)) → IfErr r (λ error. IsFaultOf bytes error)
+pub end_faults : (bytes : List ℕ) (p : Place) (rest : List ℕ) (c : Context) (r : Result (Seq Form) ReadError) → Goes bytes p rest c → over ≡ first rest → IfErr r (λ error. TellsFault error (end_fault c)) → IfErr r (λ error. IsFaultOf bytes error)
 end_faults bytes p rest c (Ok fs) g e t = tt
 end_faults bytes p rest c (Err (Fault k q)) g e t =
     faults_answer bytes k q (sym g ∙ go_over p rest c e ∙ ap (λ o. unless o (Ok (innermost c))) t)

@@ -10,7 +10,7 @@ use Rattle.ca_reader.specs.declared.error.ReadErrorKind.{ReadErrorKind}
 use Rattle.ca_reader.specs.Form.{Atom}
 use Rattle.ca_reader.specs.Bytes.{past, is_separator, is_token_byte}
 use Rattle.ca_reader.specs.Tokens.{meaning}
-use Rattle.ca_reader.specs.Texts.{Letter, says, quote, missing, bad, letter, TextCut, closed, unclosed, broken, further, text_step, text_within, text_cut}
+use Rattle.ca_reader.specs.Texts.{Letter, says, quote, missing, bad, letter, TextCut, closed, unclosed, broken, with_letter, text_step, text_within, text_cut}
 use Rattle.ca_reader.specs.PieceView.{LetterFits, FirstFits}
 use Rattle.ca_reader.specs.Pieces.{Piece, First, over, blank, found, wrong, first, text_first, token_first, bracket_first, token, Pieces, piece, pieces_step, pieces_within, pieces_from}
 use Rattle.ca_reader.specs.Reads.{Context, end_fault, piece_fault}
@@ -23,7 +23,7 @@ TextFits most (closed s n) = n ≤ most
 TextFits most unclosed = Unit {0}
 TextFits most (broken k n) = n ≤ most
 
-pub further_fits : (most : ℕ) (x : List ℕ) (m : ℕ) (t : TextCut) → m ≤ most → TextFits (most - m) t → TextFits most (further x m t)
+pub further_fits : (most : ℕ) (x : List ℕ) (m : ℕ) (t : TextCut) → m ≤ most → TextFits (most - m) t → TextFits most (with_letter x m t)
 further_fits most x m (closed s n) h k = omega arith
 further_fits most x m unclosed h k = tt
 further_fits most x m (broken j n) h k = omega arith

@@ -14,7 +14,7 @@ use Rattle.ca_reader.specs.declared.error.ReadErrorKind.{ReadErrorKind}
 use Rattle.ca_reader.specs.declared.error.ReadErrorKind.TheVariants.{BadByte}
 use Rattle.ca_reader.specs.Form.{Atom, nil, bool, int, text, key, symbol}
 use Rattle.ca_reader.specs.Bytes.{is_separator, is_token_byte, is_digit, has_byte}
-use Rattle.ca_reader.specs.Tokens.{meaning, unsigned, is_numeral, is_decimal, number, with_sign, or_bad_number, keyword, word}
+use Rattle.ca_reader.specs.Tokens.{meaning, unsigned, is_numeral, is_decimal, number, with_sign, or_bad_number, keyword, token_word}
 use Rattle.ca_reader.specs.Pieces.{one, found, first, token_first, token}
 use Rattle.ca_reader.specs.Printed.{atom_text}
 use Rattle.ca_reader.proofs.Numbers.{both, digit_bounds, digit_in}
@@ -123,7 +123,7 @@ keyword_rightly [] h = cc
 keyword_rightly (b ∷ t) h = if_rightly (nat_lt 1 (suc (length t)) && not (has_byte 58 t)) (b ∷ t) (Ok (key t)) (Err BadByte)
     (λ e. (let f : b ≡ 58 = eqb-true b 58 h in ap (λ (c : ℕ). c ∷ t) f)) (λ e. tt)
 
-pub word_right : (t : List ℕ) → IsRight t (word t)
+pub word_right : (t : List ℕ) → IsRight t (token_word t)
 word_right t =
     if_right (bytes_eq t (codes "nil")) t nil _ tt
     (if_right (bytes_eq t (codes "true")) t (bool true) _ tt
@@ -134,7 +134,7 @@ unfolding meaning
 meaning_rightly t =
     if_rightly (is_numeral t) t (or_bad_number (number t)) _ (λ e. number_rightly t) (λ e.
     if_rightly (slice_index t 0 == 58) t (keyword t) _ (λ h. keyword_rightly t h) (λ h.
-    if_rightly (has_byte 58 t) t (Err BadByte) (Ok (word t)) (λ k. tt) (λ k. word_right t)))
+    if_rightly (has_byte 58 t) t (Err BadByte) (Ok (token_word t)) (λ k. tt) (λ k. word_right t)))
 
 pub third : (a b c d : Bool) → c ≡ true → (a || b || c || d) ≡ true
 third a b c d h = rw h (elim a as (λ a. (a || b || true || d) ≡ true) [ true ↦ refl | false ↦ elim b as (λ b. (false || b || true || d) ≡ true) [ true ↦ refl | false ↦ refl ] ])

@@ -10,12 +10,12 @@ use Rattle.ca_reader.specs.declared.error.ReadErrorKind.TheVariants.{TooDeep, St
 use Rattle.ca_reader.specs.Form.{FormTree, form, group, none, item}
 use Rattle.ca_reader.specs.View.{form_tree, form_trees}
 use Rattle.ca_reader.specs.Pieces.{opener}
-use Rattle.ca_reader.specs.Reads.{Context, outside, inside, depth, piece_fault, closing_fault, end_fault, same_bracket, is_paired, count}
-use Rattle.ca_reader.specs.Steps.{with_last, with_form, shut}
+use Rattle.ca_reader.specs.Reads.{Context, outside, inside, depth, piece_fault, closing_fault, end_fault, same_bracket, is_paired, form_count}
+use Rattle.ca_reader.specs.Steps.{with_last, with_form, bracket_shut}
 use Rattle.ca_reader.specs.NestView.{around, base_of}
 use Rattle.ca_reader.proofs.Nesting.{same_is}
 
-pub count_is : (fs : List Form) → count (form_trees fs) ≡ length fs
+pub count_is : (fs : List Form) → form_count (form_trees fs) ≡ length fs
 count_is [] = refl
 count_is (f ∷ fs) = ap suc (count_is fs)
 
@@ -109,16 +109,16 @@ odd os qs o fs n b p e m h k = ap (λ c. closing_fault c b p) (last_is os qs o f
 pub closes : (os qs : List Opened) (o : Opened) (fs : List Form) (n : ℕ) (b : Bracket) (p : Place) → qs ≡ os ++ o ∷ [] → n ≡ base_of qs → same_bracket o.bracket b ≡ true → is_paired b (form_trees (drop n fs)) ≡ true → closing_fault (around top qs fs) b p ≡ None
 closes os qs o fs n b p e m h k = ap (λ c. closing_fault c b p) (last_is os qs o fs n e m) ∙ rw (h, k) refl
 
-pub count_from : (fs : List Form) (n : ℕ) → count (form_trees (drop n fs)) ≡ length fs - n
+pub count_from : (fs : List Form) (n : ℕ) → form_count (form_trees (drop n fs)) ≡ length fs - n
 count_from fs n = count_is (drop n fs) ∙ length-drop n fs
 
-pub shut_pushed : (os qs : List Opened) (o : Opened) (fs gs hs : List Form) (n : ℕ) (b : Bracket) (f : FormTree) → qs ≡ os ++ o ∷ [] → n ≡ base_of qs → same_bracket o.bracket b ≡ true → gs ≡ drop n fs → hs ≡ take n fs → f ≡ form (group b (form_trees gs)) o.place → with_form (around top os hs) f ≡ shut (around top qs fs)
+pub shut_pushed : (os qs : List Opened) (o : Opened) (fs gs hs : List Form) (n : ℕ) (b : Bracket) (f : FormTree) → qs ≡ os ++ o ∷ [] → n ≡ base_of qs → same_bracket o.bracket b ≡ true → gs ≡ drop n fs → hs ≡ take n fs → f ≡ form (group b (form_trees gs)) o.place → with_form (around top os hs) f ≡ bracket_shut (around top qs fs)
 shut_pushed os qs o fs gs hs n b f e m h g k i =
     let s = same_is o.bracket b h in
     let j : form (group b (form_trees gs)) o.place ≡ form (group o.bracket (form_trees (drop n fs))) o.place = cc in
     ap (with_form (around top os hs)) (i ∙ j)
     ∙ ap (λ (x : List Form). with_form (around top os x) (form (group o.bracket (form_trees (drop n fs))) o.place)) k
-    ∙ sym (ap shut (last_is os qs o fs n e m))
+    ∙ sym (ap bracket_shut (last_is os qs o fs n e m))
 
 -- the base behind a bracket that was opened, and that which is left when it closes
 pub base_opened : (os qs : List Opened) (o : Opened) → qs ≡ os ++ o ∷ [] → base_of qs ≡ base_of os + o.before

@@ -8,7 +8,7 @@ use borrow.Author.Tests.{eqb-true, leb-true, ltb-true}
 use Rattle.ca_value.specs.Printed.{escaped as written, all_escaped, quoted}
 use Rattle.ca_reader.specs.declared.error.ReadErrorKind.TheVariants.{BadByte}
 use Rattle.ca_reader.specs.Form.{text}
-use Rattle.ca_reader.specs.Texts.{Letter, says, quote, missing, bad, escaped, escape_of, escape, character, letter, char_len, is_continuation, may_follow, TextCut, closed, unclosed, broken, further, text_step, text_within, text_cut}
+use Rattle.ca_reader.specs.Texts.{Letter, says, quote, missing, bad, byte_meant, escape_of, escape, character, letter, char_len, is_continuation, may_follow, TextCut, closed, unclosed, broken, with_letter, text_step, text_within, text_cut}
 use Rattle.ca_reader.specs.Pieces.{one, found, first, text_first}
 use Rattle.ca_reader.proofs.Cuts.{text_within_step, text_cut_step, char_len_fits, not_zero}
 use Rattle.ca_reader.proofs.Spelling.{IsSpelt, passed_over, eqb_apart}
@@ -170,7 +170,7 @@ unfolding letter
 letter_plain b bs n h k e z =
     passed_over (b == 34) _ _ h ∙ passed_over (b == 92) _ _ k ∙ ap (character (b ∷ bs)) e ∙ passed_over (n == 0) _ _ z
 
-pub letter_escape : (c b : ℕ) (bs : List ℕ) → escaped c ≡ Some b → letter (92 ∷ c ∷ bs) ≡ says (b ∷ []) 2
+pub letter_escape : (c b : ℕ) (bs : List ℕ) → byte_meant c ≡ Some b → letter (92 ∷ c ∷ bs) ≡ says (b ∷ []) 2
 unfolding letter
 letter_escape c b bs h = ap escape_of h
 
@@ -218,8 +218,8 @@ text_written (c ∷ cs) tail h =
     ap text_cut e
     ∙ text_cut_step (all_escaped c ++ rest)
     ∙ ap (text_step text_cut (all_escaped c ++ rest)) (letter_written c rest h.0)
-    ∙ ap (λ (x : List ℕ). further c (length (all_escaped c)) (text_cut x)) (drop_at (all_escaped c) rest (length (all_escaped c)) refl)
-    ∙ ap (further c (length (all_escaped c))) (text_written cs tail h.1)
+    ∙ ap (λ (x : List ℕ). with_letter c (length (all_escaped c)) (text_cut x)) (drop_at (all_escaped c) rest (length (all_escaped c)) refl)
+    ∙ ap (with_letter c (length (all_escaped c))) (text_written cs tail h.1)
     ∙ ap (closed (c ++ concat cs)) l
 
 -- what a text says is characters
@@ -242,7 +242,7 @@ pub escape_of_if_says : (b : Bool) (n : ℕ) (o : Option ℕ) → IsCharacter (n
 escape_of_if_says true n o h k = h
 escape_of_if_says false n o h k = k
 
-pub escaped_says : (c : ℕ) → SaysCharacter (escape_of (escaped c))
+pub escaped_says : (c : ℕ) → SaysCharacter (escape_of (byte_meant c))
 unfolding char_len
 escaped_says c =
     escape_of_if_says (c == 34) 34 _ (omega arith, refl)
@@ -264,7 +264,7 @@ letter_says (b ∷ bs) =
     if_says (char_len (b ∷ bs) == 0) (bad BadByte) _ (λ g. tt) (λ g.
     take_is_character (b ∷ bs) (char_len (b ∷ bs)) refl (not_zero (char_len (b ∷ bs)) g) (char_len_fits (b ∷ bs) (omega arith)))))
 
-pub further_says : (x : List ℕ) (m : ℕ) (t : TextCut) → IsCharacter x → SaysText t → SaysText (further x m t)
+pub further_says : (x : List ℕ) (m : ℕ) (t : TextCut) → IsCharacter x → SaysText t → SaysText (with_letter x m t)
 further_says x m (closed s n) h k = (x ∷ k.0, ap (λ (y : List ℕ). x ++ y) k.1, (h, k.2))
 further_says x m unclosed h k = tt
 further_says x m (broken j n) h k = tt

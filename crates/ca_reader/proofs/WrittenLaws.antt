@@ -15,7 +15,7 @@ use Rattle.ca_reader.specs.declared.error.ReadErrorKind.TheVariants.{BadByte}
 use Rattle.ca_reader.specs.declared.form.Bracket.TheVariants.{Round, Square, Curly}
 use Rattle.ca_reader.specs.Form.{Atom, nil, bool, int, text, key, symbol, FormTree, ShapeTree, FormTrees, form, atom, group, none, item}
 use Rattle.ca_reader.specs.Bytes.{is_token_byte, is_separator, has_byte, past, start}
-use Rattle.ca_reader.specs.Tokens.{unsigned, is_numeral, is_decimal, with_sign, number, or_bad_number, keyword, word, meaning}
+use Rattle.ca_reader.specs.Tokens.{unsigned, is_numeral, is_decimal, with_sign, number, or_bad_number, keyword, token_word, meaning}
 use Rattle.ca_reader.specs.Texts.{TextCut, closed, unclosed, broken, text_cut}
 use Rattle.ca_reader.specs.Pieces.{Piece, one, opener, closer, First, over, blank, found, wrong, first, text_first, token_first, bracket_first, comment_len, token, Pieces, end, stop, piece, pieces_step, pieces_within, pieces}
 use Rattle.ca_reader.specs.Reads.{Nest, NestForm, NestShape, Reads}
@@ -100,7 +100,7 @@ number_written : (o : Option ℤ) → IfNumber o → IfAtom (or_bad_number o)
 number_written (Some z) h = h
 number_written None h = tt
 
-word_written : (t : List ℕ) → list_all is_token_byte t ≡ true → IsWrittenAtom (word t)
+word_written : (t : List ℕ) → list_all is_token_byte t ≡ true → IsWrittenAtom (token_word t)
 word_written t e = by (bytes_eq t (codes "nil")) (bytes_eq t (codes "true")) (bytes_eq t (codes "false")) where
   by : (a b c : Bool) → IsWrittenAtom (if a then nil else (if b then bool true else (if c then bool false else symbol t)))
   by true b c = tt
@@ -111,7 +111,7 @@ word_written t e = by (bytes_eq t (codes "nil")) (bytes_eq t (codes "true")) (by
 meaning_written : (t : List ℕ) → list_all is_token_byte t ≡ true → IfAtom (meaning t)
 unfolding meaning
 meaning_written t e = by (is_numeral t) (slice_index t 0 == 58) (has_byte 58 t) where
-  by : (a b c : Bool) → IfAtom (if a then or_bad_number (number t) else (if b then keyword t else (if c then Err BadByte else Ok (word t))))
+  by : (a b c : Bool) → IfAtom (if a then or_bad_number (number t) else (if b then keyword t else (if c then Err BadByte else Ok (token_word t))))
   by true b c = number_written (number t) (number_fits t)
   by false true c = keyword_written t e
   by false false true = tt

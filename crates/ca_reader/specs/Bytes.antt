@@ -23,10 +23,10 @@ abbrev pub start : Place
 start = record { line = 1; column = 1 }
 
 -- the place behind a byte at p: a line feed ends its line
-abbrev pub behind : Place → ℕ → Place
-behind p b = if b == 10 then record { line = p.line + 1; column = 1 } else record { line = p.line; column = p.column + 1 }
+abbrev pub place_behind : Place → ℕ → Place
+place_behind p b = if b == 10 then record { line = p.line + 1; column = 1 } else record { line = p.line; column = p.column + 1 }
 
 -- the place behind these bytes, of which the first is at p
 abbrev pub past : Place → List ℕ → Place
 past p [] = p
-past p (b ∷ bs) = past (behind p b) bs
+past p (b ∷ bs) = past (place_behind p b) bs

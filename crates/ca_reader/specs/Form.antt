@@ -26,8 +26,8 @@ mutual
     none : FormTrees
     item : FormTree → FormTrees → FormTrees
 
-abbrev pub place_of : FormTree → Place
-place_of (form s p) = p
+abbrev pub form_place : FormTree → Place
+form_place (form s p) = p
 
 abbrev pub shape_of : FormTree → ShapeTree
 shape_of (form s p) = s

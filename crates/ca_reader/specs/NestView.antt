@@ -27,6 +27,6 @@ abbrev pub IsNest : Nest → Type 0
 IsNest n = (n.base ≡ base_of n.open.items) × (n.base ≤ length n.forms.items)
 
 -- the error is this fault, or want of memory
-abbrev pub Tells : ReadError → Option (ReadErrorKind × Place) → Type 0
-Tells (Fault k p) o = o ≡ Some (k, p)
-Tells OutOfMemory o = Unit {0}
+abbrev pub TellsFault : ReadError → Option (ReadErrorKind × Place) → Type 0
+TellsFault (Fault k p) o = o ≡ Some (k, p)
+TellsFault OutOfMemory o = Unit {0}

@@ -33,11 +33,11 @@ piece_view (One a) = one (atom_view a)
 piece_view (Opener b) = opener b
 piece_view (Closer b) = closer b
 
-abbrev pub first_view : First → FirstCut
-first_view Over = over
-first_view (Blank n) = blank n
-first_view (Found x n) = found (piece_view x) n
-first_view (Wrong k n) = wrong k n
+abbrev pub first_cut_view : First → FirstCut
+first_cut_view Over = over
+first_cut_view (Blank n) = blank n
+first_cut_view (Found x n) = found (piece_view x) n
+first_cut_view (Wrong k n) = wrong k n
 
 -- a letter lies within so many bytes
 abbrev pub LetterFits : ℕ → LetterCut → Type 0

@@ -21,10 +21,10 @@ opening Round = 40
 opening Square = 91
 opening Curly = 123
 
-abbrev pub closing : Bracket → ℕ
-closing Round = 41
-closing Square = 93
-closing Curly = 125
+abbrev pub closing_bracket : Bracket → ℕ
+closing_bracket Round = 41
+closing_bracket Square = 93
+closing_bracket Curly = 125
 
 abbrev mutual
   pub form_text : FormTree → List ℕ
@@ -32,7 +32,7 @@ abbrev mutual
 
   pub shape_text : ShapeTree → List ℕ
   shape_text (atom a) = atom_text a
-  shape_text (group b fs) = opening b ∷ (forms_text fs ++ closing b ∷ [])
+  shape_text (group b fs) = opening b ∷ (forms_text fs ++ closing_bracket b ∷ [])
 
   -- forms are joined by a space
   pub forms_text : FormTrees → List ℕ
@@ -45,17 +45,17 @@ abbrev mutual
 
 -- the same forms, all at one place
 abbrev mutual
-  pub bare : FormTrees → FormTrees
-  bare none = none
-  bare (item f fs) = item (bare_form f) (bare fs)
+  pub bare_forms : FormTrees → FormTrees
+  bare_forms none = none
+  bare_forms (item f fs) = item (bare_form f) (bare_forms fs)
 
   pub bare_form : FormTree → FormTree
   bare_form (form s p) = form (bare_shape s) start
 
   pub bare_shape : ShapeTree → ShapeTree
   bare_shape (atom a) = atom a
-  bare_shape (group b fs) = group b (bare fs)
+  bare_shape (group b fs) = group b (bare_forms fs)
 
 -- the text reads to these forms, places aside
 abbrev pub ReadsAside : List ℕ → FormTrees → Type 0
-ReadsAside bytes fs = (gs : FormTrees) × Reads bytes gs × (bare gs ≡ bare fs)
+ReadsAside bytes fs = (gs : FormTrees) × Reads bytes gs × (bare_forms gs ≡ bare_forms fs)

@@ -10,15 +10,15 @@ use Rattle.ca_reader.specs.declared.error.ReadErrorKind.TheVariants.{UnclosedLis
 use Rattle.ca_reader.specs.Form.{FormTree, FormTrees, ShapeTree, form, atom, group, none, item}
 use Rattle.ca_reader.specs.Pieces.{Piece, one, opener, closer, Pieces, end, stop, piece, pieces}
 
-abbrev pub count : FormTrees → ℕ
-count none = 0
-count (item f fs) = suc (count fs)
+abbrev pub form_count : FormTrees → ℕ
+form_count none = 0
+form_count (item f fs) = suc (form_count fs)
 
 -- a map has a value for each key
 abbrev pub is_paired : Bracket → FormTrees → Bool
 is_paired Round fs = true
 is_paired Square fs = true
-is_paired Curly fs = count fs % 2 == 0
+is_paired Curly fs = form_count fs % 2 == 0
 
 -- The pieces ps are these forms, with d brackets open around them, and then rest.
 abbrev mutual
@@ -50,10 +50,10 @@ depth (outside fs) = 0
 depth (inside c b p fs) = suc (depth c)
 
 -- a reading of ps can come to where rest is left, and stands there
-abbrev pub Stands : Context → Pieces → Pieces → Type 0
-Stands (outside fs) ps rest = Nest 0 fs ps rest
-Stands (inside c b p fs) ps rest =
-    (depth c < 200) × (inner : Pieces) × Stands c ps (piece (opener b) p inner) × Nest (suc (depth c)) fs inner rest
+abbrev pub ReadingStands : Context → Pieces → Pieces → Type 0
+ReadingStands (outside fs) ps rest = Nest 0 fs ps rest
+ReadingStands (inside c b p fs) ps rest =
+    (depth c < 200) × (inner : Pieces) × ReadingStands c ps (piece (opener b) p inner) × Nest (suc (depth c)) fs inner rest
 
 abbrev pub same_bracket : Bracket → Bracket → Bool
 same_bracket Round Round = true
@@ -79,15 +79,15 @@ piece_fault c (opener b) q = if nat_lt (depth c) 200 then None else Some (TooDee
 piece_fault c (closer b) q = closing_fault c b q
 
 -- why a reading that stands here can't go on
-abbrev pub fault_at : Context → Pieces → Option (ReadErrorKind × Place)
-fault_at c end = end_fault c
-fault_at c (stop k q) = Some (k, q)
-fault_at c (piece x q more) = piece_fault c x q
+abbrev pub reading_fault : Context → Pieces → Option (ReadErrorKind × Place)
+reading_fault c end = end_fault c
+reading_fault c (stop k q) = Some (k, q)
+reading_fault c (piece x q more) = piece_fault c x q
 
 -- a reading of the text can come somewhere, and can't go on there for this fault; as each text has exactly
 -- one reading, that is the first fault from the left
 abbrev pub ReadFault : List ℕ → ReadErrorKind → Place → Type 0
-ReadFault bytes k p = (c : Context) × (rest : Pieces) × Stands c (pieces bytes) rest × (fault_at c rest ≡ Some (k, p))
+ReadFault bytes k p = (c : Context) × (rest : Pieces) × ReadingStands c (pieces bytes) rest × (reading_fault c rest ≡ Some (k, p))
 
 -- the error is the fault of this text, or want of memory
 abbrev pub IsFaultOf : List ℕ → ReadError → Type 0

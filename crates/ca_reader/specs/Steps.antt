@@ -14,15 +14,15 @@ with_form (outside fs) f = outside (with_last fs f)
 with_form (inside c b p fs) f = inside c b p (with_last fs f)
 
 -- the innermost bracket and its forms are one form of what is around them
-abbrev pub shut : Context → Context
-shut (outside fs) = outside fs
-shut (inside c b p fs) = with_form c (form (group b fs) p)
+abbrev pub bracket_shut : Context → Context
+bracket_shut (outside fs) = outside fs
+bracket_shut (inside c b p fs) = with_form c (form (group b fs) p)
 
 -- behind a piece at p
 abbrev pub next : Context → Piece → Place → Context
 next c (one a) p = with_form c (form (atom a) p)
 next c (opener b) p = inside c b p none
-next c (closer b) p = shut c
+next c (closer b) p = bracket_shut c
 
 abbrev pub innermost : Context → FormTrees
 innermost (outside fs) = fs

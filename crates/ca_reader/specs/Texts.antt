@@ -33,8 +33,8 @@ pub data Letter : Type 0 where
 
 -- the byte that a backslash and this byte stand for: quote, backslash, and n, t and r for line feed, tab
 -- and carriage return
-abbrev pub escaped : ℕ → Option ℕ
-escaped c =
+abbrev pub byte_meant : ℕ → Option ℕ
+byte_meant c =
     if c == 34 then Some 34
     else (if c == 92 then Some 92
     else (if c == 110 then Some 10
@@ -47,7 +47,7 @@ escape_of None = bad BadEscape
 
 abbrev pub escape : List ℕ → Letter
 escape [] = missing
-escape (c ∷ bs) = escape_of (escaped c)
+escape (c ∷ bs) = escape_of (byte_meant c)
 
 -- a character of n bytes, if there is one
 abbrev pub character : List ℕ → ℕ → Letter
@@ -67,14 +67,14 @@ pub data TextCut : Type 0 where
   broken : ReadErrorKind → ℕ → TextCut
 
 -- the same with a letter before it
-abbrev pub further : List ℕ → ℕ → TextCut → TextCut
-further x m (closed xs n) = closed (x ++ xs) (m + n)
-further x m unclosed = unclosed
-further x m (broken k n) = broken k (m + n)
+abbrev pub with_letter : List ℕ → ℕ → TextCut → TextCut
+with_letter x m (closed xs n) = closed (x ++ xs) (m + n)
+with_letter x m unclosed = unclosed
+with_letter x m (broken k n) = broken k (m + n)
 
 -- a text by its first letter, where more says what a text is
 abbrev pub text_step : (List ℕ → TextCut) → List ℕ → Letter → TextCut
-text_step more bs (says x m) = further x m (more (drop m bs))
+text_step more bs (says x m) = with_letter x m (more (drop m bs))
 text_step more bs quote = closed [] 1
 text_step more bs missing = unclosed
 text_step more bs (bad k) = broken k 0

@@ -38,8 +38,8 @@ abbrev pub keyword : List ℕ → Result Atom ReadErrorKind
 keyword t = if nat_lt 1 (length t) && not (has_byte 58 (drop 1 t)) then Ok (key (drop 1 t)) else Err BadByte
 
 -- what a token says that is neither number nor keyword
-abbrev pub word : List ℕ → Atom
-word t =
+abbrev pub token_word : List ℕ → Atom
+token_word t =
     if bytes_eq t (codes "nil") then nil
     else (if bytes_eq t (codes "true") then bool true
     else (if bytes_eq t (codes "false") then bool false else symbol t))
@@ -49,4 +49,4 @@ unfoldable pub meaning : List ℕ → Result Atom ReadErrorKind
 meaning t =
     if is_numeral t then or_bad_number (number t)
     else (if slice_index t 0 == 58 then keyword t
-    else (if has_byte 58 t then Err BadByte else Ok (word t)))
+    else (if has_byte 58 t then Err BadByte else Ok (token_word t)))

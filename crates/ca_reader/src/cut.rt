@@ -1,5 +1,5 @@
 ghost use Rattle.std.specs.Prelude.{◌≡◌, ◌==◌};
-ghost use Rattle.ca_reader.specs.Words.{length, IfOk, prefix_len, position_or_len, is_token_byte, first, bracket_first, comment_len, token, first_view, FirstFits};
+ghost use Rattle.ca_reader.specs.Words.{length, IfOk, prefix_len, position_or_len, is_token_byte, first, bracket_first, comment_len, token, first_cut_view, FirstFits};
 
 use crate::bytes::{is_separator, is_token_byte};
 use crate::error::ReadErrorKind;
@@ -12,15 +12,15 @@ use std::alloc::Global;
 
 /// What the rest of a script begins with.
 pub fn next_piece(alloc: Global, rest: &[u8]) -> Result<First, OutOfMemory>
-    ensures value { IfOk result (λ f. first_view f ≡ first rest.now) }
-    ensures fits { IfOk result (λ f. FirstFits (length rest.now) (first_view f)) }
+    ensures value { IfOk result (λ f. first_cut_view f ≡ first rest.now) }
+    ensures fits { IfOk result (λ f. FirstFits (length rest.now) (first_cut_view f)) }
 {
     first(alloc, rest)
 }
 
 #[tactic(auto, unfolding(crate::specs::Pieces::first))]
 fn first(alloc: Global, rest: &[u8]) -> Result<First, OutOfMemory>
-    ensures { IfOk result (λ f. first_view f ≡ first rest.now) }
+    ensures { IfOk result (λ f. first_cut_view f ≡ first rest.now) }
 {
     let Some((byte, _)) = rest.split_first() else {
         return Ok(First::Over);
@@ -72,7 +72,7 @@ fn token_len(rest: &[u8]) -> usize
 
 /// The piece that this byte is, if it is a bracket.
 fn bracket(byte: u8) -> First
-    ensures { first_view result ≡ bracket_first byte }
+    ensures { first_cut_view result ≡ bracket_first byte }
 {
     match byte {
         b'(' => First::Found(Piece::Opener(Bracket::Round), 1),

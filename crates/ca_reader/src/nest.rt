@@ -1,5 +1,5 @@
 ghost use Rattle.std.specs.Prelude.{◌≡◌, ◌++◌, ◌∷◌};
-ghost use Rattle.ca_reader.specs.Words.{[], None, OnOk, IfOk, IfErr, list, FormTrees, atom, group, none, form_tree, form_trees, shape_tree, atom_view, piece_view, opener, outside, inside, piece_fault, closing_fault, end_fault, is_paired, same_bracket, count, next, shut, with_form, innermost, context, IsNest, Tells};
+ghost use Rattle.ca_reader.specs.Words.{[], None, OnOk, IfOk, IfErr, list, FormTrees, atom, group, none, form_tree, form_trees, shape_tree, atom_view, piece_view, opener, outside, inside, piece_fault, closing_fault, end_fault, is_paired, same_bracket, form_count, next, bracket_shut, with_form, innermost, context, IsNest, TellsFault};
 
 use crate::error::{ReadError, ReadErrorKind};
 use crate::form::{Bracket, Form, Forms, Shape};
@@ -47,7 +47,7 @@ impl Nest {
         ensures ok { OnOk result (piece_fault (context self.old) (piece_view piece) place ≡ None) }
         ensures becomes { OnOk result (context self.new ≡ next (context self.old) (piece_view piece) place) }
         ensures sound { OnOk result (IsNest self.new) }
-        ensures err { IfErr result (λ e. Tells e (piece_fault (context self.old) (piece_view piece) place)) }
+        ensures err { IfErr result (λ e. TellsFault e (piece_fault (context self.old) (piece_view piece) place)) }
     {
         match piece {
             Piece::One(atom) => Ok(self.push(Form::new(atom.shape(), place))?),
@@ -60,7 +60,7 @@ impl Nest {
     pub fn finish(self) -> Result<Forms, ReadError>
         ensures ok { IfOk result (λ fs. form_trees (list fs) ≡ innermost (context self)) }
         ensures whole { OnOk result (end_fault (context self) ≡ None) }
-        ensures err { IfErr result (λ e. Tells e (end_fault (context self))) }
+        ensures err { IfErr result (λ e. TellsFault e (end_fault (context self))) }
     {
         let Nest {
             mut open,
@@ -88,7 +88,7 @@ impl Nest {
         ensures ok { OnOk result (piece_fault (context self.old) (opener bracket) place ≡ None) }
         ensures becomes { OnOk result (context self.new ≡ inside (context self.old) bracket place none) }
         ensures sound { OnOk result (IsNest self.new) }
-        ensures err { IfErr result (λ e. Tells e (piece_fault (context self.old) (opener bracket) place)) }
+        ensures err { IfErr result (λ e. TellsFault e (piece_fault (context self.old) (opener bracket) place)) }
     {
         if self.open.len() >= MOST_OPEN {
             return Err(ReadError::Fault(ReadErrorKind::TooDeep, place));
@@ -109,9 +109,9 @@ impl Nest {
     fn close(&mut self, bracket: Bracket, place: Place) -> Result<(), ReadError>
         requires { IsNest self.old }
         ensures ok { OnOk result (closing_fault (context self.old) bracket place ≡ None) }
-        ensures becomes { OnOk result (context self.new ≡ shut (context self.old)) }
+        ensures becomes { OnOk result (context self.new ≡ bracket_shut (context self.old)) }
         ensures sound { OnOk result (IsNest self.new) }
-        ensures err { IfErr result (λ e. Tells e (closing_fault (context self.old) bracket place)) }
+        ensures err { IfErr result (λ e. TellsFault e (closing_fault (context self.old) bracket place)) }
     {
         let Some(opened) = self.open.pop() else {
             return Err(ReadError::Fault(ReadErrorKind::StrayClose, place));
@@ -140,7 +140,7 @@ fn closes(closing: Bracket, opening: Bracket) -> bool
 
 /// A map has a value for each key.
 fn is_paired(bracket: Bracket, length: usize) -> bool
-    ensures { (fs : FormTrees) → count fs ≡ length → result ≡ is_paired bracket fs }
+    ensures { (fs : FormTrees) → form_count fs ≡ length → result ≡ is_paired bracket fs }
 {
     match bracket {
         Bracket::Round | Bracket::Square => true,

@@ -1,5 +1,5 @@
 ghost use Rattle.std.specs.Prelude.{◌≡◌, ◌∷◌, ◌++◌};
-ghost use Rattle.ca_reader.specs.Words.{List, ℕ, OnOk, IfOk, list, form_tree, form_trees, form_text, forms_text, opening, closing, ReadsAside};
+ghost use Rattle.ca_reader.specs.Words.{List, ℕ, OnOk, IfOk, list, form_tree, form_trees, form_text, forms_text, opening, closing_bracket, ReadsAside};
 
 use crate::form::{Bracket, Form, Forms, Shape};
 use ca_value::memory::OutOfMemory;

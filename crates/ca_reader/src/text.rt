@@ -1,5 +1,5 @@
 ghost use Rattle.std.specs.Prelude.{◌≡◌, ◌<◌};
-ghost use Rattle.ca_reader.specs.Words.{length, drop, IfOk, text_cut, text_first, first_view};
+ghost use Rattle.ca_reader.specs.Words.{length, drop, IfOk, text_cut, text_first, first_cut_view};
 
 use crate::error::ReadErrorKind;
 use crate::letter::{Letter, next_letter};
@@ -11,7 +11,7 @@ use std::alloc::Global;
 /// The text whose opening quote is the first of these bytes.
 pub fn text(alloc: Global, rest: &[u8]) -> Result<First, OutOfMemory>
     requires { 0 < length rest.now }
-    ensures { IfOk result (λ f. first_view f ≡ text_first (text_cut (drop 1 rest.now))) }
+    ensures { IfOk result (λ f. first_cut_view f ≡ text_first (text_cut (drop 1 rest.now))) }
 {
     let mut said = Text::new(alloc);
     let mut length: usize = 1;

@@ -1,5 +1,5 @@
 ghost use Rattle.std.specs.Prelude.{◌≡◌, ◌≤◌, ◌^◌, ◌<◌};
-ghost use Rattle.ca_reader.specs.Words.{length, None, IfSome, IfOk, true, list_all, digits_value, with_sign, unsigned, is_numeral, is_decimal, number, keyword, word, meaning, token_first, atom_view, first_view, is_digit};
+ghost use Rattle.ca_reader.specs.Words.{length, None, IfSome, IfOk, true, list_all, digits_value, with_sign, unsigned, is_numeral, is_decimal, number, keyword, token_word, meaning, token_first, atom_view, first_cut_view, is_digit};
 
 use crate::bytes::{byte_at, is_digit};
 use crate::error::ReadErrorKind;
@@ -11,7 +11,7 @@ use std::alloc::Global;
 /// What a text begins with, where its longest run of token bytes is this one.
 #[tactic(auto, unfolding(crate::specs::Tokens::meaning))]
 pub fn token(alloc: Global, token: &[u8]) -> Result<First, OutOfMemory>
-    ensures { IfOk result (λ f. first_view f ≡ token_first (length token.now) (meaning token.now)) }
+    ensures { IfOk result (λ f. first_cut_view f ≡ token_first (length token.now) (meaning token.now)) }
 {
     if is_numeral(token) {
         return Ok(match number(token) {
@@ -31,7 +31,7 @@ pub fn token(alloc: Global, token: &[u8]) -> Result<First, OutOfMemory>
 /// What a token that begins with a colon says.
 #[tactic(auto, unfolding(crate::specs::Tokens::meaning))]
 fn keyword(alloc: Global, token: &[u8]) -> Result<First, OutOfMemory>
-    ensures { IfOk result (λ f. first_view f ≡ token_first (length token.now) (keyword token.now)) }
+    ensures { IfOk result (λ f. first_cut_view f ≡ token_first (length token.now) (keyword token.now)) }
 {
     let Some((_, name)) = token.split_first() else {
         return Ok(First::Wrong(ReadErrorKind::BadByte, 0));
@@ -45,7 +45,7 @@ fn keyword(alloc: Global, token: &[u8]) -> Result<First, OutOfMemory>
 
 /// What a token without colon says that is no number.
 fn word(alloc: Global, token: &[u8]) -> Result<Atom, OutOfMemory>
-    ensures { IfOk result (λ a. atom_view a ≡ word token.now) }
+    ensures { IfOk result (λ a. atom_view a ≡ token_word token.now) }
 {
     if token == b"nil".as_slice() {
         return Ok(Atom::Nil);

@@ -4,7 +4,7 @@ use Rattle.ca_value.specs.Tree.{Trees}
 use Rattle.ca_value.specs.View.{view, trees}
 use Rattle.ca_value.specs.declared.value.Value.{Value}
 use Rattle.ca_term.specs.declared.fault.Fault.TheVariants.{NotAPort, TooManyPorts}
-use Rattle.ca_meaning.specs.Operands.{operand_at, count_of, first_of, is_pair, or_else, port_number, rest_of, values_in}
+use Rattle.ca_meaning.specs.Operands.{operand_at, count_of, first_of, is_pair, or_else, port_of_value, rest_of, values_in}
 use Rattle.ca_meaning.specs.State.{State}
 use Rattle.ca_meaning.specs.TaskSteps.{last_port}
 use Rattle.ca_meaning.specs.Refusal.{bad_choice, bad_ports, meets_need, not_needed, unmet}
@@ -66,9 +66,9 @@ last_none (u ∷ w ∷ vs) h =
     let d : suc (length vs) - 1 ≡ length vs = omega arith in
     last_none (w ∷ vs) (ap (slice_get (w ∷ vs)) d ∙ sym (ap (slice_get (u ∷ w ∷ vs)) e) ∙ h)
 
-pub last_some : (vs : List Value) (v : Value) → slice_get vs (length vs - 1) ≡ Some v → last_port (values_in (trees vs)) ≡ Some (port_number (view v))
+pub last_some : (vs : List Value) (v : Value) → slice_get vs (length vs - 1) ≡ Some v → last_port (values_in (trees vs)) ≡ Some (port_of_value (view v))
 last_some [] v h = absurd cc
-last_some (u ∷ []) v h = ap (λ x. Some (port_number (view x))) (let e : u ≡ v = cc in e)
+last_some (u ∷ []) v h = ap (λ x. Some (port_of_value (view x))) (let e : u ≡ v = cc in e)
 last_some (u ∷ w ∷ vs) v h =
     let e : suc (suc (length vs)) - 1 ≡ suc (length vs) = omega arith in
     let d : suc (length vs) - 1 ≡ length vs = omega arith in

@@ -5,7 +5,7 @@ use Rattle.ca_term.specs.declared.fault.Fault.TheVariants.{NotAPort}
 use Rattle.ca_term.specs.declared.head.RegisterName.{RegisterName}
 use Rattle.ca_term.specs.declared.head.RegisterName.TheVariants.{Tap, Untap, UntapAll, Taps, Admix, Unmix, UnmixAll, Toggle, SoloMode, Modes, Find, Place, Drop, Clear, Topics}
 use Rattle.ca_meaning.specs.Operands.{first_of}
-use Rattle.ca_meaning.specs.Registry.{Registry, a_mix, a_mult, a_publication, all_channels, pairs_in, refuses, toggled, within}
+use Rattle.ca_meaning.specs.Registry.{Registry, a_mix, a_mult, a_publication, all_channels, pairs_in, refuses, toggled, within_limit}
 use Rattle.ca_meaning.specs.Refusal.{is_channel, registered_at}
 use Rattle.ca_meaning.specs.State.{State}
 use Rattle.ca_registry.specs.Mixes.{TogglesApart}
@@ -27,7 +27,7 @@ refused_keys s (Some r) Admix args e = absurd cc
 refused_keys s (Some r) Unmix args e = absurd cc
 refused_keys s (Some r) UnmixAll args e = absurd cc
 refused_keys s (Some (a_mult c ts)) Toggle args e = refl
-refused_keys s (Some (a_mix o g mode xs)) Toggle args e = ap (λ b. cond b (within 255 (length (toggled (pairs_in (first_of args)) xs)) (port g) (a_mix o g mode (toggled (pairs_in (first_of args)) xs))) (refuses NotAPort)) e
+refused_keys s (Some (a_mix o g mode xs)) Toggle args e = ap (λ b. cond b (within_limit 255 (length (toggled (pairs_in (first_of args)) xs)) (port g) (a_mix o g mode (toggled (pairs_in (first_of args)) xs))) (refuses NotAPort)) e
 refused_keys s (Some (a_publication c ts)) Toggle args e = refl
 refused_keys s (Some r) SoloMode args e = absurd cc
 refused_keys s (Some r) Modes args e = absurd cc
@@ -49,7 +49,7 @@ same_table s (Some (a_mix o g mode xs)) Taps args e = refl
 same_table s (Some (a_mix o g mode xs)) Admix args e = refl
 same_table s (Some (a_mix o g mode xs)) Unmix args e = refl
 same_table s (Some (a_mix o g mode xs)) UnmixAll args e = refl
-same_table s (Some (a_mix o g mode xs)) Toggle args e = ap (λ b. cond b (within 255 (length (toggled (pairs_in (first_of args)) xs)) (port g) (a_mix o g mode (toggled (pairs_in (first_of args)) xs))) (refuses NotAPort)) (e ∙ sym (all_true (pairs_in (first_of args))))
+same_table s (Some (a_mix o g mode xs)) Toggle args e = ap (λ b. cond b (within_limit 255 (length (toggled (pairs_in (first_of args)) xs)) (port g) (a_mix o g mode (toggled (pairs_in (first_of args)) xs))) (refuses NotAPort)) (e ∙ sym (all_true (pairs_in (first_of args))))
 same_table s (Some (a_mix o g mode xs)) SoloMode args e = refl
 same_table s (Some (a_mix o g mode xs)) Modes args e = refl
 same_table s (Some (a_mix o g mode xs)) Find args e = refl

@@ -3,11 +3,11 @@ use Rattle.std.proofs.Common.{◌≡◌, ℕ, suc, ◌+◌, List, [], ◌∷◌,
 use Rattle.std.proofs.lemmas.List.{length-map}
 use Rattle.std.specs.Map.{lookup}
 use Rattle.indexmap.specs.IndexMap.{insert_entry}
-use Rattle.ca_meaning.specs.Registry.{Source, changed_source, plain_source, set_mode, set_modes, modes_in, toggled, all_channels, names_channel, channels_differ}
+use Rattle.ca_meaning.specs.Registry.{Source, changed_source, plain_source, set_mode, set_modes, with_modes_in, toggled, all_channels, names_channel, channels_differ}
 use Rattle.ca_value.specs.Equality.{pair_count}
 use Rattle.ca_value.specs.View.{tree_pairs}
 use Rattle.ca_value.specs.declared.value.Pair.{Pair}
-use Rattle.ca_meaning.specs.Operands.{port_number, truth}
+use Rattle.ca_meaning.specs.Operands.{port_of_value, truth}
 use Rattle.ca_value.specs.Tree.{Tree, TreePairs, nil, bool, int, text, key, vector, map as map_of, port, empty, pair}
 use Rattle.std.specs.Prelude.{codes, is_some, ◌&&◌, filter}
 use Rattle.std.specs.Str.{bytes_eq}
@@ -74,7 +74,7 @@ set_modes_keep : (ps : TreePairs) (x : Source) → (set_modes ps x).channel ≡ 
 set_modes_keep empty x = refl
 set_modes_keep (pair k v ps) x = set_modes_keep ps (set_mode k v x) ∙ set_mode_keeps k v x
 
-modes_in_keep : (m : Tree) → Keeps (modes_in m)
+modes_in_keep : (m : Tree) → Keeps (with_modes_in m)
 modes_in_keep (map_of ps) x = set_modes_keep ps x
 modes_in_keep (key name) x = refl
 modes_in_keep nil x = refl
@@ -86,25 +86,25 @@ modes_in_keep (port n) x = refl
 
 new_apart : (c : ℕ) (f : Source → Source) (ps : TreePairs) (xs : List Source) → Keeps f → names_channel c ps ≡ false → new_in ps (changed_source c f xs) ≡ new_in ps xs
 new_apart c f empty xs k h = refl
-new_apart c f (pair p m ps) xs k h = by (eqb c (port_number p)) refl h (new_apart c f ps xs k) where
+new_apart c f (pair p m ps) xs k h = by (eqb c (port_of_value p)) refl h (new_apart c f ps xs k) where
   turned : (a b : ℕ) → eqb a b ≡ false → eqb b a ≡ false
   turned a b q = grind arith
 
-  by : (b : Bool) → eqb c (port_number p) ≡ b → cond b true (names_channel c ps) ≡ false → (names_channel c ps ≡ false → new_in ps (changed_source c f xs) ≡ new_in ps xs) → cond (is_source (port_number p) (changed_source c f xs)) 0 1 + new_in ps (changed_source c f xs) ≡ cond (is_source (port_number p) xs) 0 1 + new_in ps xs
+  by : (b : Bool) → eqb c (port_of_value p) ≡ b → cond b true (names_channel c ps) ≡ false → (names_channel c ps ≡ false → new_in ps (changed_source c f xs) ≡ new_in ps xs) → cond (is_source (port_of_value p) (changed_source c f xs)) 0 1 + new_in ps (changed_source c f xs) ≡ cond (is_source (port_of_value p) xs) 0 1 + new_in ps xs
   by true t q r = absurd (let z : true ≡ false = q in cc)
   by false t q r =
-      let s : is_source (port_number p) (changed_source c f xs) ≡ is_source (port_number p) xs = apart_stays (port_number p) c f xs k (turned c (port_number p) t) in
-      ap (λ (b : Bool). cond b 0 1 + new_in ps (changed_source c f xs)) s ∙ ap (λ (n : ℕ). cond (is_source (port_number p) xs) 0 1 + n) (r q)
+      let s : is_source (port_of_value p) (changed_source c f xs) ≡ is_source (port_of_value p) xs = apart_stays (port_of_value p) c f xs k (turned c (port_of_value p) t) in
+      ap (λ (b : Bool). cond b 0 1 + new_in ps (changed_source c f xs)) s ∙ ap (λ (n : ℕ). cond (is_source (port_of_value p) xs) 0 1 + n) (r q)
 
 -- how many sources there are after a toggle of different channels
 pub toggled_more : (ps : TreePairs) (xs : List Source) → channels_differ ps ≡ true → length (toggled ps xs) ≡ length xs + new_in ps xs
 toggled_more empty xs h = omega arith
-toggled_more (pair p m ps) xs h = by (names_channel (port_number p) ps) refl h (toggled_more ps (changed_source (port_number p) (modes_in m) xs)) where
-  by : (b : Bool) → names_channel (port_number p) ps ≡ b → (not b && channels_differ ps) ≡ true → (channels_differ ps ≡ true → length (toggled ps (changed_source (port_number p) (modes_in m) xs)) ≡ length (changed_source (port_number p) (modes_in m) xs) + new_in ps (changed_source (port_number p) (modes_in m) xs)) → length (toggled ps (changed_source (port_number p) (modes_in m) xs)) ≡ length xs + (cond (is_source (port_number p) xs) 0 1 + new_in ps xs)
+toggled_more (pair p m ps) xs h = by (names_channel (port_of_value p) ps) refl h (toggled_more ps (changed_source (port_of_value p) (with_modes_in m) xs)) where
+  by : (b : Bool) → names_channel (port_of_value p) ps ≡ b → (not b && channels_differ ps) ≡ true → (channels_differ ps ≡ true → length (toggled ps (changed_source (port_of_value p) (with_modes_in m) xs)) ≡ length (changed_source (port_of_value p) (with_modes_in m) xs) + new_in ps (changed_source (port_of_value p) (with_modes_in m) xs)) → length (toggled ps (changed_source (port_of_value p) (with_modes_in m) xs)) ≡ length xs + (cond (is_source (port_of_value p) xs) 0 1 + new_in ps xs)
   by true t q r = absurd (let z : false ≡ true = q in cc)
   by false t q r =
-      let a : length (toggled ps (changed_source (port_number p) (modes_in m) xs)) ≡ length (changed_source (port_number p) (modes_in m) xs) + new_in ps (changed_source (port_number p) (modes_in m) xs) = r q in
-      omega (arith, a, changed_more (port_number p) (modes_in m) xs, new_apart (port_number p) (modes_in m) ps xs (modes_in_keep m) t)
+      let a : length (toggled ps (changed_source (port_of_value p) (with_modes_in m) xs)) ≡ length (changed_source (port_of_value p) (with_modes_in m) xs) + new_in ps (changed_source (port_of_value p) (with_modes_in m) xs) = r q in
+      omega (arith, a, changed_more (port_of_value p) (with_modes_in m) xs, new_apart (port_of_value p) (with_modes_in m) ps xs (modes_in_keep m) t)
 
 pub changed_size : (c : ℕ) (f : Source → Source) (es : List (ℕ × Modes)) → length (changed_source c f (map source_view es)) ≡ length es + cond (is_source c (map source_view es)) 0 1
 changed_size c f es = omega (arith, changed_more c f (map source_view es), length-map es source_view)

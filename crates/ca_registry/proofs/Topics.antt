@@ -7,34 +7,34 @@ use Rattle.std.proofs.lemmas.List.{length-map}
 use Rattle.ca_value.specs.Tree.{Tree, nil, bool, int, text, key, vector, map, port}
 use Rattle.ca_value.specs.View.{view}
 use Rattle.ca_value.specs.Equality.{equals}
-use Rattle.ca_meaning.specs.Registry.{TopicView, placed, found, topic_value}
+use Rattle.ca_meaning.specs.Registry.{TopicView, with_topic_placed, pair_found, topic_value}
 use Rattle.ca_registry.specs.declared.topic.Topic.{Topic}
 use Rattle.ca_registry.specs.Marks.{topic_view, int_mark, mixed, mark_of, first_marked, first_equal, or_place}
 use Rattle.ca_registry.specs.Publications.{has_topic}
 
-pub placed_more : (t : TopicView) (ts : List TopicView) → length (placed t ts) ≡ length ts + cond (has_topic t.topic ts) 0 1
+pub placed_more : (t : TopicView) (ts : List TopicView) → length (with_topic_placed t ts) ≡ length ts + cond (has_topic t.topic ts) 0 1
 placed_more t [] = refl
 placed_more t (u ∷ us) = by (equals t.topic u.topic) (placed_more t us) where
-  by : (same : Bool) → length (placed t us) ≡ length us + cond (has_topic t.topic us) 0 1 → length (cond same (u ∷ us) (u ∷ placed t us)) ≡ suc (length us) + cond (cond same true (has_topic t.topic us)) 0 1
+  by : (same : Bool) → length (with_topic_placed t us) ≡ length us + cond (has_topic t.topic us) 0 1 → length (cond same (u ∷ us) (u ∷ with_topic_placed t us)) ≡ suc (length us) + cond (cond same true (has_topic t.topic us)) 0 1
   by true r = omega arith
   by false r = omega (arith, r)
 
-pub placed_size : (t : TopicView) (xs : List Topic) → length (placed t (map_list topic_view xs)) ≡ length xs + cond (has_topic t.topic (map_list topic_view xs)) 0 1
+pub placed_size : (t : TopicView) (xs : List Topic) → length (with_topic_placed t (map_list topic_view xs)) ≡ length xs + cond (has_topic t.topic (map_list topic_view xs)) 0 1
 placed_size t xs = omega (arith, placed_more t (map_list topic_view xs), length-map xs topic_view)
 
 -- a topic that is there stays as it is
-pub placed_old : (t : TopicView) (ts : List TopicView) → has_topic t.topic ts ≡ true → placed t ts ≡ ts
+pub placed_old : (t : TopicView) (ts : List TopicView) → has_topic t.topic ts ≡ true → with_topic_placed t ts ≡ ts
 placed_old t [] h = absurd (let q : false ≡ true = h in cc)
 placed_old t (u ∷ us) h = by (equals t.topic u.topic) h (placed_old t us) where
-  by : (same : Bool) → cond same true (has_topic t.topic us) ≡ true → (has_topic t.topic us ≡ true → placed t us ≡ us) → cond same (u ∷ us) (u ∷ placed t us) ≡ u ∷ us
+  by : (same : Bool) → cond same true (has_topic t.topic us) ≡ true → (has_topic t.topic us ≡ true → with_topic_placed t us ≡ us) → cond same (u ∷ us) (u ∷ with_topic_placed t us) ≡ u ∷ us
   by true k r = refl
   by false k r = ap (λ (xs : List TopicView). u ∷ xs) (r k)
 
 -- else it stands last
-pub placed_new : (t : TopicView) (ts : List TopicView) → has_topic t.topic ts ≡ false → placed t ts ≡ ts ++ t ∷ []
+pub placed_new : (t : TopicView) (ts : List TopicView) → has_topic t.topic ts ≡ false → with_topic_placed t ts ≡ ts ++ t ∷ []
 placed_new t [] h = refl
 placed_new t (u ∷ us) h = by (equals t.topic u.topic) h (placed_new t us) where
-  by : (same : Bool) → cond same true (has_topic t.topic us) ≡ false → (has_topic t.topic us ≡ false → placed t us ≡ us ++ t ∷ []) → cond same (u ∷ us) (u ∷ placed t us) ≡ u ∷ (us ++ t ∷ [])
+  by : (same : Bool) → cond same true (has_topic t.topic us) ≡ false → (has_topic t.topic us ≡ false → with_topic_placed t us ≡ us ++ t ∷ []) → cond same (u ∷ us) (u ∷ with_topic_placed t us) ≡ u ∷ (us ++ t ∷ [])
   by true k r = absurd (let q : true ≡ false = k in cc)
   by false k r = ap (λ (xs : List TopicView). u ∷ xs) (r k)
 
@@ -46,14 +46,14 @@ dropped_is topic (x ∷ xs) = by (not (equals topic (view x.topic))) (dropped_is
   by false r = r
 
 -- what is found once the topic is placed
-pub found_placed : (t : TopicView) (ts : List TopicView) → equals t.topic t.topic ≡ true → found t.topic (placed t ts) ≡ cond (has_topic t.topic ts) (found t.topic ts) (topic_value t)
+pub found_placed : (t : TopicView) (ts : List TopicView) → equals t.topic t.topic ≡ true → pair_found t.topic (with_topic_placed t ts) ≡ cond (has_topic t.topic ts) (pair_found t.topic ts) (topic_value t)
 found_placed t [] h = ap (λ (b : Bool). cond b (topic_value t) nil) h
 found_placed t (u ∷ us) h = by (equals t.topic u.topic) refl (found_placed t us h) where
-  by : (same : Bool) → equals t.topic u.topic ≡ same → found t.topic (placed t us) ≡ cond (has_topic t.topic us) (found t.topic us) (topic_value t) → found t.topic (cond same (u ∷ us) (u ∷ placed t us)) ≡ cond (cond same true (has_topic t.topic us)) (cond same (topic_value u) (found t.topic us)) (topic_value t)
-  by true e r = ap (λ (b : Bool). cond b (topic_value u) (found t.topic us)) e
-  by false e r = ap (λ (b : Bool). cond b (topic_value u) (found t.topic (placed t us))) e ∙ r
+  by : (same : Bool) → equals t.topic u.topic ≡ same → pair_found t.topic (with_topic_placed t us) ≡ cond (has_topic t.topic us) (pair_found t.topic us) (topic_value t) → pair_found t.topic (cond same (u ∷ us) (u ∷ with_topic_placed t us)) ≡ cond (cond same true (has_topic t.topic us)) (cond same (topic_value u) (pair_found t.topic us)) (topic_value t)
+  by true e r = ap (λ (b : Bool). cond b (topic_value u) (pair_found t.topic us)) e
+  by false e r = ap (λ (b : Bool). cond b (topic_value u) (pair_found t.topic (with_topic_placed t us))) e ∙ r
 
-pub placed_push : (t : TopicView) (ts us : List TopicView) → us ≡ ts ++ t ∷ [] → has_topic t.topic ts ≡ false → us ≡ placed t ts
+pub placed_push : (t : TopicView) (ts us : List TopicView) → us ≡ ts ++ t ∷ [] → has_topic t.topic ts ≡ false → us ≡ with_topic_placed t ts
 placed_push t ts us e h = e ∙ sym (placed_new t ts h)
 
 -- whether a topic is there, and what is found, by the first that is equal to it
@@ -68,10 +68,10 @@ abbrev pub value_of : Option TopicView → Tree
 value_of None = nil
 value_of (Some t) = topic_value t
 
-pub found_first : (topic : Tree) (ts : List TopicView) → found topic ts ≡ value_of (first_equal topic ts)
+pub found_first : (topic : Tree) (ts : List TopicView) → pair_found topic ts ≡ value_of (first_equal topic ts)
 found_first topic [] = refl
 found_first topic (t ∷ ts) = by (equals topic t.topic) (found_first topic ts) where
-  by : (b : Bool) → found topic ts ≡ value_of (first_equal topic ts) → cond b (topic_value t) (found topic ts) ≡ value_of (cond b (Some t) (first_equal topic ts))
+  by : (b : Bool) → pair_found topic ts ≡ value_of (first_equal topic ts) → cond b (topic_value t) (pair_found topic ts) ≡ value_of (cond b (Some t) (first_equal topic ts))
   by true e = refl
   by false e = e
 

@@ -4,6 +4,6 @@ use Rattle.ca_value.specs.Tree.{Tree}
 use Rattle.ca_value.specs.Same.{same}
 use Rattle.ca_meaning.specs.Registry.{Registered, answers, refuses}
 
-abbrev pub gives : Tree → Registered → Bool
-gives v (answers u r) = same v u
-gives v (refuses f) = false
+abbrev pub gives_answer : Tree → Registered → Bool
+gives_answer v (answers u r) = same v u
+gives_answer v (refuses f) = false

@@ -5,7 +5,7 @@ use Rattle.indexmap.specs.IndexMap.{spare, index_map_len}
 use Rattle.ca_value.specs.Equality.{equals}
 use Rattle.ca_term.specs.declared.head.RegisterName.{RegisterName}
 use Rattle.ca_term.specs.declared.head.RegisterName.TheVariants.{Place}
-use Rattle.ca_meaning.specs.Operands.{port_number, first_of, second_of, third_of}
+use Rattle.ca_meaning.specs.Operands.{port_of_value, first_of, second_of, third_of}
 use Rattle.ca_meaning.specs.Registry.{TopicView, Registry, a_publication, Registered, publication_row}
 use Rattle.ca_registry.specs.Marks.{topic_view}
 use Rattle.ca_registry.specs.declared.topic.TopicList.{TopicList}
@@ -37,10 +37,10 @@ has_topic topic (t ∷ ts) = cond (equals topic t.topic) true (has_topic topic t
 
 -- the topic that is to be placed
 abbrev pub topic_made : Trees → TopicView
-topic_made args = record { topic = first_of args; mult = port_number (second_of args); channel = port_number (third_of args) }
+topic_made args = record { topic = first_of args; mult = port_of_value (second_of args); channel = port_of_value (third_of args) }
 
-abbrev pub channel_of : TopicView → Tree
-channel_of t = port t.channel
+abbrev pub topic_channel : TopicView → Tree
+topic_channel t = port t.channel
 
 -- a topic that is placed is equal to itself, as each value is
 abbrev pub PlacesItself : RegisterName → Trees → Type 0

@@ -19,9 +19,9 @@ answered (answers v r) = Some v
 answered (refuses f) = None
 
 -- the fault, where the table has one
-abbrev pub refused : Registered → Option Fault
-refused (answers v r) = None
-refused (refuses f) = Some f
+abbrev pub refused_with : Registered → Option Fault
+refused_with (answers v r) = None
+refused_with (refuses f) = Some f
 
 -- the registry afterwards; a fault changes nothing
 abbrev pub left_by : Registered → Registry → Registry
@@ -30,8 +30,8 @@ left_by (refuses f) old = old
 
 -- an error is the table's fault; of want of memory nothing is said
 abbrev pub IsCause : RegisterError → Registered → Type 0
-IsCause E.NotAPort r = refused r ≡ Some F.NotAPort
-IsCause E.TooManyMembers r = refused r ≡ Some F.TooManyMembers
+IsCause E.NotAPort r = refused_with r ≡ Some F.NotAPort
+IsCause E.TooManyMembers r = refused_with r ≡ Some F.TooManyMembers
 IsCause E.OutOfMemory r = Unit {0}
 
 -- how many members the operation may add
@@ -45,15 +45,15 @@ members_added other args = 0
 abbrev pub tap_view : ℕ × Bool → TapView
 tap_view e = record { channel = e.0; closes = e.1 }
 
-abbrev pub taps_of : Mult → List TapView
-taps_of m = map tap_view m.taps.entries
+abbrev pub mult_taps : Mult → List TapView
+mult_taps m = map tap_view m.taps.entries
 
 abbrev pub mult_view : Mult → Registry
-mult_view m = a_mult m.source (taps_of m)
+mult_view m = a_mult m.source (mult_taps m)
 
 abbrev pub mult_spare : Mult → ℕ
 mult_spare m = spare m.taps
 
 -- what an operation on the mult comes to
 abbrev pub mult_gives : Mult → RegisterName → Trees → Registered
-mult_gives m name args = mult_row m.source (taps_of m) name args
+mult_gives m name args = mult_row m.source (mult_taps m) name args

@@ -31,5 +31,5 @@ comes_to None name args = refuses NotAPort
 comes_to (Some r) name args = register (λ v. true) r name args
 
 -- the registry afterwards; a fault changes nothing
-abbrev pub registered : RegisterName → Trees → RegistryView → RegistryView
-registered name args r = left_by (comes_to (Some r) name args) r
+abbrev pub registry_after : RegisterName → Trees → RegistryView → RegistryView
+registry_after name args r = left_by (comes_to (Some r) name args) r

@@ -8,12 +8,12 @@ ghost use Rattle.ca_value.specs.View.{view, trees};
 ghost use Rattle.ca_term.specs.declared.head.RegisterName.TheVariants.{Place};
 ghost use Rattle.ca_meaning.specs.Operands.{first_of};
 ghost use Rattle.ca_meaning.specs.Refusal.{fault_of_registered};
-ghost use Rattle.ca_meaning.specs.Registry.{channels_differ, found, mode_value, pairs_in, placed, source_value, tap_value, topic_value};
-ghost use Rattle.ca_registry.specs.Gives.{gives};
+ghost use Rattle.ca_meaning.specs.Registry.{channels_differ, pair_found, mode_value, pairs_in, with_topic_placed, source_value, tap_value, topic_value};
+ghost use Rattle.ca_registry.specs.Gives.{gives_answer};
 ghost use Rattle.ca_registry.specs.Marks.{first_equal, topic_view};
-ghost use Rattle.ca_registry.specs.Mixes.{TogglesApart, mix_gives, source_view, sources_of, toggle_gives};
-ghost use Rattle.ca_registry.specs.Publications.{PlacesItself, channel_of, publication_gives, topic_made, topics_of};
-ghost use Rattle.ca_registry.specs.Registries.{mult_gives, tap_view, taps_of};
+ghost use Rattle.ca_registry.specs.Mixes.{TogglesApart, mix_gives, source_view, mix_sources, toggle_gives};
+ghost use Rattle.ca_registry.specs.Publications.{PlacesItself, topic_channel, publication_gives, topic_made, topics_of};
+ghost use Rattle.ca_registry.specs.Registries.{mult_gives, tap_view, mult_taps};
 ghost use Rattle.ca_registry.specs.Registry.{comes_to, registry_view};
 
 use crate::mix::{Mix, Modes};
@@ -43,7 +43,7 @@ impl Registry {
     pub fn gives(&self, name: RegisterName, args: &[Value], answer: &Value) -> bool
         requires apart { TogglesApart name (trees args.now) }
         requires itself { PlacesItself name (trees args.now) }
-        ensures { gives (view answer.now) (comes_to (Some (registry_view self.now)) name (trees args.now)) ≡ result }
+        ensures { gives_answer (view answer.now) (comes_to (Some (registry_view self.now)) name (trees args.now)) ≡ result }
     {
         match self {
             Registry::Mult(mult) => mult.gives(name, args, answer),
@@ -71,7 +71,7 @@ impl Mult {
     }
 
     fn gives(&self, name: RegisterName, args: &[Value], answer: &Value) -> bool
-        ensures { gives (view answer.now) (mult_gives self.now name (trees args.now)) ≡ result }
+        ensures { gives_answer (view answer.now) (mult_gives self.now name (trees args.now)) ≡ result }
     {
         match name {
             RegisterName::Tap => {
@@ -93,7 +93,7 @@ impl Mult {
 
     // Whether these are the taps, in order.
     fn lists(&self, items: &[Value]) -> bool
-        ensures { same_items (trees items.now) (trees_of (map tap_value (taps_of self.now))) ≡ result }
+        ensures { same_items (trees items.now) (trees_of (map tap_value (mult_taps self.now))) ≡ result }
     {
         if items.len() != self.taps.len() {
             return false;
@@ -145,7 +145,7 @@ impl Mix {
 
     fn gives(&self, name: RegisterName, args: &[Value], answer: &Value) -> bool
         requires { TogglesApart name (trees args.now) }
-        ensures { gives (view answer.now) (mix_gives self.now name (trees args.now)) ≡ result }
+        ensures { gives_answer (view answer.now) (mix_gives self.now name (trees args.now)) ≡ result }
     {
         match name {
             RegisterName::Admix => {
@@ -170,7 +170,7 @@ impl Mix {
     #[tactic(auto, using(crate::proofs::Sources::all_true))]
     fn gives_toggle(&self, args: &[Value], answer: &Value) -> bool
         requires { channels_differ (pairs_in (first_of (trees args.now))) ≡ true }
-        ensures { gives (view answer.now) (toggle_gives self.now (pairs_in (first_of (trees args.now)))) ≡ result }
+        ensures { gives_answer (view answer.now) (toggle_gives self.now (pairs_in (first_of (trees args.now)))) ≡ result }
     {
         if self.admits_first(args) {
             is_port(answer, self.changes)
@@ -181,7 +181,7 @@ impl Mix {
 
     // Whether these are the solo mode and then the sources, in order.
     fn lists(&self, items: &[Value]) -> bool
-        ensures { same_items (trees items.now) (item (mode_value self.now.pausing) (trees_of (map source_value (sources_of self.now)))) ≡ result }
+        ensures { same_items (trees items.now) (item (mode_value self.now.pausing) (trees_of (map source_value (mix_sources self.now)))) ≡ result }
     {
         match items.split_first() {
             None => false,
@@ -190,7 +190,7 @@ impl Mix {
     }
 
     fn lists_sources(&self, items: &[Value]) -> bool
-        ensures { same_items (trees items.now) (trees_of (map source_value (sources_of self.now))) ≡ result }
+        ensures { same_items (trees items.now) (trees_of (map source_value (mix_sources self.now))) ≡ result }
     {
         if items.len() != self.sources.len() {
             return false;
@@ -228,7 +228,7 @@ impl Publication {
 
     fn gives(&self, name: RegisterName, args: &[Value], answer: &Value) -> bool
         requires { PlacesItself name (trees args.now) }
-        ensures { gives (view answer.now) (publication_gives self.now name (trees args.now)) ≡ result }
+        ensures { gives_answer (view answer.now) (publication_gives self.now name (trees args.now)) ≡ result }
     {
         match name {
             RegisterName::Find => self.gives_found(args, answer),
@@ -251,7 +251,7 @@ impl Publication {
     // Whether it is the pair that stands there for the topic, or nil.
     #[tactic(auto, using(crate::proofs::Topics::found_first))]
     fn gives_found(&self, args: &[Value], answer: &Value) -> bool
-        ensures { same (view answer.now) (found (first_of (trees args.now)) (topics_of self.now)) ≡ result }
+        ensures { same (view answer.now) (pair_found (first_of (trees args.now)) (topics_of self.now)) ≡ result }
     {
         let nil = Value::Nil;
         match self.topics.find(operand(args, 0, &nil)) {
@@ -264,7 +264,7 @@ impl Publication {
     #[tactic(auto, using(crate::proofs::Topics::found_placed))]
     fn gives_placed(&self, args: &[Value], answer: &Value) -> bool
         requires { equals (first_of (trees args.now)) (first_of (trees args.now)) ≡ true }
-        ensures { same (view answer.now) (found (first_of (trees args.now)) (placed (topic_made (trees args.now)) (topics_of self.now))) ≡ result }
+        ensures { same (view answer.now) (pair_found (first_of (trees args.now)) (with_topic_placed (topic_made (trees args.now)) (topics_of self.now))) ≡ result }
     {
         let nil = Value::Nil;
         if self.has(operand(args, 0, &nil)) {
@@ -275,14 +275,14 @@ impl Publication {
 
     // Whether these are the topics' channels, in order.
     fn lists(&self, items: &[Value]) -> bool
-        ensures { same_items (trees items.now) (trees_of (map channel_of (topics_of self.now))) ≡ result }
+        ensures { same_items (trees items.now) (trees_of (map topic_channel (topics_of self.now))) ≡ result }
     {
         list_channels(items, self.topics.as_slice())
     }
 }
 
 fn list_channels(items: &[Value], topics: &[Topic]) -> bool
-    ensures { same_items (trees items.now) (trees_of (map channel_of (map topic_view topics.now))) ≡ result }
+    ensures { same_items (trees items.now) (trees_of (map topic_channel (map topic_view topics.now))) ≡ result }
 {
     if items.len() != topics.len() {
         return false;

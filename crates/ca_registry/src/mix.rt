@@ -3,11 +3,11 @@ ghost use Rattle.std.specs.Str.{bytes_eq};
 ghost use Rattle.ca_value.specs.View.{view, trees, tree_pairs};
 ghost use Rattle.ca_value.specs.Tree.{nil, key as keyword, vector, port, item, trees_of};
 ghost use Rattle.indexmap.specs.IndexMap.{get, insert_entry};
-ghost use Rattle.ca_meaning.specs.Registry.{a_mix, changed_source, set_mode, set_modes, modes_in, toggled, mode_value, source_value, is_pause, pairs_in, within, channels_differ};
+ghost use Rattle.ca_meaning.specs.Registry.{a_mix, changed_source, set_mode, set_modes, with_modes_in, toggled, mode_value, source_value, is_pause, pairs_in, within_limit, channels_differ};
 ghost use Rattle.ca_registry.specs.declared.registry_error.RegisterError.TheVariants.{TooManyMembers};
 ghost use Rattle.ca_meaning.specs.Operands.{first_of};
 ghost use Rattle.ca_value.specs.Equality.{pair_count};
-ghost use Rattle.ca_registry.specs.Mixes.{modes_or, source_view, sources_of, mix_view, mix_spare, mix_gives, toggle_gives, is_source, new_in, TogglesApart};
+ghost use Rattle.ca_registry.specs.Mixes.{modes_or, source_view, mix_sources, mix_view, mix_spare, mix_gives, toggle_gives, is_source, new_in, TogglesApart};
 ghost use Rattle.ca_registry.specs.Registries.{answered, IsCause, left_by, members_added};
 
 use crate::listing::{channel, four};
@@ -58,7 +58,7 @@ impl Modes {
 
     // The modes that the map names.
     fn set_all(self, modes: &Value) -> Modes
-        ensures { (c : ℕ) → source_view (c, result) ≡ modes_in (view modes.now) (source_view (c, self)) }
+        ensures { (c : ℕ) → source_view (c, result) ≡ with_modes_in (view modes.now) (source_view (c, self)) }
     {
         match modes {
             Value::Map(pairs) => self.set_pairs(pairs.as_slice()),
@@ -142,7 +142,7 @@ impl Mix {
     #[tactic(auto, using(crate::proofs::Sources::changed_is))]
     fn add(&mut self, channel: u64)
         requires { 0 < mix_spare self.old }
-        ensures { mix_view self.new ≡ a_mix self.old.out self.old.changes self.old.pausing (changed_source channel (λ x. x) (sources_of self.old)) }
+        ensures { mix_view self.new ≡ a_mix self.old.out self.old.changes self.old.pausing (changed_source channel (λ x. x) (mix_sources self.old)) }
     {
         self.change(channel, self.modes_of(channel));
     }
@@ -150,7 +150,7 @@ impl Mix {
     #[tactic(auto, using(crate::proofs::Sources::changed_is))]
     fn toggle(&mut self, channel: u64, modes: &Value)
         requires { 0 < mix_spare self.old }
-        ensures sources { mix_view self.new ≡ a_mix self.old.out self.old.changes self.old.pausing (changed_source channel (modes_in (view modes.now)) (sources_of self.old)) }
+        ensures sources { mix_view self.new ≡ a_mix self.old.out self.old.changes self.old.pausing (changed_source channel (with_modes_in (view modes.now)) (mix_sources self.old)) }
         ensures spare { mix_spare self.old ≤ mix_spare self.new + 1 }
     {
         self.change(channel, self.modes_of(channel).set_all(modes));
@@ -158,7 +158,7 @@ impl Mix {
 
     #[tactic(auto, using(crate::proofs::Sources::is_source_of))]
     pub(crate) fn has(&self, channel: u64) -> bool
-        ensures { result ≡ is_source channel (sources_of self.now) }
+        ensures { result ≡ is_source channel (mix_sources self.now) }
     {
         self.sources.get(&channel).is_some()
     }
@@ -166,7 +166,7 @@ impl Mix {
     // Whether it may have this source too.
     #[tactic(auto, using(crate::proofs::Sources::changed_size))]
     pub(crate) fn admits(&self, channel: u64) -> bool
-        ensures { result ≡ not (nat_lt 255 (length (changed_source channel (λ x. x) (sources_of self.now)))) }
+        ensures { result ≡ not (nat_lt 255 (length (changed_source channel (λ x. x) (mix_sources self.now)))) }
     {
         let more = if self.has(channel) { 0 } else { 1 };
         self.sources.len() + more <= MOST_SOURCES
@@ -174,7 +174,7 @@ impl Mix {
 
     // How many of the keys name no source yet.
     fn count_new(&self, pairs: &[Pair]) -> usize
-        ensures new { result ≡ new_in (tree_pairs pairs.now) (sources_of self.now) }
+        ensures new { result ≡ new_in (tree_pairs pairs.now) (mix_sources self.now) }
         ensures few { result ≤ length pairs.now }
     {
         let mut count = 0;
@@ -190,14 +190,14 @@ impl Mix {
     #[tactic(auto, using(crate::proofs::Sources::toggled_size))]
     fn admits_all(&self, pairs: &[Pair]) -> bool
         requires { channels_differ (tree_pairs pairs.now) ≡ true }
-        ensures { result ≡ not (nat_lt 255 (length (toggled (tree_pairs pairs.now) (sources_of self.now)))) }
+        ensures { result ≡ not (nat_lt 255 (length (toggled (tree_pairs pairs.now) (mix_sources self.now)))) }
     {
         self.sources.len() + self.count_new(pairs) <= MOST_SOURCES
     }
 
     fn toggle_all(&mut self, pairs: &[Pair])
         requires { length pairs.now ≤ mix_spare self.old }
-        ensures { mix_view self.new ≡ a_mix self.old.out self.old.changes self.old.pausing (toggled (tree_pairs pairs.now) (sources_of self.old)) }
+        ensures { mix_view self.new ≡ a_mix self.old.out self.old.changes self.old.pausing (toggled (tree_pairs pairs.now) (mix_sources self.old)) }
     {
         for pair in pairs {
             self.toggle(port_of(&pair.key).n, &pair.value);
@@ -206,7 +206,7 @@ impl Mix {
 
     #[tactic(auto, using(crate::proofs::Sources::unmixed_is))]
     fn unmix(&mut self, channel: u64)
-        ensures { mix_view self.new ≡ a_mix self.old.out self.old.changes self.old.pausing (filter (λ x. not (eqb channel x.channel)) (sources_of self.old)) }
+        ensures { mix_view self.new ≡ a_mix self.old.out self.old.changes self.old.pausing (filter (λ x. not (eqb channel x.channel)) (mix_sources self.old)) }
     {
         let _ = self.sources.shift_remove(&channel);
     }
@@ -236,7 +236,7 @@ impl Mix {
     // Adds the source, where it isn't there and the limit allows it.
     fn admix(&mut self, channel: u64)
         requires { 0 < mix_spare self.old }
-        ensures { mix_view self.new ≡ left_by (within 255 (length (changed_source channel (λ x. x) (sources_of self.old))) nil (a_mix self.old.out self.old.changes self.old.pausing (changed_source channel (λ x. x) (sources_of self.old)))) (mix_view self.old) }
+        ensures { mix_view self.new ≡ left_by (within_limit 255 (length (changed_source channel (λ x. x) (mix_sources self.old))) nil (a_mix self.old.out self.old.changes self.old.pausing (changed_source channel (λ x. x) (mix_sources self.old)))) (mix_view self.old) }
     {
         if self.admits(channel) {
             self.add(channel);
@@ -267,7 +267,7 @@ impl Mix {
     }
 
     fn set_solo_mode(&mut self, args: &[Value])
-        ensures { mix_view self.new ≡ a_mix self.old.out self.old.changes (is_pause (first_of (trees args.now))) (sources_of self.old) }
+        ensures { mix_view self.new ≡ a_mix self.old.out self.old.changes (is_pause (first_of (trees args.now))) (mix_sources self.old) }
     {
         let nil = Value::Nil;
         self.pausing = names_pause(operand(args, 0, &nil));
@@ -323,7 +323,7 @@ impl Mix {
     #[tactic(auto, using(crate::proofs::Sources::toggled_size))]
     pub(crate) fn admits_first(&self, args: &[Value]) -> bool
         requires { channels_differ (pairs_in (first_of (trees args.now))) ≡ true }
-        ensures { result ≡ not (nat_lt 255 (length (toggled (pairs_in (first_of (trees args.now))) (sources_of self.now)))) }
+        ensures { result ≡ not (nat_lt 255 (length (toggled (pairs_in (first_of (trees args.now))) (mix_sources self.now)))) }
     {
         let nil = Value::Nil;
         match operand(args, 0, &nil) {
@@ -334,7 +334,7 @@ impl Mix {
 
     // The solo mode, and then the sources, in order.
     fn list(&self, alloc: Global) -> Result<Value, OutOfMemory>
-        ensures { IfOk result (λ v. view v ≡ vector (item (mode_value self.now.pausing) (trees_of (map source_value (sources_of self.now))))) }
+        ensures { IfOk result (λ v. view v ≡ vector (item (mode_value self.now.pausing) (trees_of (map source_value (mix_sources self.now))))) }
     {
         let mut items = Seq::new(alloc);
         items.reserve(1)?;

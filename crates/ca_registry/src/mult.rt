@@ -2,8 +2,8 @@ ghost use Rattle.std.specs.Prelude.{◌≡◌, ◌≤◌, ◌+◌, ◌<◌, Some
 ghost use Rattle.ca_value.specs.View.{view, trees};
 ghost use Rattle.ca_value.specs.Tree.{nil, vector, trees_of};
 ghost use Rattle.ca_term.specs.declared.head.RegisterName.TheVariants.{Tap};
-ghost use Rattle.ca_meaning.specs.Registry.{a_mult, tapped, tap_value, within};
-ghost use Rattle.ca_registry.specs.Registries.{answered, IsCause, left_by, members_added, tap_view, taps_of, mult_view, mult_spare, mult_gives};
+ghost use Rattle.ca_meaning.specs.Registry.{a_mult, tapped, tap_value, within_limit};
+ghost use Rattle.ca_registry.specs.Registries.{answered, IsCause, left_by, members_added, tap_view, mult_taps, mult_view, mult_spare, mult_gives};
 
 use crate::listing::{channel, pair};
 use crate::registry_error::RegisterError;
@@ -48,7 +48,7 @@ impl Mult {
     // Whether it may have this tap too.
     #[tactic(auto, using(crate::proofs::Members::tapped_more))]
     pub(crate) fn admits(&self, channel: u64, closes: bool) -> bool
-        ensures { result ≡ not (nat_lt 1024 (length (tapped (tap_view (channel, closes)) (taps_of self.now)))) }
+        ensures { result ≡ not (nat_lt 1024 (length (tapped (tap_view (channel, closes)) (mult_taps self.now)))) }
     {
         let more = if self.taps.get(&channel).is_some() {
             0
@@ -61,7 +61,7 @@ impl Mult {
     #[tactic(auto, using(crate::proofs::Members::tapped_is))]
     fn set_tap(&mut self, channel: u64, closes: bool)
         requires { 0 < mult_spare self.old }
-        ensures { mult_view self.new ≡ a_mult self.old.source (tapped (tap_view (channel, closes)) (taps_of self.old)) }
+        ensures { mult_view self.new ≡ a_mult self.old.source (tapped (tap_view (channel, closes)) (mult_taps self.old)) }
     {
         match self.taps.insert(channel, closes) {
             Ok(_) => {}
@@ -71,7 +71,7 @@ impl Mult {
 
     #[tactic(auto, using(crate::proofs::Members::untapped_is))]
     fn untap(&mut self, channel: u64)
-        ensures { mult_view self.new ≡ a_mult self.old.source (filter (λ t. not (eqb channel t.channel)) (taps_of self.old)) }
+        ensures { mult_view self.new ≡ a_mult self.old.source (filter (λ t. not (eqb channel t.channel)) (mult_taps self.old)) }
     {
         let _ = self.taps.shift_remove(&channel);
     }
@@ -85,7 +85,7 @@ impl Mult {
     // Adds the tap, or changes it in place, where the limit allows it.
     fn tap(&mut self, channel: u64, closes: bool)
         requires { 0 < mult_spare self.old }
-        ensures { mult_view self.new ≡ left_by (within 1024 (length (tapped (tap_view (channel, closes)) (taps_of self.old))) nil (a_mult self.old.source (tapped (tap_view (channel, closes)) (taps_of self.old)))) (mult_view self.old) }
+        ensures { mult_view self.new ≡ left_by (within_limit 1024 (length (tapped (tap_view (channel, closes)) (mult_taps self.old))) nil (a_mult self.old.source (tapped (tap_view (channel, closes)) (mult_taps self.old)))) (mult_view self.old) }
     {
         if self.admits(channel, closes) {
             self.set_tap(channel, closes);
@@ -136,7 +136,7 @@ impl Mult {
 
     // The taps, in order.
     fn list(&self, alloc: Global) -> Result<Value, OutOfMemory>
-        ensures { IfOk result (λ v. view v ≡ vector (trees_of (map tap_value (taps_of self.now)))) }
+        ensures { IfOk result (λ v. view v ≡ vector (trees_of (map tap_value (mult_taps self.now)))) }
     {
         let mut items = Seq::new(alloc);
         items.reserve(self.taps.len() as u64)?;

@@ -3,11 +3,11 @@ ghost use Rattle.ca_value.specs.Seq.{list};
 ghost use Rattle.ca_value.specs.View.{view, trees};
 ghost use Rattle.ca_value.specs.Tree.{vector, port, trees_of};
 ghost use Rattle.ca_value.specs.Equality.{equals};
-ghost use Rattle.ca_meaning.specs.Operands.{first_of, port_number};
-ghost use Rattle.ca_meaning.specs.Registry.{a_publication, found, placed, topic_value};
+ghost use Rattle.ca_meaning.specs.Operands.{first_of, port_of_value};
+ghost use Rattle.ca_meaning.specs.Registry.{a_publication, pair_found, with_topic_placed, topic_value};
 ghost use Rattle.ca_term.specs.declared.head.RegisterName.TheVariants.{Place};
 ghost use Rattle.ca_registry.specs.Registries.{answered, IsCause, left_by, members_added};
-ghost use Rattle.ca_registry.specs.Publications.{topics_of, publication_view, topics_spare, publication_gives, has_topic, topic_made, channel_of, PlacesItself};
+ghost use Rattle.ca_registry.specs.Publications.{topics_of, publication_view, topics_spare, publication_gives, has_topic, topic_made, topic_channel, PlacesItself};
 
 use crate::listing::{channel, pair};
 use crate::registry_error::RegisterError;
@@ -58,7 +58,7 @@ impl Publication {
     // The pair that stands there for the topic, or nil.
     #[tactic(auto, using(crate::proofs::Topics::found_first))]
     fn find(&self, alloc: Global, topic: &Value) -> Result<Value, OutOfMemory>
-        ensures { IfOk result (λ v. view v ≡ found (view topic.now) (topics_of self.now)) }
+        ensures { IfOk result (λ v. view v ≡ pair_found (view topic.now) (topics_of self.now)) }
     {
         match self.topics.find(topic) {
             Some(entry) => pair(alloc, channel(entry.mult), channel(entry.channel)),
@@ -69,7 +69,7 @@ impl Publication {
     // Whether it may have this topic too.
     #[tactic(auto, using(crate::proofs::Topics::placed_size))]
     pub(crate) fn admits(&self, args: &[Value]) -> bool
-        ensures { result ≡ not (nat_lt 1024 (length (placed (topic_made (trees args.now)) (topics_of self.now)))) }
+        ensures { result ≡ not (nat_lt 1024 (length (with_topic_placed (topic_made (trees args.now)) (topics_of self.now)))) }
     {
         let nil = Value::Nil;
         let more = if self.has(operand(args, 0, &nil)) {
@@ -84,7 +84,7 @@ impl Publication {
     #[tactic(auto, using(crate::proofs::Topics::placed_old))]
     fn place(&mut self, topic: Value, mult: u64, channel: u64)
         requires { 0 < topics_spare self.old }
-        ensures { publication_view self.new ≡ a_publication self.old.source (placed (record { topic = view topic; mult = mult; channel = channel }) (topics_of self.old)) }
+        ensures { publication_view self.new ≡ a_publication self.old.source (with_topic_placed (record { topic = view topic; mult = mult; channel = channel }) (topics_of self.old)) }
     {
         if self.has(&topic) {
             return;
@@ -111,7 +111,7 @@ impl Publication {
 
     // The topics' channels, in order.
     fn list(&self, alloc: Global) -> Result<Value, OutOfMemory>
-        ensures { IfOk result (λ v. view v ≡ vector (trees_of (map channel_of (topics_of self.now)))) }
+        ensures { IfOk result (λ v. view v ≡ vector (trees_of (map topic_channel (topics_of self.now)))) }
     {
         let mut items = Seq::new(alloc);
         let topics = self.topics.as_slice();
@@ -168,7 +168,7 @@ impl Publication {
     }
 
     fn find_first(&self, alloc: Global, args: &[Value]) -> Result<Value, OutOfMemory>
-        ensures { IfOk result (λ v. view v ≡ found (first_of (trees args.now)) (topics_of self.now)) }
+        ensures { IfOk result (λ v. view v ≡ pair_found (first_of (trees args.now)) (topics_of self.now)) }
     {
         let nil = Value::Nil;
         self.find(alloc, operand(args, 0, &nil))
@@ -189,7 +189,7 @@ impl Publication {
     #[tactic(auto, using(crate::proofs::Topics::found_placed))]
     fn placed(&self, alloc: Global, args: &[Value]) -> Result<Value, OutOfMemory>
         requires { equals (first_of (trees args.now)) (first_of (trees args.now)) ≡ true }
-        ensures { IfOk result (λ v. view v ≡ found (first_of (trees args.now)) (placed (topic_made (trees args.now)) (topics_of self.now))) }
+        ensures { IfOk result (λ v. view v ≡ pair_found (first_of (trees args.now)) (with_topic_placed (topic_made (trees args.now)) (topics_of self.now))) }
     {
         if self.has_first(args) {
             return self.find_first(alloc, args);

@@ -4,10 +4,10 @@ ghost use Rattle.ca_value.specs.View.{view, trees};
 ghost use Rattle.ca_registry.specs.Registries.{answered, IsCause, members_added};
 ghost use Rattle.ca_registry.specs.Mixes.{TogglesApart};
 ghost use Rattle.ca_registry.specs.Publications.{PlacesItself};
-ghost use Rattle.ca_registry.specs.Kind.{kind_of};
+ghost use Rattle.ca_registry.specs.Kind.{kind_of_registry};
 ghost use Rattle.ca_meaning.specs.Registry.{a_mult, a_mix, a_publication, pairs_in};
 ghost use Rattle.ca_value.specs.Equality.{pair_count};
-ghost use Rattle.ca_registry.specs.Registry.{registry_view, members_spare, comes_to, registered};
+ghost use Rattle.ca_registry.specs.Registry.{registry_view, members_spare, comes_to, registry_after};
 
 use crate::kind::PortKind;
 use crate::mix::Mix;
@@ -62,7 +62,7 @@ impl Registry {
     pub fn register(&mut self, name: RegisterName, args: Items)
         requires room { members_added name (trees (list args)) ≤ members_spare (Some self.old) }
         requires apart { TogglesApart name (trees (list args)) }
-        ensures { registry_view self.new ≡ registered name (trees (list args)) (registry_view self.old) }
+        ensures { registry_view self.new ≡ registry_after name (trees (list args)) (registry_view self.old) }
     {
         match self {
             Registry::Mult(mult) => mult.register(name, args.as_slice()),
@@ -93,7 +93,7 @@ impl Registry {
     }
 
     pub fn kind(&self) -> PortKind
-        ensures { Some result ≡ kind_of (Some (registry_view self.now)) }
+        ensures { Some result ≡ kind_of_registry (Some (registry_view self.now)) }
     {
         match self {
             Registry::Mult(_) => PortKind::Mult,

@@ -8,7 +8,7 @@ use Rattle.ca_term.specs.Operation.{OpView, SeedView, taking, putting, choosing,
 use Rattle.ca_term.specs.Program.{ProgramView}
 use Rattle.ca_meaning.specs.Asking.{too_large_branches}
 use Rattle.ca_meaning.specs.Body.{At, local, at_op, ended, faulted, nowhere, asking}
-use Rattle.ca_meaning.specs.Asks.{pair_of, Ask, too_large_here, puts, chooses, Next, stands_at, to, stop, fail}
+use Rattle.ca_meaning.specs.Asks.{pair_of, Ask, too_large_here, ask_to_put, ask_to_choose, Next, stands_at, to, stop, fail}
 use Rattle.ca_meaning.specs.MultTable.{MultPorts, mult_asks, mult_takes, mult_reads, mult_spawns, mult_waits, mult_reads_last, mult_closes, Delivery, deliver_asks, deliver_puts, deliver_untaps, deliver_answers}
 use Rattle.ca_meaning.specs.MixTable.{port_trees, MixPorts, mix_asks, mix_reads, mix_chooses, mix_drops, mix_puts}
 use Rattle.ca_meaning.specs.PubTable.{PubPorts, pub_asks, pub_takes, pub_sorts, pub_finds, pub_puts, pub_reads_last, pub_closes}
@@ -63,10 +63,10 @@ stands_calm p asks all (to x) = all x p
 stands_calm p asks all stop = refl
 stands_calm p asks all (fail f) = refl
 
-puts_calm : (c : ℕ) (v : Tree) (p : Place) → is_calm (puts c v p) ≡ true
+puts_calm : (c : ℕ) (v : Tree) (p : Place) → is_calm (ask_to_put c v p) ≡ true
 puts_calm c v p = asks_calmly p (too_large_here v) (putting (port c) v) refl
 
-chooses_calm : (vs : Trees) (p : Place) → is_calm (chooses vs p) ≡ true
+chooses_calm : (vs : Trees) (p : Place) → is_calm (ask_to_choose vs p) ≡ true
 chooses_calm vs p = asks_calmly p (too_large_branches vs) (choosing vs false None) refl
 
 mult_calm : (t : MultPorts) → AllCalm (mult_asks t)

@@ -12,22 +12,22 @@ use Rattle.ca_meaning.specs.Wait.{Wait}
 use Rattle.ca_scene.specs.declared.room.Room.{Room}
 use Rattle.ca_scene.specs.declared.scene.Scene.{Scene}
 use Rattle.ca_scene.specs.declared.task.Task.{Task as TaskCode}
-use Rattle.ca_scene.specs.Scene.{IsQueued, IsScene, IsShown, queues_at, room_at, room_channel, scene_state, task_at, task_view, waits_in}
-use Rattle.ca_replay.specs.Changes.{at, closed, finished, finished_task, Finishes, Shuts}
+use Rattle.ca_scene.specs.Scene.{IsQueued, IsScene, IsStandingShown, queues_at, room_at, room_channel, scene_state, task_at, task_code_view, waits_in}
+use Rattle.ca_replay.specs.Changes.{mapped_at, room_closed, finished, finished_task, Finishes, Shuts}
 use Rattle.ca_replay.specs.SceneOf.{IsFilling, IsKnown, IsSceneOf}
 use Rattle.ca_replay.proofs.Went.{as_tasks}
 
 -- a task is over
-module _ (s n : Scene) (t : ℕ) (same : n ≡ record s { tasks = n.tasks }) (is : (q : ℕ) → task_at n q ≡ at (task_at s) t finished q) where
-  over_one : (o : Option TaskCode) → option_map task_view (option_map finished o) ≡ option_map finished_task (option_map task_view o)
+module _ (s n : Scene) (t : ℕ) (same : n ≡ record s { tasks = n.tasks }) (is : (q : ℕ) → task_at n q ≡ mapped_at (task_at s) t finished q) where
+  over_one : (o : Option TaskCode) → option_map task_code_view (option_map finished o) ≡ option_map finished_task (option_map task_code_view o)
   over_one None = refl
   over_one (Some x) = refl
 
   over_tasks : as_tasks (task_at n) ≡ update eqb (as_tasks (task_at s)) t (option_map finished_task (as_tasks (task_at s) t))
   over_tasks = λ i q. (each q) i where
     each : (q : ℕ) → as_tasks (task_at n) q ≡ update eqb (as_tasks (task_at s)) t (option_map finished_task (as_tasks (task_at s) t)) q
-    each q = ap (option_map task_view) (is q) ∙ by (eqb t q) where
-      by : (b : Bool) → option_map task_view (cond b (option_map finished (task_at s t)) (task_at s q)) ≡ cond b (option_map finished_task (as_tasks (task_at s) t)) (as_tasks (task_at s) q)
+    each q = ap (option_map task_code_view) (is q) ∙ by (eqb t q) where
+      by : (b : Bool) → option_map task_code_view (cond b (option_map finished (task_at s t)) (task_at s q)) ≡ cond b (option_map finished_task (as_tasks (task_at s) t)) (as_tasks (task_at s) q)
       by true = over_one (task_at s t)
       by false = refl
 
@@ -46,22 +46,22 @@ module _ (s n : Scene) (t : ℕ) (same : n ≡ record s { tasks = n.tasks }) (is
 
   pub finished_scene : (program : ProgramView) → IsSceneOf program s → IsSceneOf program n
   finished_scene program x = record {
-    scene = subst IsScene (sym same) (record { shown = kept_each IsShown (λ y h. h) x.scene.shown; queued = x.scene.queued; distinct = x.scene.distinct });
+    scene = subst IsScene (sym same) (record { shown = kept_each IsStandingShown (λ y h. h) x.scene.shown; queued = x.scene.queued; distinct = x.scene.distinct });
     known = kept_each (λ y. IsKnown program y.body) (λ y h. h) x.known;
     fills = kept_each IsFilling (λ y h. tt) x.fills;
   }
 
 -- a channel is closed
-module _ (s n : Scene) (p : ℕ) (same : n ≡ record s { rooms = n.rooms }) (is : (q : ℕ) → room_at n q ≡ at (room_at s) p closed q) where
+module _ (s n : Scene) (p : ℕ) (same : n ≡ record s { rooms = n.rooms }) (is : (q : ℕ) → room_at n q ≡ mapped_at (room_at s) p room_closed q) where
   shut_channels : (λ q. option_map room_channel (room_at n q)) ≡ shut_at p (λ q. option_map room_channel (room_at s q))
   shut_channels = λ i q. (each q) i where
     each : (q : ℕ) → option_map room_channel (room_at n q) ≡ shut_at p (λ r. option_map room_channel (room_at s r)) q
     each q = ap (option_map room_channel) (is q) ∙ by (eqb p q) where
-      one : (o : Option Room) → option_map room_channel (option_map closed o) ≡ option_map shut (option_map room_channel o)
+      one : (o : Option Room) → option_map room_channel (option_map room_closed o) ≡ option_map shut (option_map room_channel o)
       one None = refl
       one (Some r) = refl
 
-      by : (b : Bool) → option_map room_channel (cond b (option_map closed (room_at s p)) (room_at s q)) ≡ cond b (option_map shut (option_map room_channel (room_at s p))) (option_map room_channel (room_at s q))
+      by : (b : Bool) → option_map room_channel (cond b (option_map room_closed (room_at s p)) (room_at s q)) ≡ cond b (option_map shut (option_map room_channel (room_at s p))) (option_map room_channel (room_at s q))
       by true = one (room_at s p)
       by false = refl
 
@@ -70,12 +70,12 @@ module _ (s n : Scene) (p : ℕ) (same : n ≡ record s { rooms = n.rooms }) (is
 
   shut_queued : (ws : List Wait) → IsQueued (room_at s) ws → IsQueued (room_at n) ws
   shut_queued ws queued side q = ap (queues_at side) (is q) ∙ by (eqb p q) refl ∙ queued side q where
-    one : (side : Side) (o : Option Room) → queues_at side (option_map closed o) ≡ queues_at side o
+    one : (side : Side) (o : Option Room) → queues_at side (option_map room_closed o) ≡ queues_at side o
     one side None = refl
     one Take (Some r) = refl
     one Put (Some r) = refl
 
-    by : (b : Bool) → eqb p q ≡ b → queues_at side (cond b (option_map closed (room_at s p)) (room_at s q)) ≡ queues_at side (room_at s q)
+    by : (b : Bool) → eqb p q ≡ b → queues_at side (cond b (option_map room_closed (room_at s p)) (room_at s q)) ≡ queues_at side (room_at s q)
     by true e = one side (room_at s p) ∙ ap (λ r. queues_at side (room_at s r)) (eqb-true p q e)
     by false e = refl
 

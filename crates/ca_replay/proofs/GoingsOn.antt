@@ -18,15 +18,15 @@ use Rattle.ca_meaning.specs.Task.{body_at}
 use Rattle.ca_meaning.specs.TaskSteps.{moments}
 use Rattle.ca_meaning.specs.Wait.{front, owner_of}
 use Rattle.ca_meaning.proofs.Possible.{has_event, quiet_stuck}
-use Rattle.ca_scene.specs.Admits.{settling, settling_in}
+use Rattle.ca_scene.specs.Admits.{settling_at, settling_in}
 use Rattle.ca_scene.specs.Admitted.{Woken}
 use Rattle.ca_scene.specs.declared.room.Room.{Room}
 use Rattle.ca_scene.specs.declared.scene.Scene.{Scene}
 use Rattle.ca_scene.specs.declared.task.Mode.{Mode as ModeCode}
 use Rattle.ca_scene.specs.declared.task.Standing.{Standing}
 use Rattle.ca_scene.specs.declared.task.Task.{Task as TaskCode}
-use Rattle.ca_scene.specs.Scene.{scene_state, tasks_of, task_at, task_view, mode_view, room_at, room_channel, IsScene, AreShown}
-use Rattle.ca_scene.specs.Standing.{shown, elsewhere, standing_view}
+use Rattle.ca_scene.specs.Scene.{scene_state, tasks_of, task_at, task_code_view, mode_view, room_at, room_channel, IsScene, TasksAreShown}
+use Rattle.ca_scene.specs.Standing.{shown_at, elsewhere, standing_view}
 use Rattle.ca_scene.proofs.Branches.{settling_there}
 use Rattle.ca_scene.proofs.Soundly.{step_there}
 use Rattle.ca_replay.specs.Possible.{does_settle, is_running, runs_there, settles_there, goes_at, CanGoOn, SomeRuns, SomeSettles}
@@ -54,11 +54,11 @@ running_view ModeCode.Over e = never e
 no_task : {G : Type 0} (x : Task) → None ≡ Some x → G
 no_task x e = absurd cc
 
-one_task : (y : TaskCode) (x : Task) → Some (task_view y) ≡ Some x → task_view y ≡ x
+one_task : (y : TaskCode) (x : Task) → Some (task_code_view y) ≡ Some x → task_code_view y ≡ x
 one_task y x e = cc
 
 -- a channel's row as its room shows it
-settles_not : (s : State) (p : ℕ) → s.channels p ≡ None → does_settle (settling s p) ≡ false
+settles_not : (s : State) (p : ℕ) → s.channels p ≡ None → does_settle (settling_at s p) ≡ false
 settles_not s p e = ap (λ (o : Option Channel). does_settle (settling_in o (front Take p s.waits) (front Put p s.waits))) e
 
 module _ (s : Scene) (scene : IsScene s) where
@@ -67,7 +67,7 @@ module _ (s : Scene) (scene : IsScene s) where
   runs_at u k None is e = never e
   runs_at u k (Some y) is e =
       let at : task_at s y.0 ≡ Some y.1 = lookup_from_place nat_eq_equiv s.tasks.entries k y.0 y.1 u is in
-      (y.0, task_view y.1, (ap (option_map task_view) at, running_view y.1.mode e))
+      (y.0, task_code_view y.1, (ap (option_map task_code_view) at, running_view y.1.mode e))
 
   settles_at : IsUnique nat_eq s.rooms → (k : ℕ) (o : Option (ℕ × Room)) → slice_get s.rooms.entries k ≡ o → settles_there o ≡ true → SomeSettles (scene_state s)
   settles_at u k None is e = never e
@@ -95,7 +95,7 @@ module _ (s : Scene) (scene : IsScene s) where
 
     none_runs : SomeRuns (scene_state s) → ⊥
     none_runs (t, x, r) = by (task_at s t) refl r.0 where
-      by : (o : Option TaskCode) → task_at s t ≡ o → option_map task_view o ≡ Some x → ⊥
+      by : (o : Option TaskCode) → task_at s t ≡ o → option_map task_code_view o ≡ Some x → ⊥
       by None is e = no_task x e
       by (Some y) is e =
           let k = place_from_lookup (nat_eq t) s.tasks.entries y is in
@@ -136,18 +136,18 @@ told (Standing.AtOp w) e = cc
 told Standing.Ended e = cc
 told (Standing.Faulted f p) e = cc
 
-pub somewhere : (s : Scene) → AreShown (task_at s) → (t : ℕ) (x : Task) → tasks_of s t ≡ Some x → body_at x.body ≢ nowhere
+pub somewhere : (s : Scene) → TasksAreShown (task_at s) → (t : ℕ) (x : Task) → tasks_of s t ≡ Some x → body_at x.body ≢ nowhere
 somewhere s all t x at e = by (task_at s t) refl at where
-  by : (o : Option TaskCode) → task_at s t ≡ o → option_map task_view o ≡ Some x → ⊥
+  by : (o : Option TaskCode) → task_at s t ≡ o → option_map task_code_view o ≡ Some x → ⊥
   by None is k = no_task x k
-  by (Some y) is k = told y.standing (all t y is ∙ ap shown (ap (λ (z : Task). body_at z.body) (one_task y x k) ∙ e))
+  by (Some y) is k = told y.standing (all t y is ∙ ap shown_at (ap (λ (z : Task). body_at z.body) (one_task y x k) ∙ e))
 
 -- a channel that completes a wait by itself has its event
 woken : (s : State) → Sound s → (w : ℕ) (o : Option ℕ) → owner_of w s.waits ≡ o → Woken s w o
 woken s sound w None e = tt
 woken s sound w (Some u) e = sound.owned w u e
 
-settle_there : (program : ProgramView) (s : State) → Sound s → (p : ℕ) → does_settle (settling s p) ≡ true → IsPossible program s
+settle_there : (program : ProgramView) (s : State) → Sound s → (p : ℕ) → does_settle (settling_at s p) ≡ true → IsPossible program s
 settle_there program s sound p e = at_channel (s.channels p) refl where
   at_row : (c : Channel) → s.channels p ≡ Some c → (r : Settling) → settle_row c (front Take p s.waits) (front Put p s.waits) ≡ r → does_settle r ≡ true → IsPossible program s
   at_row c at unsettled is e = never e

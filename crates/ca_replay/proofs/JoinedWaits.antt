@@ -18,25 +18,25 @@ use Rattle.ca_meaning.specs.Wait.{Wait, side_of, port_of, is_on, handlers, is_li
 use Rattle.ca_meaning.proofs.Refusals.{GoodBranch, good_branches}
 use Rattle.ca_scene.specs.declared.scene.Scene.{Scene}
 use Rattle.ca_scene.specs.declared.scene.Waiting.{Waiting}
-use Rattle.ca_scene.specs.Scene.{scene_state, task_at, room_at, room_channel, waits_in, used_from, AreShown, IsQueued, IsScene}
+use Rattle.ca_scene.specs.Scene.{scene_state, task_at, room_at, room_channel, waits_in, used_from, TasksAreShown, IsQueued, IsScene}
 use Rattle.ca_scene.proofs.Waitings.{waits_joined, used_joined, given_there}
-use Rattle.ca_replay.specs.Changes.{at}
+use Rattle.ca_replay.specs.Changes.{mapped_at}
 use Rattle.ca_replay.specs.Moves.{HaveHomes, with_wait}
-use Rattle.ca_replay.specs.Rooms.{Kept, rooms_kept, join, join_all}
+use Rattle.ca_replay.specs.Rooms.{RoomView, rooms_kept, join, join_rooms}
 use Rattle.ca_replay.proofs.Joinings.{queued_joined}
 use Rattle.ca_replay.proofs.TakenOut.{channel_seen, live_there}
 
 -- the channels' own parts stay
-channels_joined : (w k : ℕ) (bs : List BranchView) (m : ℕ → Option Kept) (p : ℕ) → option_map (λ (k : Kept). k.channel) (join_all w k bs m p) ≡ option_map (λ (k : Kept). k.channel) (m p)
+channels_joined : (w k : ℕ) (bs : List BranchView) (m : ℕ → Option RoomView) (p : ℕ) → option_map (λ (k : RoomView). k.channel) (join_rooms w k bs m p) ≡ option_map (λ (k : RoomView). k.channel) (m p)
 channels_joined w k [] m p = refl
-channels_joined w k (b ∷ bs) m p = channels_joined w (suc k) bs (at m (port_of b) (join (side_of b) (record { wait = w; branch = k; value = brought b }))) p ∙ by (eqb (port_of b) p) refl where
-  same : (side : Side) (o : Option Kept) → option_map (λ (k : Kept). k.channel) (option_map (join side (record { wait = w; branch = k; value = brought b })) o) ≡ option_map (λ (k : Kept). k.channel) o
+channels_joined w k (b ∷ bs) m p = channels_joined w (suc k) bs (mapped_at m (port_of b) (join (side_of b) (record { wait = w; branch = k; value = brought b }))) p ∙ by (eqb (port_of b) p) refl where
+  same : (side : Side) (o : Option RoomView) → option_map (λ (k : RoomView). k.channel) (option_map (join side (record { wait = w; branch = k; value = brought b })) o) ≡ option_map (λ (k : RoomView). k.channel) o
   same side None = refl
   same Take (Some k) = refl
   same Put (Some k) = refl
 
-  by : (t : Bool) → eqb (port_of b) p ≡ t → option_map (λ (k : Kept). k.channel) (cond t (option_map (join (side_of b) (record { wait = w; branch = k; value = brought b })) (m (port_of b))) (m p)) ≡ option_map (λ (k : Kept). k.channel) (m p)
-  by true e = same (side_of b) (m (port_of b)) ∙ ap (λ n. option_map (λ (k : Kept). k.channel) (m n)) (eqb-true (port_of b) p e)
+  by : (t : Bool) → eqb (port_of b) p ≡ t → option_map (λ (k : RoomView). k.channel) (cond t (option_map (join (side_of b) (record { wait = w; branch = k; value = brought b })) (m (port_of b))) (m p)) ≡ option_map (λ (k : RoomView). k.channel) (m p)
+  by true e = same (side_of b) (m (port_of b)) ∙ ap (λ n. option_map (λ (k : RoomView). k.channel) (m n)) (eqb-true (port_of b) p e)
   by false e = refl
 
 -- branches stand on channels that are there
@@ -74,7 +74,7 @@ dead w es d none = by (is_live w (waits_in es)) refl where
   by true e = let y = live_there w es d e in absurd (let j : None ≡ Some (Some y.0) = sym none ∙ y.1 in cc)
 
 module _ (s n : Scene) (w : ℕ) (x : Waiting) (scene : IsScene s) (new : is_among w (scene_state s).used ≡ false) (same : n ≡ record s { rooms = n.rooms; waits = n.waits })
-    (joins : rooms_kept n.rooms ≡ join_all w 0 (map branch_view (list x.branches)) (rooms_kept s.rooms)) (entries : n.waits.entries ≡ insert_entry eqb s.waits.entries w (Some x)) where
+    (joins : rooms_kept n.rooms ≡ join_rooms w 0 (map branch_view (list x.branches)) (rooms_kept s.rooms)) (entries : n.waits.entries ≡ insert_entry eqb s.waits.entries w (Some x)) where
   new_here : get eqb s.waits w ≡ None
   new_here = by (get eqb s.waits w) refl where
     by : (o : Option (Option Waiting)) → get eqb s.waits w ≡ o → o ≡ None
@@ -90,7 +90,7 @@ module _ (s n : Scene) (w : ℕ) (x : Waiting) (scene : IsScene s) (new : is_amo
   channels_now : (scene_state n).channels ≡ (scene_state s).channels
   channels_now = λ i q. (each q) i where
     each : (q : ℕ) → option_map room_channel (room_at n q) ≡ option_map room_channel (room_at s q)
-    each q = channel_seen (room_at n q) ∙ ap (λ (m : ℕ → Option Kept). option_map (λ (k : Kept). k.channel) (m q)) joins ∙ channels_joined w 0 (map branch_view (list x.branches)) (rooms_kept s.rooms) q ∙ sym (channel_seen (room_at s q))
+    each q = channel_seen (room_at n q) ∙ ap (λ (m : ℕ → Option RoomView). option_map (λ (k : RoomView). k.channel) (m q)) joins ∙ channels_joined w 0 (map branch_view (list x.branches)) (rooms_kept s.rooms) q ∙ sym (channel_seen (room_at s q))
 
   pub joined_state : scene_state n ≡ with_wait w x.owner (map branch_view (list x.branches)) (scene_state s)
   joined_state =
@@ -100,9 +100,9 @@ module _ (s n : Scene) (w : ℕ) (x : Waiting) (scene : IsScene s) (new : is_amo
 
   pub joined_scene : HaveHomes (scene_state s).channels (map branch_view (list x.branches)) → IsDistinct eqb (keys n.waits) → IsScene n
   joined_scene homes distinct = record {
-    shown = subst (λ (m : Scene). AreShown (task_at m)) (sym same) scene.shown;
+    shown = subst (λ (m : Scene). TasksAreShown (task_at m)) (sym same) scene.shown;
     queued = subst (IsQueued (room_at n)) (sym waits_now)
         (queued_joined (room_at s) (room_at n) (waits_in s.waits.entries) (record { number = w; owner = x.owner; branches = map branch_view (list x.branches) }) (dead w s.waits.entries scene.distinct new_here)
-        (λ side p none. no_handlers (scene_state s).channels side p w 0 (map branch_view (list x.branches)) homes (ap (option_map room_channel) none)) (λ p. ap (λ (m : ℕ → Option Kept). m p) joins) scene.queued);
+        (λ side p none. no_handlers (scene_state s).channels side p w 0 (map branch_view (list x.branches)) homes (ap (option_map room_channel) none)) (λ p. ap (λ (m : ℕ → Option RoomView). m p) joins) scene.queued);
     distinct = distinct;
   }

@@ -10,13 +10,13 @@ use Rattle.ca_meaning.proofs.Single.{reached_once}
 use Rattle.ca_replay.specs.declared.main_end.MainEnd.{MainEnd}
 use Rattle.ca_replay.specs.declared.world.World.{World}
 use Rattle.ca_replay.specs.Judged.{IsRun, IsRefused}
-use Rattle.ca_replay.specs.MainEnd.{main_end}
+use Rattle.ca_replay.specs.MainEnd.{main_text_end}
 use Rattle.ca_replay.specs.Verdict.{IsFirstIllegal}
 use Rattle.ca_replay.specs.World.{IsWorld, world_program, world_state}
 use Rattle.ca_replay.proofs.RunsTo.{illegal_over as over_to, illegal_next as next_to, run_more as more_to, run_first as first_to, still_open as open_to}
 
 -- the world behind the next event
-pub run_more : (program : ProgramView) (before : List EventView) (w : World) (e : EventView) (v : World) → IsRun program before w None → IsWorld v → world_program v ≡ world_program w → Step (world_program w) (world_state w) e (world_state v) → IsRun program (before ++ e ∷ []) v (main_end e)
+pub run_more : (program : ProgramView) (before : List EventView) (w : World) (e : EventView) (v : World) → IsRun program before w None → IsWorld v → world_program v ≡ world_program w → Step (world_program w) (world_state w) e (world_state v) → IsRun program (before ++ e ∷ []) v (main_text_end e)
 run_more program before w e v run world same step = record {
   world = world;
   of_program = same ∙ run.of_program;

@@ -5,24 +5,24 @@ use Rattle.indexmap.specs.IndexMap.{get, keys}
 use Rattle.ca_term.specs.Operation.{OpView}
 use Rattle.ca_term.specs.Program.{ProgramView}
 use Rattle.ca_meaning.specs.BodyViews.{is_at_op}
-use Rattle.ca_meaning.specs.Going.{Stands, IsAtOp}
+use Rattle.ca_meaning.specs.Going.{RunsAtOperation, IsAtOp}
 use Rattle.ca_meaning.specs.State.{Task}
 use Rattle.ca_meaning.specs.Task.{body_at}
 use Rattle.ca_scene.specs.declared.scene.Scene.{Scene}
 use Rattle.ca_scene.specs.declared.task.Task.{Task as TaskCode}
-use Rattle.ca_scene.specs.Scene.{scene_state, task_at, room_at, task_view, waits_in, IsQueued, IsScene}
+use Rattle.ca_scene.specs.Scene.{scene_state, task_at, room_at, task_code_view, waits_in, IsQueued, IsScene}
 use Rattle.ca_replay.specs.Goings.{SameButTasks, StandsThere}
 use Rattle.ca_replay.specs.SceneOf.{AreTasksOf, IsSceneOf}
 
-one_task : (x : TaskCode) (y : Task) → Some (task_view x) ≡ Some y → task_view x ≡ y
+one_task : (x : TaskCode) (y : Task) → Some (task_code_view x) ≡ Some y → task_code_view x ≡ y
 one_task x y e = cc
 
 -- a task that stands at an operation in the state does so in the code
-pub stands_in : (o : Option TaskCode) (x : Task) (op : OpView) → option_map task_view o ≡ Some x → IsAtOp x.body op → StandsThere o
+pub stands_in : (o : Option TaskCode) (x : Task) (op : OpView) → option_map task_code_view o ≡ Some x → IsAtOp x.body op → StandsThere o
 stands_in None x op e a = absurd (let j : None ≡ Some x = e in cc)
 stands_in (Some y) x op e a = ap is_at_op (ap (λ (z : Task). body_at z.body) (one_task y x e) ∙ a.1)
 
-pub stands_at : (s : Scene) (t : ℕ) (op : OpView) (x : Task) → Stands (scene_state s) t op x → StandsThere (task_at s t)
+pub stands_at : (s : Scene) (t : ℕ) (op : OpView) (x : Task) → RunsAtOperation (scene_state s) t op x → StandsThere (task_at s t)
 stands_at s t op x st = stands_in (task_at s t) x op st.0 st.2
 
 pub tasks_there : (program : ProgramView) (s : Scene) → IsSceneOf program s → AreTasksOf program (task_at s)

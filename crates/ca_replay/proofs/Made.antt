@@ -19,10 +19,10 @@ use Rattle.ca_registry.specs.Registry.{registry_view}
 use Rattle.ca_scene.specs.declared.room.Room.{Room}
 use Rattle.ca_scene.specs.declared.scene.Scene.{Scene}
 use Rattle.ca_scene.specs.Admits.{admits}
-use Rattle.ca_scene.specs.Scene.{firsts, handler_view, queues_at, registry_at, room_at, room_channel, room_queue, scene_state, task_at, tasks_of, waits_in}
+use Rattle.ca_scene.specs.Scene.{firsts, handler_code_view, queues_at, scene_registry, room_at, room_channel, room_queue, scene_state, task_at, tasks_of, waits_in}
 use Rattle.ca_scene.proofs.Soundly.{admitted}
-use Rattle.ca_replay.specs.Changes.{IsUnattended, PutsChannel, PutsRegistry, Times}
-use Rattle.ca_replay.specs.Goings.{GoesOn, SameButTasks, StandsThere}
+use Rattle.ca_replay.specs.Changes.{IsUnattended, PutsChannel, PutsRegistry, OpensDeadline}
+use Rattle.ca_replay.specs.Goings.{TaskGoesOn, SameButTasks, StandsThere}
 use Rattle.ca_replay.specs.SceneOf.{IsSceneOf}
 use Rattle.ca_replay.proofs.Stepped.{stands_at, went_state}
 
@@ -49,8 +49,8 @@ module _ (s n : Scene) (p : ℕ) (r : Room) (same : n ≡ record s { rooms = n.r
   put_room_state = ap scene_state same ∙ ap (λ (c : Channels). record (scene_state s) { channels = c }) (viewed room_channel (room_at s) (room_at n) p r is)
 
   empty_queue : IsUnattended r → (side : Side) → room_queue side r ≡ []
-  empty_queue e Take = ap (map handler_view) e.0
-  empty_queue e Put = ap (map handler_view) e.1
+  empty_queue e Take = ap (map handler_code_view) e.0
+  empty_queue e Put = ap (map handler_code_view) e.1
 
   pub put_room_scene : (scene_state s).channels p ≡ None → IsUnattended r → (program : ProgramView) → IsSceneOf program s → IsSceneOf program n
   put_room_scene new empty program x = subst (IsSceneOf program) (sym same) (record {
@@ -80,8 +80,8 @@ pub no_registry_put : (z : State) (p : ℕ) → z.registries p ≡ None → Puts
 no_registry_put z p e = ap (λ (r : ℕ → Option Registry). record z { registries = r }) (nothing_put z.registries p e)
 
 module _ (s n : Scene) (same : n ≡ record s { registries = n.registries }) where
-  pub put_registry_state : (p : ℕ) (r : RegistryCode) → ((q : ℕ) → registry_at n q ≡ update eqb (registry_at s) p (Some r) q) → PutsRegistry (scene_state s) p (Some (registry_view r)) (scene_state n)
-  put_registry_state p r is = ap scene_state same ∙ ap (λ (z : ℕ → Option Registry). record (scene_state s) { registries = z }) (viewed registry_view (registry_at s) (registry_at n) p r is)
+  pub put_registry_state : (p : ℕ) (r : RegistryCode) → ((q : ℕ) → scene_registry n q ≡ update eqb (scene_registry s) p (Some r) q) → PutsRegistry (scene_state s) p (Some (registry_view r)) (scene_state n)
+  put_registry_state p r is = ap scene_state same ∙ ap (λ (z : ℕ → Option Registry). record (scene_state s) { registries = z }) (viewed registry_view (scene_registry s) (scene_registry n) p r is)
 
   pub registries_scene : (program : ProgramView) → IsSceneOf program s → IsSceneOf program n
   registries_scene program x = subst (IsSceneOf program) (sym same) (record {
@@ -98,7 +98,7 @@ module _ (s n : Scene) (same : n ≡ record s { timers = n.timers }) where
     fills = x.fills;
   })
 
-  pub timed_state : (p : ℕ) (what : WhatView) (m : Option ℕ) → n.timers.deadlines ≡ with_deadline p what (unwrap_or m s.timers.moment) s.timers.deadlines → n.timers.moment ≡ unwrap_or m s.timers.moment → Times (scene_state s) p what m (scene_state n)
+  pub timed_state : (p : ℕ) (what : WhatView) (m : Option ℕ) → n.timers.deadlines ≡ with_deadline p what (unwrap_or m s.timers.moment) s.timers.deadlines → n.timers.moment ≡ unwrap_or m s.timers.moment → OpensDeadline (scene_state s) p what m (scene_state n)
   timed_state p what m d t = ap scene_state same ∙ ap₂ (λ ds k. record (scene_state s) { deadlines = ds; now = k }) d t
 
 pub make_stands : (s : Scene) (t p : ℕ) (what : WhatView) (m : Option ℕ) → admits (scene_state s) (made t p what m) ≡ true → StandsThere (task_at s t)
@@ -125,7 +125,7 @@ module _ (s n : Scene) (t : ℕ) (went : SameButTasks s n) (p : ℕ) (what : Wha
       abbrev built : Option Channel → Option Registry → State → State
       built k o z = entered o (record z { channels = update eqb z.channels p k })
 
-      pub make_step : (program : ProgramView) (s4 : State) → c ≡ channel_made what → r ≡ registry_made what → Times s3 p what m s4 → GoesOn program (tasks_of s) t (port p) (tasks_of n) → Step program (scene_state s) (made t p what m) s4
+      pub make_step : (program : ProgramView) (s4 : State) → c ≡ channel_made what → r ≡ registry_made what → OpensDeadline s3 p what m s4 → TaskGoesOn program (tasks_of s) t (port p) (tasks_of n) → Step program (scene_state s) (made t p what m) s4
       make_step program s4 ce re times goes =
           let a = admitted (scene_state s) (made t p what m) e in (
             a.0,

@@ -20,8 +20,8 @@ use Rattle.ca_scene.specs.Admits.{admits}
 use Rattle.ca_scene.specs.Admitted.{Woken}
 use Rattle.ca_scene.specs.Scene.{scene_state, task_at, tasks_of}
 use Rattle.ca_scene.proofs.Soundly.{admitted}
-use Rattle.ca_replay.specs.Changes.{at}
-use Rattle.ca_replay.specs.Goings.{GoesOn, SameButTasks, StandsThere}
+use Rattle.ca_replay.specs.Changes.{mapped_at}
+use Rattle.ca_replay.specs.Goings.{TaskGoesOn, SameButTasks, StandsThere}
 use Rattle.ca_replay.specs.Moves.{HaveHomes, with_wait, without_wait, with_tasks}
 use Rattle.ca_replay.specs.Replies.{GoesReplied}
 use Rattle.ca_replay.specs.Rooms.{rooms_kept, by_channel, done_by, served_by}
@@ -40,7 +40,7 @@ module _ (s : Scene) (t k : ℕ) (b : BranchView) (a : Tree) (e : admits (scene_
   pub done_stands : StandsThere (task_at s t)
   done_stands = let x = admitted (scene_state s) (done t k b a) e in stands_at s t x.1 x.0 x.3
 
-  pub done_step : (program : ProgramView) (m n : Scene) → m ≡ record s { rooms = m.rooms } → ((q : ℕ) → rooms_kept m.rooms q ≡ at (rooms_kept s.rooms) (port_of b) (by_channel (done_by b)) q) → SameButTasks m n → GoesReplied program (tasks_of m) t (port_of b) a (tasks_of n)
+  pub done_step : (program : ProgramView) (m n : Scene) → m ≡ record s { rooms = m.rooms } → ((q : ℕ) → rooms_kept m.rooms q ≡ mapped_at (rooms_kept s.rooms) (port_of b) (by_channel (done_by b)) q) → SameButTasks m n → GoesReplied program (tasks_of m) t (port_of b) a (tasks_of n)
       → Step program (scene_state s) (done t k b a) (scene_state n)
   done_step program m n same is went goes =
       let x = admitted (scene_state s) (done t k b a) e in
@@ -69,7 +69,7 @@ module _ (s : Scene) (t w p : ℕ) (v : Tree) (e : admits (scene_state s) (poste
   pub post_homes : HaveHomes (scene_state s).channels (put_of p v ∷ [])
   post_homes = op_homes (scene_state s) (posting (port p) v) (admitted (scene_state s) (posted t w p v) e).1.3
 
-  pub post_step : (program : ProgramView) (m n : Scene) → scene_state m ≡ with_wait w None (put_of p v ∷ []) (scene_state s) → SameButTasks m n → GoesOn program (tasks_of m) t (bool true) (tasks_of n) → Step program (scene_state s) (posted t w p v) (scene_state n)
+  pub post_step : (program : ProgramView) (m n : Scene) → scene_state m ≡ with_wait w None (put_of p v ∷ []) (scene_state s) → SameButTasks m n → TaskGoesOn program (tasks_of m) t (bool true) (tasks_of n) → Step program (scene_state s) (posted t w p v) (scene_state n)
   post_step program m n state went goes =
       let x = admitted (scene_state s) (posted t w p v) e in (
         x.0,
@@ -77,7 +77,7 @@ module _ (s : Scene) (t w p : ℕ) (v : Tree) (e : admits (scene_state s) (poste
         x.1,
         x.2,
         x.3,
-        subst (λ (f : Tasks). GoesOn program f t (bool true) (tasks_of n)) (ap (λ (z : State). z.tasks) state) goes x.0 x.1.0,
+        subst (λ (f : Tasks). TaskGoesOn program f t (bool true) (tasks_of n)) (ap (λ (z : State). z.tasks) state) goes x.0 x.1.0,
         ap scene_state went ∙ ap (λ (z : State). record z { tasks = tasks_of n }) state,
       )
 
@@ -136,7 +136,7 @@ module _ (s : Scene) (w k : ℕ) (side : Side) (p : ℕ) (v : Tree) (e : admits 
     by None z = tt
     by (Some i) z = z
 
-  pub settle_step : (program : ProgramView) (m n : Scene) → m ≡ record s { rooms = m.rooms } → ((q : ℕ) → rooms_kept m.rooms q ≡ at (rooms_kept s.rooms) p (by_channel (served_by side v)) q)
+  pub settle_step : (program : ProgramView) (m n : Scene) → m ≡ record s { rooms = m.rooms } → ((q : ℕ) → rooms_kept m.rooms q ≡ mapped_at (rooms_kept s.rooms) p (by_channel (served_by side v)) q)
       → Wakes program (owner_of w (scene_state m).waits) (tasks_of m) w p (told side v) (tasks_of n) → scene_state n ≡ with_tasks (tasks_of n) (without_wait w (scene_state m)) → Step program (scene_state s) (settled w k side p v) (scene_state n)
   settle_step program m n same is wakes state =
       let x = admitted (scene_state s) (settled w k side p v) e in (

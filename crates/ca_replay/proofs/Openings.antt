@@ -13,7 +13,7 @@ use Rattle.ca_registry.specs.Registry.{registry_view}
 use Rattle.ca_scene.specs.declared.scene.Scene.{Scene}
 use Rattle.ca_scene.specs.declared.task.Mode.{Mode as ModeCode}
 use Rattle.ca_scene.specs.declared.task.Task.{Task as TaskCode}
-use Rattle.ca_scene.specs.Scene.{scene_state, task_at, tasks_of, task_body, task_view, mode_view, room_at, room_channel, registry_at, waits_in, used_from, IsScene, IsShown}
+use Rattle.ca_scene.specs.Scene.{scene_state, task_at, tasks_of, task_body, task_code_view, mode_view, room_at, room_channel, scene_registry, waits_in, used_from, IsScene, IsStandingShown}
 use Rattle.ca_replay.specs.Goings.{IsRested}
 use Rattle.ca_replay.specs.SceneOf.{IsSceneOf, IsKnown, AreKnown, WaitsAt, IsFilling, AreFilling}
 
@@ -31,10 +31,10 @@ only_one B s x tasks b t y e = by (eqb 0 t) (sym (tasks t) ∙ e) where
   by false e = absurd (let j : None ≡ Some y = e in cc)
 
 -- with one task more a scene stays one
-pub first_scene : (s n : Scene) (x : TaskCode) → IsScene s → Updates nat_eq s.tasks n.tasks 0 (Some x) → IsShown x → IsScene (record s { tasks = n.tasks })
+pub first_scene : (s n : Scene) (x : TaskCode) → IsScene s → Updates nat_eq s.tasks n.tasks 0 (Some x) → IsStandingShown x → IsScene (record s { tasks = n.tasks })
 first_scene s n x scene u told = record { shown = λ t y e. by t y (nat_eq 0 t) (sym (u.0 t) ∙ e); queued = scene.queued; distinct = scene.distinct } where
-  by : (t : ℕ) (y : TaskCode) (c : Bool) → cond c (Some x) (task_at s t) ≡ Some y → IsShown y
-  by t y true e = subst IsShown (let j : x ≡ y = cc in j) told
+  by : (t : ℕ) (y : TaskCode) (c : Bool) → cond c (Some x) (task_at s t) ≡ Some y → IsStandingShown y
+  by t y true e = subst IsStandingShown (let j : x ≡ y = cc in j) told
   by t y false e = scene.shown t y e
 
 module _ (P : ProgramView) (s : Scene) (x : TaskCode) (tasks : (t : ℕ) → task_at s t ≡ update eqb (λ q. None) 0 (Some x) t) where
@@ -44,24 +44,24 @@ module _ (P : ProgramView) (s : Scene) (x : TaskCode) (tasks : (t : ℕ) → tas
   pub fills_first : x.mode ≡ ModeCode.Running → AreFilling (task_at s)
   fills_first m = only_one IsFilling s x tasks (running_fills x m)
 
-  first_task : x.mode ≡ ModeCode.Running → x.result ≡ None → task_view x ≡ runs None (task_body x.body)
+  first_task : x.mode ≡ ModeCode.Running → x.result ≡ None → task_code_view x ≡ runs None (task_body x.body)
   first_task m r = ap₂ (λ (a : Option ℕ) (b : Mode). record { result = a; body = task_body x.body; mode = b }) (ap (option_map port_number) r) (ap mode_view m)
 
   one_task : x.mode ≡ ModeCode.Running → x.result ≡ None → tasks_of s ≡ (opening_state (task_body x.body)).tasks
   one_task m r = λ i q. (each q) i where
     each : (q : ℕ) → tasks_of s q ≡ (opening_state (task_body x.body)).tasks q
-    each q = ap (option_map task_view) (tasks q) ∙ by (eqb 0 q) where
-      by : (b : Bool) → option_map task_view (cond b (Some x) None) ≡ cond b (Some (runs None (task_body x.body))) None
+    each q = ap (option_map task_code_view) (tasks q) ∙ by (eqb 0 q) where
+      by : (b : Bool) → option_map task_code_view (cond b (Some x) None) ≡ cond b (Some (runs None (task_body x.body))) None
       by true = ap (λ (z : Task). Some z) (first_task m r)
       by false = refl
 
   no_channels : ((p : ℕ) → room_at s p ≡ None) → (scene_state s).channels ≡ (λ n. None)
   no_channels rooms = λ i q. (ap (option_map room_channel) (rooms q)) i
 
-  no_registries : ((p : ℕ) → registry_at s p ≡ None) → (scene_state s).registries ≡ (λ n. None)
+  no_registries : ((p : ℕ) → scene_registry s p ≡ None) → (scene_state s).registries ≡ (λ n. None)
   no_registries rs = λ i q. (ap (option_map registry_view) (rs q)) i
 
-  pub opens : IsRested P (script (new_body P.main)) x → x.result ≡ None → ((p : ℕ) → room_at s p ≡ None) → ((p : ℕ) → registry_at s p ≡ None) → s.waits.entries ≡ [] → s.timers.deadlines ≡ [] → s.timers.moment ≡ 0 → Opening P (scene_state s)
+  pub opens : IsRested P (script (new_body P.main)) x → x.result ≡ None → ((p : ℕ) → room_at s p ≡ None) → ((p : ℕ) → scene_registry s p ≡ None) → s.waits.entries ≡ [] → s.timers.deadlines ≡ [] → s.timers.moment ≡ 0 → Opening P (scene_state s)
   opens rested r rooms registries waits deadlines moment = (
     task_body x.body,
     rested.rests,
@@ -77,6 +77,6 @@ module _ (P : ProgramView) (x : TaskCode) where
   opened_scene rested (Ok s) scene tasks = record { scene = scene; known = known_first P s x tasks rested.known; fills = fills_first P s x tasks rested.runs }
   opened_scene rested (Err e) scene tasks = tt
 
-  pub opened_opens : IsRested P (script (new_body P.main)) x → x.result ≡ None → (r : Result Scene OutOfMemory) → IfOk r (λ s. (t : ℕ) → task_at s t ≡ update eqb (λ q. None) 0 (Some x) t) → IfOk r (λ s. (p : ℕ) → room_at s p ≡ None) → IfOk r (λ s. (p : ℕ) → registry_at s p ≡ None) → IfOk r (λ s. s.waits.entries ≡ []) → IfOk r (λ s. s.timers.deadlines ≡ []) → IfOk r (λ s. s.timers.moment ≡ 0) → IfOk r (λ s. Opening P (scene_state s))
+  pub opened_opens : IsRested P (script (new_body P.main)) x → x.result ≡ None → (r : Result Scene OutOfMemory) → IfOk r (λ s. (t : ℕ) → task_at s t ≡ update eqb (λ q. None) 0 (Some x) t) → IfOk r (λ s. (p : ℕ) → room_at s p ≡ None) → IfOk r (λ s. (p : ℕ) → scene_registry s p ≡ None) → IfOk r (λ s. s.waits.entries ≡ []) → IfOk r (λ s. s.timers.deadlines ≡ []) → IfOk r (λ s. s.timers.moment ≡ 0) → IfOk r (λ s. Opening P (scene_state s))
   opened_opens rested result (Ok s) tasks rooms registries waits deadlines moment = opens P s x tasks rested result rooms registries waits deadlines moment
   opened_opens rested result (Err e) tasks rooms registries waits deadlines moment = tt

@@ -10,9 +10,9 @@ use Rattle.ca_meaning.specs.Wait.{is_among}
 use Rattle.ca_scene.specs.declared.scene.Scene.{Scene}
 use Rattle.ca_scene.specs.declared.task.Task.{Task as TaskCode}
 use Rattle.ca_scene.specs.Admits.{admits}
-use Rattle.ca_scene.specs.Scene.{scene_state, task_at, task_view, tasks_of, IsShown, IsScene}
+use Rattle.ca_scene.specs.Scene.{scene_state, task_at, task_code_view, tasks_of, IsStandingShown, IsScene}
 use Rattle.ca_scene.proofs.Soundly.{admitted}
-use Rattle.ca_replay.specs.Changes.{at}
+use Rattle.ca_replay.specs.Changes.{mapped_at}
 use Rattle.ca_replay.specs.Goings.{SameButTasks, StandsThere}
 use Rattle.ca_replay.specs.Moves.{HaveHomes, with_wait, waiting_on}
 use Rattle.ca_replay.specs.SceneOf.{IsKnown, IsFilling, AreTasksOf, IsSceneOf}
@@ -20,22 +20,22 @@ use Rattle.ca_replay.proofs.JoinedWaits.{op_homes}
 use Rattle.ca_replay.proofs.Kept.{scene_went, stands_in, tasks_kept}
 
 abbrev as_tasks : (ℕ → Option TaskCode) → Tasks
-as_tasks f t = option_map task_view (f t)
+as_tasks f t = option_map task_code_view (f t)
 
 -- a task waits
-module _ (w : ℕ) (old new : ℕ → Option TaskCode) (t : ℕ) (is : (q : ℕ) → new q ≡ at old t (waiting_on w) q) where
-  one_task : (y : TaskCode) (x : Task) → Some (task_view y) ≡ Some x → task_view y ≡ x
+module _ (w : ℕ) (old new : ℕ → Option TaskCode) (t : ℕ) (is : (q : ℕ) → new q ≡ mapped_at old t (waiting_on w) q) where
+  one_task : (y : TaskCode) (x : Task) → Some (task_code_view y) ≡ Some x → task_code_view y ≡ x
   one_task y x e = cc
 
-  parked_task : (o : Option TaskCode) (x : Task) → option_map task_view o ≡ Some x → option_map task_view (option_map (waiting_on w) o) ≡ Some (record x { mode = waiting w })
+  parked_task : (o : Option TaskCode) (x : Task) → option_map task_code_view o ≡ Some x → option_map task_code_view (option_map (waiting_on w) o) ≡ Some (record x { mode = waiting w })
   parked_task None x e = absurd (let j : None ≡ Some x = e in cc)
   parked_task (Some y) x e = ap (λ (z : Task). Some (record z { mode = waiting w })) (one_task y x e)
 
   pub parked_tasks : (x : Task) → as_tasks old t ≡ Some x → as_tasks new ≡ update eqb (as_tasks old) t (Some (record x { mode = waiting w }))
   parked_tasks x e = λ i q. (each q) i where
     each : (q : ℕ) → as_tasks new q ≡ update eqb (as_tasks old) t (Some (record x { mode = waiting w })) q
-    each q = ap (option_map task_view) (is q) ∙ by (eqb t q) where
-      by : (b : Bool) → option_map task_view (cond b (option_map (waiting_on w) (old t)) (old q)) ≡ cond b (Some (record x { mode = waiting w })) (as_tasks old q)
+    each q = ap (option_map task_code_view) (is q) ∙ by (eqb t q) where
+      by : (b : Bool) → option_map task_code_view (cond b (option_map (waiting_on w) (old t)) (old q)) ≡ cond b (Some (record x { mode = waiting w })) (as_tasks old q)
       by true = parked_task (old t) x e
       by false = refl
 
@@ -51,7 +51,7 @@ module _ (w : ℕ) (old new : ℕ → Option TaskCode) (t : ℕ) (is : (q : ℕ)
 
   pub parked_all : (program : ProgramView) → StandsThere (old t) → AreTasksOf program old → AreTasksOf program new
   parked_all program stands all = record {
-    shown = parked_each IsShown (λ x at s. s) all.shown;
+    shown = parked_each IsStandingShown (λ x at s. s) all.shown;
     known = parked_each (λ (x : TaskCode). IsKnown program x.body) (λ x at s. s) all.known;
     fills = parked_each IsFilling (λ x at s. subst StandsThere at stands) all.fills;
   }
@@ -63,7 +63,7 @@ module _ (s m n : Scene) (t w : ℕ) (bs : List BranchView) (e : admits (scene_s
   pub park_homes : HaveHomes (scene_state s).channels bs
   park_homes = let a = admitted (scene_state s) (parked t w bs) e in subst (HaveHomes (scene_state s).channels) a.4 (op_homes (scene_state s) a.1 a.2.3)
 
-  module _ (tasks : m.tasks ≡ s.tasks) (went : SameButTasks m n) (is : (q : ℕ) → task_at n q ≡ at (task_at m) t (waiting_on w) q) where
+  module _ (tasks : m.tasks ≡ s.tasks) (went : SameButTasks m n) (is : (q : ℕ) → task_at n q ≡ mapped_at (task_at m) t (waiting_on w) q) where
     pub park_step : (program : ProgramView) → scene_state m ≡ with_wait w (Some t) bs (scene_state s) → Step program (scene_state s) (parked t w bs) (scene_state n)
     park_step program state =
         let a = admitted (scene_state s) (parked t w bs) e in

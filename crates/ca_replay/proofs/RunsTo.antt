@@ -4,13 +4,13 @@ use Rattle.std.specs.Prelude.{is_some}
 use Rattle.std.proofs.lemmas.List.{take-append-drop, take-append-le}
 use Rattle.ca_term.specs.Event.{EventView}
 use Rattle.ca_term.specs.Program.{ProgramView}
-use Rattle.ca_meaning.specs.Legal.{GoesOn, Reaches, Legal}
+use Rattle.ca_meaning.specs.Legal.{EndsLast, Reaches, Legal}
 use Rattle.ca_meaning.specs.State.{State, Opening}
 use Rattle.ca_meaning.specs.Steps.{Step, Steps}
 use Rattle.ca_meaning.proofs.ChannelLaws.{steps_split}
 use Rattle.ca_meaning.proofs.Single.{reached_once}
 use Rattle.ca_replay.specs.declared.main_end.MainEnd.{MainEnd}
-use Rattle.ca_replay.specs.MainEnd.{main_end}
+use Rattle.ca_replay.specs.MainEnd.{main_text_end}
 use Rattle.ca_replay.specs.RunTo.{IsRunTo}
 use Rattle.ca_replay.specs.Verdict.{IsFirstIllegal}
 use Rattle.ca_replay.proofs.LastEnds.{last_is, goes_more, over_stops, goes_first}
@@ -22,7 +22,7 @@ steps_more program (a ∷ es) e s m f (n, x, y) z = (n, x, steps_more program es
 reaches_more : (program : ProgramView) (es : List EventView) (e : EventView) (m f : State) → Reaches program es m → Step program m e f → Reaches program (es ++ e ∷ []) f
 reaches_more program es e m f r x = record { opening = r.opening; opens = r.opens; steps = steps_more program es e r.opening m f r.steps x }
 
-legal_first : (program : ProgramView) (xs ys : List EventView) (s : State) → Reaches program (xs ++ ys) s → GoesOn (xs ++ ys) → Legal program xs
+legal_first : (program : ProgramView) (xs ys : List EventView) (s : State) → Reaches program (xs ++ ys) s → EndsLast (xs ++ ys) → Legal program xs
 legal_first program xs ys s r g =
     let m = steps_split program xs ys r.opening s r.steps in
     record { state = m.0; reaches = record { opening = r.opening; opens = r.opens; steps = m.1 }; goes_on = goes_first xs ys g }
@@ -51,7 +51,7 @@ module _ (program : ProgramView) (before : List EventView) (s : State) where
   each_legal end run rest i le =
       let whole : take i before ++ drop i before ≡ before = take-append-drop i before in
       let short : Legal program (take i before) =
-      legal_first program (take i before) (drop i before) s (subst (λ es. Reaches program es s) (sym whole) run.reaches) (subst GoesOn (sym whole) run.goes_on) in
+      legal_first program (take i before) (drop i before) s (subst (λ es. Reaches program es s) (sym whole) run.reaches) (subst EndsLast (sym whole) run.goes_on) in
       subst (Legal program) (sym (take-append-le i before rest le)) short
 
   module _ (e : EventView) (rest : List EventView) where
@@ -69,7 +69,7 @@ module _ (program : ProgramView) (before : List EventView) (s : State) where
     illegal_here run none = first_illegal None run (stops_here program before e s run.reaches none)
 
   -- the state behind the next event
-  pub run_more : (e : EventView) (f : State) → IsRunTo program before s None → Step program s e f → IsRunTo program (before ++ e ∷ []) f (main_end e)
+  pub run_more : (e : EventView) (f : State) → IsRunTo program before s None → Step program s e f → IsRunTo program (before ++ e ∷ []) f (main_text_end e)
   run_more e f run step = record {
     reaches = reaches_more program before e s f run.reaches step;
     goes_on = goes_more before e (sym run.ends) run.goes_on;

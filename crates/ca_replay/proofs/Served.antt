@@ -1,7 +1,7 @@
 -- A channel that keeps or gives a value.
 use Rattle.std.proofs.Common.{◌≡◌, ℕ, List, [], refl, sym, ap, ◌∙◌, subst, Option, Some, None, option_map, Bool, true, false, cond, eqb, eqb-true}
 use Rattle.std.specs.Map.{update}
-use Rattle.ca_value.specs.Buffer.{Policy, no_buffer, fixed_buffer, dropping_buffer, sliding_buffer, promise_buffer, give}
+use Rattle.ca_value.specs.Buffer.{Policy, no_buffer, fixed_buffer, dropping_buffer, sliding_buffer, promise_buffer, give_first}
 use Rattle.ca_value.specs.Tree.{Tree}
 use Rattle.ca_term.specs.declared.event.Side.{Side}
 use Rattle.ca_term.specs.declared.event.Side.TheVariants.{Take, Put}
@@ -15,14 +15,14 @@ use Rattle.ca_meaning.proofs.Rows.{TakeDone, gave, nothing_left, take_done, PutD
 use Rattle.ca_scene.specs.declared.room.Room.{Room}
 use Rattle.ca_scene.specs.declared.scene.Scene.{Scene}
 use Rattle.ca_scene.specs.Scene.{scene_state, room_at, room_channel, waits_in, IsQueued}
-use Rattle.ca_replay.specs.Changes.{at}
-use Rattle.ca_replay.specs.Rooms.{Kept, kept_view, rooms_kept, by_channel, accepting, done_by, served_by}
+use Rattle.ca_replay.specs.Changes.{mapped_at}
+use Rattle.ca_replay.specs.Rooms.{RoomView, room_view, rooms_kept, by_channel, accepting, done_by, served_by}
 use Rattle.ca_replay.specs.SceneOf.{IsSceneOf}
 use Rattle.ca_replay.proofs.Kept.{scene_there, tasks_there}
 use Rattle.ca_replay.proofs.Leavings.{queue_in}
 use Rattle.ca_replay.proofs.TakenOut.{queue_seen, channel_seen}
 
-give_none : (policy : Policy) → give policy [] ≡ []
+give_none : (policy : Policy) → give_first policy [] ≡ []
 give_none no_buffer = refl
 give_none fixed_buffer = refl
 give_none dropping_buffer = refl
@@ -31,7 +31,7 @@ give_none promise_buffer = refl
 
 -- a channel that holds nothing gives nothing
 gave_none : (c : Channel) → c.held ≡ [] → giving c ≡ c
-gave_none c e = ap (λ (l : List Tree). record c { held = l }) (ap (give c.policy) e ∙ give_none c.policy ∙ sym e)
+gave_none c e = ap (λ (l : List Tree). record c { held = l }) (ap (give_first c.policy) e ∙ give_none c.policy ∙ sym e)
 
 -- what a branch that is done at once makes of its channel
 pub done_so : (c after : Channel) (taker putter : Option Handler) (b : BranchView) (a : Tree) → row_on c taker putter b ≡ completes a after → done_by b c ≡ after
@@ -53,29 +53,29 @@ served_so c after taker putter side h v e = by (settle_does c taker putter side 
   by (served sd t vs is d) = ap (λ (x : Side). served_by x v c) sd ∙ sym d
   by (served_nil sd t none cl is d) = ap (λ (x : Side). served_by x v c) sd ∙ gave_none c none ∙ sym d
 
-pub put_there : (channels : Channels) (p : ℕ) (f : Channel → Channel) (c after : Channel) → channels p ≡ Some c → f c ≡ after → at channels p f ≡ update eqb channels p (Some after)
+pub put_there : (channels : Channels) (p : ℕ) (f : Channel → Channel) (c after : Channel) → channels p ≡ Some c → f c ≡ after → mapped_at channels p f ≡ update eqb channels p (Some after)
 put_there channels p f c after there e = ap (λ (o : Option Channel). update eqb channels p o) (ap (option_map f) there ∙ ap (λ (d : Channel). Some d) e)
 
 -- one channel changes, and no queue
-module _ (s m : Scene) (p : ℕ) (f : Channel → Channel) (same : m ≡ record s { rooms = m.rooms }) (is : (q : ℕ) → rooms_kept m.rooms q ≡ at (rooms_kept s.rooms) p (by_channel f) q) where
-  pub changed_channels : (scene_state m).channels ≡ at (scene_state s).channels p f
+module _ (s m : Scene) (p : ℕ) (f : Channel → Channel) (same : m ≡ record s { rooms = m.rooms }) (is : (q : ℕ) → rooms_kept m.rooms q ≡ mapped_at (rooms_kept s.rooms) p (by_channel f) q) where
+  pub changed_channels : (scene_state m).channels ≡ mapped_at (scene_state s).channels p f
   changed_channels = λ i q. (each q) i where
-    each : (q : ℕ) → option_map room_channel (room_at m q) ≡ at (scene_state s).channels p f q
-    each q = channel_seen (room_at m q) ∙ ap (option_map (λ (k : Kept). k.channel)) (is q) ∙ by (eqb p q) where
-      one : (o : Option Room) → option_map (λ (k : Kept). k.channel) (option_map (by_channel f) (option_map kept_view o)) ≡ option_map f (option_map room_channel o)
+    each : (q : ℕ) → option_map room_channel (room_at m q) ≡ mapped_at (scene_state s).channels p f q
+    each q = channel_seen (room_at m q) ∙ ap (option_map (λ (k : RoomView). k.channel)) (is q) ∙ by (eqb p q) where
+      one : (o : Option Room) → option_map (λ (k : RoomView). k.channel) (option_map (by_channel f) (option_map room_view o)) ≡ option_map f (option_map room_channel o)
       one None = refl
       one (Some r) = refl
 
-      by : (b : Bool) → option_map (λ (k : Kept). k.channel) (cond b (option_map (by_channel f) (rooms_kept s.rooms p)) (rooms_kept s.rooms q)) ≡ cond b (option_map f (option_map room_channel (room_at s p))) (option_map room_channel (room_at s q))
+      by : (b : Bool) → option_map (λ (k : RoomView). k.channel) (cond b (option_map (by_channel f) (rooms_kept s.rooms p)) (rooms_kept s.rooms q)) ≡ cond b (option_map f (option_map room_channel (room_at s p))) (option_map room_channel (room_at s q))
       by true = one (room_at s p)
       by false = sym (channel_seen (room_at s q))
 
-  pub changed_state : scene_state m ≡ record (scene_state s) { channels = at (scene_state s).channels p f }
+  pub changed_state : scene_state m ≡ record (scene_state s) { channels = mapped_at (scene_state s).channels p f }
   changed_state = ap scene_state same ∙ ap (λ (c : Channels). record (scene_state s) { channels = c }) changed_channels
 
   changed_queued : (ws : List Wait) → IsQueued (room_at s) ws → IsQueued (room_at m) ws
   changed_queued ws queued side q = queue_seen side (room_at m q) ∙ ap (queue_in side) (is q) ∙ by (eqb p q) refl ∙ sym (queue_seen side (room_at s q)) ∙ queued side q where
-    one : (side : Side) (o : Option Kept) → queue_in side (option_map (by_channel f) o) ≡ queue_in side o
+    one : (side : Side) (o : Option RoomView) → queue_in side (option_map (by_channel f) o) ≡ queue_in side o
     one side None = refl
     one Take (Some k) = refl
     one Put (Some k) = refl

@@ -10,7 +10,7 @@ use Rattle.ca_term.specs.Event.{printed, closed, defaulted, over as is_over, por
 use Rattle.ca_term.specs.Operation.{OpView, printing, closing}
 use Rattle.ca_term.specs.Program.{ProgramView}
 use Rattle.ca_meaning.specs.ChannelSteps.{with_default}
-use Rattle.ca_meaning.specs.Going.{Stands}
+use Rattle.ca_meaning.specs.Going.{RunsAtOperation}
 use Rattle.ca_meaning.specs.State.{State, Task, over, shut_at, shut_result}
 use Rattle.ca_meaning.specs.Steps.{Step}
 use Rattle.ca_scene.specs.declared.scene.Scene.{Scene}
@@ -18,11 +18,11 @@ use Rattle.ca_scene.specs.Admits.{admits}
 use Rattle.ca_scene.specs.Scene.{scene_state, task_at, tasks_of}
 use Rattle.ca_scene.proofs.Soundly.{admitted}
 use Rattle.ca_replay.specs.Changes.{Finishes, Shuts, ShutsResult, finished_task}
-use Rattle.ca_replay.specs.Goings.{GoesOn, SameButTasks, StandsThere}
+use Rattle.ca_replay.specs.Goings.{TaskGoesOn, SameButTasks, StandsThere}
 use Rattle.ca_replay.proofs.Went.{stands_there}
 
 -- the task of the state stands there in the code
-pub stands_at : (s : Scene) (t : ℕ) (op : OpView) (x : Task) → Stands (scene_state s) t op x → StandsThere (task_at s t)
+pub stands_at : (s : Scene) (t : ℕ) (op : OpView) (x : Task) → RunsAtOperation (scene_state s) t op x → StandsThere (task_at s t)
 stands_at s t op x st = stands_there (task_at s) t x op st.0 st.2
 
 module _ (s : Scene) (t : ℕ) where
@@ -40,17 +40,17 @@ pub went_state : (s n : Scene) → SameButTasks s n → scene_state n ≡ record
 went_state s n same = ap scene_state same
 
 module _ (program : ProgramView) (s n : Scene) (t : ℕ) (same : SameButTasks s n) where
-  pub print_step : (line : List ℕ) → admits (scene_state s) (printed t line) ≡ true → GoesOn program (tasks_of s) t nil (tasks_of n) → Step program (scene_state s) (printed t line) (scene_state n)
+  pub print_step : (line : List ℕ) → admits (scene_state s) (printed t line) ≡ true → TaskGoesOn program (tasks_of s) t nil (tasks_of n) → Step program (scene_state s) (printed t line) (scene_state n)
   print_step line e goes =
       let a = admitted (scene_state s) (printed t line) e in
       (a.0, tasks_of n, a.1, goes a.0 a.1.0, went_state s n same)
 
-  pub default_step : (v : Tree) → admits (scene_state s) (defaulted t v) ≡ true → GoesOn program (tasks_of s) t (with_default v) (tasks_of n) → Step program (scene_state s) (defaulted t v) (scene_state n)
+  pub default_step : (v : Tree) → admits (scene_state s) (defaulted t v) ≡ true → TaskGoesOn program (tasks_of s) t (with_default v) (tasks_of n) → Step program (scene_state s) (defaulted t v) (scene_state n)
   default_step v e goes =
       let a = admitted (scene_state s) (defaulted t v) e in
       (a.0, a.1, tasks_of n, a.2, a.3, a.4, goes a.0 a.2.0, went_state s n same)
 
-  pub close_step : (p : ℕ) (s2 : State) → admits (scene_state s) (closed t p) ≡ true → GoesOn program (tasks_of s) t nil (tasks_of n) → Shuts (scene_state n) p s2 → Step program (scene_state s) (closed t p) s2
+  pub close_step : (p : ℕ) (s2 : State) → admits (scene_state s) (closed t p) ≡ true → TaskGoesOn program (tasks_of s) t nil (tasks_of n) → Shuts (scene_state n) p s2 → Step program (scene_state s) (closed t p) s2
   close_step p s2 e goes shuts =
       let a = admitted (scene_state s) (closed t p) e in
       (a.0, tasks_of n, a.1, goes a.0 a.1.0, shuts ∙ ap (λ (z : State). record z { channels = shut_at p z.channels }) (went_state s n same))

@@ -14,15 +14,15 @@ use Rattle.ca_scene.specs.declared.room.Room.{Room}
 use Rattle.ca_meaning.specs.State.{Channels}
 use Rattle.ca_scene.specs.declared.scene.Scene.{Scene}
 use Rattle.ca_scene.specs.declared.scene.Waiting.{Waiting}
-use Rattle.ca_replay.specs.Changes.{at}
+use Rattle.ca_replay.specs.Changes.{mapped_at}
 use Rattle.ca_replay.specs.Moves.{without_wait}
-use Rattle.ca_replay.specs.Rooms.{Kept, others, kept_view, rooms_kept, leave, leave_all}
-use Rattle.ca_scene.specs.Scene.{first_of, firsts, queues_at, room_at, room_channel, scene_state, task_at, wait_or, waits_in, used_from, owner_in, AreShown, IsQueued, IsScene}
+use Rattle.ca_replay.specs.Rooms.{RoomView, others, room_view, rooms_kept, leave, leave_all}
+use Rattle.ca_scene.specs.Scene.{first_handlers, firsts, queues_at, room_at, room_channel, scene_state, task_at, wait_or, waits_in, used_from, owner_in, TasksAreShown, IsQueued, IsScene}
 use Rattle.ca_scene.proofs.Queues.{firsts_without, head_number, of_wait}
 use Rattle.ca_replay.proofs.Leavings.{IsOnce, queue_in, all_left}
 use Rattle.ca_scene.proofs.Waitings.{tail_distinct, head_absent, owner_there, used_gone, waits_gone}
 
-pub queue_seen : (side : Side) (o : Option Room) → queues_at side o ≡ queue_in side (option_map kept_view o)
+pub queue_seen : (side : Side) (o : Option Room) → queues_at side o ≡ queue_in side (option_map room_view o)
 queue_seen Take None = refl
 queue_seen Put None = refl
 queue_seen Take (Some r) = refl
@@ -42,19 +42,19 @@ HasBranches w bs x = x.number ≡ w → x.branches ≡ bs
 unmoved : (side : Side) (p w : ℕ) (bs : List BranchView) (ws : List Wait) → joins side p bs ≡ false → Each (HasBranches w bs) ws → filter (others w) (firsts side p ws) ≡ firsts side p ws
 unmoved side p w bs [] j a = refl
 unmoved side p w bs (x ∷ xs) j a =
-    filter-append (others w) (first_of (handlers side p x.number 0 x.branches)) (firsts side p xs)
+    filter-append (others w) (first_handlers (handlers side p x.number 0 x.branches)) (firsts side p xs)
     ∙ ap₂ (λ (l m : List Handler). l ++ m) (by (eqb w x.number) refl) (unmoved side p w bs xs j a.1) where
-      by : (b : Bool) → eqb w x.number ≡ b → filter (others w) (first_of (handlers side p x.number 0 x.branches)) ≡ first_of (handlers side p x.number 0 x.branches)
-      by true e = let none : handlers side p x.number 0 x.branches ≡ [] = ap (handlers side p x.number 0) (a.0 (sym (eqb-true w x.number e))) ∙ none_on side p x.number 0 bs j in ap (λ l. filter (others w) (first_of l)) none ∙ sym (ap first_of none)
+      by : (b : Bool) → eqb w x.number ≡ b → filter (others w) (first_handlers (handlers side p x.number 0 x.branches)) ≡ first_handlers (handlers side p x.number 0 x.branches)
+      by true e = let none : handlers side p x.number 0 x.branches ≡ [] = ap (handlers side p x.number 0) (a.0 (sym (eqb-true w x.number e))) ∙ none_on side p x.number 0 bs j in ap (λ l. filter (others w) (first_handlers l)) none ∙ sym (ap first_handlers none)
       by false e = of_wait side p x.number 0 x.branches w false e
 
 pub queued_without : (old new : ℕ → Option Room) (ws : List Wait) (w : ℕ) (bs : List BranchView) → Each (HasBranches w bs) ws → ((side : Side) (p : ℕ) → IsOnce w (firsts side p ws))
-    → ((p : ℕ) → option_map kept_view (new p) ≡ leave_all w bs (λ q. option_map kept_view (old q)) p) → IsQueued old ws → IsQueued new (without w ws)
+    → ((p : ℕ) → option_map room_view (new p) ≡ leave_all w bs (λ q. option_map room_view (old q)) p) → IsQueued old ws → IsQueued new (without w ws)
 queued_without old new ws w bs each once leaves queued side p =
-    queue_seen side (new p) ∙ ap (queue_in side) (leaves p) ∙ all_left side p w bs (λ q. option_map kept_view (old q)) (subst (IsOnce w) (sym before) (once side p))
+    queue_seen side (new p) ∙ ap (queue_in side) (leaves p) ∙ all_left side p w bs (λ q. option_map room_view (old q)) (subst (IsOnce w) (sym before) (once side p))
     ∙ ap (λ q. cond (joins side p bs) (filter (others w) q) q) before
     ∙ by (joins side p bs) refl ∙ sym (firsts_without side p w ws) where
-      before : queue_in side (option_map kept_view (old p)) ≡ firsts side p ws
+      before : queue_in side (option_map room_view (old p)) ≡ firsts side p ws
       before = sym (queue_seen side (old p)) ∙ queued side p
 
       by : (b : Bool) → joins side p bs ≡ b → cond b (filter (others w) (firsts side p ws)) (firsts side p ws) ≡ filter (others w) (firsts side p ws)
@@ -103,16 +103,16 @@ live_there w (x ∷ es) d e = by x.1 (eqb w x.0) refl refl e (λ f. live_there w
   by (Some z) false at is e more = found (Some z) at false is (more (ap (λ c. cond c true (is_live w (waits_in es))) (sym is) ∙ e))
 
 -- the channels' own parts stay where only queues change
-pub channels_left : (w : ℕ) (bs : List BranchView) (m : ℕ → Option Kept) (p : ℕ) → option_map (λ (k : Kept). k.channel) (leave_all w bs m p) ≡ option_map (λ (k : Kept). k.channel) (m p)
+pub channels_left : (w : ℕ) (bs : List BranchView) (m : ℕ → Option RoomView) (p : ℕ) → option_map (λ (k : RoomView). k.channel) (leave_all w bs m p) ≡ option_map (λ (k : RoomView). k.channel) (m p)
 channels_left w [] m p = refl
-channels_left w (b ∷ bs) m p = channels_left w bs (at m (port_of b) (leave (side_of b) w)) p ∙ by (eqb (port_of b) p) refl where
-  left : (side : Side) (o : Option Kept) → option_map (λ (k : Kept). k.channel) (option_map (leave side w) o) ≡ option_map (λ (k : Kept). k.channel) o
+channels_left w (b ∷ bs) m p = channels_left w bs (mapped_at m (port_of b) (leave (side_of b) w)) p ∙ by (eqb (port_of b) p) refl where
+  left : (side : Side) (o : Option RoomView) → option_map (λ (k : RoomView). k.channel) (option_map (leave side w) o) ≡ option_map (λ (k : RoomView). k.channel) o
   left side None = refl
   left Take (Some k) = refl
   left Put (Some k) = refl
 
-  by : (t : Bool) → eqb (port_of b) p ≡ t → option_map (λ (k : Kept). k.channel) (cond t (option_map (leave (side_of b) w) (m (port_of b))) (m p)) ≡ option_map (λ (k : Kept). k.channel) (m p)
-  by true e = left (side_of b) (m (port_of b)) ∙ ap (λ n. option_map (λ (k : Kept). k.channel) (m n)) (eqb-true (port_of b) p e)
+  by : (t : Bool) → eqb (port_of b) p ≡ t → option_map (λ (k : RoomView). k.channel) (cond t (option_map (leave (side_of b) w) (m (port_of b))) (m p)) ≡ option_map (λ (k : RoomView). k.channel) (m p)
+  by true e = left (side_of b) (m (port_of b)) ∙ ap (λ n. option_map (λ (k : RoomView). k.channel) (m n)) (eqb-true (port_of b) p e)
   by false e = refl
 
 pub gone_none : {G : Type 0} {o : Option (Option Waiting)} → (y : Waiting) × (o ≡ Some (Some y)) → o ≡ None → G
@@ -121,7 +121,7 @@ gone_none (y, f) e = absurd (let j : None ≡ Some (Some y) = sym e ∙ f in cc)
 pub gone_nothing : {G : Type 0} {o : Option (Option Waiting)} → (y : Waiting) × (o ≡ Some (Some y)) → o ≡ Some None → G
 gone_nothing (y, f) e = absurd (let j : Some None ≡ Some (Some y) = sym e ∙ f in cc)
 
-pub channel_seen : (o : Option Room) → option_map room_channel o ≡ option_map (λ (k : Kept). k.channel) (option_map kept_view o)
+pub channel_seen : (o : Option Room) → option_map room_channel o ≡ option_map (λ (k : RoomView). k.channel) (option_map room_view o)
 channel_seen None = refl
 channel_seen (Some r) = refl
 
@@ -145,7 +145,7 @@ firsts_once w side p (e ∷ es) d = by e.1 (firsts_once w side p es (tail_distin
   first h q false is f = ap (λ c. cond c q (filter (others w) (h ∷ q))) is
   first h q true is f = ap (λ c. cond c q (filter (others w) (h ∷ q))) is ∙ f refl ∙ sym (ap (λ c. cond (not c) (h ∷ filter (others w) q) (filter (others w) q)) is)
 
-  one : (hs : List Handler) → ((h : Handler) → head hs ≡ Some h → h.wait ≡ e.0) → IsOnce w (firsts side p (waits_in es)) → IsOnce w (first_of hs ++ firsts side p (waits_in es))
+  one : (hs : List Handler) → ((h : Handler) → head hs ≡ Some h → h.wait ≡ e.0) → IsOnce w (firsts side p (waits_in es)) → IsOnce w (first_handlers hs ++ firsts side p (waits_in es))
   one [] f ih = ih
   one (h ∷ hs) f ih = first h (firsts side p (waits_in es)) (eqb w h.wait) refl (λ is. gone (ap (eqb w) (sym (f h refl)) ∙ is))
 
@@ -162,7 +162,7 @@ module _ (s n : Scene) (w : ℕ) (y : Waiting) (scene : IsScene s) (there : look
   channels_now : (scene_state n).channels ≡ (scene_state s).channels
   channels_now = λ i q. (each q) i where
     each : (q : ℕ) → option_map room_channel (room_at n q) ≡ option_map room_channel (room_at s q)
-    each q = channel_seen (room_at n q) ∙ ap (λ (m : ℕ → Option Kept). option_map (λ (k : Kept). k.channel) (m q)) leaves ∙ channels_left w (map branch_view (list y.branches)) (rooms_kept s.rooms) q ∙ sym (channel_seen (room_at s q))
+    each q = channel_seen (room_at n q) ∙ ap (λ (m : ℕ → Option RoomView). option_map (λ (k : RoomView). k.channel) (m q)) leaves ∙ channels_left w (map branch_view (list y.branches)) (rooms_kept s.rooms) q ∙ sym (channel_seen (room_at s q))
 
   pub gone_state : scene_state n ≡ without_wait w (scene_state s)
   gone_state =
@@ -172,10 +172,10 @@ module _ (s n : Scene) (w : ℕ) (y : Waiting) (scene : IsScene s) (there : look
 
   pub gone_scene : IsDistinct eqb (keys n.waits) → IsScene n
   gone_scene distinct = record {
-    shown = subst (λ (m : Scene). AreShown (task_at m)) (sym same) scene.shown;
+    shown = subst (λ (m : Scene). TasksAreShown (task_at m)) (sym same) scene.shown;
     queued = subst (IsQueued (room_at n)) (sym waits_now)
         (queued_without (room_at s) (room_at n) (waits_in s.waits.entries) w (map branch_view (list y.branches)) (branches_of_number w y s.waits.entries scene.distinct there)
-        (λ side p. firsts_once w side p s.waits.entries scene.distinct) (λ p. ap (λ (m : ℕ → Option Kept). m p) leaves) scene.queued);
+        (λ side p. firsts_once w side p s.waits.entries scene.distinct) (λ p. ap (λ (m : ℕ → Option RoomView). m p) leaves) scene.queued);
     distinct = distinct;
   }
 

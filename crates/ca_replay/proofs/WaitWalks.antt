@@ -3,7 +3,7 @@ use Rattle.std.proofs.Common.{◌≡◌, ℕ, zero, suc, ◌+◌, ◌≤◌, Lis
 use Rattle.ca_meaning.specs.Wait.{Wait}
 use Rattle.ca_scene.specs.declared.scene.Waiting.{Waiting}
 use Rattle.ca_scene.specs.Scene.{wait_or, waits_in}
-use Rattle.ca_replay.specs.World.{wait_in, wait_of}
+use Rattle.ca_replay.specs.World.{wait_entry, wait_of}
 
 abbrev Entries : Type 0
 Entries = List (ℕ × Option Waiting)
@@ -16,21 +16,21 @@ entry_is : (n : ℕ) (o : Option Waiting) (ws : List Wait) → wait_or n o ws �
 entry_is n None ws = refl
 entry_is n (Some x) ws = refl
 
-at_place : (es : Entries) (i : ℕ) → waits_in (drop i es) ≡ with_wait (wait_in (slice_get es i)) (waits_in (drop (suc i) es))
+at_place : (es : Entries) (i : ℕ) → waits_in (drop i es) ≡ with_wait (wait_entry (slice_get es i)) (waits_in (drop (suc i) es))
 at_place [] zero = refl
 at_place [] (suc i) = refl
 at_place (e ∷ es) zero = entry_is e.0 e.1 (waits_in es)
 at_place (e ∷ es) (suc i) = at_place es i
 
-at_next : (es : Entries) (i : ℕ) (o : Option Wait) → wait_in (slice_get es i) ≡ o → waits_in (drop i es) ≡ with_wait o (waits_in (drop (i + 1) es))
+at_next : (es : Entries) (i : ℕ) (o : Option Wait) → wait_entry (slice_get es i) ≡ o → waits_in (drop i es) ≡ with_wait o (waits_in (drop (i + 1) es))
 at_next es i o e = at_place es i ∙ ap₂ (λ (w : Option Wait) (k : ℕ). with_wait w (waits_in (drop k es))) e (sym (add-one i))
 
 -- at a place without a wait, or with one that is gone
-pub gone_at : (es : Entries) (i : ℕ) → wait_in (slice_get es i) ≡ None → waits_in (drop i es) ≡ waits_in (drop (i + 1) es)
+pub gone_at : (es : Entries) (i : ℕ) → wait_entry (slice_get es i) ≡ None → waits_in (drop i es) ≡ waits_in (drop (i + 1) es)
 gone_at es i e = at_next es i None e
 
 -- and with one that isn't
-pub wait_at : (es : Entries) (i : ℕ) (w : Wait) → wait_in (slice_get es i) ≡ Some w → waits_in (drop i es) ≡ w ∷ waits_in (drop (i + 1) es)
+pub wait_at : (es : Entries) (i : ℕ) (w : Wait) → wait_entry (slice_get es i) ≡ Some w → waits_in (drop i es) ≡ w ∷ waits_in (drop (i + 1) es)
 wait_at es i w e = at_next es i (Some w) e
 
 none_behind : {A : Type 0} (xs : List A) (i : ℕ) → length xs ≤ i → drop i xs ≡ []

@@ -11,8 +11,8 @@ use Rattle.ca_scene.specs.declared.task.Task.{Task as TaskCode}
 use Rattle.ca_scene.specs.declared.task.Mode.{Mode}
 
 -- the map with f done at p
-abbrev pub at : {X : Type 0} → (ℕ → Option X) → ℕ → (X → X) → ℕ → Option X
-at m p f q = update eqb m p (option_map f (m p)) q
+abbrev pub mapped_at : {X : Type 0} → (ℕ → Option X) → ℕ → (X → X) → ℕ → Option X
+mapped_at m p f q = update eqb m p (option_map f (m p)) q
 
 abbrev pub finished : TaskCode → TaskCode
 finished x = record x { mode = Mode.Over }
@@ -20,8 +20,8 @@ finished x = record x { mode = Mode.Over }
 abbrev pub finished_task : Task → Task
 finished_task x = record x { mode = over }
 
-abbrev pub closed : Room → Room
-closed r = record r { closed = true }
+abbrev pub room_closed : Room → Room
+room_closed r = record r { closed = true }
 
 -- task t is over
 abbrev pub Finishes : State → ℕ → State → Type 0
@@ -44,8 +44,8 @@ abbrev pub PutsRegistry : State → ℕ → Option Registry → State → Type 0
 PutsRegistry s p r s2 = s2 ≡ record s { registries = update eqb s.registries p r }
 
 -- what is made at port p opens its deadline, and the moment is reached, where one is shown
-abbrev pub Times : State → ℕ → WhatView → Option ℕ → State → Type 0
-Times s p what m s2 = s2 ≡ record s { deadlines = with_deadline p what (unwrap_or m s.now) s.deadlines; now = unwrap_or m s.now }
+abbrev pub OpensDeadline : State → ℕ → WhatView → Option ℕ → State → Type 0
+OpensDeadline s p what m s2 = s2 ≡ record s { deadlines = with_deadline p what (unwrap_or m s.now) s.deadlines; now = unwrap_or m s.now }
 
 -- the moment is reached, and what is due is gone
 abbrev pub Passes : State → ℕ → State → Type 0

@@ -7,7 +7,7 @@ use Rattle.ca_meaning.specs.Steps.{Step}
 use Rattle.ca_replay.specs.declared.judging.Judged.{Judged}
 use Rattle.ca_replay.specs.declared.main_end.MainEnd.{MainEnd}
 use Rattle.ca_replay.specs.declared.world.World.{World}
-use Rattle.ca_replay.specs.MainEnd.{main_end}
+use Rattle.ca_replay.specs.MainEnd.{main_text_end}
 use Rattle.ca_replay.specs.RunTo.{IsRunTo}
 use Rattle.ca_replay.specs.Verdict.{IsFirstIllegal}
 use Rattle.ca_replay.specs.World.{IsWorld, world_program, world_state}
@@ -25,18 +25,18 @@ pub record MayGoOn (most : ℕ) (program : ProgramView) (before : List EventView
   pub run : IsRun program before w None
 
 -- with this event after those, which are fewer than so many, the world stands so
-pub record IsTold (most : ℕ) (program : ProgramView) (before : List EventView) (e : EventView) (w : World) : Type 0 where
+pub record IsWorldTold (most : ℕ) (program : ProgramView) (before : List EventView) (e : EventView) (w : World) : Type 0 where
   pub checked : IsProgram program
   pub few : length before < most
-  pub run : IsRun program (before ++ e ∷ []) w (main_end e)
+  pub run : IsRun program (before ++ e ∷ []) w (main_text_end e)
 
 -- the event leads from one world to the other
 abbrev pub LeadsOn : ℕ → EventView → World → World → Type 0
-LeadsOn most e old new = (program : ProgramView) (before : List EventView) → MayGoOn most program before old → IsRun program (before ++ e ∷ []) new (main_end e)
+LeadsOn most e old new = (program : ProgramView) (before : List EventView) → MayGoOn most program before old → IsRun program (before ++ e ∷ []) new (main_text_end e)
 
 -- who was told what came before is told the event, behind which the world stands
-abbrev pub Tells : {A : Type 0} → (A → List EventView → Type 0) → ℕ → EventView → World → A → A → Type 0
-Tells saw most e w old new = (program : ProgramView) (before : List EventView) → saw old before → IsTold most program before e w → saw new (before ++ e ∷ [])
+abbrev pub TellsEvent : {A : Type 0} → (A → List EventView → Type 0) → ℕ → EventView → World → A → A → Type 0
+TellsEvent saw most e w old new = (program : ProgramView) (before : List EventView) → saw old before → IsWorldTold most program before e w → saw new (before ++ e ∷ [])
 
 -- who was told what came before in this world is told the event
 abbrev pub SeesOn : {A : Type 0} → (A → List EventView → Type 0) → ℕ → EventView → World → A → A → Type 0

@@ -5,7 +5,7 @@ use Rattle.ca_meaning.specs.Going.{Runs}
 use Rattle.ca_meaning.specs.Row.{Settling, unsettled, settles, settle_row}
 use Rattle.ca_meaning.specs.State.{State, Task}
 use Rattle.ca_meaning.specs.Wait.{head}
-use Rattle.ca_scene.specs.Admits.{settling}
+use Rattle.ca_scene.specs.Admits.{settling_at}
 use Rattle.ca_scene.specs.Scene.{room_channel, room_queue}
 use Rattle.ca_scene.specs.declared.room.Room.{Room}
 use Rattle.ca_scene.specs.declared.scene.Scene.{Scene}
@@ -22,7 +22,7 @@ SomeRuns s = (t : ℕ) × (x : Task) × Runs s.tasks t x
 
 -- some channel completes a wait by itself
 abbrev pub SomeSettles : State → Type 0
-SomeSettles s = (p : ℕ) × (does_settle (settling s p) ≡ true)
+SomeSettles s = (p : ℕ) × (does_settle (settling_at s p) ≡ true)
 
 -- a task runs, or a channel completes a wait by itself, or a deadline is open
 abbrev pub CanGoOn : State → Type 0

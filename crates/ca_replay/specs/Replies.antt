@@ -5,23 +5,23 @@ use Rattle.ca_term.specs.Operation.{OpView, choosing}
 use Rattle.ca_term.specs.Program.{ProgramView}
 use Rattle.ca_meaning.specs.Going.{Goes}
 use Rattle.ca_meaning.specs.State.{Task, Tasks}
-use Rattle.ca_meaning.specs.Task.{body_at, reply}
-use Rattle.ca_scene.specs.Standing.{Shown, shown_op, shown_end, shown_fault, elsewhere, shown}
+use Rattle.ca_meaning.specs.Task.{body_at, body_reply}
+use Rattle.ca_scene.specs.Standing.{Shown, shown_op, shown_end, shown_fault, elsewhere, shown_at}
 
 abbrev pub is_choosing : OpView → Bool
 is_choosing (choosing ports priority default) = true
 is_choosing op = false
 
-abbrev pub chooses : Shown → Bool
-chooses (shown_op w) = is_choosing w.op
-chooses shown_end = false
-chooses (shown_fault f p) = false
-chooses elsewhere = false
+abbrev pub shown_chooses : Shown → Bool
+shown_chooses (shown_op w) = is_choosing w.op
+shown_chooses shown_end = false
+shown_chooses (shown_fault f p) = false
+shown_chooses elsewhere = false
 
 abbrev pub chooses_there : Option Task → Bool
 chooses_there None = false
-chooses_there (Some x) = chooses (shown (body_at x.body))
+chooses_there (Some x) = shown_chooses (shown_at (body_at x.body))
 
 -- the task of that number, whatever it is, goes on where its operation is done on port p with the answer
 abbrev pub GoesReplied : ProgramView → Tasks → ℕ → ℕ → Tree → Tasks → Type 0
-GoesReplied program tasks t p answer after = (x : Task) → tasks t ≡ Some x → Goes program tasks t x (reply x.body p answer) after
+GoesReplied program tasks t p answer after = (x : Task) → tasks t ≡ Some x → Goes program tasks t x (body_reply x.body p answer) after

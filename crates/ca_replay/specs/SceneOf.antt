@@ -1,7 +1,7 @@
 -- A scene of a program: each task's body is one of the program, and whoever waits stands at an operation.
 use Rattle.std.specs.Prelude.{◌≡◌, ℕ, Option, Some, None, Bool, true}
 use Rattle.ca_term.specs.declared.head.PlainFunction.{PlainFunction}
-use Rattle.ca_term.specs.Fits.{IsApplied}
+use Rattle.ca_term.specs.Fits.{IsApplicable}
 use Rattle.ca_term.specs.Program.{ProgramView, known_in}
 use Rattle.ca_term.specs.View.{kernel}
 use Rattle.ca_meaning.specs.Body.{At}
@@ -14,12 +14,12 @@ use Rattle.ca_scene.specs.declared.task.Task.{Task}
 use Rattle.ca_scene.specs.declared.task.TaskBody.{TaskBody}
 use Rattle.ca_scene.specs.declared.task.Mode.{Mode}
 use Rattle.ca_scene.specs.declared.scene.Scene.{Scene}
-use Rattle.ca_scene.specs.Scene.{IsScene, AreShown, task_at, task_body}
+use Rattle.ca_scene.specs.Scene.{IsScene, TasksAreShown, task_at, task_body}
 
 -- the function that a table applies, if it applies one, is in the program and takes one value
 abbrev pub HasFunction : ProgramView → Option PlainFunction → Type 0
 HasFunction program None = Unit {0}
-HasFunction program (Some f) = (plain : ℕ → Bool) × IsApplied (known_in plain program) f
+HasFunction program (Some f) = (plain : ℕ → Bool) × IsApplicable (known_in plain program) f
 
 -- the body is one of the program
 abbrev pub IsKnown : ProgramView → TaskBody → Type 0
@@ -48,6 +48,6 @@ pub record IsSceneOf (program : ProgramView) (s : Scene) : Type 0 where
 
 -- what holds of the tasks of a scene
 pub record AreTasksOf (program : ProgramView) (tasks : ℕ → Option Task) : Type 0 where
-  pub shown : AreShown tasks
+  pub shown : TasksAreShown tasks
   pub known : AreKnown program tasks
   pub fills : AreFilling tasks

@@ -44,9 +44,9 @@ abbrev pub wait_of : ℕ → Option Waiting → Option Wait
 wait_of n None = None
 wait_of n (Some x) = Some (record { number = n; owner = x.owner; branches = map branch_view (list x.branches) })
 
-abbrev pub wait_in : Option (ℕ × Option Waiting) → Option Wait
-wait_in None = None
-wait_in (Some e) = wait_of e.0 e.1
+abbrev pub wait_entry : Option (ℕ × Option Waiting) → Option Wait
+wait_entry None = None
+wait_entry (Some e) = wait_of e.0 e.1
 
 abbrev pub wait_view : WaitView → Wait
 wait_view v = record { number = v.number; owner = v.owner; branches = map branch_view v.branches.now }

@@ -1,17 +1,17 @@
 //! Plain functions that system tasks apply: those of the program are called by their text.
 ghost use Rattle.std.specs.Prelude.{◌≡◌, IfOk, IsTrue, Some, map};
-ghost use Rattle.ca_value.specs.Builtins.{admits, builtin_result};
+ghost use Rattle.ca_value.specs.Builtins.{admits_arguments, builtin_result};
 ghost use Rattle.ca_value.specs.Tree.{Tree};
 ghost use Rattle.ca_value.specs.View.{view};
 ghost use Rattle.ca_value.specs.declared.builtin.Builtin.TheVariants.{Get};
 ghost use Rattle.ca_term.specs.Fits.{Takes};
 ghost use Rattle.ca_term.specs.Program.{arity, program_view};
 ghost use Rattle.ca_term.specs.declared.head.PlainFunction.TheVariants.{Defined};
-ghost use Rattle.ca_meaning.specs.Applied.{Applied, of_builtin, returned};
+ghost use Rattle.ca_meaning.specs.Applied.{Applied, of_builtin, returned_at};
 ghost use Rattle.ca_meaning.specs.Asks.{one_of, two_of};
 ghost use Rattle.ca_meaning.specs.Body.{at};
 ghost use Rattle.ca_meaning.specs.BodyViews.{body_view};
-ghost use Rattle.ca_system.specs.Applications.{ComesTo};
+ghost use Rattle.ca_system.specs.Applications.{ApplicationComesTo};
 ghost use Rattle.ca_system.specs.Applied.{application_view, returned_view};
 ghost use Rattle.ca_replay.specs.SceneOf.{HasFunction};
 
@@ -37,7 +37,7 @@ pub(crate) fn apply_function(
     application: Application<'_>,
 ) -> Result<Returned, OutOfMemory>
     requires { HasFunction (program_view program.now) (Some application.function) }
-    ensures { IfOk result (λ r. ComesTo (program_view program.now) (application_view application.entry) (returned_view r)) }
+    ensures { IfOk result (λ r. ApplicationComesTo (program_view program.now) (application_view application.entry) (returned_view r)) }
 {
     let Application {
         function,
@@ -72,7 +72,7 @@ fn call(
 // What a body at rest came to. A plain function has no operations.
 #[tactic(auto, using(crate::proofs::Calls::value_returned, crate::proofs::Calls::fault_returned, crate::proofs::Calls::local_returned, crate::proofs::Calls::op_returned, crate::proofs::Calls::end_returned))]
 fn returned(alloc: Global, body: &Body) -> Result<Returned, OutOfMemory>
-    ensures { IfOk result (λ r. returned_view r ≡ returned (at (body_view body.now))) }
+    ensures { IfOk result (λ r. returned_view r ≡ returned_at (at (body_view body.now))) }
 {
     if let Some(value) = body.value() {
         return Ok(Returned::Value(value.copy(alloc)?));
@@ -85,7 +85,7 @@ fn returned(alloc: Global, body: &Body) -> Result<Returned, OutOfMemory>
 
 // A builtin of the value.
 fn apply_builtin(alloc: Global, builtin: Builtin, value: &Value) -> Result<Returned, OutOfMemory>
-    requires { IsTrue (admits builtin 1) }
+    requires { IsTrue (admits_arguments builtin 1) }
     ensures { IfOk result (λ r. returned_view r ≡ of_builtin (builtin_result builtin (one_of (view value.now)))) }
 {
     match apply_one(alloc, builtin, value) {

@@ -5,7 +5,7 @@ ghost use Rattle.indexmap.specs.IndexMap.{get};
 ghost use Rattle.ca_term.specs.Event.{port_number};
 ghost use Rattle.ca_term.specs.Program.{ProgramView};
 ghost use Rattle.ca_scene.specs.Scene.{scene_state};
-ghost use Rattle.ca_replay.specs.Changes.{at, closed, finished, Finishes, Shuts, ShutsAll, ShutsResult};
+ghost use Rattle.ca_replay.specs.Changes.{mapped_at, room_closed, finished, Finishes, Shuts, ShutsAll, ShutsResult};
 ghost use Rattle.ca_replay.specs.SceneOf.{IsSceneOf};
 
 use ca_scene::room::Room;
@@ -24,7 +24,7 @@ pub(crate) fn finish(scene: &mut Scene, task: u64)
 }
 
 fn finish_in(tasks: &mut IndexMap<u64, Task>, task: u64)
-    ensures { (t : ℕ) → get nat_eq tasks.new t ≡ at (λ q. get nat_eq tasks.old q) task finished t }
+    ensures { (t : ℕ) → get nat_eq tasks.new t ≡ mapped_at (λ q. get nat_eq tasks.old q) task finished t }
 {
     if let Some(task) = tasks.get_mut(&task) {
         task.mode = Mode::Over;
@@ -40,7 +40,7 @@ pub(crate) fn shut(scene: &mut Scene, port: u64)
 }
 
 fn shut_in(rooms: &mut IndexMap<u64, Room>, port: u64)
-    ensures { (p : ℕ) → get nat_eq rooms.new p ≡ at (λ q. get nat_eq rooms.old q) port closed p }
+    ensures { (p : ℕ) → get nat_eq rooms.new p ≡ mapped_at (λ q. get nat_eq rooms.old q) port room_closed p }
 {
     if let Some(room) = rooms.get_mut(&port) {
         room.closed = true;

@@ -11,7 +11,7 @@ ghost use Rattle.ca_meaning.specs.System.{system_fill};
 ghost use Rattle.ca_meaning.specs.Task.{body_at, body_fill};
 ghost use Rattle.ca_scene.specs.Scene.{task_at, task_body, tasks_of};
 ghost use Rattle.ca_system_tasks.specs.Tables.{table_body};
-ghost use Rattle.ca_replay.specs.Goings.{But, GoesOn, IsAnswered, SameButTasks, StandsThere, WentOn};
+ghost use Rattle.ca_replay.specs.Goings.{But, TaskGoesOn, IsAnswered, SameButTasks, StandsThere, TaskWentOn};
 ghost use Rattle.ca_replay.specs.SceneOf.{AreKnown, AreTasksOf, IsKnown, IsSceneOf};
 
 use crate::resting::rested;
@@ -35,7 +35,7 @@ pub(crate) fn go_on(
 ) -> Result<(), OutOfMemory>
     requires tasks { AreTasksOf (program_view program.now) (task_at scene.old) }
     requires stands { StandsThere (task_at scene.old task) }
-    ensures goes { OnOk result (GoesOn (program_view program.now) (tasks_of scene.old) task (view value) (tasks_of scene.new)) }
+    ensures goes { OnOk result (TaskGoesOn (program_view program.now) (tasks_of scene.old) task (view value) (tasks_of scene.new)) }
     ensures rest { OnOk result (SameButTasks scene.old scene.new) }
     ensures tasks { OnOk result (AreTasksOf (program_view program.now) (task_at scene.new)) }
     ensures scene { OnOk result (IsSceneOf (program_view program.now) scene.old → IsSceneOf (program_view program.now) scene.new) }
@@ -53,7 +53,7 @@ fn go_on_in(
 ) -> Result<(), OutOfMemory>
     requires known { AreKnown (program_view program.now) (λ t. get nat_eq tasks.old t) }
     requires stands { StandsThere (get nat_eq tasks.old task) }
-    ensures went { OnOk result (WentOn (program_view program.now) (get nat_eq tasks.old task) (view answer) (get nat_eq tasks.new task)) }
+    ensures went { OnOk result (TaskWentOn (program_view program.now) (get nat_eq tasks.old task) (view answer) (get nat_eq tasks.new task)) }
     ensures others { OnOk result (But task (λ t. get nat_eq tasks.old t) (λ t. get nat_eq tasks.new t)) }
 {
     let Some(old) = tasks.swap_remove(&task) else {

@@ -3,9 +3,9 @@ ghost use Rattle.std.specs.Prelude.{◌≡◌, ◌∷◌, [], ◌++◌, ℕ, ◌
 ghost use Rattle.ca_value.specs.Seq.{list};
 ghost use Rattle.ca_term.specs.Event.{branch_view};
 ghost use Rattle.ca_meaning.specs.Wait.{side_of, port_of, brought, is_among};
-ghost use Rattle.ca_scene.specs.Scene.{handler_view, scene_state, IsScene};
-ghost use Rattle.ca_replay.specs.Changes.{at};
-ghost use Rattle.ca_replay.specs.Rooms.{kept_view, rooms_kept, ends_with, joined, join, join_all};
+ghost use Rattle.ca_scene.specs.Scene.{handler_code_view, scene_state, IsScene};
+ghost use Rattle.ca_replay.specs.Changes.{mapped_at};
+ghost use Rattle.ca_replay.specs.Rooms.{room_view, rooms_kept, ends_with, handler_joined, join, join_rooms};
 ghost use Rattle.ca_replay.specs.Moves.{HaveHomes, with_wait};
 
 use ca_scene::room::{Handler, Room};
@@ -44,7 +44,7 @@ fn join_all(
     wait: u64,
     branches: &[Branch],
 ) -> Result<(), OutOfMemory>
-    ensures { OnOk result (rooms_kept rooms.new ≡ join_all wait 0 (map branch_view branches.now) (rooms_kept rooms.old)) }
+    ensures { OnOk result (rooms_kept rooms.new ≡ join_rooms wait 0 (map branch_view branches.now) (rooms_kept rooms.old)) }
 {
     for i in 0..branches.len() {
         join_one(rooms, alloc, wait, i as u64, &branches[i])?;
@@ -59,7 +59,7 @@ fn join_one(
     number: u64,
     branch: &Branch,
 ) -> Result<(), OutOfMemory>
-    ensures { OnOk result (let b = branch_view branch.now in rooms_kept rooms.new ≡ at (rooms_kept rooms.old) (port_of b) (join (side_of b) (record { wait = wait; branch = number; value = brought b }))) }
+    ensures { OnOk result (let b = branch_view branch.now in rooms_kept rooms.new ≡ mapped_at (rooms_kept rooms.old) (port_of b) (join (side_of b) (record { wait = wait; branch = number; value = brought b }))) }
 {
     match branch {
         Branch::Take(port) => {
@@ -87,7 +87,7 @@ fn join(
     side: Side,
     handler: Handler,
 ) -> Result<(), OutOfMemory>
-    ensures { OnOk result ((p : ℕ) → rooms_kept rooms.new p ≡ at (rooms_kept rooms.old) port (join side (handler_view handler)) p) }
+    ensures { OnOk result ((p : ℕ) → rooms_kept rooms.new p ≡ mapped_at (rooms_kept rooms.old) port (join side (handler_code_view handler)) p) }
 {
     match rooms.get_mut(&port) {
         Some(room) => join_room(room, side, handler),
@@ -96,7 +96,7 @@ fn join(
 }
 
 fn join_room(room: &mut Room, side: Side, handler: Handler) -> Result<(), OutOfMemory>
-    ensures { OnOk result (kept_view room.new ≡ join side (handler_view handler) (kept_view room.old)) }
+    ensures { OnOk result (room_view room.new ≡ join side (handler_code_view handler) (room_view room.old)) }
 {
     match side {
         Side::Take => join_queue(&mut room.takes, handler),
@@ -106,7 +106,7 @@ fn join_room(room: &mut Room, side: Side, handler: Handler) -> Result<(), OutOfM
 
 // Of each wait its first branch alone stands in a queue.
 fn join_queue(queue: &mut VecDeque<Handler>, handler: Handler) -> Result<(), OutOfMemory>
-    ensures { OnOk result (map handler_view queue.new.items ≡ joined (handler_view handler) (map handler_view queue.old.items)) }
+    ensures { OnOk result (map handler_code_view queue.new.items ≡ handler_joined (handler_code_view handler) (map handler_code_view queue.old.items)) }
 {
     if !ends_with(queue, handler.wait) {
         queue.push_back(handler)?;
@@ -116,7 +116,7 @@ fn join_queue(queue: &mut VecDeque<Handler>, handler: Handler) -> Result<(), Out
 
 // Whether the last of the queue is of that wait.
 fn ends_with(queue: &VecDeque<Handler>, wait: u64) -> bool
-    ensures { ends_with wait (map handler_view queue.now.items) ≡ result }
+    ensures { ends_with wait (map handler_code_view queue.now.items) ≡ result }
 {
     match queue.back() {
         Some(handler) => wait == handler.wait,

@@ -1,14 +1,14 @@
 //! What a channel keeps of the values that it accepts, and what it gives.
 ghost use Rattle.std.specs.Prelude.{◌≡◌, ◌∷◌, [], ◌++◌, ℕ, OnOk, map};
-ghost use Rattle.ca_value.specs.Buffer.{keep_by, only_first, give, is_full, without_first};
+ghost use Rattle.ca_value.specs.Buffer.{keep_by, only_first, give_first, is_full, without_first};
 ghost use Rattle.ca_value.specs.View.{view};
 ghost use Rattle.ca_term.specs.Event.{branch_view};
 ghost use Rattle.ca_meaning.specs.Channel.{keeping, giving};
 ghost use Rattle.ca_meaning.specs.RowViews.{policy_view};
 ghost use Rattle.ca_meaning.specs.Wait.{port_of};
 ghost use Rattle.ca_scene.specs.Scene.{room_channel};
-ghost use Rattle.ca_replay.specs.Changes.{at};
-ghost use Rattle.ca_replay.specs.Rooms.{kept_view, rooms_kept, by_channel, accepting, done_by, served_by};
+ghost use Rattle.ca_replay.specs.Changes.{mapped_at};
+ghost use Rattle.ca_replay.specs.Rooms.{room_view, rooms_kept, by_channel, accepting, done_by, served_by};
 
 use ca_meaning::row::Policy;
 use ca_scene::room::Room;
@@ -26,7 +26,7 @@ pub(crate) fn do_branch(
     alloc: Global,
     branch: &Branch,
 ) -> Result<(), OutOfMemory>
-    ensures { OnOk result ((p : ℕ) → let b = branch_view branch.now in rooms_kept rooms.new p ≡ at (rooms_kept rooms.old) (port_of b) (by_channel (done_by b)) p) }
+    ensures { OnOk result ((p : ℕ) → let b = branch_view branch.now in rooms_kept rooms.new p ≡ mapped_at (rooms_kept rooms.old) (port_of b) (by_channel (done_by b)) p) }
 {
     match branch {
         Branch::Take(port) => {
@@ -46,7 +46,7 @@ pub(crate) fn serve(
     port: u64,
     value: &Value,
 ) -> Result<(), OutOfMemory>
-    ensures { OnOk result ((p : ℕ) → rooms_kept rooms.new p ≡ at (rooms_kept rooms.old) port (by_channel (served_by side (view value.now))) p) }
+    ensures { OnOk result ((p : ℕ) → rooms_kept rooms.new p ≡ mapped_at (rooms_kept rooms.old) port (by_channel (served_by side (view value.now))) p) }
 {
     match side {
         Side::Take => {
@@ -58,7 +58,7 @@ pub(crate) fn serve(
 }
 
 fn give_at(rooms: &mut IndexMap<u64, Room>, port: u64)
-    ensures { (p : ℕ) → rooms_kept rooms.new p ≡ at (rooms_kept rooms.old) port (by_channel giving) p }
+    ensures { (p : ℕ) → rooms_kept rooms.new p ≡ mapped_at (rooms_kept rooms.old) port (by_channel giving) p }
 {
     if let Some(room) = rooms.get_mut(&port) {
         give(room);
@@ -66,7 +66,7 @@ fn give_at(rooms: &mut IndexMap<u64, Room>, port: u64)
 }
 
 fn keep_at(rooms: &mut IndexMap<u64, Room>, port: u64, value: Value) -> Result<(), OutOfMemory>
-    ensures { OnOk result ((p : ℕ) → rooms_kept rooms.new p ≡ at (rooms_kept rooms.old) port (by_channel (λ c. keeping c (view value))) p) }
+    ensures { OnOk result ((p : ℕ) → rooms_kept rooms.new p ≡ mapped_at (rooms_kept rooms.old) port (by_channel (λ c. keeping c (view value))) p) }
 {
     match rooms.get_mut(&port) {
         Some(room) => keep(room, value),
@@ -75,7 +75,7 @@ fn keep_at(rooms: &mut IndexMap<u64, Room>, port: u64, value: Value) -> Result<(
 }
 
 fn accept_at(rooms: &mut IndexMap<u64, Room>, port: u64, value: Value) -> Result<(), OutOfMemory>
-    ensures { OnOk result ((p : ℕ) → rooms_kept rooms.new p ≡ at (rooms_kept rooms.old) port (by_channel (λ c. accepting c (view value))) p) }
+    ensures { OnOk result ((p : ℕ) → rooms_kept rooms.new p ≡ mapped_at (rooms_kept rooms.old) port (by_channel (λ c. accepting c (view value))) p) }
 {
     match rooms.get_mut(&port) {
         Some(room) => accept(room, value),
@@ -85,7 +85,7 @@ fn accept_at(rooms: &mut IndexMap<u64, Room>, port: u64, value: Value) -> Result
 
 // A closed channel takes no value.
 fn accept(room: &mut Room, value: Value) -> Result<(), OutOfMemory>
-    ensures { OnOk result (kept_view room.new ≡ by_channel (λ c. accepting c (view value)) (kept_view room.old)) }
+    ensures { OnOk result (room_view room.new ≡ by_channel (λ c. accepting c (view value)) (room_view room.old)) }
 {
     if room.closed {
         return Ok(());
@@ -94,14 +94,14 @@ fn accept(room: &mut Room, value: Value) -> Result<(), OutOfMemory>
 }
 
 fn keep(room: &mut Room, value: Value) -> Result<(), OutOfMemory>
-    ensures { OnOk result (kept_view room.new ≡ by_channel (λ c. keeping c (view value)) (kept_view room.old)) }
+    ensures { OnOk result (room_view room.new ≡ by_channel (λ c. keeping c (view value)) (room_view room.old)) }
 {
     let full = is_full(&room.held, room.capacity);
     keep_by(&mut room.held, room.policy, full, value)
 }
 
 fn give(room: &mut Room)
-    ensures { kept_view room.new ≡ by_channel giving (kept_view room.old) }
+    ensures { room_view room.new ≡ by_channel giving (room_view room.old) }
 {
     give_by(&mut room.held, room.policy);
 }
@@ -158,7 +158,7 @@ fn promise(held: &mut VecDeque<Value>, value: Value) -> Result<(), OutOfMemory>
 
 // The first value leaves, but a promise keeps it.
 fn give_by(held: &mut VecDeque<Value>, policy: Policy)
-    ensures { map view held.new.items ≡ give (policy_view policy) (map view held.old.items) }
+    ensures { map view held.new.items ≡ give_first (policy_view policy) (map view held.old.items) }
 {
     match policy {
         Policy::NoBuffer | Policy::Fixed => drop_first(held),

@@ -11,7 +11,7 @@ ghost use Rattle.ca_meaning.specs.TaskSteps.{IsMoment, with_deadline};
 ghost use Rattle.ca_registry.specs.Registry.{registry_view};
 ghost use Rattle.ca_scene.specs.Admits.{admits};
 ghost use Rattle.ca_scene.specs.Scene.{room_channel, scene_state};
-ghost use Rattle.ca_replay.specs.Changes.{AreUnattended, IsUnattended, PutsChannel, PutsRegistry, Times};
+ghost use Rattle.ca_replay.specs.Changes.{AreUnattended, IsUnattended, PutsChannel, PutsRegistry, OpensDeadline};
 ghost use Rattle.ca_replay.specs.SceneOf.{IsSceneOf};
 
 use crate::changing::insert_in;
@@ -157,7 +157,7 @@ fn time(
     moment: Option<u64>,
 ) -> Result<(), OutOfMemory>
     requires { IsMoment scene.old.timers.moment (what_view what.now) moment }
-    ensures state { OnOk result (Times (scene_state scene.old) port.n (what_view what.now) moment (scene_state scene.new)) }
+    ensures state { OnOk result (OpensDeadline (scene_state scene.old) port.n (what_view what.now) moment (scene_state scene.new)) }
     ensures scene { OnOk result ((program : ProgramView) → IsSceneOf program scene.old → IsSceneOf program scene.new) }
 {
     open(&mut scene.timers, port, what, moment)?;

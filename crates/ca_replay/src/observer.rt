@@ -8,7 +8,7 @@ pub trait Observer {
     ghost use Rattle.std.specs.Prelude.{ℕ, List, OnOk};
     ghost use Rattle.ca_term.specs.Event.{EventView, event_view};
     ghost use Rattle.ca_term.specs.Program.{ProgramView};
-    ghost use Rattle.ca_replay.specs.Judged.{IsTold, Tells};
+    ghost use Rattle.ca_replay.specs.Judged.{IsWorldTold, TellsEvent};
 
     /// It was told these events.
     ghost saw: { Self → List EventView → Type 0 };
@@ -18,8 +18,8 @@ pub trait Observer {
 
     /// Is told the next event of a legal run. After OutOfMemory it is of no use.
     fn see(&mut self, event: &Event, world: &World<'_>) -> Result<(), OutOfMemory>
-        requires { (program : ProgramView) × (before : List EventView) × saw self.old before × IsTold most program before (event_view event.now) world.now }
-        ensures { OnOk result (Tells saw most (event_view event.now) world.now self.old self.new) };
+        requires { (program : ProgramView) × (before : List EventView) × saw self.old before × IsWorldTold most program before (event_view event.now) world.now }
+        ensures { OnOk result (TellsEvent saw most (event_view event.now) world.now self.old self.new) };
 }
 
 /// Nobody is told anything.

@@ -5,7 +5,7 @@ ghost use Rattle.ca_term.specs.Program.{program_view};
 ghost use Rattle.ca_meaning.specs.Body.{new_body};
 ghost use Rattle.ca_meaning.specs.State.{Opening};
 ghost use Rattle.ca_meaning.specs.Task.{script};
-ghost use Rattle.ca_scene.specs.Scene.{scene_state, task_at, room_at, registry_at, IsScene, IsShown};
+ghost use Rattle.ca_scene.specs.Scene.{scene_state, task_at, room_at, scene_registry, IsScene, IsStandingShown};
 ghost use Rattle.ca_replay.specs.Goings.{IsRested};
 ghost use Rattle.ca_replay.specs.SceneOf.{IsSceneOf};
 
@@ -37,11 +37,11 @@ fn main_task(alloc: Global, program: &Program) -> Result<Task, OutOfMemory>
 
 // A scene with one task, of number 0.
 fn with_task(alloc: Global, task: Task) -> Result<Scene, OutOfMemory>
-    requires { IsShown task }
+    requires { IsStandingShown task }
     ensures scene { IfOk result (λ s. IsScene s) }
     ensures task { IfOk result (λ s. (t : ℕ) → task_at s t ≡ update eqb (λ q. None) 0 (Some task) t) }
     ensures rooms { IfOk result (λ s. (p : ℕ) → room_at s p ≡ None) }
-    ensures registries { IfOk result (λ s. (p : ℕ) → registry_at s p ≡ None) }
+    ensures registries { IfOk result (λ s. (p : ℕ) → scene_registry s p ≡ None) }
     ensures waits { IfOk result (λ s. s.waits.entries ≡ []) }
     ensures deadlines { IfOk result (λ s. s.timers.deadlines ≡ []) }
     ensures moment { IfOk result (λ s. s.timers.moment ≡ 0) }

@@ -8,7 +8,7 @@ ghost use Rattle.ca_meaning.specs.Steps.{Step};
 ghost use Rattle.ca_scene.specs.Admits.{admits};
 ghost use Rattle.ca_scene.specs.Scene.{scene_state, IsScene};
 ghost use Rattle.ca_replay.specs.Moves.{waiting_on};
-ghost use Rattle.ca_replay.specs.Changes.{at};
+ghost use Rattle.ca_replay.specs.Changes.{mapped_at};
 ghost use Rattle.ca_replay.specs.SceneOf.{IsSceneOf};
 
 use crate::joining::join_wait;
@@ -40,7 +40,7 @@ pub(crate) fn park(
 }
 
 fn wait_on(tasks: &mut IndexMap<u64, Task>, task: u64, wait: u64)
-    ensures { (t : ℕ) → get nat_eq tasks.new t ≡ at (λ q. get nat_eq tasks.old q) task (waiting_on wait) t }
+    ensures { (t : ℕ) → get nat_eq tasks.new t ≡ mapped_at (λ q. get nat_eq tasks.old q) task (waiting_on wait) t }
 {
     if let Some(task) = tasks.get_mut(&task) {
         task.mode = Mode::Waiting(wait);

@@ -10,10 +10,10 @@ ghost use Rattle.ca_meaning.specs.Operands.{rest_of};
 ghost use Rattle.ca_meaning.specs.RunValues.{Holds};
 ghost use Rattle.ca_meaning.specs.Steps.{Step};
 ghost use Rattle.ca_registry.specs.Mixes.{TogglesApart};
-ghost use Rattle.ca_registry.specs.Registry.{registered, registry_view};
+ghost use Rattle.ca_registry.specs.Registry.{registry_after, registry_view};
 ghost use Rattle.ca_scene.specs.Admits.{admits};
 ghost use Rattle.ca_scene.specs.Scene.{scene_state};
-ghost use Rattle.ca_replay.specs.Changes.{at};
+ghost use Rattle.ca_replay.specs.Changes.{mapped_at};
 ghost use Rattle.ca_replay.specs.SceneOf.{IsSceneOf};
 
 use crate::going::go_on;
@@ -69,7 +69,7 @@ fn enter(
     args: Items,
 ) -> Result<(), OutOfMemory>
     requires apart { TogglesApart name (trees (list args)) }
-    ensures { OnOk result ((p : ℕ) → option_map registry_view (get nat_eq registries.new p) ≡ at (λ q. option_map registry_view (get nat_eq registries.old q)) port (registered name (trees (list args))) p) }
+    ensures { OnOk result ((p : ℕ) → option_map registry_view (get nat_eq registries.new p) ≡ mapped_at (λ q. option_map registry_view (get nat_eq registries.old q)) port (registry_after name (trees (list args))) p) }
 {
     match registries.get_mut(&port) {
         Some(registry) => enter_one(registry, name, args),
@@ -79,7 +79,7 @@ fn enter(
 
 fn enter_one(registry: &mut Registry, name: RegisterName, args: Items) -> Result<(), OutOfMemory>
     requires apart { TogglesApart name (trees (list args)) }
-    ensures { OnOk result (registry_view registry.new ≡ registered name (trees (list args)) (registry_view registry.old)) }
+    ensures { OnOk result (registry_view registry.new ≡ registry_after name (trees (list args)) (registry_view registry.old)) }
 {
     registry.reserve(members_added(name, args.as_slice()))?;
     registry.register(name, args);

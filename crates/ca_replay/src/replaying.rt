@@ -4,7 +4,7 @@ ghost use Rattle.ca_term.specs.Event.{EventView};
 ghost use Rattle.ca_term.specs.Program.{ProgramView, program_view};
 ghost use Rattle.ca_journal.specs.Events.{events};
 ghost use Rattle.ca_replay.specs.Judged.{IsRun};
-ghost use Rattle.ca_replay.specs.Verdict.{IsVerdict, StandsAs};
+ghost use Rattle.ca_replay.specs.Verdict.{IsVerdict, VerdictStands};
 
 use crate::judging::{Judged, judge};
 use crate::main_end::MainEnd;
@@ -52,7 +52,7 @@ pub fn replay(alloc: Global, program: &Program, journal: &Journal) -> Result<Rep
 // How a legal journal stands, by the world behind it.
 fn stands_as(world: &World<'_>, end: Option<MainEnd>) -> Standing
     requires { (program : ProgramView) × (journal : List EventView) × IsRun program journal world.now end }
-    ensures { (program : ProgramView) (journal : List EventView) → IsRun program journal world.now end → StandsAs program journal result }
+    ensures { (program : ProgramView) (journal : List EventView) → IsRun program journal world.now end → VerdictStands program journal result }
 {
     match end {
         Some(how) => match how {

@@ -5,11 +5,11 @@ ghost use Rattle.ca_value.specs.View.{view};
 ghost use Rattle.ca_term.specs.Operation.{op_view};
 ghost use Rattle.ca_term.specs.Program.{program_view};
 ghost use Rattle.ca_meaning.specs.State.{Task};
-ghost use Rattle.ca_meaning.specs.Task.{reply};
+ghost use Rattle.ca_meaning.specs.Task.{body_reply};
 ghost use Rattle.ca_meaning.specs.Wait.{told};
 ghost use Rattle.ca_scene.specs.Scene.{IsScene, standing_view, task_at, tasks_of};
 ghost use Rattle.ca_replay.specs.Goings.{SameButTasks, StandsThere};
-ghost use Rattle.ca_replay.specs.Replies.{is_choosing, chooses, chooses_there, GoesReplied};
+ghost use Rattle.ca_replay.specs.Replies.{is_choosing, shown_chooses, chooses_there, GoesReplied};
 ghost use Rattle.ca_replay.specs.SceneOf.{IsSceneOf};
 
 use crate::going::go_on;
@@ -61,7 +61,7 @@ fn reply(
     answer: Value,
 ) -> Result<Value, OutOfMemory>
     requires { IsScene scene.now }
-    ensures { IfOk result (λ v. (x : Task) → tasks_of scene.now task ≡ Some x → view v ≡ reply x.body port.n (view answer)) }
+    ensures { IfOk result (λ v. (x : Task) → tasks_of scene.now task ≡ Some x → view v ≡ body_reply x.body port.n (view answer)) }
 {
     if chooses_there(scene, task) {
         with_port(alloc, answer, port)
@@ -92,7 +92,7 @@ fn chooses_there(scene: &Scene, task: u64) -> bool
 }
 
 fn chooses(standing: &Standing) -> bool
-    ensures { result ≡ chooses (standing_view standing.now) }
+    ensures { result ≡ shown_chooses (standing_view standing.now) }
 {
     match standing {
         Standing::AtOp(want) => is_alts(&want.op),

@@ -7,8 +7,8 @@ ghost use Rattle.ca_meaning.specs.BodyViews.{body_view};
 ghost use Rattle.ca_meaning.specs.IsBody.{IsBodyOf};
 ghost use Rattle.ca_meaning.specs.System.{SystemRest};
 ghost use Rattle.ca_meaning.specs.Task.{script, system_task};
-ghost use Rattle.ca_scene.specs.Scene.{shown, standing_view, task_body};
-ghost use Rattle.ca_system.specs.Applications.{function_of, pending};
+ghost use Rattle.ca_scene.specs.Scene.{shown_at, standing_view, task_body};
+ghost use Rattle.ca_system.specs.Applications.{function_of, pending_application};
 ghost use Rattle.ca_system.specs.Stands.{stand_at};
 ghost use Rattle.ca_system_tasks.specs.Tables.{table_body};
 ghost use Rattle.ca_replay.specs.Goings.{IsRested};
@@ -64,7 +64,7 @@ fn rested_text(
 
 fn text_standing(alloc: Global, text: &Body) -> Result<Standing, OutOfMemory>
     requires { at (body_view text.now) ≢ local }
-    ensures { IfOk result (λ s. standing_view s ≡ shown (at (body_view text.now))) }
+    ensures { IfOk result (λ s. standing_view s ≡ shown_at (at (body_view text.now))) }
 {
     match text.at() {
         BodyStand::AtOp => Ok(Standing::AtOp(text.want(alloc)?)),
@@ -102,7 +102,7 @@ fn come_to_rest(
 ) -> Result<(), OutOfMemory>
     requires { HasFunction (program_view program.now) (function_of (table_body table.old)) }
     ensures rests { OnOk result (SystemRest (program_view program.now) (table_body table.old) (table_body table.new)) }
-    ensures applies { OnOk result (pending (table_body table.new) ≡ None) }
+    ensures applies { OnOk result (pending_application (table_body table.new) ≡ None) }
     ensures function { OnOk result (function_of (table_body table.new) ≡ function_of (table_body table.old)) }
 {
     let returned = match table.pending() {
@@ -113,7 +113,7 @@ fn come_to_rest(
 }
 
 fn table_standing(stand: Stand) -> Standing
-    ensures { standing_view result ≡ shown (stand_at stand) }
+    ensures { standing_view result ≡ shown_at (stand_at stand) }
 {
     match stand {
         Stand::AtOp(want) => Standing::AtOp(want),

@@ -5,7 +5,7 @@ ghost use Rattle.ca_term.specs.Program.{program_view};
 ghost use Rattle.ca_meaning.specs.Ends.{IsPossible};
 ghost use Rattle.ca_meaning.specs.State.{State, Opening};
 ghost use Rattle.ca_meaning.specs.Steps.{Step};
-ghost use Rattle.ca_replay.specs.World.{world_program, world_state, IsWorld, waits_made, waits_from, wait_in, wait_view, told_channel};
+ghost use Rattle.ca_replay.specs.World.{world_program, world_state, IsWorld, waits_made, waits_from, wait_entry, wait_view, told_channel};
 
 use crate::opening::opened;
 use crate::possible::can_go_on;
@@ -102,7 +102,7 @@ impl<'p> World<'p> {
 
     // The wait at that place of the table, if one is there that isn't gone.
     fn wait_in(&self, place: usize) -> Option<WaitView<'_>>
-        ensures { option_map wait_view result ≡ wait_in (slice_get self.now.scene.waits.entries place) }
+        ensures { option_map wait_view result ≡ wait_entry (slice_get self.now.scene.waits.entries place) }
     {
         match self.scene.waits.get_index(place) {
             Some((number, Some(waiting))) => Some(WaitView {

@@ -1,7 +1,7 @@
 -- What a channel accepted, gave and holds, event by event.
 use Rattle.std.proofs.Common.{◌≡◌, ◌⊎◌, inl, inr, ⊎_elim, ℕ, suc, ◌+◌, ◌<◌, ◌≤◌, List, [], ◌∷◌, ◌++◌, length, length-append, refl, ap, Bool, true, false, arith}
 use Rattle.ca_value.specs.Tree.{Tree}
-use Rattle.ca_value.specs.Buffer.{Policy, no_buffer, fixed_buffer, dropping_buffer, sliding_buffer, promise_buffer, is_promise, is_full, room_by, keep_by, give as given_from, without_first}
+use Rattle.ca_value.specs.Buffer.{Policy, no_buffer, fixed_buffer, dropping_buffer, sliding_buffer, promise_buffer, is_promise, is_full, room_by, keep_by, give_first as given_from, without_first}
 use Rattle.ca_meaning.specs.Channel.{Channel, has_room}
 use Rattle.ca_meaning.specs.History.{Mark, accept, give, give_none, pass, no_mark, marked, shut_if}
 use Rattle.ca_report.specs.Counts.{is_accept, is_give}

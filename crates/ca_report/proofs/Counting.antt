@@ -2,7 +2,7 @@
 use Rattle.std.proofs.Common.{◌≡◌, ℕ, suc, ◌+◌, List, [], ◌∷◌, ◌++◌, Bool, true, false, cond, arith}
 use Rattle.ca_term.specs.Event.{EventView}
 use Rattle.ca_meaning.specs.History.{count, mark_on}
-use Rattle.ca_report.specs.Counts.{is_accept, is_pass, is_give, accepted, passed, given}
+use Rattle.ca_report.specs.Counts.{is_accept, is_pass, is_give, accepted, passed, given_out}
 
 abbrev pub bit : Bool → ℕ
 bit b = cond b 1 0
@@ -25,5 +25,5 @@ accepted_last p es e = count_last (λ x. is_accept (mark_on p x)) es e
 pub passed_last : (p : ℕ) (es : List EventView) (e : EventView) → passed p (es ++ e ∷ []) ≡ passed p es + bit (is_pass (mark_on p e))
 passed_last p es e = count_last (λ x. is_pass (mark_on p x)) es e
 
-pub given_last : (p : ℕ) (es : List EventView) (e : EventView) → given p (es ++ e ∷ []) ≡ given p es + bit (is_give (mark_on p e))
+pub given_last : (p : ℕ) (es : List EventView) (e : EventView) → given_out p (es ++ e ∷ []) ≡ given_out p es + bit (is_give (mark_on p e))
 given_last p es e = count_last (λ x. is_give (mark_on p x)) es e

@@ -15,8 +15,8 @@ use Rattle.ca_meaning.specs.State.{State}
 use Rattle.ca_meaning.specs.Steps.{Step}
 use Rattle.ca_meaning.specs.History.{Mark, accept, give, give_none, pass, no_mark, mark_of_take, mark_of_done, mark_of_settled, mark_on, marked, closes, shut_if, channel_after}
 use Rattle.ca_meaning.proofs.Rows.{TakeDone, gave, nothing_left, take_done, PutDone, refused, promised, accepted, put_done, Settled, moved_in, served, served_nil, settle_does, row_channel}
-use Rattle.ca_report.specs.Made.{Made, with_made}
-use Rattle.ca_report.specs.Passages.{made_in}
+use Rattle.ca_report.specs.Made.{Made, with_channel_made}
+use Rattle.ca_report.specs.Passages.{made_by_event}
 use Rattle.ca_report.proofs.Balancing.{MarkOn}
 
 -- the channel is there, unless nothing is marked
@@ -87,6 +87,6 @@ mark_at program s s2 (is_over t (Faulted fault place result)) p x = tt
 
 -- the event makes a channel or a registry, or each channel is marked and closed by it and none is new
 pub made_or_marked : (e : EventView) → ((t q : ℕ) × (what : WhatView) × (moment : Option ℕ) × (e ≡ made t q what moment))
-    ⊎ (((p : ℕ) (o : Option Channel) → channel_after p e o ≡ option_map (λ c. shut_if (closes p e) (marked (mark_on p e) c)) o) × ((ms : List Made) → with_made e ms ≡ ms) × (made_in e ≡ None))
+    ⊎ (((p : ℕ) (o : Option Channel) → channel_after p e o ≡ option_map (λ c. shut_if (closes p e) (marked (mark_on p e) c)) o) × ((ms : List Made) → with_channel_made e ms ≡ ms) × (made_by_event e ≡ None))
 made_or_marked (made t q what moment) = inl (t, q, what, moment, refl)
 made_or_marked e = inr (λ p o. refl, λ ms. refl, refl)

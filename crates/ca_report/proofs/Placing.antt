@@ -3,7 +3,7 @@ use Rattle.std.proofs.Common.{◌≡◌, ◌≢◌, inl, inr, ⊎_elim, ℕ, ◌
 use Rattle.std.proofs.lemmas.Bool.Decides.{nat_tests}
 use Rattle.ca_term.specs.Event.{EventView}
 use Rattle.ca_meaning.specs.Sound.{Each}
-use Rattle.ca_report.specs.Made.{Made, placed, with_made, made_from, channels_made, Below, Rising, IsAmong}
+use Rattle.ca_report.specs.Made.{Made, made_placed, with_channel_made, made_from, channels_made, Below, Rising, IsAmong}
 
 abbrev pub NotAmong : ℕ → List Made → Type 0
 NotAmong n [] = Unit {0}
@@ -19,44 +19,44 @@ below_less : (n m : ℕ) (xs : List Made) → n < m → Below m xs → Below n x
 below_less n m [] lt b = tt
 below_less n m (x ∷ xs) lt b = (omega (arith, b.0), below_less n m xs lt b.1)
 
-below_placed : (n : ℕ) (m : Made) (xs : List Made) → n < m.port → Below n xs → Below n (placed m xs)
+below_placed : (n : ℕ) (m : Made) (xs : List Made) → n < m.port → Below n xs → Below n (made_placed m xs)
 below_placed n m [] lt b = (lt, tt)
 below_placed n m (x ∷ xs) lt b = by (nat_le m.port x.port) (below_placed n m xs lt b.1) where
-  by : (y : Bool) → Below n (placed m xs) → Below n (cond y (m ∷ x ∷ xs) (x ∷ placed m xs))
+  by : (y : Bool) → Below n (made_placed m xs) → Below n (cond y (m ∷ x ∷ xs) (x ∷ made_placed m xs))
   by true rest = (lt, b)
   by false rest = (b.0, rest)
 
-pub placed_rising : (m : Made) (xs : List Made) → NotAmong m.port xs → Rising xs → Rising (placed m xs)
+pub placed_rising : (m : Made) (xs : List Made) → NotAmong m.port xs → Rising xs → Rising (made_placed m xs)
 placed_rising m [] n r = (tt, tt)
 placed_rising m (x ∷ xs) n r = by (nat_le m.port x.port) refl (placed_rising m xs n.1 r.1) where
-  by : (y : Bool) → nat_le m.port x.port ≡ y → Rising (placed m xs) → Rising (cond y (m ∷ x ∷ xs) (x ∷ placed m xs))
+  by : (y : Bool) → nat_le m.port x.port ≡ y → Rising (made_placed m xs) → Rising (cond y (m ∷ x ∷ xs) (x ∷ made_placed m xs))
   by true is rest = let lt : m.port < x.port = omega (arith, le_true m.port x.port is, n.0) in ((lt, below_less m.port x.port xs lt r.0), r)
   by false is rest = (below_placed x.port m xs (le_false m.port x.port is) r.0, rest)
 
-pub each_placed : (P : Made → Type 0) (m : Made) (xs : List Made) → P m → Each P xs → Each P (placed m xs)
+pub each_placed : (P : Made → Type 0) (m : Made) (xs : List Made) → P m → Each P xs → Each P (made_placed m xs)
 each_placed P m [] h all = (h, tt)
 each_placed P m (x ∷ xs) h all = by (nat_le m.port x.port) (each_placed P m xs h all.1) where
-  by : (y : Bool) → Each P (placed m xs) → Each P (cond y (m ∷ x ∷ xs) (x ∷ placed m xs))
+  by : (y : Bool) → Each P (made_placed m xs) → Each P (cond y (m ∷ x ∷ xs) (x ∷ made_placed m xs))
   by true rest = (h, all)
   by false rest = (all.0, rest)
 
-made_from_last : (ms : List Made) (es : List EventView) (e : EventView) → made_from ms (es ++ e ∷ []) ≡ with_made e (made_from ms es)
+made_from_last : (ms : List Made) (es : List EventView) (e : EventView) → made_from ms (es ++ e ∷ []) ≡ with_channel_made e (made_from ms es)
 made_from_last ms [] e = refl
-made_from_last ms (x ∷ es) e = made_from_last (with_made x ms) es e
+made_from_last ms (x ∷ es) e = made_from_last (with_channel_made x ms) es e
 
-pub made_last : (es : List EventView) (e : EventView) → channels_made (es ++ e ∷ []) ≡ with_made e (channels_made es)
+pub made_last : (es : List EventView) (e : EventView) → channels_made (es ++ e ∷ []) ≡ with_channel_made e (channels_made es)
 made_last es e = made_from_last [] es e
 
-pub among_placed : (p : ℕ) (m : Made) (xs : List Made) → IsAmong p xs → IsAmong p (placed m xs)
+pub among_placed : (p : ℕ) (m : Made) (xs : List Made) → IsAmong p xs → IsAmong p (made_placed m xs)
 among_placed p m [] h = absurd h
 among_placed p m (x ∷ xs) h = by (nat_le m.port x.port) (among_placed p m xs) where
-  by : (y : Bool) → (IsAmong p xs → IsAmong p (placed m xs)) → IsAmong p (cond y (m ∷ x ∷ xs) (x ∷ placed m xs))
+  by : (y : Bool) → (IsAmong p xs → IsAmong p (made_placed m xs)) → IsAmong p (cond y (m ∷ x ∷ xs) (x ∷ made_placed m xs))
   by true rest = inr h
   by false rest = ⊎_elim (λ e. inl e) (λ k. inr (rest k)) h
 
-pub among_new : (m : Made) (xs : List Made) → IsAmong m.port (placed m xs)
+pub among_new : (m : Made) (xs : List Made) → IsAmong m.port (made_placed m xs)
 among_new m [] = inl refl
 among_new m (x ∷ xs) = by (nat_le m.port x.port) (among_new m xs) where
-  by : (y : Bool) → IsAmong m.port (placed m xs) → IsAmong m.port (cond y (m ∷ x ∷ xs) (x ∷ placed m xs))
+  by : (y : Bool) → IsAmong m.port (made_placed m xs) → IsAmong m.port (cond y (m ∷ x ∷ xs) (x ∷ made_placed m xs))
   by true rest = inl refl
   by false rest = inr rest

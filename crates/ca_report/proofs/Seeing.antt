@@ -16,10 +16,10 @@ use Rattle.ca_meaning.proofs.ValueRuns.{run_holds}
 use Rattle.ca_meaning.proofs.ValuesWritten.{written_of, any_program}
 use Rattle.ca_meaning.proofs.ValueCosts.{all_light}
 use Rattle.ca_replay.specs.declared.world.World.{World}
-use Rattle.ca_replay.specs.Judged.{IsTold}
+use Rattle.ca_replay.specs.Judged.{IsWorldTold}
 use Rattle.ca_replay.specs.World.{world_state}
 use Rattle.ca_report.specs.declared.tally.Tally.{Tally}
-use Rattle.ca_report.specs.Counts.{accepted, passed, given}
+use Rattle.ca_report.specs.Counts.{accepted, passed, given_out}
 use Rattle.ca_report.specs.Made.{channels_made}
 use Rattle.ca_report.specs.Passages.{passage_in}
 use Rattle.ca_report.specs.Tallied.{IsTally, Rows, none_counted, with_new, with_passage, rows, rows_by, rows_after, row_of}
@@ -70,7 +70,7 @@ module _ (program : ProgramView) (before : List EventView) (e : EventView) (chec
         here = facts program before split.0 split.1
 
         none_counted_yet : (q : ℕ) → split.0.channels q ≡ None → counts_of before q ≡ none_counted
-        none_counted_yet q none = let b : Balanced before q None = subst (Balanced before q) none (here.balanced q) in same_counts (accepted q before) (passed q before) (given q before) 0 0 0 b.0 b.1 b.2
+        none_counted_yet q none = let b : Balanced before q None = subst (Balanced before q) none (here.balanced q) in same_counts (accepted q before) (passed q before) (given_out q before) 0 0 0 b.0 b.1 b.2
 
         at_made : (t q : ℕ) (what : WhatView) (moment : Option ℕ) → Step program split.0 (made t q what moment) legal.state → rows_after (made t q what moment) old ≡ map (row_of (before ++ made t q what moment ∷ [])) (channels_made (before ++ made t q what moment ∷ []))
         at_made t q what moment x = ap (with_new q what moment) is
@@ -89,5 +89,5 @@ tallied t u program before e saw checked legal events costs rows_are = record {
   one_longer (y ∷ xs) x = omega (arith, one_longer xs x)
 
 -- what is told of a legal run
-pub legal_told : (most : ℕ) (program : ProgramView) (before : List EventView) (e : EventView) (w : World) → IsTold most program before e w → Legal program (before ++ e ∷ [])
+pub legal_told : (most : ℕ) (program : ProgramView) (before : List EventView) (e : EventView) (w : World) → IsWorldTold most program before e w → Legal program (before ++ e ∷ [])
 legal_told most program before e w told = record { state = world_state w; reaches = told.run.run.reaches; goes_on = told.run.run.goes_on }

@@ -14,10 +14,10 @@ use Rattle.ca_meaning.specs.History.{Mark, accept, give, give_none, pass, no_mar
 use Rattle.ca_meaning.specs.Wait.{port_of}
 use Rattle.ca_report.specs.declared.passage.Passage.{Passage}
 use Rattle.ca_report.specs.declared.passage.Counts.{Counts}
-use Rattle.ca_report.specs.Counts.{is_accept, is_pass, is_give, accepted, passed, given}
-use Rattle.ca_report.specs.Made.{Made, placed, with_made, Below, Rising}
+use Rattle.ca_report.specs.Counts.{is_accept, is_pass, is_give, accepted, passed, given_out}
+use Rattle.ca_report.specs.Made.{Made, made_placed, with_channel_made, Below, Rising}
 use Rattle.ca_report.specs.Passages.{passage_of, at_port, passage_in, more}
-use Rattle.ca_report.specs.Tallied.{AllFew, Row, Rows, none_counted, with_new, with_one, with_passage, row_of}
+use Rattle.ca_report.specs.Tallied.{AllFew, ChannelRow, Rows, none_counted, with_new, with_one, with_passage, row_of}
 use Rattle.ca_report.proofs.Counting.{bit, accepted_last, passed_last, given_last}
 use Rattle.ca_report.proofs.Placing.{NotAmong, le_true, le_false}
 
@@ -48,7 +48,7 @@ passage_is (settled w k side q v) p = at_channel p q (mark_of_settled side v)
 passage_is e p = refl
 
 abbrev pub counts_of : List EventView → ℕ → Counts
-counts_of es p = record { accepted = accepted p es; passed = passed p es; given = given p es }
+counts_of es p = record { accepted = accepted p es; passed = passed p es; given = given_out p es }
 
 abbrev pub counts_after : Option Passage → Counts → Counts
 counts_after None c = c
@@ -66,11 +66,11 @@ marked_counts no_mark a b c x y z e f g = same_counts a b c x y z (omega arith) 
 
 counts_last : (es : List EventView) (e : EventView) (p : ℕ) → counts_of (es ++ e ∷ []) p ≡ counts_after (passage_at p (passage_in e)) (counts_of es p)
 counts_last es e p =
-    marked_counts (mark_on p e) (accepted p (es ++ e ∷ [])) (passed p (es ++ e ∷ [])) (given p (es ++ e ∷ [])) (accepted p es) (passed p es) (given p es) (accepted_last p es e) (passed_last p es e) (given_last p es e)
+    marked_counts (mark_on p e) (accepted p (es ++ e ∷ [])) (passed p (es ++ e ∷ [])) (given_out p (es ++ e ∷ [])) (accepted p es) (passed p es) (given_out p es) (accepted_last p es e) (passed_last p es e) (given_last p es e)
     ∙ ap (λ o. counts_after o (counts_of es p)) (passage_is e p)
 
 -- rows with other counts
-abbrev row_with : (ℕ → Counts) → Made → ℕ × Row
+abbrev row_with : (ℕ → Counts) → Made → ℕ × ChannelRow
 row_with f m = (m.port, record { what = m.what; moment = m.moment; counts = f m.port })
 
 same_rows : (f g : ℕ → Counts) (ms : List Made) → ((p : ℕ) → f p ≡ g p) → map (row_with f) ms ≡ map (row_with g) ms
@@ -118,19 +118,19 @@ inserts_there {X} q p a b c ne = by (nat_le q p) refl where
   by true is = ap (λ o. match_ordering o a b c) (sym (nat_cmp_is q p Less (let le : q ≤ p = le_true q p is in omega (arith, ne))))
   by false is = ap (λ o. match_ordering o a b c) (sym (nat_cmp_is q p Greater (le_false q p is)))
 
-new_row : (f : ℕ → Counts) (m : Made) (ms : List Made) → NotAmong m.port ms → map (row_with f) (placed m ms) ≡ insert_entry nat_cmp (map (row_with f) ms) m.port (record { what = m.what; moment = m.moment; counts = f m.port })
+new_row : (f : ℕ → Counts) (m : Made) (ms : List Made) → NotAmong m.port ms → map (row_with f) (made_placed m ms) ≡ insert_entry nat_cmp (map (row_with f) ms) m.port (record { what = m.what; moment = m.moment; counts = f m.port })
 new_row f m [] n = refl
 new_row f m (x ∷ xs) n = by (nat_le m.port x.port) (new_row f m xs n.1) ∙ sym (inserts_there m.port x.port (row_with f m ∷ row_with f x ∷ map (row_with f) xs) ((x.port, record { what = m.what; moment = m.moment; counts = f m.port }) ∷ map (row_with f) xs) (row_with f x ∷ insert_entry nat_cmp (map (row_with f) xs) m.port (record { what = m.what; moment = m.moment; counts = f m.port })) n.0) where
-  by : (b : Bool) → map (row_with f) (placed m xs) ≡ insert_entry nat_cmp (map (row_with f) xs) m.port (record { what = m.what; moment = m.moment; counts = f m.port })
-      → map (row_with f) (cond b (m ∷ x ∷ xs) (x ∷ placed m xs)) ≡ cond b (row_with f m ∷ row_with f x ∷ map (row_with f) xs) (row_with f x ∷ insert_entry nat_cmp (map (row_with f) xs) m.port (record { what = m.what; moment = m.moment; counts = f m.port }))
+  by : (b : Bool) → map (row_with f) (made_placed m xs) ≡ insert_entry nat_cmp (map (row_with f) xs) m.port (record { what = m.what; moment = m.moment; counts = f m.port })
+      → map (row_with f) (cond b (m ∷ x ∷ xs) (x ∷ made_placed m xs)) ≡ cond b (row_with f m ∷ row_with f x ∷ map (row_with f) xs) (row_with f x ∷ insert_entry nat_cmp (map (row_with f) xs) m.port (record { what = m.what; moment = m.moment; counts = f m.port }))
   by true rest = refl
   by false rest = ap (λ (l : Rows). row_with f x ∷ l) rest
 
 -- an event that makes something at q
-pub rows_made : (es : List EventView) (t q : ℕ) (what : WhatView) (moment : Option ℕ) (ms : List Made) → NotAmong q ms → counts_of es q ≡ none_counted → map (row_of (es ++ made t q what moment ∷ [])) (with_made (made t q what moment) ms) ≡ with_new q what moment (map (row_of es) ms)
+pub rows_made : (es : List EventView) (t q : ℕ) (what : WhatView) (moment : Option ℕ) (ms : List Made) → NotAmong q ms → counts_of es q ≡ none_counted → map (row_of (es ++ made t q what moment ∷ [])) (with_channel_made (made t q what moment) ms) ≡ with_new q what moment (map (row_of es) ms)
 rows_made es t q what moment ms n none =
-    same_rows (counts_of (es ++ made t q what moment ∷ [])) (counts_of es) (with_made (made t q what moment) ms) (counts_last es (made t q what moment)) ∙ by (is_some (channel_made what)) where
-      by : (b : Bool) → map (row_with (counts_of es)) (cond b (placed (record { port = q; what = what; moment = moment }) ms) ms) ≡ cond b (insert_entry nat_cmp (map (row_of es) ms) q (record { what = what; moment = moment; counts = none_counted })) (map (row_of es) ms)
+    same_rows (counts_of (es ++ made t q what moment ∷ [])) (counts_of es) (with_channel_made (made t q what moment) ms) (counts_last es (made t q what moment)) ∙ by (is_some (channel_made what)) where
+      by : (b : Bool) → map (row_with (counts_of es)) (cond b (made_placed (record { port = q; what = what; moment = moment }) ms) ms) ≡ cond b (insert_entry nat_cmp (map (row_of es) ms) q (record { what = what; moment = moment; counts = none_counted })) (map (row_of es) ms)
       by true = new_row (counts_of es) (record { port = q; what = what; moment = moment }) ms n ∙ ap (λ (k : Counts). insert_entry nat_cmp (map (row_of es) ms) q (record { what = what; moment = moment; counts = k })) none
       by false = refl
 

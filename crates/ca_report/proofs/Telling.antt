@@ -14,8 +14,8 @@ use Rattle.ca_meaning.specs.Sound.{Each, Sound}
 use Rattle.ca_meaning.specs.History.{Mark, accept, give, give_none, pass, no_mark, mark_on, marked, closes, shut_if, channel_after}
 use Rattle.ca_meaning.proofs.Soundness.{opening_sound, step_sound}
 use Rattle.ca_meaning.proofs.Histories.{step_tells}
-use Rattle.ca_report.specs.Counts.{is_accept, is_pass, is_give, accepted, passed, given}
-use Rattle.ca_report.specs.Made.{Made, placed, with_made, channels_made, Rising, IsAmong}
+use Rattle.ca_report.specs.Counts.{is_accept, is_pass, is_give, accepted, passed, given_out}
+use Rattle.ca_report.specs.Made.{Made, made_placed, with_channel_made, channels_made, Rising, IsAmong}
 use Rattle.ca_report.proofs.Counting.{bit, accepted_last, passed_last, given_last}
 use Rattle.ca_report.proofs.Balancing.{Balance, MarkOn, marked_balance, shut_balance, marked_policy, empty_balance}
 use Rattle.ca_report.proofs.Marking.{MarkAt, mark_at, made_or_marked}
@@ -23,8 +23,8 @@ use Rattle.ca_report.proofs.Placing.{NotAmong, placed_rising, each_placed, among
 
 -- what a channel that isn't there accepted, passed and gave is nothing
 abbrev pub Balanced : List EventView → ℕ → Option Channel → Type 0
-Balanced es p None = (accepted p es ≡ 0) × (passed p es ≡ 0) × (given p es ≡ 0)
-Balanced es p (Some c) = Balance c.policy (accepted p es) (given p es) c.held
+Balanced es p None = (accepted p es ≡ 0) × (passed p es ≡ 0) × (given_out p es ≡ 0)
+Balanced es p (Some c) = Balance c.policy (accepted p es) (given_out p es) c.held
 
 -- the channel that was made is there, under its policy
 abbrev pub There : State → Made → Type 0
@@ -64,9 +64,9 @@ module _ (es : List EventView) (e : EventView) (p : ℕ) where
       let m = mark_on p e in
       let d = marked m c in
       let x = closes p e in
-      let here : Balance c.policy (accepted p es + bit (is_accept m)) (given p es + bit (is_give m)) (shut_if x d).held = shut_balance x c.policy d (accepted p es + bit (is_accept m)) (given p es + bit (is_give m)) (marked_balance m c (accepted p es) (given p es) (some_marked m c at) b) in
-      let named : Balance (shut_if x d).policy (accepted p es + bit (is_accept m)) (given p es + bit (is_give m)) (shut_if x d).held = subst (λ q. Balance q (accepted p es + bit (is_accept m)) (given p es + bit (is_give m)) (shut_if x d).held) (sym (marked_policy x m c)) here in
-      let counted : Balance (shut_if x d).policy (accepted p (es ++ e ∷ [])) (given p es + bit (is_give m)) (shut_if x d).held = subst (λ n. Balance (shut_if x d).policy n (given p es + bit (is_give m)) (shut_if x d).held) (sym (accepted_last p es e)) named in
+      let here : Balance c.policy (accepted p es + bit (is_accept m)) (given_out p es + bit (is_give m)) (shut_if x d).held = shut_balance x c.policy d (accepted p es + bit (is_accept m)) (given_out p es + bit (is_give m)) (marked_balance m c (accepted p es) (given_out p es) (some_marked m c at) b) in
+      let named : Balance (shut_if x d).policy (accepted p es + bit (is_accept m)) (given_out p es + bit (is_give m)) (shut_if x d).held = subst (λ q. Balance q (accepted p es + bit (is_accept m)) (given_out p es + bit (is_give m)) (shut_if x d).held) (sym (marked_policy x m c)) here in
+      let counted : Balance (shut_if x d).policy (accepted p (es ++ e ∷ [])) (given_out p es + bit (is_give m)) (shut_if x d).held = subst (λ n. Balance (shut_if x d).policy n (given_out p es + bit (is_give m)) (shut_if x d).held) (sym (accepted_last p es e)) named in
       subst (λ n. Balance (shut_if x d).policy (accepted p (es ++ e ∷ [])) n (shut_if x d).held) (sym (given_last p es e)) counted
 
   -- one event more, which doesn't touch it
@@ -78,8 +78,8 @@ module _ (es : List EventView) (e : EventView) (p : ℕ) where
   )
   balanced_still (Some c) n b =
       let a : accepted p (es ++ e ∷ []) ≡ accepted p es = omega (arith, accepted_last p es e, ap (λ m. bit (is_accept m)) n) in
-      let g : given p (es ++ e ∷ []) ≡ given p es = omega (arith, given_last p es e, ap (λ m. bit (is_give m)) n) in
-      subst (λ k. Balance c.policy k (given p (es ++ e ∷ [])) c.held) (sym a) (subst (λ k. Balance c.policy (accepted p es) k c.held) (sym g) b)
+      let g : given_out p (es ++ e ∷ []) ≡ given_out p es = omega (arith, given_last p es e, ap (λ m. bit (is_give m)) n) in
+      subst (λ k. Balance c.policy k (given_out p (es ++ e ∷ [])) c.held) (sym a) (subst (λ k. Balance c.policy (accepted p es) k c.held) (sym g) b)
 
 -- a new channel holds nothing
 abbrev IsEmpty : Option Channel → Type 0
@@ -103,7 +103,7 @@ new_empty (publication source) = tt
 balanced_new : (es : List EventView) (p : ℕ) (o : Option Channel) → IsEmpty o → Balanced es p None → Balanced es p o
 balanced_new es p None i b = b
 balanced_new es p (Some d) i b =
-    subst (λ k. Balance d.policy k (given p es) d.held) (sym b.0) (subst (λ k. Balance d.policy 0 k d.held) (sym b.2) (subst (Balance d.policy 0 0) (sym i) (empty_balance d.policy)))
+    subst (λ k. Balance d.policy k (given_out p es) d.held) (sym b.0) (subst (λ k. Balance d.policy 0 k d.held) (sym b.2) (subst (Balance d.policy 0 0) (sym i) (empty_balance d.policy)))
 
 none_is : (o : Option Channel) (es : List EventView) (p : ℕ) → o ≡ None → Balanced es p o → Balanced es p None
 none_is o es p e b = subst (Balanced es p) e b
@@ -155,15 +155,15 @@ module _ (program : ProgramView) (s s2 : State) (t q : ℕ) (what : WhatView) (m
   there_new : (d : Channel) → channel_made what ≡ Some d → There s2 (record { port = q; what = what; moment = moment })
   there_new d is = (d, d, step_tells program s s2 (made t q what moment) q x k ∙ itself q (channel_made what) (s.channels q) ∙ is, is, refl)
 
-  pub there_made : (ms : List Made) → Each (There s) ms → Each (There s2) (with_made (made t q what moment) ms)
+  pub there_made : (ms : List Made) → Each (There s) ms → Each (There s2) (with_channel_made (made t q what moment) ms)
   there_made ms all = by (channel_made what) refl where
-    by : (o : Option Channel) → channel_made what ≡ o → Each (There s2) (cond (is_some o) (placed (record { port = q; what = what; moment = moment }) ms) ms)
+    by : (o : Option Channel) → channel_made what ≡ o → Each (There s2) (cond (is_some o) (made_placed (record { port = q; what = what; moment = moment }) ms) ms)
     by None is = there_all program s s2 (made t q what moment) ms x k all
     by (Some d) is = each_placed (There s2) (record { port = q; what = what; moment = moment }) ms (there_new d is) (there_all program s s2 (made t q what moment) ms x k all)
 
-  pub rising_made : (ms : List Made) → Each (There s) ms → Rising ms → Rising (with_made (made t q what moment) ms)
+  pub rising_made : (ms : List Made) → Each (There s) ms → Rising ms → Rising (with_channel_made (made t q what moment) ms)
   rising_made ms all r = by (is_some (channel_made what)) where
-    by : (b : Bool) → Rising (cond b (placed (record { port = q; what = what; moment = moment }) ms) ms)
+    by : (b : Bool) → Rising (cond b (made_placed (record { port = q; what = what; moment = moment }) ms) ms)
     by true = placed_rising (record { port = q; what = what; moment = moment }) ms (absent s q ms x.3 all) r
     by false = r
 
@@ -172,24 +172,24 @@ was_there : (o u : Option Channel) (f : Channel → Channel) (d : Channel) → u
 was_there None u f d e is = absurd (let j : None ≡ Some d = sym e ∙ is in cc)
 was_there (Some c) u f d e is = (c, refl)
 
-among_made : (p t q : ℕ) (what : WhatView) (moment : Option ℕ) (ms : List Made) → IsAmong p ms → IsAmong p (with_made (made t q what moment) ms)
+among_made : (p t q : ℕ) (what : WhatView) (moment : Option ℕ) (ms : List Made) → IsAmong p ms → IsAmong p (with_channel_made (made t q what moment) ms)
 among_made p t q what moment ms h = by (is_some (channel_made what)) where
-  by : (b : Bool) → IsAmong p (cond b (placed (record { port = q; what = what; moment = moment }) ms) ms)
+  by : (b : Bool) → IsAmong p (cond b (made_placed (record { port = q; what = what; moment = moment }) ms) ms)
   by true = among_placed p (record { port = q; what = what; moment = moment }) ms h
   by false = h
 
 -- where a channel is made at q, it is among those that are made
-made_among : (t q : ℕ) (what : WhatView) (moment : Option ℕ) (ms : List Made) (d : Channel) → channel_made what ≡ Some d → IsAmong q (with_made (made t q what moment) ms)
+made_among : (t q : ℕ) (what : WhatView) (moment : Option ℕ) (ms : List Made) (d : Channel) → channel_made what ≡ Some d → IsAmong q (with_channel_made (made t q what moment) ms)
 made_among t q what moment ms d is = by (channel_made what) is where
-  by : (o : Option Channel) → o ≡ Some d → IsAmong q (cond (is_some o) (placed (record { port = q; what = what; moment = moment }) ms) ms)
+  by : (o : Option Channel) → o ≡ Some d → IsAmong q (cond (is_some o) (made_placed (record { port = q; what = what; moment = moment }) ms) ms)
   by None e = absurd (let j : None ≡ Some d = e in cc)
   by (Some c) e = among_new (record { port = q; what = what; moment = moment }) ms
 
 listed_made : (t q : ℕ) (what : WhatView) (moment : Option ℕ) (ms : List Made) (f : Channels) → ((p : ℕ) (c : Channel) → f p ≡ Some c → IsAmong p ms)
-    → (p : ℕ) (d : Channel) → cond (eqb q p) (channel_made what) (f p) ≡ Some d → IsAmong p (with_made (made t q what moment) ms)
+    → (p : ℕ) (d : Channel) → cond (eqb q p) (channel_made what) (f p) ≡ Some d → IsAmong p (with_channel_made (made t q what moment) ms)
 listed_made t q what moment ms f all p d = by (eqb q p) refl where
-  by : (b : Bool) → eqb q p ≡ b → cond b (channel_made what) (f p) ≡ Some d → IsAmong p (with_made (made t q what moment) ms)
-  by true is e = subst (λ n. IsAmong n (with_made (made t q what moment) ms)) (eqb-true q p is) (made_among t q what moment ms d e)
+  by : (b : Bool) → eqb q p ≡ b → cond b (channel_made what) (f p) ≡ Some d → IsAmong p (with_channel_made (made t q what moment) ms)
+  by true is e = subst (λ n. IsAmong n (with_channel_made (made t q what moment) ms)) (eqb-true q p is) (made_among t q what moment ms d e)
   by false is e = among_made p t q what moment ms (all p d e)
 
 -- one event more

@@ -25,8 +25,8 @@ abbrev pub passed : ℕ → List EventView → ℕ
 passed p journal = count (λ e. is_pass (mark_on p e)) journal
 
 -- how many give one out of what channel p holds
-abbrev pub given : ℕ → List EventView → ℕ
-given p journal = count (λ e. is_give (mark_on p e)) journal
+abbrev pub given_out : ℕ → List EventView → ℕ
+given_out p journal = count (λ e. is_give (mark_on p e)) journal
 
 -- what was accepted and is neither given nor held; what a promise gives it holds as before
 abbrev pub lost : Bool → ℕ → ℕ → ℕ → ℕ
@@ -34,4 +34,4 @@ lost promise accepted given held = cond promise (accepted - held) (accepted - gi
 
 -- how many values channel p, which is c after the journal, dropped
 abbrev pub dropped : List EventView → ℕ → Channel → ℕ
-dropped journal p c = lost (is_promise c.policy) (accepted p journal) (given p journal) (length c.held)
+dropped journal p c = lost (is_promise c.policy) (accepted p journal) (given_out p journal) (length c.held)

@@ -3,11 +3,11 @@ use Rattle.std.specs.Prelude.{◌≡◌, ℕ, ◌+◌, ◌-◌, ◌≤◌, List,
 use Rattle.ca_value.specs.Buffer.{Policy, no_buffer, fixed_buffer, dropping_buffer, sliding_buffer, promise_buffer}
 use Rattle.ca_term.specs.Event.{EventView}
 use Rattle.ca_meaning.specs.Channel.{Channel}
-use Rattle.ca_report.specs.Counts.{accepted, given, dropped}
+use Rattle.ca_report.specs.Counts.{accepted, given_out, dropped}
 
 -- what was given and what is held was accepted
 abbrev pub IsAccounted : List EventView → ℕ → Channel → Type 0
-IsAccounted journal p c = given p journal + length c.held ≤ accepted p journal
+IsAccounted journal p c = given_out p journal + length c.held ≤ accepted p journal
 
 -- of channel p, which is c after the journal
 abbrev pub DropsBy : Policy → List EventView → ℕ → Channel → Type 0

@@ -11,19 +11,19 @@ pub record Made : Type 0 where
   pub moment : Option ℕ
 
 -- before the first that has no lower number
-abbrev pub placed : Made → List Made → List Made
-placed m [] = m ∷ []
-placed m (x ∷ xs) = cond (nat_le m.port x.port) (m ∷ x ∷ xs) (x ∷ placed m xs)
+abbrev pub made_placed : Made → List Made → List Made
+made_placed m [] = m ∷ []
+made_placed m (x ∷ xs) = cond (nat_le m.port x.port) (m ∷ x ∷ xs) (x ∷ made_placed m xs)
 
 -- with the channel that the event makes, if it makes one
-abbrev pub with_made : EventView → List Made → List Made
-with_made (made t p what moment) ms = cond (is_some (channel_made what)) (placed (record { port = p; what = what; moment = moment }) ms) ms
-with_made e ms = ms
+abbrev pub with_channel_made : EventView → List Made → List Made
+with_channel_made (made t p what moment) ms = cond (is_some (channel_made what)) (made_placed (record { port = p; what = what; moment = moment }) ms) ms
+with_channel_made e ms = ms
 
 -- with those that the events make
 abbrev pub made_from : List Made → List EventView → List Made
 made_from ms [] = ms
-made_from ms (e ∷ es) = made_from (with_made e ms) es
+made_from ms (e ∷ es) = made_from (with_channel_made e ms) es
 
 abbrev pub channels_made : List EventView → List Made
 channels_made journal = made_from [] journal

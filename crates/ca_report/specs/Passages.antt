@@ -31,9 +31,9 @@ passage_in (settled w k side p v) = at_port p (passage_of (mark_of_settled side 
 passage_in e = None
 
 -- what an event makes: the port, what is there, and the moment of a timeout's making
-abbrev pub made_in : EventView → Option (ℕ × WhatView × Option ℕ)
-made_in (made t p what moment) = Some (p, what, moment)
-made_in e = None
+abbrev pub made_by_event : EventView → Option (ℕ × WhatView × Option ℕ)
+made_by_event (made t p what moment) = Some (p, what, moment)
+made_by_event e = None
 
 abbrev pub told_made : PortId × Bor What × Option ℕ → ℕ × WhatView × Option ℕ
 told_made r = (r.0.n, what_view r.1.now, r.2)

@@ -7,35 +7,35 @@ use Rattle.ca_meaning.specs.Journal.{task_text, port_text, wait_text, what_text,
 use Rattle.ca_meaning.specs.State.{State}
 use Rattle.ca_meaning.specs.Texts.{◌⋅◌}
 use Rattle.ca_meaning.specs.Wait.{Wait}
-use Rattle.ca_report.specs.Counts.{accepted, passed, given, dropped}
+use Rattle.ca_report.specs.Counts.{accepted, passed, given_out, dropped}
 use Rattle.ca_report.specs.Made.{Made, channels_made}
 
 -- a word and a number, behind a space
-abbrev pub counted : List ℕ → ℕ → List ℕ
-counted word n = 32 ∷ (word ⋅ decimal n)
+abbrev pub word_and_count : List ℕ → ℕ → List ℕ
+word_and_count word n = 32 ∷ (word ⋅ decimal n)
 
 -- how many events there are, and what they cost together
 abbrev pub head_line : List EventView → List ℕ
-head_line journal = (codes "events" ⋅ decimal (length journal)) ++ counted (codes "cost") (cost journal) ++ 10 ∷ []
+head_line journal = (codes "events" ⋅ decimal (length journal)) ++ word_and_count (codes "cost") (cost journal) ++ 10 ∷ []
 
 abbrev pub closed_text : Bool → List ℕ
 closed_text true = codes " closed"
 closed_text false = codes " open"
 
 -- a channel's port and what it is, as in its Make line
-abbrev pub name_text : Made → List ℕ
-name_text m = (port_text m.port ⋅ what_text m.what m.moment) ++ 58 ∷ []
+abbrev pub made_text : Made → List ℕ
+made_text m = (port_text m.port ⋅ what_text m.what m.moment) ++ 58 ∷ []
 
 -- how many values a channel accepted, passed, gave and dropped, and holds
 abbrev pub counts_text : ℕ → ℕ → ℕ → ℕ → ℕ → List ℕ
 counts_text accepted passed given dropped held =
-    counted (codes "accepted") accepted ++ counted (codes "passed") passed ++ counted (codes "given") given
-    ++ counted (codes "dropped") dropped ++ counted (codes "held") held
+    word_and_count (codes "accepted") accepted ++ word_and_count (codes "passed") passed ++ word_and_count (codes "given") given
+    ++ word_and_count (codes "dropped") dropped ++ word_and_count (codes "held") held
 
 -- a channel that the journal made, and left so
 abbrev pub channel_line : List EventView → Made → Channel → List ℕ
 channel_line journal m c =
-    name_text m ++ counts_text (accepted m.port journal) (passed m.port journal) (given m.port journal) (dropped journal m.port c) (length c.held)
+    made_text m ++ counts_text (accepted m.port journal) (passed m.port journal) (given_out m.port journal) (dropped journal m.port c) (length c.held)
     ++ closed_text c.closed ++ 10 ∷ []
 
 abbrev pub line_where : List EventView → Made → Option Channel → List ℕ

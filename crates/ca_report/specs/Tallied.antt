@@ -15,32 +15,32 @@ use Rattle.ca_report.specs.declared.passage.Passage.{Passage}
 use Rattle.ca_report.specs.declared.passage.Counts.{Counts}
 use Rattle.ca_report.specs.declared.tally.Record.{Record}
 use Rattle.ca_report.specs.declared.tally.Tally.{Tally}
-use Rattle.ca_report.specs.Counts.{accepted, passed, given, lost}
+use Rattle.ca_report.specs.Counts.{accepted, passed, given_out, lost}
 use Rattle.ca_report.specs.Made.{Made, channels_made}
-use Rattle.ca_report.specs.Passages.{made_in, more, passage_in}
-use Rattle.ca_report.specs.Report.{counted, closed_text, name_text, counts_text, wait_line}
+use Rattle.ca_report.specs.Passages.{made_by_event, more, passage_in}
+use Rattle.ca_report.specs.Report.{word_and_count, closed_text, made_text, counts_text, wait_line}
 
 -- one more can be counted
 abbrev pub AreFew : Counts → Type 0
 AreFew c = (c.accepted < 2 ^ 64 - 1) × (c.passed < 2 ^ 64 - 1) × (c.given < 2 ^ 64 - 1)
 
 -- a channel's record as plain data
-pub record Row : Type 0 where
+pub record ChannelRow : Type 0 where
   pub what : WhatView
   pub moment : Option ℕ
   pub counts : Counts
 
 abbrev pub Rows : Type 0
-Rows = List (ℕ × Row)
+Rows = List (ℕ × ChannelRow)
 
-abbrev pub row_view : Record → Row
+abbrev pub row_view : Record → ChannelRow
 row_view r = record { what = what_view r.what; moment = r.moment; counts = r.counts }
 
-abbrev pub row_at : ℕ × Record → ℕ × Row
-row_at e = (e.0, row_view e.1)
+abbrev pub row_entry : ℕ × Record → ℕ × ChannelRow
+row_entry e = (e.0, row_view e.1)
 
 abbrev pub rows : Tally → Rows
-rows t = map row_at t.channels.entries
+rows t = map row_entry t.channels.entries
 
 abbrev pub none_counted : Counts
 none_counted = record { accepted = 0; passed = 0; given = 0 }
@@ -64,14 +64,14 @@ rows_by (Some y) o rs = with_new y.0 y.1 y.2 rs
 rows_by None o rs = with_passage o rs
 
 abbrev pub rows_after : EventView → Rows → Rows
-rows_after e rs = rows_by (made_in e) (passage_in e) rs
+rows_after e rs = rows_by (made_by_event e) (passage_in e) rs
 
 abbrev pub AllFew : Rows → Type 0
-AllFew rs = Each (λ (r : ℕ × Row). AreFew r.1.counts) rs
+AllFew rs = Each (λ (r : ℕ × ChannelRow). AreFew r.1.counts) rs
 
 -- what the events say of a channel that they made
-abbrev pub row_of : List EventView → Made → ℕ × Row
-row_of es m = (m.port, record { what = m.what; moment = m.moment; counts = record { accepted = accepted m.port es; passed = passed m.port es; given = given m.port es } })
+abbrev pub row_of : List EventView → Made → ℕ × ChannelRow
+row_of es m = (m.port, record { what = m.what; moment = m.moment; counts = record { accepted = accepted m.port es; passed = passed m.port es; given = given_out m.port es } })
 
 -- the tally is that of these events
 pub record IsTally (t : Tally) (es : List EventView) : Type 0 where
@@ -79,28 +79,28 @@ pub record IsTally (t : Tally) (es : List EventView) : Type 0 where
   pub cost : t.cost ≡ cost es
   pub rows : rows t ≡ map (row_of es) (channels_made es)
 
-abbrev pub is_promise : WhatView → Bool
-is_promise promise = true
-is_promise what = false
+abbrev pub makes_promise : WhatView → Bool
+makes_promise promise = true
+makes_promise what = false
 
-abbrev pub made_by : ℕ → Row → Made
-made_by p r = record { port = p; what = r.what; moment = r.moment }
+abbrev pub made_in_row : ℕ → ChannelRow → Made
+made_in_row p r = record { port = p; what = r.what; moment = r.moment }
 
 -- the line of a channel that holds so many values, and is closed or open
-abbrev pub row_text : ℕ → Row → ℕ → Bool → List ℕ
+abbrev pub row_text : ℕ → ChannelRow → ℕ → Bool → List ℕ
 row_text p r held closed =
-    name_text (made_by p r) ++ counts_text r.counts.accepted r.counts.passed r.counts.given (lost (is_promise r.what) r.counts.accepted r.counts.given held) held
+    made_text (made_in_row p r) ++ counts_text r.counts.accepted r.counts.passed r.counts.given (lost (makes_promise r.what) r.counts.accepted r.counts.given held) held
     ++ closed_text closed ++ 10 ∷ []
 
-abbrev pub row_where : ℕ → Row → Option Channel → List ℕ
+abbrev pub row_where : ℕ → ChannelRow → Option Channel → List ℕ
 row_where p r None = []
 row_where p r (Some c) = row_text p r (length c.held) c.closed
 
-abbrev pub row_line : State → ℕ × Row → List ℕ
+abbrev pub row_line : State → ℕ × ChannelRow → List ℕ
 row_line s r = row_where r.0 r.1 (s.channels r.0)
 
 abbrev pub tally_head : Tally → List ℕ
-tally_head t = (codes "events" ⋅ decimal t.events) ++ counted (codes "cost") t.cost ++ 10 ∷ []
+tally_head t = (codes "events" ⋅ decimal t.events) ++ word_and_count (codes "cost") t.cost ++ 10 ∷ []
 
 -- what is told of the tally and the state that its journal leads to
 abbrev pub tally_text : State → Tally → List ℕ

@@ -55,8 +55,8 @@ both_sides_lines =
     ∷ codes "w1 t0: take p1, put p1 1"
     ∷ []
 
-abbrev pub put_and_take_lines : List (List ℕ)
-put_and_take_lines =
+abbrev pub put_and_take_report : List (List ℕ)
+put_and_take_report =
     codes "events 10 cost 10"
     ∷ codes "p1 chan none: accepted 0 passed 1 given 0 dropped 0 held 0 open"
     ∷ codes "p2 chan fixed 1: accepted 1 passed 0 given 0 dropped 0 held 1 closed"

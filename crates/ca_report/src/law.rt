@@ -11,7 +11,7 @@ ghost use Rattle.ca_report.specs.Made.{channels_made, IsAmong, Rising};
 ghost use Rattle.ca_report.specs.Report.{report_text};
 ghost use Rattle.ca_report.specs.Tallied.{IsTally, tally_text};
 ghost use Rattle.ca_report.specs.declared.tally.Tally.{Tally};
-ghost use Rattle.ca_report.specs.Worked.{told_by, put_twice, put_twice_lines, both_sides, both_sides_wait, both_sides_lines, put_and_take_lines};
+ghost use Rattle.ca_report.specs.Worked.{told_by, put_twice, put_twice_lines, both_sides, both_sides_wait, both_sides_lines, put_and_take_report};
 
 /// What a channel that isn't a promise gave and holds it accepted, and it dropped nothing where it has no buffer or a fixed
 /// one. A promise dropped all that it accepted but the first.
@@ -35,5 +35,5 @@ pub fn tallies_make_the_report()
 pub fn worked_reports()
     ensures put_twice { report_text put_twice (told_by put_twice []) ≡ lines put_twice_lines }
     ensures both_sides { report_text both_sides (told_by both_sides (both_sides_wait ∷ [])) ≡ lines both_sides_lines }
-    ensures put_and_take { report_text put_and_take (told_by put_and_take []) ≡ lines put_and_take_lines }
+    ensures put_and_take { report_text put_and_take (told_by put_and_take []) ≡ lines put_and_take_report }
 {}

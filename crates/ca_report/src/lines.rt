@@ -3,8 +3,8 @@ ghost use Rattle.std.specs.Prelude.{◌≡◌, ◌++◌, OnOk};
 ghost use Rattle.ca_value.specs.Seq.{list};
 ghost use Rattle.ca_term.specs.Operation.{what_view};
 ghost use Rattle.ca_report.specs.Counts.{lost};
-ghost use Rattle.ca_report.specs.Report.{closed_text, counts_text, name_text, wait_line};
-ghost use Rattle.ca_report.specs.Tallied.{is_promise, made_by, row_text, row_view, tally_head, wait_told};
+ghost use Rattle.ca_report.specs.Report.{closed_text, counts_text, made_text, wait_line};
+ghost use Rattle.ca_report.specs.Tallied.{makes_promise, made_in_row, row_text, row_view, tally_head, wait_told};
 
 use crate::passage::Counts;
 use crate::tally::{Record, Tally};
@@ -59,7 +59,7 @@ pub fn append_wait(
 }
 
 fn append_name(port: u64, row: &Record, into: &mut Text) -> Result<(), OutOfMemory>
-    ensures { OnOk result (list into.new ≡ list into.old ++ name_text (made_by port (row_view row.now))) }
+    ensures { OnOk result (list into.new ≡ list into.old ++ made_text (made_in_row port (row_view row.now))) }
 {
     append_numbered(b"p", port, into)?;
     into.append(b" ")?;
@@ -94,7 +94,7 @@ fn append_closed(closed: bool, into: &mut Text) -> Result<(), OutOfMemory>
 
 // What was accepted and is neither given nor held; a promise holds what it gave.
 fn dropped(row: &Record, held: u64) -> u64
-    ensures { result ≡ lost (is_promise (what_view row.now.what)) row.now.counts.accepted row.now.counts.given held }
+    ensures { result ≡ lost (makes_promise (what_view row.now.what)) row.now.counts.accepted row.now.counts.given held }
 {
     let accepted = row.counts.accepted;
     match row.what {

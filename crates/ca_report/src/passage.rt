@@ -4,7 +4,7 @@ ghost use Rattle.ca_value.specs.Tree.{Tree};
 ghost use Rattle.ca_value.specs.View.{view};
 ghost use Rattle.ca_term.specs.Event.{event_view};
 ghost use Rattle.ca_meaning.specs.History.{mark_of_take, mark_of_put};
-ghost use Rattle.ca_report.specs.Passages.{at_port, made_in, more, passage_in, passage_of, told_made, told_passage};
+ghost use Rattle.ca_report.specs.Passages.{at_port, made_by_event, more, passage_in, passage_of, told_made, told_passage};
 ghost use Rattle.ca_report.specs.Tallied.{AreFew};
 
 use ca_asking::operands::is_true;
@@ -91,7 +91,7 @@ pub(crate) fn passage_in(event: &Event) -> Option<(PortId, Passage)>
 
 /// What the event makes: the port, what is there, and the moment of a timeout's making.
 pub(crate) fn made_in(event: &Event) -> Option<(PortId, &What, Option<u64>)>
-    ensures { option_map told_made result ≡ made_in (event_view event.now) }
+    ensures { option_map told_made result ≡ made_by_event (event_view event.now) }
 {
     match event {
         Event::Make {

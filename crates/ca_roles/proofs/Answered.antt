@@ -13,9 +13,9 @@ use Rattle.ca_meaning.specs.IsBody.{IsBodyBy}
 use Rattle.ca_meaning.specs.Rest.{LocalSteps, here, after, Rest}
 use Rattle.ca_meaning.proofs.Contracts.{Judges}
 use Rattle.ca_meaning.proofs.Bodies.{stepped, filled, program_judges}
-use Rattle.ca_roles.specs.Roles.{Hidden, Role, public, hidden, Roles, nobody, known_as, Grows, IsPublic}
+use Rattle.ca_roles.specs.Roles.{Hidden, Role, public, hidden, Roles, no_roles, known_as, Grows, IsPublic}
 use Rattle.ca_roles.specs.Sealed.{Sealed, IsSealed}
-use Rattle.ca_roles.specs.Once.{User, no_names, only, uses, UsesOnce, StartsOnce}
+use Rattle.ca_roles.specs.Once.{User, no_names, only, use_count, UsesOnce, StartsOnce}
 use Rattle.ca_roles.proofs.Starting.{same_roles}
 use Rattle.ca_roles.proofs.Rested.{step_sealed, rest_sealed, make_role, fill_sealed}
 use Rattle.ca_roles.proofs.Unused.{no_names_hidden, unused}
@@ -32,17 +32,17 @@ same_script b c e = cc
 
 -- how often the term can still start such a user of the port
 abbrev pub count : User → ℕ → Kernel → ℕ
-count k q t = uses k (only q) t no_names
+count k q t = use_count k (only q) t no_names
 
 pub only_private : (q : ℕ) (roles : Roles) → (roles q ≡ Some public → ⊥) → NonePublic (only q) roles
 only_private q roles private n e at = private (ap roles (sym (only_is q n e)) ∙ at)
 
 -- a port without a role, or with a hidden one of another task
-pub not_hidden : (k : User) (q me : ℕ) (roles : Roles) (t : Kernel) → ((h : Hidden) → roles q ≡ Some (hidden me h) → ⊥) → Sealed me roles t nobody → count k q t ≡ 0
-not_hidden k q me roles t other h = unused k me (only q) roles (λ n x e at. other x (ap roles (sym (only_is q n e)) ∙ at)) t no_names nobody (no_names_hidden me nobody) h
+pub not_hidden : (k : User) (q me : ℕ) (roles : Roles) (t : Kernel) → ((h : Hidden) → roles q ≡ Some (hidden me h) → ⊥) → Sealed me roles t no_roles → count k q t ≡ 0
+not_hidden k q me roles t other h = unused k me (only q) roles (λ n x e at. other x (ap roles (sym (only_is q n e)) ∙ at)) t no_names no_roles (no_names_hidden me no_roles) h
 
 -- who can start a user of the port has made it
-pub maker : (k : User) (q me : ℕ) (roles : Roles) (t : Kernel) → Sealed me roles t nobody → 1 ≤ count k q t → (h : Hidden) × (roles q ≡ Some (hidden me h))
+pub maker : (k : User) (q me : ℕ) (roles : Roles) (t : Kernel) → Sealed me roles t no_roles → 1 ≤ count k q t → (h : Hidden) × (roles q ≡ Some (hidden me h))
 maker k q me roles t s l = by (roles q) refl where
   none_is : {G : Type 0} → count k q t ≡ 0 → G
   none_is e = absurd (omega (arith, l, e))
@@ -68,7 +68,7 @@ module _ (program : ProgramView) (checked : IsProgram program) (sealed : IsSeale
   after_fill : (b : BodyView) (v : Tree) → IsOfProgram b.term → IsOfProgram (fill v b).term
   after_fill b v f = filled (Suits (known_in checked.plain program)) v b.term f
 
-  pub steps_once : (roles : Roles) {b c : BodyView} → LocalSteps program b c → IsOfProgram b.term → Sealed me roles b.term nobody → UsesOnce b.term → UsesOnce c.term
+  pub steps_once : (roles : Roles) {b c : BodyView} → LocalSteps program b c → IsOfProgram b.term → Sealed me roles b.term no_roles → UsesOnce b.term → UsesOnce c.term
   steps_once roles here f h o = o
   steps_once roles {b} {c} (after l s) f h o = steps_once roles s (next b f) (step_sealed program checked sealed me roles b l f h) (step_once program sealed starts me roles b h o)
 
@@ -78,17 +78,17 @@ module _ (program : ProgramView) (checked : IsProgram program) (sealed : IsSeale
   stays : (a : ℕ) → a ≤ a
   stays a = omega arith
 
-  steps_count : (roles : Roles) (k : User) (q : ℕ) → (roles q ≡ Some public → ⊥) → {b c : BodyView} → LocalSteps program b c → IsOfProgram b.term → Sealed me roles b.term nobody → count k q b.term ≤ 1 → count k q c.term ≤ count k q b.term
+  steps_count : (roles : Roles) (k : User) (q : ℕ) → (roles q ≡ Some public → ⊥) → {b c : BodyView} → LocalSteps program b c → IsOfProgram b.term → Sealed me roles b.term no_roles → count k q b.term ≤ 1 → count k q c.term ≤ count k q b.term
   steps_count roles k q private {b} here f h l = stays (count k q b.term)
   steps_count roles k q private {b} {c} (after e s) f h l =
       let one = step_count program sealed k me (only q) roles (only_private q roles private) b h l in
       through (count k q c.term) (count k q (step program b).term) (count k q b.term)
       (steps_count roles k q private s (next b f) (step_sealed program checked sealed me roles b e f h) (through (count k q (step program b).term) (count k q b.term) 1 one l)) one
 
-  module _ (roles : Roles) (b c : BodyView) (f : IsOfProgram b.term) (h : Sealed me roles b.term nobody) (o : UsesOnce b.term) where
+  module _ (roles : Roles) (b c : BodyView) (f : IsOfProgram b.term) (h : Sealed me roles b.term no_roles) (o : UsesOnce b.term) where
     -- a public answer, which is no new port
     module _ (v : Tree) (op : OpView) (place : Place) (stands : at b ≡ at_op (record { op = op; place = place })) (other : (what : WhatView) → op ≡ making what → ⊥) (answer : IsPublic roles v) (rest : Rest program (fill v b) c) where
-      whole : Sealed me roles (fill v b).term nobody
+      whole : Sealed me roles (fill v b).term no_roles
       whole = fill_sealed me roles roles b v op place stands other (same_roles roles) h answer
 
       pub answered_once : UsesOnce c.term
@@ -123,7 +123,7 @@ module _ (program : ProgramView) (checked : IsProgram program) (sealed : IsSeale
       has_role : more p ≡ Some role
       has_role = update_here roles p (Some role)
 
-      made_whole : Sealed me more (fill (port p) b).term nobody
+      made_whole : Sealed me more (fill (port p) b).term no_roles
       made_whole = (make_role me roles b what place stands h).2 more p (as_made role) has_role
 
       pub made_once : UsesOnce c.term

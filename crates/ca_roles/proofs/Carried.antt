@@ -2,7 +2,7 @@
 -- value fits channel p.)
 use Rattle.std.proofs.Common.{◌≡◌, ◌⊎◌, ℕ, List, [], ◌∷◌, ◌++◌, refl, sym, ap, ◌∙◌, subst, Bool, true, false, cond, Option, Some, None, option_map, eqb, eqb-true}
 use Rattle.ca_value.specs.Tree.{Tree, nil}
-use Rattle.ca_value.specs.Buffer.{Policy, no_buffer, fixed_buffer, dropping_buffer, sliding_buffer, promise_buffer, is_full, without_first, keep_by, give as give_by}
+use Rattle.ca_value.specs.Buffer.{Policy, no_buffer, fixed_buffer, dropping_buffer, sliding_buffer, promise_buffer, is_full, without_first, keep_by, give_first as give_by}
 use Rattle.ca_term.specs.declared.event.Side.{Side}
 use Rattle.ca_term.specs.declared.event.Side.TheVariants.{Take, Put}
 use Rattle.ca_term.specs.Operation.{OpView}
@@ -14,7 +14,7 @@ use Rattle.ca_meaning.specs.Wait.{Wait, Handler, side_of, port_of, front, queue}
 use Rattle.ca_meaning.specs.Row.{completes, meets, row_on}
 use Rattle.ca_meaning.specs.State.{State, Task, Channels}
 use Rattle.ca_meaning.specs.Choice.{branches_of, row}
-use Rattle.ca_meaning.specs.Going.{Stands}
+use Rattle.ca_meaning.specs.Going.{RunsAtOperation}
 use Rattle.ca_meaning.specs.Steps.{Step}
 use Rattle.ca_meaning.specs.Sound.{Each, Sound}
 use Rattle.ca_meaning.specs.History.{Mark, accept, give, give_none, pass, no_mark, mark_of_take, mark_of_put, mark_of_done, mark_of_settled, mark_on, marked, closes, shut_if, channel_after}
@@ -38,7 +38,7 @@ module _ (P : ℕ → Tree → Type 0) where
 
   -- all that tasks offer at their operations
   abbrev pub AllPutsFit : State → Type 0
-  AllPutsFit s = (u : ℕ) (y : Task) (op : OpView) → Stands s u op y → Each BranchFits (branches_of op)
+  AllPutsFit s = (u : ℕ) (y : Task) (op : OpView) → RunsAtOperation s u op y → Each BranchFits (branches_of op)
 
   -- what a take gets
   abbrev pub Got : ℕ → Tree → Type 0

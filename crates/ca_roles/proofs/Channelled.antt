@@ -14,7 +14,7 @@ use Rattle.ca_meaning.specs.System.{a_feed}
 use Rattle.ca_meaning.specs.Task.{system_task, body_fill, BodyRest}
 use Rattle.ca_meaning.specs.State.{State, Task}
 use Rattle.ca_meaning.specs.Choice.{branches_of}
-use Rattle.ca_meaning.specs.Going.{IsAtOp, Stands}
+use Rattle.ca_meaning.specs.Going.{IsAtOp, RunsAtOperation}
 use Rattle.ca_meaning.specs.Steps.{Step}
 use Rattle.ca_meaning.specs.Sound.{Sound}
 use Rattle.ca_meaning.specs.History.{Mark, accept, give, give_none, pass, no_mark, mark_on, marked, closes, shut_if, channel_after}
@@ -60,7 +60,7 @@ mapped_some : (f : Channel → Channel) (o : Option Channel) (d : Channel) → o
 mapped_some f None d e = absurd (let k : None ≡ Some d = e in cc)
 mapped_some f (Some c) d e = (c, refl, let k : f c ≡ d = cc in k)
 
-module _ (program : ProgramView) (roles more : Roles) (s s2 : State) (e : EventView) (typed : Typed program roles s) (sound : Sound s) (stood : AllStood s) (asks : (t : ℕ) (op : OpView) (x : Task) → Stands s t op x → MayAsk program roles x.body op) (x : Step program s e s2) (g : GrowsAt roles more e) where
+module _ (program : ProgramView) (roles more : Roles) (s s2 : State) (e : EventView) (typed : Typed program roles s) (sound : Sound s) (stood : AllStood s) (asks : (t : ℕ) (op : OpView) (x : Task) → RunsAtOperation s t op x → MayAsk program roles x.body op) (x : Step program s e s2) (g : GrowsAt roles more e) where
   -- of the channels
   tells : (p : ℕ) → s2.channels p ≡ channel_after p e (s.channels p)
   tells p = step_tells program s s2 e p x sound

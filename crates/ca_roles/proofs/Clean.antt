@@ -6,8 +6,8 @@ use Rattle.ca_value.specs.declared.fault.ValueFault.{ValueFault}
 use Rattle.ca_value.specs.Tree.{Tree, Trees, nil, items_of}
 use Rattle.ca_value.specs.Measure.{weight_of, depth_of}
 use Rattle.ca_value.specs.Outcome.{Outcome, judged}
-use Rattle.ca_value.specs.Vectors.{appended, nth_of, first_of, last_of, popped, subvec_of, range_of, part_of}
-use Rattle.ca_value.specs.Maps.{put_all, paired, assoc_of, dissoc_of, keys_of, values_of, walked}
+use Rattle.ca_value.specs.Vectors.{appended, nth_of, first_item, item_at_end, popped, subvec_of, range_of, item_at_index}
+use Rattle.ca_value.specs.Maps.{put_all, paired, assoc_of, dissoc_of, keys_of, values_of_map, walked}
 use Rattle.ca_value.specs.Builtins.{answer, builtin_result}
 use Rattle.ca_meaning.specs.Body.{value_in}
 use Rattle.ca_roles.specs.Roles.{Roles, IsPublic, ArePublic}
@@ -62,18 +62,18 @@ module _ (roles : Roles) where
     default (Some v) k = k
   answer_gives Builtin.Count ts h = one_gives roles ts _ h (λ a k. number_gives roles _)
   answer_gives Builtin.IsEmpty ts h = one_gives roles ts _ h (λ a k. truth_gives roles _)
-  answer_gives Builtin.First ts h = one_gives roles ts first_of h (first_gives roles)
-  answer_gives Builtin.Last ts h = one_gives roles ts last_of h (last_gives roles)
-  answer_gives Builtin.Peek ts h = one_gives roles ts last_of h (last_gives roles)
+  answer_gives Builtin.First ts h = one_gives roles ts first_item h (first_gives roles)
+  answer_gives Builtin.Last ts h = one_gives roles ts item_at_end h (last_gives roles)
+  answer_gives Builtin.Peek ts h = one_gives roles ts item_at_end h (last_gives roles)
   answer_gives Builtin.Pop ts h = one_gives roles ts popped h (popped_gives roles)
   answer_gives Builtin.Subvec ts h = two_or_three_gives roles ts subvec_of h (λ c s e hc hs he. subvec_gives roles c s e hc)
   answer_gives Builtin.Assoc ts h = more_gives roles ts assoc_of h (assoc_gives roles)
   answer_gives Builtin.Dissoc ts h = more_gives roles ts dissoc_of h (λ c ks k l. dissoc_gives roles c ks k)
   answer_gives Builtin.Keys ts h = one_gives roles ts keys_of h (halves_gives roles _ (λ p k. k.0))
-  answer_gives Builtin.Vals ts h = one_gives roles ts values_of h (halves_gives roles _ (λ p k. k.1))
+  answer_gives Builtin.Vals ts h = one_gives roles ts values_of_map h (halves_gives roles _ (λ p k. k.1))
   answer_gives Builtin.Contains ts h = two_gives roles ts _ h (λ a b k l. truth_gives roles _)
   answer_gives Builtin.Range ts h = one_or_two_gives roles ts range_of h (range_gives roles)
-  answer_gives Builtin.Part ts h = two_gives roles ts part_of h (part_gives roles)
+  answer_gives Builtin.Part ts h = two_gives roles ts item_at_index h (part_gives roles)
   answer_gives Builtin.Items ts h = one_gives roles ts walked h (walked_gives roles)
   answer_gives Builtin.WorkerCount ts h = one_gives roles ts _ h (λ a k. number_gives roles _)
 

@@ -12,7 +12,7 @@ use Rattle.ca_meaning.specs.PipelineTable.{FeedPorts, FeedState, feed_takes, fee
 use Rattle.ca_meaning.specs.System.{a_feed}
 use Rattle.ca_meaning.specs.Task.{TaskBody, system_task}
 use Rattle.ca_meaning.specs.State.{State, Task, Deadline, due}
-use Rattle.ca_meaning.specs.Going.{IsAtOp, Stands}
+use Rattle.ca_meaning.specs.Going.{IsAtOp, RunsAtOperation}
 use Rattle.ca_meaning.specs.Steps.{Step}
 use Rattle.ca_meaning.specs.Sound.{Each, Sound}
 use Rattle.ca_meaning.specs.History.{is_named, is_result, closes}
@@ -73,12 +73,12 @@ closes_replies f l (to (feed_queues q)) p at apart = absurd (let k : closing (po
 closes_replies f l stop p at apart = absurd (let k : ended nil ≡ at_op (record { op = closing (port p); place = at.0 }) = at.1 in cc)
 closes_replies f l (fail g) p at apart = absurd (let k : faulted g l ≡ at_op (record { op = closing (port p); place = at.0 }) = at.1 in cc)
 
-module _ (program : ProgramView) (roles : Roles) (s s2 : State) (typed : Typed program roles s) (asks : (t : ℕ) (op : OpView) (x : Task) → Stands s t op x → MayAsk program roles x.body op) where
+module _ (program : ProgramView) (roles : Roles) (s s2 : State) (typed : Typed program roles s) (asks : (t : ℕ) (op : OpView) (x : Task) → RunsAtOperation s t op x → MayAsk program roles x.body op) where
   -- scripts close public channels, the clock timeouts, and a fault its task's result
   pub closed_by : (e : EventView) (p m : ℕ) (h : Hidden) → Step program s e s2 → roles p ≡ Some (hidden m h) → closes p e ≡ true → ClosedBy p h s e
   closed_by (closed t q) p m h x at c =
       let qp = eqb-true q p c in
-      let stands : Stands s t (closing (port p)) x.0 = subst (λ n. Stands s t (closing (port n)) x.0) qp x.2 in
+      let stands : RunsAtOperation s t (closing (port p)) x.0 = subst (λ n. RunsAtOperation s t (closing (port n)) x.0) qp x.2 in
       let k = asks t (closing (port p)) x.0 stands in
       record { task = t; was = x.0; event = ap (closed t) qp; there = stands.0; stands = stands.2; may = may_close roles p k.0 m h x.0.body at k.1 k.2 }
   closed_by (ticked n ports) p m h x at c = not_both roles p m h at (named_public roles p ports (subst (Each (IsPublicPort roles)) x.2 (due_public roles n s.deadlines typed.deadlines)) c)

@@ -15,7 +15,7 @@ use Rattle.ca_meaning.specs.State.{State, Task, Tasks, runs}
 use Rattle.ca_meaning.specs.Going.{IsAtOp}
 use Rattle.ca_meaning.proofs.Tasks.{AllBodies, tasks_of}
 use Rattle.ca_meaning.proofs.TaskBodies.{IsOf}
-use Rattle.ca_roles.specs.Roles.{Role, public, hidden, Roles, nobody}
+use Rattle.ca_roles.specs.Roles.{Role, public, hidden, Roles, no_roles}
 use Rattle.ca_roles.specs.Sealed.{Sealed, IsSealed}
 use Rattle.ca_roles.specs.Once.{User, UsesOnce, StartsOnce}
 use Rattle.ca_roles.specs.Typed.{TypedBody, MayAsk, Typed}
@@ -52,7 +52,7 @@ module _ (program : ProgramView) (checked : IsProgram program) (sealed : IsSeale
   -- a go block's task can start nothing with a port that is there
   pub new_count : (d : BodyView) → x.3 ≡ script d → (k : User) (q : ℕ) → count k q d.term ≡ 0
   new_count d is k q = by (roles q) refl where
-    text : (u : ℕ) → Sealed u roles d.term nobody
+    text : (u : ℕ) → Sealed u roles d.term no_roles
     text u = subst (TypedBody program u roles) is (new_typed u)
 
     by : (o : Option Role) → roles q ≡ o → count k q d.term ≡ 0
@@ -69,12 +69,12 @@ module _ (program : ProgramView) (checked : IsProgram program) (sealed : IsSeale
     by (system k values place) h c r = absurd (let j : system_task r.0 ≡ script d = sym r.2 ∙ is in cc)
 
   -- a new user is one that the redex of its spawner's text counts
-  pub new_user : (k : User) (q : ℕ) → own_of x.3 ≡ owns k q → (b : BodyView) × (x.0.body ≡ script b) × (1 ≤ count k q (redex b.term)) × Sealed t roles b.term nobody
+  pub new_user : (k : User) (q : ℕ) → own_of x.3 ≡ owns k q → (b : BodyView) × (x.0.body ≡ script b) × (1 ≤ count k q (redex b.term)) × Sealed t roles b.term no_roles
   new_user k q own = by x.0.body refl (typed.tasks t x.0 x.4.0).body x.4.2 where
     seed_owns : own_of (new_task program x.1) ≡ owns k q
     seed_owns = sym (rested_owns program (new_task program x.1) x.3 x.9) ∙ own
 
-    by : (body : TaskBody) → x.0.body ≡ body → TypedBody program t roles body → IsAtOp body (spawning x.1) → (b : BodyView) × (x.0.body ≡ script b) × (1 ≤ count k q (redex b.term)) × Sealed t roles b.term nobody
+    by : (body : TaskBody) → x.0.body ≡ body → TypedBody program t roles body → IsAtOp body (spawning x.1) → (b : BodyView) × (x.0.body ≡ script b) × (1 ≤ count k q (redex b.term)) × Sealed t roles b.term no_roles
     by (script b) is h stands = (b, is, spends program t roles s q k b x.1 stands.0 stands.1 x.4.3 h seed_owns, h)
     by (system_task b) is h stands = own_none k q (sym (system_starts program b x.1 stands) ∙ seed_owns)
 
@@ -87,7 +87,7 @@ module _ (program : ProgramView) (checked : IsProgram program) (sealed : IsSeale
   -- its text can start no other such user
   pub spawner_spent : (k : User) (q : ℕ) → own_of x.3 ≡ owns k q → ((b : BodyView) → x.0.body ≡ script b → UsesOnce b.term × (count k q b.term ≤ 1)) → (y : Task) (d : BodyView) → s2.tasks t ≡ Some y → y.body ≡ script d → count k q d.term ≡ 0
   spawner_spent k q own before y d there is = by u.0 u.1 u.2 u.3 x.8.1 x.4.2 where
-    u : (b : BodyView) × (x.0.body ≡ script b) × (1 ≤ count k q (redex b.term)) × Sealed t roles b.term nobody
+    u : (b : BodyView) × (x.0.body ≡ script b) × (1 ≤ count k q (redex b.term)) × Sealed t roles b.term no_roles
     u = new_user k q own
 
     after_is : x.8.0 ≡ script d
@@ -96,7 +96,7 @@ module _ (program : ProgramView) (checked : IsProgram program) (sealed : IsSeale
     none_left : (c r a : ℕ) → c + r ≤ a → a ≤ 1 → 1 ≤ r → c ≡ 0
     none_left c r a l m o = omega (arith, l, m, o)
 
-    by : (b : BodyView) → x.0.body ≡ script b → 1 ≤ count k q (redex b.term) → Sealed t roles b.term nobody → BodyRest program (body_fill nil x.0.body) x.8.0 → IsAtOp x.0.body (spawning x.1) → count k q d.term ≡ 0
+    by : (b : BodyView) → x.0.body ≡ script b → 1 ≤ count k q (redex b.term) → Sealed t roles b.term no_roles → BodyRest program (body_fill nil x.0.body) x.8.0 → IsAtOp x.0.body (spawning x.1) → count k q d.term ≡ 0
     by b at_script one text rest stands = at_rest (subst (λ z. BodyRest program (body_fill nil z) x.8.0) at_script rest) (subst (λ z. IsAtOp z (spawning x.1)) at_script stands) where
       private : roles q ≡ Some public → ⊥
       private e = let m = maker k q t roles (redex b.term) (redex_sealed t roles b.term text) one in let j : Some public ≡ Some (hidden t m.0) = sym e ∙ m.1 in cc

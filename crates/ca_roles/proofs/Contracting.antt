@@ -11,12 +11,12 @@ use Rattle.ca_term.specs.Fits.{count_terms, Fits}
 use Rattle.ca_term.specs.Program.{ProgramView}
 use Rattle.ca_meaning.specs.Redex.{is_value, value_of, values_of}
 use Rattle.ca_meaning.specs.Operands.{truth, values_in}
-use Rattle.ca_meaning.specs.Started.{names_of, procedure_at}
+use Rattle.ca_meaning.specs.Started.{names_found, procedure_at}
 use Rattle.ca_meaning.specs.Body.{contract, after_turn}
 use Rattle.ca_meaning.specs.Parts.{is_whole}
 use Rattle.ca_meaning.proofs.Contracts.{Judges, length-values}
-use Rattle.ca_roles.specs.Roles.{Hidden, Role, public, hidden, Roles, nobody, known_as, IsPublic, ArePublic, Is}
-use Rattle.ca_roles.specs.Sealed.{IsMake, Bound, hides, HasMask, plain, of_job, of_feed, of_collect, of_mult, SealedFounds, all_public, Sealed, AllSealed, IsSealed}
+use Rattle.ca_roles.specs.Roles.{Hidden, Role, public, hidden, Roles, no_roles, known_as, IsPublic, ArePublic, Is}
+use Rattle.ca_roles.specs.Sealed.{IsMake, IsHiddenBound, hides, HasMask, plain, of_job, of_feed, of_collect, of_mult, SealedFounds, all_public, Sealed, AllSealed, IsSealed}
 use Rattle.ca_roles.proofs.Sealing.{Agree, put_sealed, put_bindings_sealed, put_inits, put_founds}
 use Rattle.ca_roles.proofs.Starting.{same_roles, values_public, PublicFounds, puts_sealed, text_sealed, started_sealed, procedure_sealed}
 use Rattle.ca_roles.proofs.Clean.{builtins_make_no_ports}
@@ -43,16 +43,16 @@ known_last (k ∷ ns) s n m = ap (cond (eqb k m) (Some public)) (known_last ns s
   by false true o = refl
   by false false o = refl
 
-founds_known : (roles : Roles) (fs : Founds) (s e : Roles) → SealedFounds roles fs s e → (m : ℕ) → e m ≡ known_all (names_of fs) s m
+founds_known : (roles : Roles) (fs : Founds) (s e : Roles) → SealedFounds roles fs s e → (m : ℕ) → e m ≡ known_all (names_found fs) s m
 founds_known roles [] s e h m = ap (λ (z : Roles). z m) h
-founds_known roles (f ∷ fs) s e h m = founds_known roles fs (known_as s f.0 public) e h.2 m ∙ known_last (names_of fs) s f.0 m
+founds_known roles (f ∷ fs) s e h m = founds_known roles fs (known_as s f.0 public) e h.2 m ∙ known_last (names_found fs) s f.0 m
 
-all_known : (ns : List ℕ) (m : ℕ) → known_all ns nobody m ≡ all_public ns m
+all_known : (ns : List ℕ) (m : ℕ) → known_all ns no_roles m ≡ all_public ns m
 all_known [] m = refl
 all_known (n ∷ ns) m = ap (cond (eqb n m) (Some public)) (all_known ns m)
 
-pub founds_scope : (roles : Roles) (fs : Founds) (e : Roles) → SealedFounds roles fs nobody e → e ≡ all_public (names_of fs)
-founds_scope roles fs e h = fun_ext (λ m. founds_known roles fs nobody e h m ∙ all_known (names_of fs) m)
+pub founds_scope : (roles : Roles) (fs : Founds) (e : Roles) → SealedFounds roles fs no_roles e → e ≡ all_public (names_found fs)
+founds_scope roles fs e h = fun_ext (λ m. founds_known roles fs no_roles e h m ∙ all_known (names_found fs) m)
 
 pub founds_public : (roles : Roles) (fs : Founds) (s e : Roles) → SealedFounds roles fs s e → PublicFounds roles fs
 founds_public roles [] s e h = tt
@@ -85,43 +85,43 @@ module _ (me : ℕ) (roles : Roles) where
   items_public s (item t ts) h = (value_public s t h.0, items_public s ts h.1)
 
   -- the operands of a form that hides none
-  pub operands_public : (h : Head) (ts : Kernels) (p : Place) → hides h ≡ false → Sealed me roles (apply h ts p) nobody → ArePublic roles (values_of ts)
-  operands_public h ts p e s = items_public nobody ts (subst (λ mask. AllSealed me roles mask ts nobody) (no_mask me h p ts s.0 e s.1) s.2)
+  pub operands_public : (h : Head) (ts : Kernels) (p : Place) → hides h ≡ false → Sealed me roles (apply h ts p) no_roles → ArePublic roles (values_of ts)
+  operands_public h ts p e s = items_public no_roles ts (subst (λ mask. AllSealed me roles mask ts no_roles) (no_mask me h p ts s.0 e s.1) s.2)
 
   make_no_value : (x : Hidden) (t : Kernel) → IsMake x t → is_value t ≡ true → ⊥
   make_no_value x t h e = let k : false ≡ true = ap is_value (sym h.3) ∙ e in cc
 
   -- the value of a binding's term has the role of its name
-  bound_is : (s : Roles) (r : Role) (t : Kernel) → is_value t ≡ true → Bound me roles r t (Sealed me roles t s) → Is roles r (value_of t)
+  bound_is : (s : Roles) (r : Role) (t : Kernel) → is_value t ≡ true → IsHiddenBound me roles r t (Sealed me roles t s) → Is roles r (value_of t)
   bound_is s public t v h = value_public s t h
   bound_is s (hidden u x) t v (e, inl h) = absurd (make_no_value x t h.0 v)
   bound_is s (hidden u x) t v (e, inr h) = (h.0, ap value_of h.1, subst (λ w. roles h.0 ≡ Some (hidden w x)) (sym e) h.2)
 
-  beside : (n : ℕ) (r : Role) → Agree n (known_as nobody n r) nobody
-  beside n r m ne = sym (update_apart nobody n (Some r) m ne)
+  beside : (n : ℕ) (r : Role) → Agree n (known_as no_roles n r) no_roles
+  beside n r m ne = sym (update_apart no_roles n (Some r) m ne)
 
-  pub let_sealed : (program : ProgramView) (n : ℕ) (t : Kernel) (bs : Bindings) (body : Kernel) → is_value t ≡ true → Sealed me roles (bind (binding n t bs) body) nobody → Sealed me roles (contract program (bind (binding n t bs) body)) nobody
+  pub let_sealed : (program : ProgramView) (n : ℕ) (t : Kernel) (bs : Bindings) (body : Kernel) → is_value t ≡ true → Sealed me roles (bind (binding n t bs) body) no_roles → Sealed me roles (contract program (bind (binding n t bs) body)) no_roles
   let_sealed program n t bs body v h =
       let b = h.1 in
-      let is = bound_is nobody b.0 t v b.1 in
-      let here : known_as nobody n b.0 n ≡ Some b.0 = update_here nobody n (Some b.0) in
-      let k = put_bindings_sealed me roles roles (same_roles roles) n (value_of t) b.0 is None bs (known_as nobody n b.0) nobody h.0 (here, beside n b.0, refl) b.3 in
+      let is = bound_is no_roles b.0 t v b.1 in
+      let here : known_as no_roles n b.0 n ≡ Some b.0 = update_here no_roles n (Some b.0) in
+      let k = put_bindings_sealed me roles roles (same_roles roles) n (value_of t) b.0 is None bs (known_as no_roles n b.0) no_roles h.0 (here, beside n b.0, refl) b.3 in
       (k.0, k.1, put_sealed me roles roles (same_roles roles) n (value_of t) b.0 is body h.0 k.0 k.2.0 k.2.1 h.2)
 
   -- where all names of a loop have their values
-  pub turn_sealed : (program : ProgramView) (fs : Founds) (body : Kernel) → Sealed me roles (loop fs empty body) nobody → Sealed me roles (contract program (loop fs empty body)) nobody
+  pub turn_sealed : (program : ProgramView) (fs : Founds) (body : Kernel) → Sealed me roles (loop fs empty body) no_roles → Sealed me roles (contract program (loop fs empty body)) no_roles
   turn_sealed program fs body h =
-      let founds : SealedFounds roles fs nobody h.1 = subst (λ (z : Roles). SealedFounds roles fs z h.1) h.2 h.3 in
-      let text : Sealed me roles body (all_public (names_of fs)) = subst (λ (z : Roles). Sealed me roles body z) (founds_scope roles fs h.1 founds) h.4 in
-      (text, puts_sealed me roles roles (same_roles roles) fs body (founds_public roles fs nobody h.1 founds) text)
+      let founds : SealedFounds roles fs no_roles h.1 = subst (λ (z : Roles). SealedFounds roles fs z h.1) h.2 h.3 in
+      let text : Sealed me roles body (all_public (names_found fs)) = subst (λ (z : Roles). Sealed me roles body z) (founds_scope roles fs h.1 founds) h.4 in
+      (text, puts_sealed me roles roles (same_roles roles) fs body (founds_public roles fs no_roles h.1 founds) text)
 
   -- where one more has
-  pub loop_sealed : (program : ProgramView) (fs : Founds) (n : ℕ) (t : Kernel) (bs : Bindings) (body : Kernel) → Sealed me roles (loop fs (binding n t bs) body) nobody → Sealed me roles (contract program (loop fs (binding n t bs) body)) nobody
+  pub loop_sealed : (program : ProgramView) (fs : Founds) (n : ℕ) (t : Kernel) (bs : Bindings) (body : Kernel) → Sealed me roles (loop fs (binding n t bs) body) no_roles → Sealed me roles (contract program (loop fs (binding n t bs) body)) no_roles
   loop_sealed program fs n t bs body h =
       let v = value_of t in
-      let is = value_public nobody t h.2.0 in
-      let here : known_as nobody n public n ≡ Some public = update_here nobody n (Some public) in
-      let f = put_inits me roles roles (same_roles roles) n v public is None bs (known_as nobody n public) nobody h.0 (here, beside n public, refl) h.2.2 in
+      let is = value_public no_roles t h.2.0 in
+      let here : known_as no_roles n public n ≡ Some public = update_here no_roles n (Some public) in
+      let f = put_inits me roles roles (same_roles roles) n v public is None bs (known_as no_roles n public) no_roles h.0 (here, beside n public, refl) h.2.2 in
       let k = put_founds me roles roles (same_roles roles) n v public is None fs h.0 f.0 h.1 f.2 h.3 in
       (f.0, known_as k.0 n public, f.1, founds_last roles fs f.0 k.0 n v is k.2.2 k.1, subst (λ (z : Roles). Sealed me roles body z) (fun_ext (λ m. scope h.1 k.0 k.2.0 k.2.1 m (eqb n m) refl)) h.4) where
         scope : (e z : Roles) → e n ≡ Some public → Agree n e z → (m : ℕ) (b : Bool) → eqb n m ≡ b → e m ≡ cond b (Some public) (z m)
@@ -136,12 +136,12 @@ module _ (program : ProgramView) (sealed : IsSealed program) (S : Option ℕ →
   same_number : (m n : ℕ) → Some m ≡ Some n → m ≡ n
   same_number m n e = cc
 
-  again_sealed : (names : List ℕ) (text : Kernel) (ts : Kernels) (p : Place) → Fits S (Some (length names)) (apply Recur ts p) → Sealed me roles text (all_public names) → Sealed me roles (apply Recur ts p) nobody → Sealed me roles (after_turn names text (apply Recur ts p)) nobody
+  again_sealed : (names : List ℕ) (text : Kernel) (ts : Kernels) (p : Place) → Fits S (Some (length names)) (apply Recur ts p) → Sealed me roles text (all_public names) → Sealed me roles (apply Recur ts p) no_roles → Sealed me roles (after_turn names text (apply Recur ts p)) no_roles
   again_sealed names text ts p f h g =
       let many = enough names ts (same_number (length names) (count_terms ts) (judges.recurs (Some (length names)) (count_terms ts) f.0)) in
       (h, text_sealed me roles roles (same_roles roles) names (values_in (values_of ts)) text many (values_public roles (values_of ts) (operands_public me roles Recur ts p refl g)) h)
 
-  turned_sealed : (names : List ℕ) (text now : Kernel) → Fits S (Some (length names)) now → Sealed me roles text (all_public names) → Sealed me roles now nobody → Sealed me roles (after_turn names text now) nobody
+  turned_sealed : (names : List ℕ) (text now : Kernel) → Fits S (Some (length names)) now → Sealed me roles text (all_public names) → Sealed me roles now no_roles → Sealed me roles (after_turn names text now) no_roles
   turned_sealed names text (apply Recur ts p) f h g = again_sealed names text ts p f h g
   turned_sealed names text (const v) f h g = g
   turned_sealed names text (var n) f h g = g
@@ -163,11 +163,11 @@ module _ (program : ProgramView) (sealed : IsSealed program) (S : Option ℕ →
   turned_sealed names text (apply Print ts p) f h g = g
   turned_sealed names text (apply Post ts p) f h g = g
 
-  either : (b : Bool) (x y : Kernel) → Sealed me roles x nobody → Sealed me roles y nobody → Sealed me roles (cond b x y) nobody
+  either : (b : Bool) (x y : Kernel) → Sealed me roles x no_roles → Sealed me roles y no_roles → Sealed me roles (cond b x y) no_roles
   either true x y h g = h
   either false x y h g = g
 
-  pub contract_sealed : (target : Option ℕ) (t : Kernel) → is_whole t ≡ true → Fits S target t → Sealed me roles t nobody → Sealed me roles (contract program t) nobody
+  pub contract_sealed : (target : Option ℕ) (t : Kernel) → is_whole t ≡ true → Fits S target t → Sealed me roles t no_roles → Sealed me roles (contract program t) no_roles
   contract_sealed target (const v) w f h = h
   contract_sealed target (var n) w f h = h
   contract_sealed target (branch c a b) w f h = either (truth (value_of c)) a b h.1 h.2

@@ -10,7 +10,7 @@ use Rattle.ca_meaning.specs.Applied.{Work}
 use Rattle.ca_meaning.specs.Asking.{too_large_branches}
 use Rattle.ca_meaning.specs.Asks.{Next, to, stop, fail, needing, closes_due, ports_in, value_and_port, taps_in, one_of, two_of}
 use Rattle.ca_meaning.specs.Body.{local, at_op, asking}
-use Rattle.ca_meaning.specs.Operands.{is_nil, truth, port_number}
+use Rattle.ca_meaning.specs.Operands.{is_nil, truth, port_of_value}
 use Rattle.ca_meaning.specs.Registry.{TapView}
 use Rattle.ca_meaning.specs.MultTable.{MultPorts, MultState, mult_takes, mult_reads, mult_spawns, mult_waits, mult_reads_last, mult_closes, acks_due, spawns_due, closing_of, mult_next}
 use Rattle.ca_meaning.specs.MixTable.{MixPorts, MixState, mix_reads, mix_chooses, mix_drops, mix_puts, modes_in, read_of, heard_of, any_of, port_trees, mix_chosen, mix_next}
@@ -21,7 +21,7 @@ use Rattle.ca_meaning.specs.System.{SystemBody, a_mult, a_delivery, a_mix, a_pub
 use Rattle.ca_meaning.specs.Task.{system_task}
 use Rattle.ca_meaning.specs.Going.{IsAtOp}
 use Rattle.ca_meaning.specs.Sound.{Each}
-use Rattle.ca_roles.specs.Roles.{jobs, replies, reply, Role, hidden, Roles, IsPublic, ArePublic, CarriesAs, Carries}
+use Rattle.ca_roles.specs.Roles.{jobs, replies, reply, Role, hidden, Roles, IsPublic, ArePublic, CarriesAs, ChannelCarries}
 use Rattle.ca_roles.specs.Typed.{IsPublicPort, IsTypedTap, TypedMult, TypedMix, TypedPub, TypedPipe, TypedMerge, TypedOnto, TypedFeed, TypedJob, TypedCollect, TypedNext, TypedSystem}
 use Rattle.ca_roles.proofs.Ports.{asked, got_public}
 use Rattle.ca_roles.proofs.AnswerForms.{pair_public, channel_public, ports_public, taps_public, closing_public, read_public}
@@ -29,7 +29,7 @@ use Rattle.ca_roles.proofs.AnswerForms.{pair_public, channel_public, ports_publi
 -- What may answer an operation: a take gets nil or what its channel carries, the others public values. The answer of a
 -- Make is a new port, of which its task tells the role.
 abbrev pub IsAnswer : ProgramView → Roles → OpView → Tree → Type 0
-IsAnswer program roles (taking c) a = (a ≡ nil) ⊎ Carries program roles (port_number c) a
+IsAnswer program roles (taking c) a = (a ≡ nil) ⊎ ChannelCarries program roles (port_of_value c) a
 IsAnswer program roles (making what) a = ⊥
 IsAnswer program roles op a = IsPublic roles a
 
@@ -41,7 +41,7 @@ module _ (program : ProgramView) (roles : Roles) where
   not_local : {G : Type 0} (op : OpView) (p : Place) → local ≡ at_op (record { op = op; place = p }) → G
   not_local op p e = absurd cc
 
-  got_as : (p : ℕ) (r : Role) (a : Tree) → roles p ≡ Some r → (a ≡ nil) ⊎ Carries program roles p a → (a ≡ nil) ⊎ CarriesAs program roles (Some r) a
+  got_as : (p : ℕ) (r : Role) (a : Tree) → roles p ≡ Some r → (a ≡ nil) ⊎ ChannelCarries program roles p a → (a ≡ nil) ⊎ CarriesAs program roles (Some r) a
   got_as p r a e (inl n) = inl n
   got_as p r a e (inr k) = inr (subst (λ o. CarriesAs program roles o a) e k)
 

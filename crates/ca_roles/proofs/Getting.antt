@@ -11,13 +11,13 @@ use Rattle.ca_term.specs.Event.{EventView, take_of, put_of}
 use Rattle.ca_meaning.specs.Applied.{Work}
 use Rattle.ca_meaning.specs.Asks.{to}
 use Rattle.ca_meaning.specs.Body.{BodyView}
-use Rattle.ca_meaning.specs.Operands.{port_number}
+use Rattle.ca_meaning.specs.Operands.{port_of_value}
 use Rattle.ca_meaning.specs.Choice.{branches_of}
 use Rattle.ca_meaning.specs.PipelineTable.{FeedPorts, feed_makes}
 use Rattle.ca_meaning.specs.System.{a_feed}
 use Rattle.ca_meaning.specs.Task.{script, system_task, body_fill}
 use Rattle.ca_meaning.specs.State.{State, Task}
-use Rattle.ca_meaning.specs.Going.{IsAtOp, Stands}
+use Rattle.ca_meaning.specs.Going.{IsAtOp, RunsAtOperation}
 use Rattle.ca_meaning.specs.Steps.{Step}
 use Rattle.ca_meaning.specs.Sound.{Sound}
 use Rattle.ca_meaning.proofs.Refusals.{each-get}
@@ -34,7 +34,7 @@ use Rattle.ca_roles.proofs.Moving.{ScriptsGetPublic}
 use Rattle.ca_roles.proofs.Passed.{got_fits}
 use Rattle.ca_roles.proofs.Ports.{got_public}
 
-module _ (program : ProgramView) (roles : Roles) (s s2 : State) (e : EventView) (typed : Typed program roles s) (sound : Sound s) (stood : AllStood s) (asks : (t : ℕ) (op : OpView) (x : Task) → Stands s t op x → MayAsk program roles x.body op) (step : Step program s e s2) (registers : (t : ℕ) (o : Option ℕ) (name : RegisterName) (args : Trees) (a : Tree) → deed t o e ≡ Some (did_register name args a) → IsPublic roles a) where
+module _ (program : ProgramView) (roles : Roles) (s s2 : State) (e : EventView) (typed : Typed program roles s) (sound : Sound s) (stood : AllStood s) (asks : (t : ℕ) (op : OpView) (x : Task) → RunsAtOperation s t op x → MayAsk program roles x.body op) (step : Step program s e s2) (registers : (t : ℕ) (o : Option ℕ) (name : RegisterName) (args : Trees) (a : Tree) → deed t o e ≡ Some (did_register name args a) → IsPublic roles a) where
   -- what a task's deed answers, it might ask for
   may_ask : (t : ℕ) (x : Task) (op : OpView) (c : Deed) (a : Tree) → s.tasks t ≡ Some x → deed t (wait_of x.mode) e ≡ Some c → IsAtOp x.body op → Replies op c a → MayAsk program roles x.body op
   may_ask t x op c a there is at rep = by (acting program s s2 t x there c e step is) where
@@ -54,7 +54,7 @@ module _ (program : ProgramView) (roles : Roles) (s s2 : State) (e : EventView) 
     public_answer : (op : OpView) (c : Deed) (a : Tree) → x.body ≡ script b → deed t (wait_of x.mode) e ≡ Some c → MayAsk program roles x.body op → Replies op c a → ((what : WhatView) → op ≡ making what → ⊥) → IsPublic roles a
     public_answer op c a body is may (got {c = ch} d) other =
         let i : IsPublicPort roles may.0 = script_use roles Take may.0 b (subst (MayUse (roles may.0) Take may.0) body may.2) in
-        takes 0 (port_number ch) a (is ∙ ap (λ z. Some z) d) (subst (λ z. IsPublicPort roles (port_number z)) (sym may.1) i)
+        takes 0 (port_of_value ch) a (is ∙ ap (λ z. Some z) d) (subst (λ z. IsPublicPort roles (port_of_value z)) (sym may.1) i)
     public_answer op c a body is may (gave {c = ch} {v} d i) other = put_answer roles a i
     public_answer op c a body is may (chose {ports} {priority} {default} k p v d i j) other =
         let open_port : IsPublicPort roles p = each-get (IsPublicBranch roles) (branches_of (choosing ports priority default)) k (take_of p) may.0 i in

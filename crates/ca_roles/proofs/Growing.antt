@@ -21,7 +21,7 @@ use Rattle.ca_meaning.specs.State.{Task}
 use Rattle.ca_meaning.specs.Sound.{Each}
 use Rattle.ca_meaning.specs.Choice.{branches_of}
 use Rattle.ca_meaning.proofs.Waits.{each-weaker}
-use Rattle.ca_roles.specs.Roles.{jobs, replies, reply, acks, Role, public, hidden, Roles, nobody, Grows, IsReply, CarriesAs, Carries}
+use Rattle.ca_roles.specs.Roles.{jobs, replies, reply, acks, Role, public, hidden, Roles, no_roles, Grows, IsReply, CarriesAs, ChannelCarries}
 use Rattle.ca_roles.specs.Users.{MayUse, MayClose}
 use Rattle.ca_roles.specs.Typed.{IsPublicPort, IsTypedTap, IsTypedSource, IsTypedTopic, TypedMult, TypedMix, TypedPub, TypedPipe, TypedMerge, TypedOnto, TypedFeed, TypedJob, TypedCollect, TypedNext, TypedSystem, TypedBody, IsTypedResult, IsPublicBranch, IsPublicOption, IsPublicWhat, MayAsk, TypedTask, TypedRegistry}
 use Rattle.ca_roles.proofs.Sealing.{public_more, all_public_more, sealed_more}
@@ -117,7 +117,7 @@ module _ (program : ProgramView) (roles more : Roles) (g : Grows roles more) whe
   system_more (a_collect c l n) k = (k.0, k.1, port_more c.target k.2, port_more c.result k.3, g c.replies (hidden k.0 (replies k.1)) k.4, next_more (TypedCollect roles k.1) (TypedCollect more k.1) (collect_more k.1) n k.5)
 
   pub body_more : (me : ℕ) (b : TaskBody) → TypedBody program me roles b → TypedBody program me more b
-  body_more me (script b) k = sealed_more me roles more g b.term nobody k
+  body_more me (script b) k = sealed_more me roles more g b.term no_roles k
   body_more me (system_task b) k = system_more b k
 
   -- what a channel carries it still carries
@@ -129,7 +129,7 @@ module _ (program : ProgramView) (roles more : Roles) (g : Grows roles more) whe
   as_more (Some (hidden t (reply w v))) x k = (k.0, k.1, k.2, all_public_more roles more g k.0 k.3)
   as_more (Some (hidden t acks)) x k = k
 
-  pub carries_more : (p : ℕ) (x : Tree) → Carries program roles p x → Carries program more p x
+  pub carries_more : (p : ℕ) (x : Tree) → ChannelCarries program roles p x → ChannelCarries program more p x
   carries_more p x k = by (roles p) refl k where
     by : (o : Option Role) → roles p ≡ o → CarriesAs program roles o x → CarriesAs program more (more p) x
     by None e k = absurd k

@@ -6,7 +6,7 @@ use Rattle.ca_term.specs.Event.{EventView, made}
 use Rattle.ca_meaning.specs.State.{State}
 use Rattle.ca_meaning.specs.Steps.{Step, Steps}
 use Rattle.ca_meaning.specs.Legal.{Reaches}
-use Rattle.ca_roles.specs.Roles.{Role, Roles, nobody}
+use Rattle.ca_roles.specs.Roles.{Role, Roles, no_roles}
 use Rattle.ca_roles.specs.Sealed.{IsSealed}
 use Rattle.ca_roles.specs.HiddenLaw.{KeepsRoles, FollowsRoles, RolesAlong, HiddenLaw}
 use Rattle.ca_roles.proofs.Closing.{closed_by}
@@ -45,5 +45,5 @@ module _ (program : ProgramView) (checked : IsProgram program) (sealed : IsSeale
 
 pub hidden_law : (program : ProgramView) → IsProgram program → IsSealed program → (journal : List EventView) (s : State) → Reaches program journal s → HiddenLaw program journal s
 hidden_law program checked sealed journal s r =
-    let k = along program checked sealed journal [] nobody r.opening s (opening_known program checked sealed r.opening r.opens) r.steps in
+    let k = along program checked sealed journal [] no_roles r.opening s (opening_known program checked sealed r.opening r.opens) r.steps in
     record { opening = r.opening; opens = r.opens; roles = k.0; along = k.1 }

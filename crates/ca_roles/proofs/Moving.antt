@@ -14,7 +14,7 @@ use Rattle.ca_meaning.specs.Going.{IsAtOp}
 use Rattle.ca_meaning.specs.Steps.{Step}
 use Rattle.ca_laws.specs.Deeds.{Deed, did_make, deed}
 use Rattle.ca_laws.proofs.Acts.{wait_of, Replies, got, gave, chose, chose_put, chose_default, posts, posts_late, creates, starts, shuts, enrols, prints, Acts, idles, parks, stops, goes}
-use Rattle.ca_roles.specs.Roles.{Hidden, public, hidden, Roles, nobody, IsPublic}
+use Rattle.ca_roles.specs.Roles.{Hidden, public, hidden, Roles, no_roles, IsPublic}
 use Rattle.ca_roles.specs.Sealed.{Sealed, IsSealed}
 use Rattle.ca_roles.specs.Once.{User, UsesOnce, StartsOnce}
 use Rattle.ca_roles.specs.Typed.{Typed}
@@ -84,7 +84,7 @@ module _ (program : ProgramView) (roles : Roles) (s s2 : State) (e : EventView) 
     by (system_task b) is k = absurd (let j : system_task k.0 ≡ script d = sym k.2 ∙ after_is in cc)
 
 -- Of a text of task me in a checked program.
-module _ (program : ProgramView) (checked : IsProgram program) (sealed : IsSealed program) (starts : StartsOnce program) (me : ℕ) (roles : Roles) (b d : BodyView) (f : IsOfProgram program checked sealed starts me b.term) (h : Sealed me roles b.term nobody) (o : UsesOnce b.term) where
+module _ (program : ProgramView) (checked : IsProgram program) (sealed : IsSealed program) (starts : StartsOnce program) (me : ℕ) (roles : Roles) (b d : BodyView) (f : IsOfProgram program checked sealed starts me b.term) (h : Sealed me roles b.term no_roles) (o : UsesOnce b.term) where
   pub moved_once : Moved program roles b d → UsesOnce d.term
   moved_once (idle i) = subst (λ (z : BodyView). UsesOnce z.term) (sym i) o
   moved_once (answered op place a at other answer rest) = answered_once program checked sealed starts me roles b d f h o a op place at other answer rest

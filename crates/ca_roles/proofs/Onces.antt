@@ -8,12 +8,12 @@ use Rattle.ca_term.specs.Kernel.{Kernel, Kernels, Bindings, Founds, const, var, 
 use Rattle.ca_term.specs.Program.{ProgramView, ProcedureView}
 use Rattle.ca_meaning.specs.Operands.{truth, values_in}
 use Rattle.ca_meaning.specs.Redex.{redex, redex_items, replace, replace_items, is_value, value_of, values_of, all_values, is_ready_recur}
-use Rattle.ca_meaning.specs.Started.{named, names_of, procedure_at, started}
+use Rattle.ca_meaning.specs.Started.{named, names_found, procedure_at, started}
 use Rattle.ca_meaning.specs.Body.{BodyView, contract, step, after_turn}
 use Rattle.ca_meaning.proofs.Waits.{each-weaker}
-use Rattle.ca_roles.specs.Roles.{public, Roles, nobody, known_as}
+use Rattle.ca_roles.specs.Roles.{public, Roles, no_roles, known_as}
 use Rattle.ca_roles.specs.Sealed.{SealedFounds, all_public, Sealed, IsSealedProcedure, IsSealed}
-use Rattle.ca_roles.specs.Once.{Test, no_names, no_ports, known, only, is_in, uses, uses_behind, IsUsedOnce, UsesOnce, AllOnce, BindOnce, InitsOnce, IsOnceProcedure, StartsOnce}
+use Rattle.ca_roles.specs.Once.{Test, no_names, no_ports, known, only, is_in, use_count, uses_behind, IsUsedOnce, UsesOnce, AllOnce, BindOnce, InitsOnce, IsOnceProcedure, StartsOnce}
 use Rattle.ca_roles.proofs.Starting.{procedure_sealed}
 use Rattle.ca_roles.proofs.Contracting.{founds_scope}
 use Rattle.ca_roles.proofs.Rested.{redex_sealed}
@@ -37,9 +37,9 @@ module _ (n : ℕ) (v : Tree) where
   -- another name counts as before
   put_used : (m : ℕ) (bs : Bindings) (body : Kernel) → m ≢ n → UnboundIn n bs → Unbound n body → IsUsedOnce m bs body → IsUsedOnce m (put_bindings n v bs) (put n v body)
   put_used m bs body ne u w h k =
-      let other : only m n ≡ false = known_else 0 no_names nobody m true n (λ e. ne (sym e)) in
-      let same = put_uses_behind k no_ports n v bs (only m) (uses k no_ports (put n v body)) (uses k no_ports body) u (λ M. put_uses k no_ports n v body M w)
-      ∙ ap (λ (M : Test). uses_behind k no_ports bs M (uses k no_ports body)) (ap (known (only m) n) (is_none v) ∙ apart_known (only m) n other) in
+      let other : only m n ≡ false = known_else 0 no_names no_roles m true n (λ e. ne (sym e)) in
+      let same = put_uses_behind k no_ports n v bs (only m) (use_count k no_ports (put n v body)) (use_count k no_ports body) u (λ M. put_uses k no_ports n v body M w)
+      ∙ ap (λ (M : Test). uses_behind k no_ports bs M (use_count k no_ports body)) (ap (known (only m) n) (is_none v) ∙ apart_known (only m) n other) in
       subst (λ x. x ≤ 1) (sym same) (h k)
 
   mutual
@@ -130,7 +130,7 @@ procedure_once (p ∷ ps) (suc n) h = procedure_once ps n (λ k d lt. h (suc k) 
 pub started_once : (me : ℕ) (ps : List ProcedureView) (n : ℕ) (vs : List Tree) → All IsSealedProcedure ps → All IsOnceProcedure ps → UsesOnce (started (procedure_at ps n) vs)
 started_once me ps n vs sealed starts =
     let t : ProcedureView = procedure_at ps n in
-    puts_once (named t.parameters vs) t.body (named_names (λ m. Unbound m t.body) t.parameters vs (text_unbound me nobody t.parameters t.body (procedure_sealed ps n sealed me))) (procedure_once ps n starts)
+    puts_once (named t.parameters vs) t.body (named_names (λ m. Unbound m t.body) t.parameters vs (text_unbound me no_roles t.parameters t.body (procedure_sealed ps n sealed me))) (procedure_once ps n starts)
 
 module _ (program : ProgramView) (sealed : IsSealed program) (starts : StartsOnce program) (me : ℕ) (roles : Roles) where
   turn_once : (names : List ℕ) (again now : Kernel) → Sealed me roles again (all_public names) → UsesOnce again → UsesOnce now → UsesOnce (after_turn names again now)
@@ -139,24 +139,24 @@ module _ (program : ProgramView) (sealed : IsSealed program) (starts : StartsOnc
     by (inl e) = subst UsesOnce (sym e) g
     by (inr e) = subst (λ z. UsesOnce (after_turn names again z)) (sym e.2) (h, puts_once (named names (values_in (values_of e.0))) again (named_names (λ m. Unbound m again) names (values_in (values_of e.0)) (text_unbound me roles names again s)) h)
 
-  let_once : (n : ℕ) (t : Kernel) (bs : Bindings) (body : Kernel) → Sealed me roles (bind (binding n t bs) body) nobody → UsesOnce (bind (binding n t bs) body) → UsesOnce (contract program (bind (binding n t bs) body))
+  let_once : (n : ℕ) (t : Kernel) (bs : Bindings) (body : Kernel) → Sealed me roles (bind (binding n t bs) body) no_roles → UsesOnce (bind (binding n t bs) body) → UsesOnce (contract program (bind (binding n t bs) body))
   let_once n t bs body s h =
-      let u = unbound_in me roles n s.1.0 bs (known_as nobody n s.1.0) s.0 (update_here nobody n (Some s.1.0)) s.1.3 in
+      let u = unbound_in me roles n s.1.0 bs (known_as no_roles n s.1.0) s.0 (update_here no_roles n (Some s.1.0)) s.1.3 in
       let w = unbound me roles n s.1.0 body s.0 u.1 s.2 in
       (put_bind_once n (value_of t) bs body u.0 w h.0.2, put_once n (value_of t) body w h.1)
 
-  loop_once : (fs : Founds) (n : ℕ) (t : Kernel) (bs : Bindings) (body : Kernel) → Sealed me roles (loop fs (binding n t bs) body) nobody → UsesOnce (loop fs (binding n t bs) body) → UsesOnce (contract program (loop fs (binding n t bs) body))
+  loop_once : (fs : Founds) (n : ℕ) (t : Kernel) (bs : Bindings) (body : Kernel) → Sealed me roles (loop fs (binding n t bs) body) no_roles → UsesOnce (loop fs (binding n t bs) body) → UsesOnce (contract program (loop fs (binding n t bs) body))
   loop_once fs n t bs body s h =
-      let u = unbound_inits me roles n public bs (known_as nobody n public) s.0 (update_here nobody n (Some public)) s.2.2 in
+      let u = unbound_inits me roles n public bs (known_as no_roles n public) s.0 (update_here no_roles n (Some public)) s.2.2 in
       (put_inits_once n (value_of t) bs u.0 h.0.1, h.1)
 
-  begins_once : (fs : Founds) (body : Kernel) → Sealed me roles (loop fs empty body) nobody → UsesOnce body → UsesOnce (contract program (loop fs empty body))
+  begins_once : (fs : Founds) (body : Kernel) → Sealed me roles (loop fs empty body) no_roles → UsesOnce body → UsesOnce (contract program (loop fs empty body))
   begins_once fs body s h =
       let founds = subst (λ (z : Roles). SealedFounds roles fs z s.1) s.2 s.3 in
-      let whole : Sealed me roles body (all_public (names_of fs)) = subst (λ (z : Roles). Sealed me roles body z) (founds_scope roles fs s.1 founds) s.4 in
-      (h, puts_once fs body (each_founds body fs (text_unbound me roles (names_of fs) body whole)) h)
+      let whole : Sealed me roles body (all_public (names_found fs)) = subst (λ (z : Roles). Sealed me roles body z) (founds_scope roles fs s.1 founds) s.4 in
+      (h, puts_once fs body (each_founds body fs (text_unbound me roles (names_found fs) body whole)) h)
 
-  contract_once : (t : Kernel) → Sealed me roles t nobody → UsesOnce t → UsesOnce (contract program t)
+  contract_once : (t : Kernel) → Sealed me roles t no_roles → UsesOnce t → UsesOnce (contract program t)
   contract_once (const v) s h = tt
   contract_once (var n) s h = tt
   contract_once (branch c a b) s h = once_or (truth (value_of c)) a b h.1 h.2
@@ -182,5 +182,5 @@ module _ (program : ProgramView) (sealed : IsSealed program) (starts : StartsOnc
   contract_once (apply Print ts p) s h = h
   contract_once (apply Post ts p) s h = h
 
-  pub step_once : (b : BodyView) → Sealed me roles b.term nobody → UsesOnce b.term → UsesOnce (step program b).term
+  pub step_once : (b : BodyView) → Sealed me roles b.term no_roles → UsesOnce b.term → UsesOnce (step program b).term
   step_once b s h = replace_once (contract program (redex b.term)) (contract_once (redex b.term) (redex_sealed me roles b.term s) (redex_once b.term h)) b.term h

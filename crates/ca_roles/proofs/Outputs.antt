@@ -15,7 +15,7 @@ use Rattle.ca_term.specs.Program.{ProgramView}
 use Rattle.ca_meaning.specs.Operands.{truth}
 use Rattle.ca_meaning.specs.Body.{BodyView, At, local, at_op, ended, faulted, nowhere, at, value_in}
 use Rattle.ca_meaning.specs.Asks.{one_of, two_of}
-use Rattle.ca_meaning.specs.Applied.{Returned, returned, of_builtin, Applied, Work, Outputs, outputs, no_outputs, has_nil, without_nil, items_output, outputs_of, outputs_by, Outs}
+use Rattle.ca_meaning.specs.Applied.{Returned, returned_at, of_builtin, Applied, Work, Outputs, outputs, no_outputs, has_nil, without_nil, items_output, outputs_of, outputs_by, Outs}
 use Rattle.ca_roles.specs.Roles.{Roles, IsPublic, ArePublic}
 use Rattle.ca_roles.specs.Sealed.{IsSealed}
 use Rattle.ca_roles.proofs.Clean.{builtins_make_no_ports}
@@ -27,9 +27,9 @@ module _ (roles : Roles) where
   ReturnsPublic (Ok v) = IsPublic roles v
   ReturnsPublic (Err f) = Unit {0}
 
-  returned_public : (b : BodyView) → PublicTerm roles b.term → ReturnsPublic (returned (at b))
+  returned_public : (b : BodyView) → PublicTerm roles b.term → ReturnsPublic (returned_at (at b))
   returned_public b h = by (at b) refl where
-    by : (a : At) → at b ≡ a → ReturnsPublic (returned a)
+    by : (a : At) → at b ≡ a → ReturnsPublic (returned_at a)
     by (ended v) e = ended_public roles b v h e
     by (faulted f p) e = tt
     by (at_op w) e = tt

@@ -6,8 +6,8 @@ use Rattle.ca_term.specs.declared.fault.Fault.{Fault}
 use Rattle.ca_term.specs.declared.event.Side.{Side}
 use Rattle.ca_term.specs.Operation.{OpView, WantView, taking, putting, choosing, posting, closing}
 use Rattle.ca_term.specs.Program.{ProgramView}
-use Rattle.ca_meaning.specs.Operands.{or_else, port_number, is_pair, first_of, second_of, third_of, rest_of, values_in, count_of}
-use Rattle.ca_meaning.specs.Asking.{ports_in}
+use Rattle.ca_meaning.specs.Operands.{or_else, port_of_value, is_pair, first_of, second_of, third_of, rest_of, values_in, count_of}
+use Rattle.ca_meaning.specs.Asking.{alts_ports}
 use Rattle.ca_meaning.specs.Asks.{trees_in}
 use Rattle.ca_meaning.specs.Body.{at_op, faulted, asking}
 use Rattle.ca_meaning.specs.State.{State}
@@ -16,7 +16,7 @@ use Rattle.ca_meaning.specs.Refusal.{Need, a_channel, is_needed_port, not_needed
 use Rattle.ca_meaning.specs.Sound.{Each}
 use Rattle.ca_meaning.specs.Task.{TaskBody}
 use Rattle.ca_meaning.proofs.Refusals.{or_none}
-use Rattle.ca_roles.specs.Roles.{Roles, IsPublic, ArePublic, CarriesAs, Carries}
+use Rattle.ca_roles.specs.Roles.{Roles, IsPublic, ArePublic, CarriesAs, ChannelCarries}
 use Rattle.ca_roles.specs.Users.{MayUse, MayClose}
 use Rattle.ca_roles.specs.Typed.{IsPublicPort, IsPublicBranch, IsPublicOption, MayAsk}
 
@@ -50,7 +50,7 @@ items_in_public roles (key s) h = tt
 items_in_public roles (map_of ps) h = tt
 items_in_public roles (port n) h = tt
 
-pub ports_in_public : (roles : Roles) (v : Tree) → IsPublic roles v → ArePublic roles (ports_in v)
+pub ports_in_public : (roles : Roles) (v : Tree) → IsPublic roles v → ArePublic roles (alts_ports v)
 ports_in_public roles (vector vs) h = h
 ports_in_public roles nil h = tt
 ports_in_public roles (bool b) h = tt
@@ -85,18 +85,18 @@ pub met : (s : State) (n : Need) (ns : List Need) (vs : Trees) → unmet s (n �
 met s n ns vs e = or_none (not_needed s n (first_of vs)) (unmet s ns (rest_of vs)) e
 
 module _ (roles : Roles) where
-  pub port_public : (v : Tree) → (n : ℕ) × (v ≡ port n) → IsPublic roles v → IsPublicPort roles (port_number v)
-  port_public v n h = ap (λ z. roles (port_number z)) n.1 ∙ subst (IsPublic roles) n.1 h
+  pub port_public : (v : Tree) → (n : ℕ) × (v ≡ port n) → IsPublic roles v → IsPublicPort roles (port_of_value v)
+  port_public v n h = ap (λ z. roles (port_of_value z)) n.1 ∙ subst (IsPublic roles) n.1 h
 
-  pub carries_public : (program : ProgramView) (p : ℕ) (v : Tree) → IsPublicPort roles p → IsPublic roles v → Carries program roles p v
+  pub carries_public : (program : ProgramView) (p : ℕ) (v : Tree) → IsPublicPort roles p → IsPublic roles v → ChannelCarries program roles p v
   carries_public program p v h k = subst (λ o. CarriesAs program roles o v) (sym h) k
 
-  pub got_public : (program : ProgramView) (p : ℕ) (a : Tree) → IsPublicPort roles p → (a ≡ nil) ⊎ Carries program roles p a → IsPublic roles a
+  pub got_public : (program : ProgramView) (p : ℕ) (a : Tree) → IsPublicPort roles p → (a ≡ nil) ⊎ ChannelCarries program roles p a → IsPublic roles a
   got_public program p a i (inl k) = subst (IsPublic roles) (sym k) tt
   got_public program p a i (inr k) = subst (λ o. CarriesAs program roles o a) i k
 
   module _ (s : State) where
-    pub channel_public : (v : Tree) → IsPublic roles v → not_a_channel s v ≡ None → IsPublicPort roles (port_number v)
+    pub channel_public : (v : Tree) → IsPublic roles v → not_a_channel s v ≡ None → IsPublicPort roles (port_of_value v)
     channel_public v h e = port_public v (a_port s v e) h
 
     branch_public : (v : Tree) → IsPublic roles v → bad_port s v ≡ None → IsPublicBranch roles (branch_of v)

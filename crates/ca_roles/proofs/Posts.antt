@@ -9,7 +9,7 @@ use Rattle.ca_term.specs.Program.{ProgramView}
 use Rattle.ca_term.specs.Event.{put_of, EventView, made, spawned, done, met, parked, posted, settled, defaulted, closed, registered, printed, ticked, over as is_over}
 use Rattle.ca_meaning.specs.Wait.{Wait, Handler, queue, handlers, without, owner_of, is_live, is_among}
 use Rattle.ca_meaning.specs.State.{State, Task}
-use Rattle.ca_meaning.specs.Going.{Stands}
+use Rattle.ca_meaning.specs.Going.{RunsAtOperation}
 use Rattle.ca_meaning.specs.Steps.{Step}
 use Rattle.ca_meaning.specs.Sound.{Each, Sound}
 use Rattle.ca_meaning.proofs.Waits.{each-append, each-weaker, handlers_of, queue_without, queue_joined, other, owner_else, owner_before, owner_joined}
@@ -28,7 +28,7 @@ data Waits (roles : Roles) (s s2 : State) : Type 0 where
   gone : (w : ℕ) → s2.waits ≡ without w s.waits → Waits roles s s2
   came : (y : Wait) → s2.waits ≡ s.waits ++ y ∷ [] → is_among y.number s.used ≡ false → (y.owner ≡ None → (side : Side) (p : ℕ) → Each (IsPublicAt roles p) (handlers side p y.number 0 y.branches)) → Waits roles s s2
 
-module _ (program : ProgramView) (roles : Roles) (s s2 : State) (asks : (t : ℕ) (op : OpView) (x : Task) → Stands s t op x → MayAsk program roles x.body op) where
+module _ (program : ProgramView) (roles : Roles) (s s2 : State) (asks : (t : ℕ) (op : OpView) (x : Task) → RunsAtOperation s t op x → MayAsk program roles x.body op) where
   post_public : (q : ℕ) (v : Tree) (w : ℕ) → IsPublicPort roles q → IsPublic roles v → (side : Side) (p : ℕ) → Each (IsPublicAt roles p) (handlers side p w 0 (put_of q v ∷ []))
   post_public q v w h k Take p = tt
   post_public q v w h k Put p = by (eqb p q) refl where
@@ -80,7 +80,7 @@ queue_live side p (y ∷ ys) = each-append (λ (h : Handler). is_live h.wait (y 
       by h true e = refl
       by h false e = e
 
-module _ (program : ProgramView) (roles more : Roles) (s s2 : State) (e : EventView) (typed : Typed program roles s) (sound : Sound s) (asks : (t : ℕ) (op : OpView) (x : Task) → Stands s t op x → MayAsk program roles x.body op) (x : Step program s e s2) (g : Grows roles more) where
+module _ (program : ProgramView) (roles more : Roles) (s s2 : State) (e : EventView) (typed : Typed program roles s) (sound : Sound s) (asks : (t : ℕ) (op : OpView) (x : Task) → RunsAtOperation s t op x → MayAsk program roles x.body op) (x : Step program s e s2) (g : Grows roles more) where
   -- a wait that stays is nobody's where it was
   stays : (p : ℕ) (h : Handler) → (owner_of h.wait s2.waits ≡ None → owner_of h.wait s.waits ≡ None) → IsTypedPost roles s p h → IsTypedPost more s2 p h
   stays p h back typed_post none = let k = typed_post (back none) in (g p public k.0, public_more roles more g h.value k.1)

@@ -5,7 +5,7 @@ use Rattle.ca_value.specs.declared.fault.ValueFault.{ValueFault}
 use Rattle.ca_value.specs.Tree.{Tree, nil, bool, int, text, key, vector, map, port, items_of, entries_of}
 use Rattle.ca_value.specs.Equality.{equals}
 use Rattle.ca_value.specs.Kinds.{integer_of, mapping_of}
-use Rattle.ca_value.specs.Maps.{value_at, put, put_all, without, without_all, paired, item_under, get_of, item_set, all_set, places_of, assoc_of, dissoc_of, vector_or_nil, halves_of, pair_vector, walked}
+use Rattle.ca_value.specs.Maps.{value_at, put_pair, put_all, without_pair, without_all, paired, item_under, get_of, item_set, all_set, places_of, assoc_of, dissoc_of, vector_or_nil, halves_of, pair_vector, walked}
 use Rattle.ca_meaning.specs.Sound.{Each}
 use Rattle.ca_roles.specs.Roles.{Roles, IsPublic}
 use Rattle.ca_meaning.proofs.Waits.{each-append}
@@ -39,27 +39,27 @@ module _ (roles : Roles) where
   get_gives (key s) k d h hd = hd
   get_gives (port n) k d h hd = hd
 
-  pub put_public : (ps : List (Tree × Tree)) (k v : Tree) → AllPairsPublic roles ps → IsPublic roles k → IsPublic roles v → AllPairsPublic roles (put ps k v)
+  pub put_public : (ps : List (Tree × Tree)) (k v : Tree) → AllPairsPublic roles ps → IsPublic roles k → IsPublic roles v → AllPairsPublic roles (put_pair ps k v)
   put_public [] k v h hk hv = ((hk, hv), tt)
   put_public (p ∷ ps) k v h hk hv = by (equals k p.0) (put_public ps k v h.1 hk hv) where
-    by : (b : Bool) → AllPairsPublic roles (put ps k v) → AllPairsPublic roles (if b then ((p.0, v) ∷ ps) else (p ∷ put ps k v))
+    by : (b : Bool) → AllPairsPublic roles (put_pair ps k v) → AllPairsPublic roles (if b then ((p.0, v) ∷ ps) else (p ∷ put_pair ps k v))
     by true r = ((h.0.0, hv), h.1)
     by false r = (h.0, r)
 
   pub put_all_public : (ps qs : List (Tree × Tree)) → AllPairsPublic roles ps → AllPairsPublic roles qs → AllPairsPublic roles (put_all ps qs)
   put_all_public ps [] h g = h
-  put_all_public ps (q ∷ qs) h g = put_all_public (put ps q.0 q.1) qs (put_public ps q.0 q.1 h g.0.0 g.0.1) g.1
+  put_all_public ps (q ∷ qs) h g = put_all_public (put_pair ps q.0 q.1) qs (put_public ps q.0 q.1 h g.0.0 g.0.1) g.1
 
-  pub without_public : (ps : List (Tree × Tree)) (k : Tree) → AllPairsPublic roles ps → AllPairsPublic roles (without ps k)
+  pub without_public : (ps : List (Tree × Tree)) (k : Tree) → AllPairsPublic roles ps → AllPairsPublic roles (without_pair ps k)
   without_public [] k h = tt
   without_public (p ∷ ps) k h = by (equals k p.0) (without_public ps k h.1) where
-    by : (b : Bool) → AllPairsPublic roles (without ps k) → AllPairsPublic roles (if b then ps else (p ∷ without ps k))
+    by : (b : Bool) → AllPairsPublic roles (without_pair ps k) → AllPairsPublic roles (if b then ps else (p ∷ without_pair ps k))
     by true r = h.1
     by false r = (h.0, r)
 
   pub without_all_public : (ps : List (Tree × Tree)) (ks : List Tree) → AllPairsPublic roles ps → AllPairsPublic roles (without_all ps ks)
   without_all_public ps [] h = h
-  without_all_public ps (k ∷ ks) h = without_all_public (without ps k) ks (without_public ps k h)
+  without_all_public ps (k ∷ ks) h = without_all_public (without_pair ps k) ks (without_public ps k h)
 
   pub paired_public : (ts : List Tree) → AllPublic roles ts → AllPairsPublic roles (paired ts)
   paired_public [] h = tt

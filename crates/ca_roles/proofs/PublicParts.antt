@@ -2,7 +2,7 @@
 use Rattle.std.proofs.Common.{◌≡◌, ℕ, zero, suc, List, [], ◌∷◌, refl, subst, Bool, take, drop, slice_get, Option, Some, None, unwrap_or}
 use Rattle.std.specs.Prelude.{ℤ, pos, negsuc, Ok, Err}
 use Rattle.ca_value.specs.Tree.{Tree, Trees, TreePairs, nil, bool, int, text, key, vector, map, port, none as no_trees, item as tree, empty as no_pairs, pair, trees_of, pairs_of, items_of, entries_of}
-use Rattle.ca_value.specs.Outcome.{Answer, Outcome, ◌>>=◌, number, truth, one, two, one_or_two, two_or_three, one_and_more}
+use Rattle.ca_value.specs.Outcome.{Answer, Outcome, ◌>>=◌, number_outcome, truth_outcome, of_one_argument, of_two_arguments, one_or_two, two_or_three, one_and_more}
 use Rattle.ca_value.specs.Kinds.{vector_of, sequence_of, mapping_of}
 use Rattle.ca_value.specs.Vectors.{item_at}
 use Rattle.ca_meaning.specs.Sound.{Each}
@@ -39,11 +39,11 @@ DefaultPublic roles None = Unit {0}
 DefaultPublic roles (Some v) = IsPublic roles v
 
 module _ (roles : Roles) where
-  pub number_gives : (m : Answer ℤ) → GivesPublic roles (number m)
+  pub number_gives : (m : Answer ℤ) → GivesPublic roles (number_outcome m)
   number_gives (Ok z) = tt
   number_gives (Err f) = tt
 
-  pub truth_gives : (m : Answer Bool) → GivesPublic roles (truth m)
+  pub truth_gives : (m : Answer Bool) → GivesPublic roles (truth_outcome m)
   truth_gives (Ok b) = tt
   truth_gives (Err f) = tt
 
@@ -118,12 +118,12 @@ module _ (roles : Roles) where
   drop_public (suc n) (t ∷ ts) h = drop_public n ts h.1
 
   -- numbers of arguments
-  pub one_gives : (ts : List Tree) (f : Tree → Outcome) → AllPublic roles ts → ((a : Tree) → IsPublic roles a → GivesPublic roles (f a)) → GivesPublic roles (one ts f)
+  pub one_gives : (ts : List Tree) (f : Tree → Outcome) → AllPublic roles ts → ((a : Tree) → IsPublic roles a → GivesPublic roles (f a)) → GivesPublic roles (of_one_argument ts f)
   one_gives [] f h k = tt
   one_gives (a ∷ []) f h k = k a h.0
   one_gives (a ∷ b ∷ ts) f h k = tt
 
-  pub two_gives : (ts : List Tree) (f : Tree → Tree → Outcome) → AllPublic roles ts → ((a b : Tree) → IsPublic roles a → IsPublic roles b → GivesPublic roles (f a b)) → GivesPublic roles (two ts f)
+  pub two_gives : (ts : List Tree) (f : Tree → Tree → Outcome) → AllPublic roles ts → ((a b : Tree) → IsPublic roles a → IsPublic roles b → GivesPublic roles (f a b)) → GivesPublic roles (of_two_arguments ts f)
   two_gives [] f h k = tt
   two_gives (a ∷ []) f h k = tt
   two_gives (a ∷ b ∷ []) f h k = k a b h.0 h.1.0

@@ -3,8 +3,8 @@ use Rattle.std.proofs.Common.{◌≡◌, inl, inr, ℕ, List, [], ◌∷◌, sym
 use Rattle.ca_value.specs.Tree.{Tree}
 use Rattle.ca_term.specs.Kernel.{Kernel, Kernels, Bindings, Founds, const, var, branch, bind, loop, seq, frame, turn, apply, none, item, empty, binding, put, put_items, put_bindings, puts}
 use Rattle.ca_meaning.specs.Redex.{redex, redex_items, redex_binding, replace, replace_items, is_value, value_of, values_of, all_values, is_ready_recur}
-use Rattle.ca_roles.specs.Roles.{Role, public, hidden, Roles, nobody, known_as, IsPublic, ArePublic}
-use Rattle.ca_roles.specs.Sealed.{IsNamed, Operand, Bound, SealedFounds, all_public, Sealed, AllSealed, SealedBindings, SealedInits}
+use Rattle.ca_roles.specs.Roles.{Role, public, hidden, Roles, no_roles, known_as, IsPublic, ArePublic}
+use Rattle.ca_roles.specs.Sealed.{IsNamed, HiddenOperand, IsHiddenBound, SealedFounds, all_public, Sealed, AllSealed, SealedBindings, SealedInits}
 use Rattle.ca_roles.proofs.Sealing.{public_more}
 use Rattle.ca_roles.proofs.Starting.{from_nobody, PublicFounds}
 
@@ -30,49 +30,49 @@ abbrev mutual
 
 -- A text that is sealed where no port has a role has no port.
 module _ (me : ℕ) (roles : Roles) where
-  no_port : {G : Type 0} (n : ℕ) (r : Role) → nobody n ≡ Some r → G
+  no_port : {G : Type 0} (n : ℕ) (r : Role) → no_roles n ≡ Some r → G
   no_port n r e = absurd (let k : None ≡ Some r = e in cc)
 
-  named_public_term : (s : Roles) (r : Role) (t : Kernel) → IsNamed me nobody s r t → PublicTerm roles t
+  named_public_term : (s : Roles) (r : Role) (t : Kernel) → IsNamed me no_roles s r t → PublicTerm roles t
   named_public_term s public t h = absurd h
   named_public_term s (hidden u x) t (e, inl i) = no_port i.0 (hidden me x) i.2
   named_public_term s (hidden u x) t (e, inr i) = subst (PublicTerm roles) (sym i.1) tt
 
-  operand_public : (s : Roles) (r : Role) (t : Kernel) → Operand me nobody s r t (Sealed me nobody t s) → (Sealed me nobody t s → PublicTerm roles t) → PublicTerm roles t
+  operand_public : (s : Roles) (r : Role) (t : Kernel) → HiddenOperand me no_roles s r t (Sealed me no_roles t s) → (Sealed me no_roles t s → PublicTerm roles t) → PublicTerm roles t
   operand_public s public t h f = f h
   operand_public s (hidden u x) t h f = named_public_term s (hidden u x) t h
 
-  bound_public : (s : Roles) (r : Role) (t : Kernel) → Bound me nobody r t (Sealed me nobody t s) → (Sealed me nobody t s → PublicTerm roles t) → PublicTerm roles t
+  bound_public : (s : Roles) (r : Role) (t : Kernel) → IsHiddenBound me no_roles r t (Sealed me no_roles t s) → (Sealed me no_roles t s → PublicTerm roles t) → PublicTerm roles t
   bound_public s public t h f = f h
   bound_public s (hidden u x) t (e, inl h) f = f h.1
   bound_public s (hidden u x) t (e, inr h) f = no_port h.0 (hidden me x) h.2
 
-  founds_public : (fs : Founds) (s e : Roles) → SealedFounds nobody fs s e → PublicFounds roles fs
+  founds_public : (fs : Founds) (s e : Roles) → SealedFounds no_roles fs s e → PublicFounds roles fs
   founds_public [] s e h = tt
-  founds_public (f ∷ fs) s e h = (public_more nobody roles (from_nobody roles) f.1 h.0, founds_public fs (known_as s f.0 public) e h.2)
+  founds_public (f ∷ fs) s e h = (public_more no_roles roles (from_nobody roles) f.1 h.0, founds_public fs (known_as s f.0 public) e h.2)
 
   mutual
-    pub sealed_public : (t : Kernel) (s : Roles) → Sealed me nobody t s → PublicTerm roles t
-    sealed_public (const v) s h = public_more nobody roles (from_nobody roles) v h
+    pub sealed_public : (t : Kernel) (s : Roles) → Sealed me no_roles t s → PublicTerm roles t
+    sealed_public (const v) s h = public_more no_roles roles (from_nobody roles) v h
     sealed_public (var n) s h = tt
     sealed_public (branch c a b) s h = (sealed_public c s h.0, sealed_public a s h.1, sealed_public b s h.2)
     sealed_public (bind bs body) s h = (bindings_public bs s h.0 h.1, sealed_public body h.0 h.2)
     sealed_public (loop fs bs body) s h = (founds_public fs h.0 h.1 h.3, inits_public bs s h.0 h.2, sealed_public body h.1 h.4)
     sealed_public (seq ts) s h = items_public [] ts s h
-    sealed_public (frame body) s h = sealed_public body nobody h
-    sealed_public (turn ns again now) s h = (sealed_public again (all_public ns) h.0, sealed_public now nobody h.1)
+    sealed_public (frame body) s h = sealed_public body no_roles h
+    sealed_public (turn ns again now) s h = (sealed_public again (all_public ns) h.0, sealed_public now no_roles h.1)
     sealed_public (apply f ts p) s h = items_public h.0 ts s h.2
 
-    items_public : (mask : List Role) (ts : Kernels) (s : Roles) → AllSealed me nobody mask ts s → PublicTerms roles ts
+    items_public : (mask : List Role) (ts : Kernels) (s : Roles) → AllSealed me no_roles mask ts s → PublicTerms roles ts
     items_public mask none s h = tt
     items_public [] (item t ts) s h = (sealed_public t s h.0, items_public [] ts s h.1)
     items_public (r ∷ mask) (item t ts) s h = (operand_public s r t h.0 (sealed_public t s), items_public mask ts s h.1)
 
-    bindings_public : (bs : Bindings) (s e : Roles) → SealedBindings me nobody bs s e → PublicBindings roles bs
+    bindings_public : (bs : Bindings) (s e : Roles) → SealedBindings me no_roles bs s e → PublicBindings roles bs
     bindings_public empty s e h = tt
     bindings_public (binding n t bs) s e h = (bound_public s h.0 t h.1 (sealed_public t s), bindings_public bs (known_as s n h.0) e h.3)
 
-    inits_public : (bs : Bindings) (s e : Roles) → SealedInits me nobody bs s e → PublicBindings roles bs
+    inits_public : (bs : Bindings) (s e : Roles) → SealedInits me no_roles bs s e → PublicBindings roles bs
     inits_public empty s e h = tt
     inits_public (binding n t bs) s e h = (sealed_public t s h.0, inits_public bs (known_as s n public) e h.2)
 

@@ -6,8 +6,8 @@ use Rattle.ca_term.specs.Kernel.{Kernel, Bindings, Founds, empty, binding, put, 
 use Rattle.ca_meaning.specs.Started.{named}
 use Rattle.ca_meaning.specs.Sound.{Each}
 use Rattle.ca_meaning.proofs.Waits.{each-weaker}
-use Rattle.ca_roles.specs.Roles.{public, Roles, nobody, IsPublic}
-use Rattle.ca_roles.specs.Once.{User, Test, no_names, known, is_in, stands_for, uses, uses_behind}
+use Rattle.ca_roles.specs.Roles.{public, Roles, no_roles, IsPublic}
+use Rattle.ca_roles.specs.Once.{User, Test, no_names, known, is_in, stands_for_port, use_count, uses_behind}
 use Rattle.ca_roles.proofs.Counted.{Unbound, UnboundIn, put_stands, put_uses}
 use Rattle.ca_roles.proofs.Unused.{not_true, known_else}
 use Rattle.ca_roles.proofs.Unbinding.{put_unbound}
@@ -40,10 +40,10 @@ abbrev pub AreUnbound : Founds → Kernel → Type 0
 AreUnbound fs t = Each (λ (f : ℕ × Tree). Unbound f.0 t) fs
 
 module _ (k : User) (P : Test) where
-  put_apart : (n : ℕ) (v : Tree) (t : Kernel) (N : Test) → is_in P v ≡ false → N n ≡ false → Unbound n t → uses k P (put n v t) N ≡ uses k P t N
-  put_apart n v t N e f u = put_uses k P n v t N u ∙ ap (uses k P t) (ap (known N n) e ∙ apart_known N n f)
+  put_apart : (n : ℕ) (v : Tree) (t : Kernel) (N : Test) → is_in P v ≡ false → N n ≡ false → Unbound n t → use_count k P (put n v t) N ≡ use_count k P t N
+  put_apart n v t N e f u = put_uses k P n v t N u ∙ ap (use_count k P t) (ap (known N n) e ∙ apart_known N n f)
 
-  pub puts_apart : (fs : Founds) (t : Kernel) → Apart P fs → AreUnbound fs t → uses k P (puts fs t) no_names ≡ uses k P t no_names
+  pub puts_apart : (fs : Founds) (t : Kernel) → Apart P fs → AreUnbound fs t → use_count k P (puts fs t) no_names ≡ use_count k P t no_names
   puts_apart [] t a u = refl
   puts_apart (f ∷ fs) t a u =
       puts_apart fs (put f.0 f.1 t) a.1 (each-weaker (λ (g : ℕ × Tree). Unbound g.0 t) (λ (g : ℕ × Tree). Unbound g.0 (put f.0 f.1 t)) fs (λ g. put_unbound g.0 f.0 f.1 t) u.1)
@@ -52,8 +52,8 @@ module _ (k : User) (P : Test) where
   pub put_behind_apart : (n : ℕ) (v : Tree) (bs : Bindings) (N : Test) (K : Test → ℕ) → is_in P v ≡ false → N n ≡ false → UnboundIn n bs → uses_behind k P (put_bindings n v bs) N K ≡ uses_behind k P bs N K
   put_behind_apart n v empty N K e f u = refl
   put_behind_apart n v (binding m t bs) N K e f u = ap₂ (λ x y. x + y) (put_apart n v t N e f u.1)
-      (put_behind_apart n v bs (known N m (stands_for P N (put n v t))) K e (known_else 0 N nobody m (stands_for P N (put n v t)) n (λ i. u.0 (sym i)) ∙ f) u.2
-      ∙ ap (λ b. uses_behind k P bs (known N m b) K) (put_stands k P n v N t ∙ ap (λ (M : Test). stands_for P M t) (ap (known N n) e ∙ apart_known N n f)))
+      (put_behind_apart n v bs (known N m (stands_for_port P N (put n v t))) K e (known_else 0 N no_roles m (stands_for_port P N (put n v t)) n (λ i. u.0 (sym i)) ∙ f) u.2
+      ∙ ap (λ b. uses_behind k P bs (known N m b) K) (put_stands k P n v N t ∙ ap (λ (M : Test). stands_for_port P M t) (ap (known N n) e ∙ apart_known N n f)))
 
 -- values beside names
 pub named_values : (P : Tree → Type 0) (ns : List ℕ) (vs : List Tree) → Each P vs → Each (λ (f : ℕ × Tree). P f.1) (named ns vs)

@@ -6,8 +6,8 @@ use Rattle.ca_value.specs.Tree.{Tree, Trees, TreePairs, nil, bool, int, text, ke
 use Rattle.ca_term.specs.declared.fault.Fault.{Fault}
 use Rattle.ca_term.specs.declared.head.RegisterName.{RegisterName}
 use Rattle.ca_term.specs.declared.head.RegisterName.TheVariants.{Tap, Untap, UntapAll, Taps, Admix, Unmix, UnmixAll, Toggle, SoloMode, Modes, Find, Place, Drop, Clear, Topics}
-use Rattle.ca_meaning.specs.Operands.{port_number, truth, first_of, second_of, third_of, rest_of}
-use Rattle.ca_meaning.specs.Registry.{TapView, Source, TopicView, Registry, a_mult, a_mix, a_publication, Registered, answers, refuses, within, tapped, tap_value, mult_row, plain_source, changed_source, set_mode, set_modes, modes_in, toggled, pairs_in, all_channels, source_value, mode_value, mix_row, topic_value, found, placed, publication_row, register}
+use Rattle.ca_meaning.specs.Operands.{port_of_value, truth, first_of, second_of, third_of, rest_of}
+use Rattle.ca_meaning.specs.Registry.{TapView, Source, TopicView, Registry, a_mult, a_mix, a_publication, Registered, answers, refuses, within_limit, tapped, tap_value, mult_row, plain_source, changed_source, set_mode, set_modes, with_modes_in, toggled, pairs_in, all_channels, source_value, mode_value, mix_row, topic_value, pair_found, with_topic_placed, publication_row, register}
 use Rattle.ca_meaning.specs.State.{State}
 use Rattle.ca_meaning.specs.Refusal.{Need, a_channel, the_mult, the_mix, the_publication, anything, is_channel, not_needed, unmet, needs_to_register}
 use Rattle.ca_meaning.specs.Sound.{Each}
@@ -23,7 +23,7 @@ module _ (roles : Roles) where
   GoesOnPublic (answers v r) = IsPublic roles v × TypedRegistry roles r
   GoesOnPublic (refuses f) = Unit {0}
 
-  within_public : (limit members : ℕ) (v : Tree) (r : Registry) → IsPublic roles v → TypedRegistry roles r → GoesOnPublic (within limit members v r)
+  within_public : (limit members : ℕ) (v : Tree) (r : Registry) → IsPublic roles v → TypedRegistry roles r → GoesOnPublic (within_limit limit members v r)
   within_public limit members v r h k = by (nat_lt limit members) where
     by : (b : Bool) → GoesOnPublic (cond b (refuses Fault.TooManyMembers) (answers v r))
     by true = tt
@@ -71,7 +71,7 @@ module _ (roles : Roles) where
   modes_keep empty x = refl
   modes_keep (pair k v ps) x = modes_keep ps (set_mode k v x) ∙ mode_keeps k v x
 
-  keeps_channel : (m : Tree) (x : Source) → (modes_in m x).channel ≡ x.channel
+  keeps_channel : (m : Tree) (x : Source) → (with_modes_in m x).channel ≡ x.channel
   keeps_channel (map ps) x = modes_keep ps x
   keeps_channel nil x = refl
   keeps_channel (bool b) x = refl
@@ -98,17 +98,17 @@ module _ (roles : Roles) where
   topic_public : (t : TopicView) → IsTypedTopic roles t → IsPublic roles (topic_value t)
   topic_public t h = (h.1, (h.2, tt))
 
-  found_public : (topic : Tree) (ts : List TopicView) → Each (IsTypedTopic roles) ts → IsPublic roles (found topic ts)
+  found_public : (topic : Tree) (ts : List TopicView) → Each (IsTypedTopic roles) ts → IsPublic roles (pair_found topic ts)
   found_public topic [] h = tt
   found_public topic (t ∷ ts) h = by (equals topic t.topic) (found_public topic ts h.1) where
-    by : (b : Bool) → IsPublic roles (found topic ts) → IsPublic roles (cond b (topic_value t) (found topic ts))
+    by : (b : Bool) → IsPublic roles (pair_found topic ts) → IsPublic roles (cond b (topic_value t) (pair_found topic ts))
     by true r = topic_public t h.0
     by false r = r
 
-  placed_typed : (t : TopicView) (ts : List TopicView) → IsTypedTopic roles t → Each (IsTypedTopic roles) ts → Each (IsTypedTopic roles) (placed t ts)
+  placed_typed : (t : TopicView) (ts : List TopicView) → IsTypedTopic roles t → Each (IsTypedTopic roles) ts → Each (IsTypedTopic roles) (with_topic_placed t ts)
   placed_typed t [] h k = (h, tt)
   placed_typed t (u ∷ us) h k = by (equals t.topic u.topic) (placed_typed t us h k.1) where
-    by : (b : Bool) → Each (IsTypedTopic roles) (placed t us) → Each (IsTypedTopic roles) (cond b (u ∷ us) (u ∷ placed t us))
+    by : (b : Bool) → Each (IsTypedTopic roles) (with_topic_placed t us) → Each (IsTypedTopic roles) (cond b (u ∷ us) (u ∷ with_topic_placed t us))
     by true r = k
     by false r = (k.0, r)
 
@@ -116,14 +116,14 @@ module _ (roles : Roles) where
   topics_public ts h = trees_public roles (each_of (λ (t : TopicView). port t.channel) ts) (values_public (IsTypedTopic roles) (λ (t : TopicView). port t.channel) ts (λ t k. k.2) h)
 
   module _ (s : State) where
-    channel_public : (v : Tree) → IsPublic roles v → not_needed s a_channel v ≡ None → IsPublicPort roles (port_number v)
+    channel_public : (v : Tree) → IsPublic roles v → not_needed s a_channel v ≡ None → IsPublicPort roles (port_of_value v)
     channel_public v h e = port_public roles v (needs_port s a_channel v refl e) h
 
     -- the argument behind the registry's port
-    second_channel : (n : Need) (ns : List Need) (vs : Trees) → ArePublic roles vs → unmet s (n ∷ a_channel ∷ ns) vs ≡ None → IsPublicPort roles (port_number (first_of (rest_of vs)))
+    second_channel : (n : Need) (ns : List Need) (vs : Trees) → ArePublic roles vs → unmet s (n ∷ a_channel ∷ ns) vs ≡ None → IsPublicPort roles (port_of_value (first_of (rest_of vs)))
     second_channel n ns vs h e = channel_public (first_of (rest_of vs)) (second_public roles vs h) (met s a_channel ns (rest_of vs) (met s n (a_channel ∷ ns) vs e).1).0
 
-    is_public_channel : (v : Tree) → IsPublic roles v → is_channel s v ≡ true → IsPublicPort roles (port_number v)
+    is_public_channel : (v : Tree) → IsPublic roles v → is_channel s v ≡ true → IsPublicPort roles (port_of_value v)
     is_public_channel v h e = port_public roles v (a_port s v (ap (λ b. cond b None (Some Fault.NotAPort)) e)) h
 
     and_true : (a b : Bool) → a && b ≡ true → (a ≡ true) × (b ≡ true)
@@ -134,16 +134,16 @@ module _ (roles : Roles) where
     toggled_typed empty xs e h k = k
     toggled_typed (pair c m ps) xs e h k =
         let a = and_true (is_channel s c) (all_channels (is_channel s) ps) e in
-        toggled_typed ps (changed_source (port_number c) (modes_in m) xs) a.1 h.2 (changed_typed (port_number c) (modes_in m) xs (keeps_channel m) (is_public_channel c h.0 a.0) k)
+        toggled_typed ps (changed_source (port_of_value c) (with_modes_in m) xs) a.1 h.2 (changed_typed (port_of_value c) (with_modes_in m) xs (keeps_channel m) (is_public_channel c h.0 a.0) k)
 
     abbrev Row : (RegisterName → Trees → Registered) → RegisterName → Type 0
     Row row name = (vs : Trees) → ArePublic roles vs → unmet s (needs_to_register name) vs ≡ None → GoesOnPublic (row name (rest_of vs))
 
     mult_row_public : (c : ℕ) (ts : List TapView) → IsPublicPort roles c → Each (IsTypedTap roles) ts → (name : RegisterName) → Row (mult_row c ts) name
     mult_row_public c ts h k Tap vs a e =
-        let us = tapped (record { channel = port_number (first_of (rest_of vs)); closes = truth (second_of (rest_of vs)) }) ts in
+        let us = tapped (record { channel = port_of_value (first_of (rest_of vs)); closes = truth (second_of (rest_of vs)) }) ts in
         within_public 1024 (length us) (first_of (rest_of vs)) (a_mult c us) (second_public roles vs a) (h, tapped_typed _ ts (second_channel the_mult [] vs a e) k)
-    mult_row_public c ts h k Untap vs a e = (tt, (h, each-filter (IsTypedTap roles) (λ t. not (eqb (port_number (first_of (rest_of vs))) t.channel)) ts k))
+    mult_row_public c ts h k Untap vs a e = (tt, (h, each-filter (IsTypedTap roles) (λ t. not (eqb (port_of_value (first_of (rest_of vs))) t.channel)) ts k))
     mult_row_public c ts h k UntapAll vs a e = (tt, (h, tt))
     mult_row_public c ts h k Taps vs a e = (taps_public ts k, (h, k))
     mult_row_public c ts h k Admix vs a e = tt
@@ -160,12 +160,12 @@ module _ (roles : Roles) where
 
     mix_row_public : (o g : ℕ) (mode : Bool) (xs : List Source) → IsPublicPort roles o → IsPublicPort roles g → Each (IsTypedSource roles) xs → (name : RegisterName) → Row (mix_row (is_channel s) o g mode xs) name
     mix_row_public o g mode xs h j k Admix vs a e =
-        let ys = changed_source (port_number (first_of (rest_of vs))) (λ x. x) xs in
-        within_public 255 (length ys) (port g) (a_mix o g mode ys) j (h, j, changed_typed (port_number (first_of (rest_of vs))) (λ x. x) xs (λ x. refl) (second_channel the_mix [] vs a e) k)
-    mix_row_public o g mode xs h j k Unmix vs a e = (j, (h, j, each-filter (IsTypedSource roles) (λ x. not (eqb (port_number (first_of (rest_of vs))) x.channel)) xs k))
+        let ys = changed_source (port_of_value (first_of (rest_of vs))) (λ x. x) xs in
+        within_public 255 (length ys) (port g) (a_mix o g mode ys) j (h, j, changed_typed (port_of_value (first_of (rest_of vs))) (λ x. x) xs (λ x. refl) (second_channel the_mix [] vs a e) k)
+    mix_row_public o g mode xs h j k Unmix vs a e = (j, (h, j, each-filter (IsTypedSource roles) (λ x. not (eqb (port_of_value (first_of (rest_of vs))) x.channel)) xs k))
     mix_row_public o g mode xs h j k UnmixAll vs a e = (j, (h, j, tt))
     mix_row_public o g mode xs h j k Toggle vs a e = by (all_channels (is_channel s) (pairs_in (first_of (rest_of vs)))) refl where
-      by : (b : Bool) → all_channels (is_channel s) (pairs_in (first_of (rest_of vs))) ≡ b → GoesOnPublic (cond b (within 255 (length (toggled (pairs_in (first_of (rest_of vs))) xs)) (port g) (a_mix o g mode (toggled (pairs_in (first_of (rest_of vs))) xs))) (refuses Fault.NotAPort))
+      by : (b : Bool) → all_channels (is_channel s) (pairs_in (first_of (rest_of vs))) ≡ b → GoesOnPublic (cond b (within_limit 255 (length (toggled (pairs_in (first_of (rest_of vs))) xs)) (port g) (a_mix o g mode (toggled (pairs_in (first_of (rest_of vs))) xs))) (refuses Fault.NotAPort))
       by true is = within_public 255 (length (toggled (pairs_in (first_of (rest_of vs))) xs)) (port g) (a_mix o g mode (toggled (pairs_in (first_of (rest_of vs))) xs)) j (h, j, toggled_typed (pairs_in (first_of (rest_of vs))) xs is (pairs_public (first_of (rest_of vs)) (second_public roles vs a)) k)
       by false is = tt
     mix_row_public o g mode xs h j k SoloMode vs a e = (j, (h, j, k))
@@ -190,9 +190,9 @@ module _ (roles : Roles) where
         let args = rest_public roles vs a in
         let m = port_public roles (second_of (rest_of vs)) (needs_port s the_mult (second_of (rest_of vs)) refl z.0) (second_public roles (rest_of vs) args) in
         let q = channel_public (third_of (rest_of vs)) (third_public roles (rest_of vs) args) w.0 in
-        let us = placed (record { topic = first_of (rest_of vs); mult = port_number (second_of (rest_of vs)); channel = port_number (third_of (rest_of vs)) }) ts in
-        let t = placed_typed (record { topic = first_of (rest_of vs); mult = port_number (second_of (rest_of vs)); channel = port_number (third_of (rest_of vs)) }) ts (first_public roles (rest_of vs) args, m, q) k in
-        within_public 1024 (length us) (found (first_of (rest_of vs)) us) (a_publication c us) (found_public (first_of (rest_of vs)) us t) (h, t)
+        let us = with_topic_placed (record { topic = first_of (rest_of vs); mult = port_of_value (second_of (rest_of vs)); channel = port_of_value (third_of (rest_of vs)) }) ts in
+        let t = placed_typed (record { topic = first_of (rest_of vs); mult = port_of_value (second_of (rest_of vs)); channel = port_of_value (third_of (rest_of vs)) }) ts (first_public roles (rest_of vs) args, m, q) k in
+        within_public 1024 (length us) (pair_found (first_of (rest_of vs)) us) (a_publication c us) (found_public (first_of (rest_of vs)) us t) (h, t)
     publication_row_public c ts h k Drop vs a e = (tt, (h, each-filter (IsTypedTopic roles) (λ t. not (equals (first_of (rest_of vs)) t.topic)) ts k))
     publication_row_public c ts h k Clear vs a e = (tt, (h, tt))
     publication_row_public c ts h k Topics vs a e = (topics_public ts k, (h, k))

@@ -5,14 +5,14 @@ use Rattle.ca_term.specs.declared.head.Head.{Head}
 use Rattle.ca_term.specs.Kernel.{Kernel, Kernels, Bindings, const, var, branch, bind, loop, seq, frame, turn, apply, none, item, empty, binding}
 use Rattle.ca_meaning.specs.Redex.{redex, redex_items, replace, replace_items, replace_binding, is_value, is_open, all_values, is_ready_recur}
 use Rattle.ca_meaning.proofs.Sizes.{redex_items-values}
-use Rattle.ca_roles.specs.Roles.{replies, Role, public, hidden, Roles, nobody}
-use Rattle.ca_roles.specs.Sealed.{Bound, HasMask, plain, of_job, of_feed, of_collect, of_mult, Sealed, AllSealed}
-use Rattle.ca_roles.specs.Once.{User, the_feed, the_collect, the_mult, is_user, Test, no_names, known, stands_for, first, behind_first, own_operand, one_if, node, uses, uses_all, uses_behind}
+use Rattle.ca_roles.specs.Roles.{replies, Role, public, hidden, Roles, no_roles}
+use Rattle.ca_roles.specs.Sealed.{IsHiddenBound, HasMask, plain, of_job, of_feed, of_collect, of_mult, Sealed, AllSealed}
+use Rattle.ca_roles.specs.Once.{User, the_feed, the_collect, the_mult, is_user, Test, no_names, known, stands_for_port, holds_of_first, behind_first, own_operand, one_if, node, use_count, uses_all, uses_behind}
 use Rattle.ca_roles.proofs.Unused.{hides_less, starts_none, nobody_is}
 use Rattle.ca_roles.proofs.Holes.{named_value}
 
 -- a binding's term that isn't a value yet
-pub bound_sealed : (me : ℕ) (roles : Roles) (r : Role) (t : Kernel) → is_value t ≡ false → Bound me roles r t (Sealed me roles t nobody) → Sealed me roles t nobody
+pub bound_sealed : (me : ℕ) (roles : Roles) (r : Role) (t : Kernel) → is_value t ≡ false → IsHiddenBound me roles r t (Sealed me roles t no_roles) → Sealed me roles t no_roles
 bound_sealed me roles public t e h = h
 bound_sealed me roles (hidden q x) t e (i, inl h) = h.1
 bound_sealed me roles (hidden q x) t e (i, inr h) = absurd (let j : true ≡ false = sym (ap is_value h.1) ∙ e in cc)
@@ -22,10 +22,10 @@ module _ (k : User) (me : ℕ) (P : Test) (roles : Roles) (u : Kernel) where
   Stays f ts = f (replace_items u ts) ≡ f ts
 
   -- a hidden operand is a value, and stays
-  first_stays : (q : ℕ) (h : _) (mask : List Role) (ts : Kernels) → AllSealed me roles (hidden q h ∷ mask) ts nobody → Stays (first (stands_for P no_names)) ts
+  first_stays : (q : ℕ) (h : _) (mask : List Role) (ts : Kernels) → AllSealed me roles (hidden q h ∷ mask) ts no_roles → Stays (holds_of_first (stands_for_port P no_names)) ts
   first_stays q h mask none a = refl
   first_stays q h mask (item t ts) a = by (is_value t) (named_value me roles q h t a.0) where
-    by : (b : Bool) → b ≡ true → first (stands_for P no_names) (cond b (item t (replace_items u ts)) (item (replace u t) ts)) ≡ stands_for P no_names t
+    by : (b : Bool) → b ≡ true → holds_of_first (stands_for_port P no_names) (cond b (item t (replace_items u ts)) (item (replace u t) ts)) ≡ stands_for_port P no_names t
     by true e = refl
     by false e = absurd (let j : false ≡ true = e in cc)
 
@@ -36,35 +36,35 @@ module _ (k : User) (me : ℕ) (P : Test) (roles : Roles) (u : Kernel) where
     by true = e
     by false = refl
 
-  third_stays : (p r : Role) (q : ℕ) (h : _) (mask : List Role) (ts : Kernels) → AllSealed me roles (p ∷ r ∷ hidden q h ∷ mask) ts nobody → Stays (behind_first (behind_first (first (stands_for P no_names)))) ts
+  third_stays : (p r : Role) (q : ℕ) (h : _) (mask : List Role) (ts : Kernels) → AllSealed me roles (p ∷ r ∷ hidden q h ∷ mask) ts no_roles → Stays (behind_first (behind_first (holds_of_first (stands_for_port P no_names)))) ts
   third_stays p r q h mask none a = refl
-  third_stays p r q h mask (item x none) a = behind_stays (behind_first (first (stands_for P no_names))) x none refl
-  third_stays p r q h mask (item x (item y ts)) a = behind_stays (behind_first (first (stands_for P no_names))) x (item y ts) (behind_stays (first (stands_for P no_names)) y ts (first_stays q h mask ts a.1.1))
+  third_stays p r q h mask (item x none) a = behind_stays (behind_first (holds_of_first (stands_for_port P no_names))) x none refl
+  third_stays p r q h mask (item x (item y ts)) a = behind_stays (behind_first (holds_of_first (stands_for_port P no_names))) x (item y ts) (behind_stays (holds_of_first (stands_for_port P no_names)) y ts (first_stays q h mask ts a.1.1))
 
-  pub node_stays : (h : Head) (p : Place) (ts : Kernels) (mask : List Role) → HasMask me h p ts mask → AllSealed me roles mask ts nobody → node k P no_names h (replace_items u ts) ≡ node k P no_names h ts
+  pub node_stays : (h : Head) (p : Place) (ts : Kernels) (mask : List Role) → HasMask me h p ts mask → AllSealed me roles mask ts no_roles → node k P no_names h (replace_items u ts) ≡ node k P no_names h ts
   node_stays h p ts mask (plain e) a =
       let no = ap (is_user k) (starts_none h (hides_less h ts e)) ∙ nobody_is k in
-      ap (λ b. cond b (one_if (own_operand k (stands_for P no_names) (replace_items u ts))) 0) no ∙ sym (ap (λ b. cond b (one_if (own_operand k (stands_for P no_names) ts)) 0) no)
+      ap (λ b. cond b (one_if (own_operand k (stands_for_port P no_names) (replace_items u ts))) 0) no ∙ sym (ap (λ b. cond b (one_if (own_operand k (stands_for_port P no_names) ts)) 0) no)
   node_stays h p ts mask (of_job w e) a =
-      ap (λ b. cond b (one_if (own_operand k (stands_for P no_names) (replace_items u ts))) 0) (nobody_is k) ∙ sym (ap (λ b. cond b (one_if (own_operand k (stands_for P no_names) ts)) 0) (nobody_is k))
+      ap (λ b. cond b (one_if (own_operand k (stands_for_port P no_names) (replace_items u ts))) 0) (nobody_is k) ∙ sym (ap (λ b. cond b (one_if (own_operand k (stands_for_port P no_names) ts)) 0) (nobody_is k))
   node_stays h p ts mask (of_feed w) a = by k where
-    by : (j : User) → cond (is_user j (Some the_feed)) (one_if (own_operand j (stands_for P no_names) (replace_items u ts))) 0 ≡ cond (is_user j (Some the_feed)) (one_if (own_operand j (stands_for P no_names) ts)) 0
+    by : (j : User) → cond (is_user j (Some the_feed)) (one_if (own_operand j (stands_for_port P no_names) (replace_items u ts))) 0 ≡ cond (is_user j (Some the_feed)) (one_if (own_operand j (stands_for_port P no_names) ts)) 0
     by the_feed = ap one_if (third_stays _ _ _ _ _ ts a)
     by the_collect = refl
     by the_mult = refl
   node_stays h p ts mask (of_collect w) a = by k where
-    by : (j : User) → cond (is_user j (Some the_collect)) (one_if (own_operand j (stands_for P no_names) (replace_items u ts))) 0 ≡ cond (is_user j (Some the_collect)) (one_if (own_operand j (stands_for P no_names) ts)) 0
+    by : (j : User) → cond (is_user j (Some the_collect)) (one_if (own_operand j (stands_for_port P no_names) (replace_items u ts))) 0 ≡ cond (is_user j (Some the_collect)) (one_if (own_operand j (stands_for_port P no_names) ts)) 0
     by the_feed = refl
     by the_collect = ap one_if (first_stays me (replies w) [] ts a)
     by the_mult = refl
   node_stays h p ts mask of_mult a = by k where
-    by : (j : User) → cond (is_user j (Some the_mult)) (one_if (own_operand j (stands_for P no_names) (replace_items u ts))) 0 ≡ cond (is_user j (Some the_mult)) (one_if (own_operand j (stands_for P no_names) ts)) 0
+    by : (j : User) → cond (is_user j (Some the_mult)) (one_if (own_operand j (stands_for_port P no_names) (replace_items u ts))) 0 ≡ cond (is_user j (Some the_mult)) (one_if (own_operand j (stands_for_port P no_names) ts)) 0
     by the_feed = refl
     by the_collect = refl
     by the_mult = ap one_if (third_stays _ _ _ _ _ ts a)
 
   -- what isn't a value stands for nothing
-  pub open_stands : (t : Kernel) → is_value t ≡ false → stands_for P no_names t ≡ false
+  pub open_stands : (t : Kernel) → is_value t ≡ false → stands_for_port P no_names t ≡ false
   open_stands (const v) e = absurd (let j : true ≡ false = e in cc)
   open_stands (var n) e = refl
   open_stands (branch c a b) e = refl
@@ -75,16 +75,16 @@ module _ (k : User) (me : ℕ) (P : Test) (roles : Roles) (u : Kernel) where
   open_stands (turn ns again now) e = refl
   open_stands (apply f ts p) e = refl
 
-module _ (k : User) (me : ℕ) (P : Test) (roles : Roles) (u : Kernel) (apart : stands_for P no_names u ≡ false) where
-  u_or : (b : Bool) (x : Kernel) → stands_for P no_names x ≡ false → stands_for P no_names (cond b u x) ≡ false
+module _ (k : User) (me : ℕ) (P : Test) (roles : Roles) (u : Kernel) (apart : stands_for_port P no_names u ≡ false) where
+  u_or : (b : Bool) (x : Kernel) → stands_for_port P no_names x ≡ false → stands_for_port P no_names (cond b u x) ≡ false
   u_or true x e = apart
   u_or false x e = e
 
-  or_u : (b : Bool) (x : Kernel) → stands_for P no_names x ≡ false → stands_for P no_names (cond b x u) ≡ false
+  or_u : (b : Bool) (x : Kernel) → stands_for_port P no_names x ≡ false → stands_for_port P no_names (cond b x u) ≡ false
   or_u true x e = e
   or_u false x e = apart
 
-  replaced_stands : (t : Kernel) → stands_for P no_names (replace u t) ≡ false
+  replaced_stands : (t : Kernel) → stands_for_port P no_names (replace u t) ≡ false
   replaced_stands (const v) = apart
   replaced_stands (var n) = apart
   replaced_stands (branch c a b) = u_or (is_value c) (branch (replace u c) a b) refl
@@ -98,7 +98,7 @@ module _ (k : User) (me : ℕ) (P : Test) (roles : Roles) (u : Kernel) (apart : 
   replaced_stands (apply h ts p) = u_or (all_values ts) (apply h (replace_items u ts) p) refl
 
   abbrev count : Kernel → ℕ
-  count t = uses k P t no_names
+  count t = use_count k P t no_names
 
   abbrev pub Even : Kernel → Type 0
   Even t = count (replace u t) + count (redex t) ≡ count t + count u
@@ -106,7 +106,7 @@ module _ (k : User) (me : ℕ) (P : Test) (roles : Roles) (u : Kernel) (apart : 
   swap : (a b : ℕ) → a + b ≡ b + a
   swap a b = omega arith
 
-  behind_same : (n : ℕ) (t : Kernel) (bs : Bindings) (K : Test → ℕ) → is_value t ≡ false → uses_behind k P bs (known no_names n (stands_for P no_names (replace u t))) K ≡ uses_behind k P bs (known no_names n (stands_for P no_names t)) K
+  behind_same : (n : ℕ) (t : Kernel) (bs : Bindings) (K : Test → ℕ) → is_value t ≡ false → uses_behind k P bs (known no_names n (stands_for_port P no_names (replace u t))) K ≡ uses_behind k P bs (known no_names n (stands_for_port P no_names t)) K
   behind_same n t bs K e = ap (λ b. uses_behind k P bs (known no_names n b) K) (replaced_stands t ∙ sym (open_stands k me P roles u t e))
 
   one_item : (t : Kernel) (ts : Kernels) (here : Kernel) (v : Bool) → v && all_values ts ≡ false → Even t → (all_values ts ≡ false → uses_all k P (replace_items u ts) no_names + count (redex_items ts here) ≡ uses_all k P ts no_names + count u) → uses_all k P (cond v (item t (replace_items u ts)) (item (replace u t) ts)) no_names + count (cond v (redex_items ts here) (redex t)) ≡ count t + uses_all k P ts no_names + count u
@@ -118,7 +118,7 @@ module _ (k : User) (me : ℕ) (P : Test) (roles : Roles) (u : Kernel) (apart : 
   hidden_item t ts here false q e r = absurd (let i : false ≡ true = q in cc)
 
   mutual
-    pub even : (t : Kernel) → Sealed me roles t nobody → Even t
+    pub even : (t : Kernel) → Sealed me roles t no_roles → Even t
     even (const v) h = swap (count u) 0
     even (var n) h = swap (count u) 0
     even (branch c a b) h = by (is_value c) (even c h.0) where
@@ -128,19 +128,19 @@ module _ (k : User) (me : ℕ) (P : Test) (roles : Roles) (u : Kernel) (apart : 
     even (bind empty body) h = swap (count u) (count body)
     even (bind (binding n t bs) body) h = by (is_value t) refl (λ e. even t (bound_sealed me roles h.1.0 t e h.1.1)) where
       rest : ℕ
-      rest = uses_behind k P bs (known no_names n (stands_for P no_names t)) (uses k P body)
+      rest = uses_behind k P bs (known no_names n (stands_for_port P no_names t)) (use_count k P body)
 
       by : (v : Bool) → is_value t ≡ v → (is_value t ≡ false → Even t) → count (cond (not v) (bind (binding n (replace u t) bs) body) u) + count (cond v (bind (binding n t bs) body) (redex t)) ≡ count t + rest + count u
       by true e f = swap (count u) (count t + rest)
-      by false e f = let q = behind_same n t bs (uses k P body) e in let j = f e in omega (arith, q, j)
+      by false e f = let q = behind_same n t bs (use_count k P body) e in let j = f e in omega (arith, q, j)
     even (loop fs empty body) h = swap (count u) (count body + count body)
     even (loop fs (binding n t bs) body) h = by (is_value t) refl (even t h.2.0) where
       rest : ℕ
-      rest = uses_behind k P bs (known no_names n (stands_for P no_names t)) (λ M. uses k P body M + uses k P body M)
+      rest = uses_behind k P bs (known no_names n (stands_for_port P no_names t)) (λ M. use_count k P body M + use_count k P body M)
 
       by : (v : Bool) → is_value t ≡ v → Even t → count (cond (not v) (loop fs (binding n (replace u t) bs) body) u) + count (cond v (loop fs (binding n t bs) body) (redex t)) ≡ count t + rest + count u
       by true e j = swap (count u) (count t + rest)
-      by false e j = let q = behind_same n t bs (λ M. uses k P body M + uses k P body M) e in omega (arith, q, j)
+      by false e j = let q = behind_same n t bs (λ M. use_count k P body M + use_count k P body M) e in omega (arith, q, j)
     even (seq none) h = swap (count u) 0
     even (seq (item t none)) h = swap (count u) (count t + 0)
     even (seq (item t (item w ws))) h = by (is_value t) (even t h.0) where
@@ -164,7 +164,7 @@ module _ (k : User) (me : ℕ) (P : Test) (roles : Roles) (u : Kernel) (apart : 
       by true e j = ap (λ z. count u + count z) (redex_items-values ts (apply f ts p) e) ∙ swap (count u) whole
       by false e j = let q = node_stays k me P roles u f p ts h.0 h.1 h.2 in let i = j e in omega (arith, q, i)
 
-    even_items : (mask : List Role) (ts : Kernels) (here : Kernel) → all_values ts ≡ false → AllSealed me roles mask ts nobody → uses_all k P (replace_items u ts) no_names + count (redex_items ts here) ≡ uses_all k P ts no_names + count u
+    even_items : (mask : List Role) (ts : Kernels) (here : Kernel) → all_values ts ≡ false → AllSealed me roles mask ts no_roles → uses_all k P (replace_items u ts) no_names + count (redex_items ts here) ≡ uses_all k P ts no_names + count u
     even_items mask none here e h = absurd (let j : true ≡ false = e in cc)
     even_items [] (item t ts) here e h = one_item t ts here (is_value t) e (even t h.0) (λ e. even_items [] ts here e h.1)
     even_items (public ∷ mask) (item t ts) here e h = one_item t ts here (is_value t) e (even t h.0) (λ e. even_items mask ts here e h.1)

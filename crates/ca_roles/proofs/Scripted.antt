@@ -13,8 +13,8 @@ use Rattle.ca_term.specs.Kernel.{Kernel, Kernels, apply, none, item}
 use Rattle.ca_term.specs.Operation.{OpView, spawning, WhatView, unbuffered, fixed, dropping, sliding, promise, timeout}
 use Rattle.ca_term.specs.Fits.{Known, count_terms, SuitsSystem, Suits, Fits}
 use Rattle.ca_term.specs.Program.{ProgramView, IsProgram, known_in}
-use Rattle.ca_meaning.specs.Asking.{ports_in, priority_in, default_in, ranged, sized, made_of, not_a_port, bad_collection, bad_operands, seed_of}
-use Rattle.ca_meaning.specs.Operands.{port_number, first_of, second_of, last_of, without_last, values_in}
+use Rattle.ca_meaning.specs.Asking.{alts_ports, priority_in, default_in, ranged, sized, made_of, not_a_port, bad_collection, bad_operands, seed_of}
+use Rattle.ca_meaning.specs.Operands.{port_of_value, first_of, second_of, last_of, without_last, values_in}
 use Rattle.ca_meaning.specs.Redex.{redex, values_of}
 use Rattle.ca_meaning.specs.Started.{procedure_at}
 use Rattle.ca_meaning.specs.Body.{BodyView, at_op, at}
@@ -28,7 +28,7 @@ use Rattle.ca_meaning.proofs.Waits.{each-append}
 use Rattle.ca_meaning.proofs.Refusals.{or_none}
 use Rattle.ca_meaning.proofs.RedexFits.{seat}
 use Rattle.ca_meaning.proofs.Bodies.{taken}
-use Rattle.ca_roles.specs.Roles.{Roles, nobody, IsPublic, ArePublic}
+use Rattle.ca_roles.specs.Roles.{Roles, no_roles, IsPublic, ArePublic}
 use Rattle.ca_roles.specs.Sealed.{Sealed, IsSealed}
 use Rattle.ca_roles.specs.Typed.{IsPublicPort, TypedSystem, TypedBody, IsTypedResult, IsPublicOption, IsPublicWhat, MayAsk}
 use Rattle.ca_roles.proofs.Starting.{values_public, started_sealed, procedure_sealed}
@@ -101,7 +101,7 @@ module _ (roles : Roles) where
   made_public MakeKind.Pub vs what h e = same_what (Ok (WhatView.publication (first_of vs))) (WhatView.publication (first_of vs)) what refl e (first_public roles vs h)
 
 -- a go block's last operand is its result port
-a_result : (v : Tree) → not_a_port v ≡ None → v ≡ port (port_number v)
+a_result : (v : Tree) → not_a_port v ≡ None → v ≡ port (port_of_value v)
 a_result (port n) e = refl
 a_result nil e = absurd (let k : Some Fault.WrongKind ≡ None = e in cc)
 a_result (bool b) e = absurd (let k : Some Fault.WrongKind ≡ None = e in cc)
@@ -119,33 +119,33 @@ enough_values (item t (item u us)) result = let k = enough_values (item u us) re
 
 module _ (program : ProgramView) (checked : IsProgram program) (sealed : IsSealed program) (me : ℕ) (roles : Roles) where
   -- the task of a go block: whatever its number, it is sealed
-  pub go_sealed : (target : Option ℕ) (n : ℕ) (ts : Kernels) (p : Place) → Suits (known_in checked.plain program) target (Spawn (SeedKind.Go n)) (count_terms ts) → not_a_port (last_of (values_of ts)) ≡ None → Sealed me roles (apply (Spawn (SeedKind.Go n)) ts p) nobody
-      → ((u : ℕ) → TypedBody program u roles (new_task program (seed_of (SeedKind.Go n) (values_of ts) p))) × IsPublicPort roles (port_number (last_of (values_of ts)))
+  pub go_sealed : (target : Option ℕ) (n : ℕ) (ts : Kernels) (p : Place) → Suits (known_in checked.plain program) target (Spawn (SeedKind.Go n)) (count_terms ts) → not_a_port (last_of (values_of ts)) ≡ None → Sealed me roles (apply (Spawn (SeedKind.Go n)) ts p) no_roles
+      → ((u : ℕ) → TypedBody program u roles (new_task program (seed_of (SeedKind.Go n) (values_of ts) p))) × IsPublicPort roles (port_of_value (last_of (values_of ts)))
   go_sealed target n ts p f e h =
       let vs = values_of ts in
       let a = operands_public me roles (Spawn (SeedKind.Go n)) ts p refl h in
-      let result : IsPublicPort roles (port_number (last_of vs)) = subst (IsPublic roles) (a_result (last_of vs) e) (last_public roles vs a) in
+      let result : IsPublicPort roles (port_of_value (last_of vs)) = subst (IsPublic roles) (a_result (last_of vs) e) (last_public roles vs a) in
       let text = taken (known_in checked.plain program) program.bodies n (count_terms ts) checked.bodies_fit f in
       let arity : length (procedure_at program.bodies n).parameters ≡ count_terms ts = text.1 in
-      let many = enough_values ts (port_number (last_of vs)) in
-      let given = values_in (without_last vs) ++ port (port_number (last_of vs)) ∷ [] in
-      (λ u. started_sealed u roles (procedure_at program.bodies n) given (omega (arith, many, arity)) (each-append (IsPublic roles) (values_in (without_last vs)) (port (port_number (last_of vs)) ∷ []) (values_public roles (without_last vs) (front_public roles vs a)) (result, tt)) (procedure_sealed program.bodies n sealed.bodies), result)
+      let many = enough_values ts (port_of_value (last_of vs)) in
+      let given = values_in (without_last vs) ++ port (port_of_value (last_of vs)) ∷ [] in
+      (λ u. started_sealed u roles (procedure_at program.bodies n) given (omega (arith, many, arity)) (each-append (IsPublic roles) (values_in (without_last vs)) (port (port_of_value (last_of vs)) ∷ []) (values_public roles (without_last vs) (front_public roles vs a)) (result, tt)) (procedure_sealed program.bodies n sealed.bodies), result)
 
 -- What a system task of this kind, spawned over these operands, begins with.
 abbrev pub SystemSeeds : ProgramView → Known → ℕ → Roles → State → Type 0
 SystemSeeds program known me roles s =
-    (kind : SystemTask) (ts : Kernels) (p : Place) → Sealed me roles (apply (Spawn (SeedKind.System kind)) ts p) nobody → SuitsSystem known kind → bad_collection kind (values_of ts) ≡ None → unmet s (needs_of_system kind) (values_of ts) ≡ None
+    (kind : SystemTask) (ts : Kernels) (p : Place) → Sealed me roles (apply (Spawn (SeedKind.System kind)) ts p) no_roles → SuitsSystem known kind → bad_collection kind (values_of ts) ≡ None → unmet s (needs_of_system kind) (values_of ts) ≡ None
     → TypedSystem program roles (new_system kind (values_of ts) p) × IsTypedResult roles (result_of_system kind (values_of ts))
 
 module _ (program : ProgramView) (checked : IsProgram program) (sealed : IsSealed program) (me : ℕ) (roles : Roles) (s : State) (seeds : SystemSeeds program (known_in checked.plain program) me roles s) (body : BodyView) where
   abbrev Asks : OpView → Type 0
   Asks op = unfit s op ≡ None → MayAsk program roles (script body) op
 
-  spawn_asks : (target : Option ℕ) (kind : SeedKind) (ts : Kernels) (p : Place) → bad_operands kind (values_of ts) ≡ None → Sealed me roles (apply (Spawn kind) ts p) nobody → Fits (Suits (known_in checked.plain program)) target (apply (Spawn kind) ts p) → Asks (spawning (seed_of kind (values_of ts) p))
+  spawn_asks : (target : Option ℕ) (kind : SeedKind) (ts : Kernels) (p : Place) → bad_operands kind (values_of ts) ≡ None → Sealed me roles (apply (Spawn kind) ts p) no_roles → Fits (Suits (known_in checked.plain program)) target (apply (Spawn kind) ts p) → Asks (spawning (seed_of kind (values_of ts) p))
   spawn_asks target (SeedKind.Go n) ts p e h f u = go_sealed program checked sealed me roles target n ts p f.0 e h
   spawn_asks target (SeedKind.System kind) ts p e h f u = let k = seeds kind ts p h f.0 e u in (λ t. k.0, k.1)
 
-  asks : (target : Option ℕ) (r : Kernel) (op : OpView) → Form r op → Sealed me roles r nobody → Fits (Suits (known_in checked.plain program)) target r → Asks op
+  asks : (target : Option ℕ) (r : Kernel) (op : OpView) → Form r op → Sealed me roles r no_roles → Fits (Suits (known_in checked.plain program)) target r → Asks op
   asks target r op (takes {ts} {p}) h f u = takes_public roles s program (script body) (first_of (values_of ts)) (first_public roles (values_of ts) (operands_public me roles Take ts p refl h)) u
   asks target r op (puts {ts} {p}) h f u =
       let a = operands_public me roles Put ts p refl h in
@@ -156,7 +156,7 @@ module _ (program : ProgramView) (checked : IsProgram program) (sealed : IsSeale
   asks target r op (chooses {o} {ts} {p}) h f u =
       let vs = values_of ts in
       let a = operands_public me roles (Alts o) ts p refl h in
-      chooses_public roles s program (script body) (ports_in (first_of vs)) (priority_in o vs) (default_in o vs) (ports_in_public roles (first_of vs) (first_public roles vs a)) (default_public roles o vs a) u
+      chooses_public roles s program (script body) (alts_ports (first_of vs)) (priority_in o vs) (default_in o vs) (ports_in_public roles (first_of vs) (first_public roles vs a)) (default_public roles o vs a) u
   asks target r op (makes {kind} {ts} {p} what e) h f u = made_public roles kind (values_of ts) what (operands_public me roles (Make kind) ts p refl h) e
   asks target r op (spawns {kind} {ts} {p} e) h f u = spawn_asks target kind ts p e h f u
   asks target r op (closes {ts} {p}) h f u = closes_public roles s program (script body) (first_of (values_of ts)) (first_public roles (values_of ts) (operands_public me roles Close ts p refl h)) u
@@ -164,7 +164,7 @@ module _ (program : ProgramView) (checked : IsProgram program) (sealed : IsSeale
   asks target r op (prints {ts} {p}) h f u = tt
 
   -- a script's body in a checked program
-  pub script_asks : (op : OpView) (place : Place) → Sealed me roles body.term nobody → IsBodyBy (Suits (known_in checked.plain program)) body.term → at body ≡ at_op (record { op = op; place = place }) → refusal s op ≡ None → MayAsk program roles (script body) op
+  pub script_asks : (op : OpView) (place : Place) → Sealed me roles body.term no_roles → IsBodyBy (Suits (known_in checked.plain program)) body.term → at body ≡ at_op (record { op = op; place = place }) → refusal s op ≡ None → MayAsk program roles (script body) op
   script_asks op place h f e r =
       let b = seat (Suits (known_in checked.plain program)) None body.term f.fits in
       asks b.target (redex body.term) op (body_form body (record { op = op; place = place }) e) (redex_sealed me roles body.term h) b.fits (or_none (unfit s op) (too_many s op) r).0

@@ -6,8 +6,8 @@ use Rattle.ca_term.specs.declared.place.Place.{Place}
 use Rattle.ca_term.specs.declared.head.Head.{Head}
 use Rattle.ca_term.specs.Kernel.{Kernel, Kernels, Bindings, Founds, const, var, branch, bind, loop, seq, frame, turn, apply, none, item, empty, binding, put, put_items, put_bindings}
 use Rattle.ca_term.specs.Fits.{count_terms}
-use Rattle.ca_roles.specs.Roles.{Hidden, Role, public, hidden, Roles, nobody, known_as, Grows, IsPublic, ArePublic, ArePublicPairs, Is}
-use Rattle.ca_roles.specs.Sealed.{hides, is_onto, IsHiddenPort, IsNamed, Operand, IsMake, Bound, KeywordIs, no_keyword, a_keyword, HasMask, plain, of_job, of_feed, of_collect, of_mult, SealedFounds, all_public, Sealed, AllSealed, SealedBindings, SealedInits}
+use Rattle.ca_roles.specs.Roles.{Hidden, Role, public, hidden, Roles, no_roles, known_as, Grows, IsPublic, ArePublic, ArePublicPairs, Is}
+use Rattle.ca_roles.specs.Sealed.{hides, is_onto, IsHiddenPort, IsNamed, HiddenOperand, IsMake, IsHiddenBound, KeywordIs, no_keyword, a_keyword, HasMask, plain, of_job, of_feed, of_collect, of_mult, SealedFounds, all_public, Sealed, AllSealed, SealedBindings, SealedInits}
 
 mutual
   pub public_more : (roles more : Roles) → Grows roles more → (v : Tree) → IsPublic roles v → IsPublic more v
@@ -42,11 +42,11 @@ module _ (me : ℕ) (roles more : Roles) (g : Grows roles more) where
   named_more s (hidden u x) t (e, inl i) = (e, inl (hidden_more x t i))
   named_more s (hidden u x) t (e, inr i) = (e, inr i)
 
-  operand_more : (s : Roles) (r : Role) (t : Kernel) (P Q : Type 0) → (P → Q) → Operand me roles s r t P → Operand me more s r t Q
+  operand_more : (s : Roles) (r : Role) (t : Kernel) (P Q : Type 0) → (P → Q) → HiddenOperand me roles s r t P → HiddenOperand me more s r t Q
   operand_more s public t P Q f h = f h
   operand_more s (hidden u x) t P Q f h = named_more s (hidden u x) t h
 
-  bound_more : (r : Role) (t : Kernel) (P Q : Type 0) → (P → Q) → Bound me roles r t P → Bound me more r t Q
+  bound_more : (r : Role) (t : Kernel) (P Q : Type 0) → (P → Q) → IsHiddenBound me roles r t P → IsHiddenBound me more r t Q
   bound_more public t P Q f h = f h
   bound_more (hidden u x) t P Q f (e, inl h) = (e, inl (h.0, f h.1))
   bound_more (hidden u x) t P Q f (e, inr h) = (e, inr (hidden_more x t h))
@@ -59,8 +59,8 @@ module _ (me : ℕ) (roles more : Roles) (g : Grows roles more) where
     sealed_more (bind bs body) s h = (h.0, bindings_more bs s h.0 h.1, sealed_more body h.0 h.2)
     sealed_more (loop fs bs body) s h = (h.0, h.1, inits_more bs s h.0 h.2, founds_more roles more g fs h.0 h.1 h.3, sealed_more body h.1 h.4)
     sealed_more (seq ts) s h = all_sealed_more [] ts s h
-    sealed_more (frame body) s h = sealed_more body nobody h
-    sealed_more (turn ns again now) s h = (sealed_more again (all_public ns) h.0, sealed_more now nobody h.1)
+    sealed_more (frame body) s h = sealed_more body no_roles h
+    sealed_more (turn ns again now) s h = (sealed_more again (all_public ns) h.0, sealed_more now no_roles h.1)
     sealed_more (apply f ts p) s h = (h.0, h.1, all_sealed_more h.0 ts s h.2)
 
     pub all_sealed_more : (mask : List Role) (ts : Kernels) (s : Roles) → AllSealed me roles mask ts s → AllSealed me more mask ts s
@@ -107,14 +107,14 @@ module _ (me : ℕ) (roles more : Roles) (g : Grows roles more) (n : ℕ) (v : T
   put_named s z (hidden u x) t at a (e, inl i) = (e, inl (put_hidden x t i))
   put_named s z (hidden u x) t at a (e, inr i) = (e, subst (λ k. IsHiddenPort me more x (put n v k) ⊎ ((m : ℕ) × (put n v k ≡ var m) × (z m ≡ Some (hidden me x)))) (sym i.1) (put_name s z i.0 (hidden me x) at i.2 a (i.0 == n) refl (λ k. IsHiddenPort me more x k ⊎ ((m : ℕ) × (k ≡ var m) × (z m ≡ Some (hidden me x)))) (λ w k. inl (k.0, ap const k.1, k.2)) (λ k. inr (i.0, refl, k))))
 
-  put_operand : (s z : Roles) (r : Role) (t : Kernel) → s n ≡ Some role → Agree n s z → (P Q : Type 0) → (P → Q) → Operand me roles s r t P → Operand me more z r (put n v t) Q
+  put_operand : (s z : Roles) (r : Role) (t : Kernel) → s n ≡ Some role → Agree n s z → (P Q : Type 0) → (P → Q) → HiddenOperand me roles s r t P → HiddenOperand me more z r (put n v t) Q
   put_operand s z public t at a P Q f h = f h
   put_operand s z (hidden u x) t at a P Q f h = put_named s z (hidden u x) t at a h
 
   put_make : (x : Hidden) (t : Kernel) → IsMake x t → IsMake x (put n v t)
   put_make x t h = (h.0, put_items n v h.1, h.2, ap (put n v) h.3, h.4)
 
-  put_bound : (r : Role) (t : Kernel) (P Q : Type 0) → (P → Q) → Bound me roles r t P → Bound me more r (put n v t) Q
+  put_bound : (r : Role) (t : Kernel) (P Q : Type 0) → (P → Q) → IsHiddenBound me roles r t P → IsHiddenBound me more r (put n v t) Q
   put_bound public t P Q f h = f h
   put_bound (hidden u x) t P Q f (e, inl h) = (e, inl (put_make x t h.0, f h.1))
   put_bound (hidden u x) t P Q f (e, inr h) = (e, inr (put_hidden x t h))
@@ -165,8 +165,8 @@ module _ (me : ℕ) (roles more : Roles) (g : Grows roles more) (n : ℕ) (v : T
         let k = put_founds (z n) fs h.0 f.0 h.1 f.2 h.3 in
         (f.0, k.0, f.1, k.1, put_sealed body h.1 k.0 k.2.0 k.2.1 h.4)
     put_sealed (seq ts) s z at a h = put_all_sealed [] ts s z at a h
-    put_sealed (frame body) s z at a h = sealed_more me roles more g body nobody h
-    put_sealed (turn ns again now) s z at a h = (sealed_more me roles more g again (all_public ns) h.0, sealed_more me roles more g now nobody h.1)
+    put_sealed (frame body) s z at a h = sealed_more me roles more g body no_roles h
+    put_sealed (turn ns again now) s z at a h = (sealed_more me roles more g again (all_public ns) h.0, sealed_more me roles more g now no_roles h.1)
     put_sealed (apply f ts p) s z at a h = (h.0, put_mask f p ts h.0 h.1, put_all_sealed h.0 ts s z at a h.2)
 
     pub put_all_sealed : (mask : List Role) (ts : Kernels) (s z : Roles) → s n ≡ Some role → Agree n s z → AllSealed me roles mask ts s → AllSealed me more mask (put_items n v ts) z

@@ -7,10 +7,10 @@ use Rattle.ca_meaning.specs.Body.{BodyView}
 use Rattle.ca_meaning.specs.System.{a_mult, a_delivery, a_mix, a_pub, a_pipe, a_merge, an_onto, a_feed, a_job, a_collect}
 use Rattle.ca_meaning.specs.Task.{TaskBody, script, system_task, new_task}
 use Rattle.ca_meaning.specs.State.{State, Task}
-use Rattle.ca_meaning.specs.Going.{IsAtOp, Stands}
+use Rattle.ca_meaning.specs.Going.{IsAtOp, RunsAtOperation}
 use Rattle.ca_laws.specs.Deeds.{Deed}
 use Rattle.ca_laws.proofs.Acts.{Acts, idles, parks, stops, goes}
-use Rattle.ca_roles.specs.Roles.{Hidden, replies, acks, public, hidden, Roles, nobody}
+use Rattle.ca_roles.specs.Roles.{Hidden, replies, acks, public, hidden, Roles, no_roles}
 use Rattle.ca_roles.specs.Sealed.{Sealed, IsSealed}
 use Rattle.ca_roles.specs.Once.{User, the_feed, the_collect, the_mult, only, UsesOnce}
 use Rattle.ca_roles.specs.Typed.{TypedBody, Typed}
@@ -52,10 +52,10 @@ acts_own program x y o (stops how d r v i) = ap (λ (z : Task). own_of z.body) i
 acts_own program x y o (goes op c a b d at r rest i) = ap (λ (z : Task). own_of z.body) i ∙ gone_owns program a x.body b rest
 
 -- Where a task stands at the Spawn of a user of a port, there is none yet, and the task has made the port.
-module _ (program : ProgramView) (sealed : IsSealed program) (roles : Roles) (s : State) (typed : Typed program roles s) (h : Spent s) (t : ℕ) (x : Task) (seed : SeedView) (stands : Stands s t (spawning seed) x) (k : User) (q : ℕ) (own : own_of (new_task program seed) ≡ owns k q) where
+module _ (program : ProgramView) (sealed : IsSealed program) (roles : Roles) (s : State) (typed : Typed program roles s) (h : Spent s) (t : ℕ) (x : Task) (seed : SeedView) (stands : RunsAtOperation s t (spawning seed) x) (k : User) (q : ℕ) (own : own_of (new_task program seed) ≡ owns k q) where
   -- its text has the form
   abbrev pub Starter : Type 0
-  Starter = (b : BodyView) × (x.body ≡ script b) × (1 ≤ count k q (redex b.term)) × Sealed t roles b.term nobody
+  Starter = (b : BodyView) × (x.body ≡ script b) × (1 ≤ count k q (redex b.term)) × Sealed t roles b.term no_roles
 
   pub starter : Starter
   starter = by x.body refl (typed.tasks t x stands.0).body stands.2 where

@@ -15,7 +15,7 @@ use Rattle.ca_meaning.specs.State.{State, Task, Opening, runs}
 use Rattle.ca_meaning.specs.Steps.{Step, Steps}
 use Rattle.ca_meaning.specs.Legal.{Reaches}
 use Rattle.ca_meaning.proofs.Soundness.{only_task}
-use Rattle.ca_roles.specs.Roles.{hidden, Roles, nobody}
+use Rattle.ca_roles.specs.Roles.{hidden, Roles, no_roles}
 use Rattle.ca_roles.specs.Sealed.{IsSealed}
 use Rattle.ca_roles.specs.Once.{User, the_feed, the_collect, the_mult, UsesOnce, StartsOnce}
 use Rattle.ca_roles.specs.Typed.{Typed}
@@ -48,9 +48,9 @@ module _ (program : ProgramView) (checked : IsProgram program) (sealed : IsSeale
     main t x d there is =
         let fits : IsBodyBy (Suits (known_in checked.plain program)) program.main = record { bound = checked.main_fits.bound; fits = checked.main_fits.fits } in
         let same = same_script o.1.0 d (sym (ap (λ (z : Task). z.body) (alone t x there) ∙ o.1.2) ∙ is) in
-        let text = rest_sealed program checked sealed 0 nobody (new_body program.main) o.1.0 o.1.1 fits (sealed.main 0) in
+        let text = rest_sealed program checked sealed 0 no_roles (new_body program.main) o.1.0 o.1.1 fits (sealed.main 0) in
         subst (λ (z : BodyView). UsesOnce z.term × ((k : User) (q : ℕ) → count k q z.term ≤ 1)) same
-        (steps_once program checked sealed starts 0 nobody o.1.1.reached fits (sealed.main 0) starts.main, λ k q. at_most (count k q o.1.0.term) (not_hidden k q 0 nobody o.1.0.term (λ h e. let j : None ≡ Some (hidden 0 h) = e in cc) text))
+        (steps_once program checked sealed starts 0 no_roles o.1.1.reached fits (sealed.main 0) starts.main, λ k q. at_most (count k q o.1.0.term) (not_hidden k q 0 no_roles o.1.0.term (λ h e. let j : None ≡ Some (hidden 0 h) = e in cc) text))
 
   -- the next event of a run
   pub sole_step : (journal : List EventView) (roles more : Roles) (s s2 : State) (e : EventView) → Known program journal roles s → Onward program roles more s s2 e → Step program s e s2 → Spent s → Spent s2
@@ -65,7 +65,7 @@ module _ (program : ProgramView) (checked : IsProgram program) (sealed : IsSeale
       sole_steps es (journal ++ e ∷ []) n.0 x.0 s2 n.2 (sole_step journal roles n.0 s x.0 e k n.1 x.1 h) x.2
 
   pub reached_sole : (journal : List EventView) (s : State) → Reaches program journal s → (roles : Roles) × Typed program roles s × Spent s
-  reached_sole journal s r = sole_steps journal [] nobody r.opening s (opening_known program checked sealed r.opening r.opens) (opening_spent r.opening r.opens) r.steps
+  reached_sole journal s r = sole_steps journal [] no_roles r.opening s (opening_known program checked sealed r.opening r.opens) (opening_spent r.opening r.opens) r.steps
 
   pub users_are_sole : (journal : List EventView) (s : State) → Reaches program journal s → AreSole s
   users_are_sole journal s r = (reached_sole journal s r).2.sole

@@ -17,7 +17,7 @@ use Rattle.ca_laws.proofs.Acts.{wait_of, Acts}
 use Rattle.ca_laws.proofs.Acted.{acts}
 use Rattle.ca_laws.proofs.Deeding.{comes}
 use Rattle.ca_laws.proofs.Stood.{AllStood}
-use Rattle.ca_roles.specs.Roles.{Hidden, Role, public, hidden, Roles, nobody, Grows}
+use Rattle.ca_roles.specs.Roles.{Hidden, Role, public, hidden, Roles, no_roles, Grows}
 use Rattle.ca_roles.specs.Sealed.{Sealed, IsSealed}
 use Rattle.ca_roles.specs.Once.{User, UsesOnce, StartsOnce}
 use Rattle.ca_roles.specs.Typed.{TypedBody, Typed}
@@ -46,7 +46,7 @@ module _ (program : ProgramView) (checked : IsProgram program) (sealed : IsSeale
         let x = subst (λ i. Step program s i s2) z.4 step in
         (z.0, z.1, z.2, z.4, x, ap (λ (i : Task). i.body) (same_task y (runs z.2 x.3) (sym now ∙ ap (λ (f : Tasks). f t) (tasks_of x.10) ∙ update_here x.2 t (Some (runs z.2 x.3)))))
 
-  text_of : (t : ℕ) (x : Task) (b : BodyView) → s.tasks t ≡ Some x → x.body ≡ script b → Sealed t roles b.term nobody
+  text_of : (t : ℕ) (x : Task) (b : BodyView) → s.tasks t ≡ Some x → x.body ≡ script b → Sealed t roles b.term no_roles
   text_of t x b there is = subst (TypedBody program t roles) is (typed.tasks t x there).body
 
   fits_of : (t : ℕ) (x : Task) (b : BodyView) → s.tasks t ≡ Some x → x.body ≡ script b → IsOfProgram program checked sealed starts t b.term

@@ -25,7 +25,7 @@ use Rattle.ca_meaning.specs.System.{SystemBody, a_mult, a_delivery, a_mix, a_pub
 use Rattle.ca_meaning.specs.Task.{TaskBody, system_task}
 use Rattle.ca_meaning.specs.Going.{IsAtOp}
 use Rattle.ca_meaning.proofs.Waits.{each-append}
-use Rattle.ca_roles.specs.Roles.{jobs, replies, reply, acks, Role, hidden, Roles, ArePublic, CarriesAs, Carries}
+use Rattle.ca_roles.specs.Roles.{jobs, replies, reply, acks, Role, hidden, Roles, ArePublic, CarriesAs, ChannelCarries}
 use Rattle.ca_roles.specs.Users.{MayUse, MayClose}
 use Rattle.ca_roles.specs.Typed.{IsPublicPort, TypedSystem, MayAsk}
 use Rattle.ca_roles.proofs.Ports.{asked, takes_public, puts_public, chooses_public, closes_public}
@@ -51,7 +51,7 @@ module _ (program : ProgramView) (roles : Roles) (s : State) where
   in_use : (side : Side) (p : ℕ) (r : Role) (b : TaskBody) → roles p ≡ Some r → MayUse (Some r) side p b → MayUse (roles p) side p b
   in_use side p r b e k = subst (λ o. MayUse o side p b) (sym e) k
 
-  in_role : (p : ℕ) (r : Role) (x : Tree) → roles p ≡ Some r → CarriesAs program roles (Some r) x → Carries program roles p x
+  in_role : (p : ℕ) (r : Role) (x : Tree) → roles p ≡ Some r → CarriesAs program roles (Some r) x → ChannelCarries program roles p x
   in_role p r x e k = subst (λ o. CarriesAs program roles o x) (sym e) k
 
   in_close : (p : ℕ) (r : Role) (b : TaskBody) → roles p ≡ Some r → MayClose (Some r) p b → MayClose (roles p) p b

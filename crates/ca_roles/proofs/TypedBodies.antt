@@ -17,7 +17,7 @@ use Rattle.ca_meaning.specs.Asking.{alts_of, seed_of}
 use Rattle.ca_meaning.specs.Asks.{to}
 use Rattle.ca_meaning.specs.Body.{BodyView, at}
 use Rattle.ca_meaning.specs.IsBody.{IsBodyBy}
-use Rattle.ca_meaning.specs.Operands.{port_number, last_of, without_last, values_in}
+use Rattle.ca_meaning.specs.Operands.{port_of_value, last_of, without_last, values_in}
 use Rattle.ca_meaning.specs.PipelineTable.{job_works, worked_by}
 use Rattle.ca_meaning.specs.PubTable.{PubPorts, pub_sorts, sorted_by}
 use Rattle.ca_meaning.specs.Redex.{redex, values_of}
@@ -84,7 +84,7 @@ module _ (program : ProgramView) (checked : IsProgram program) (sealed : IsSeale
   -- what answers a script's operation is public
   answer_public : (roles : Roles) (b : BodyView) (op : OpView) (a : Tree) → MayAsk program roles (script b) op → IsAnswer program roles op a → IsPublic roles a
   answer_public roles b (taking c) a may (inl n) = subst (IsPublic roles) (sym n) tt
-  answer_public roles b (taking c) a may (inr k) = subst (λ (o : Option Role). CarriesAs program roles o a) (ap (λ v. roles (port_number v)) may.1 ∙ script_use roles Take may.0 b may.2) k
+  answer_public roles b (taking c) a may (inr k) = subst (λ (o : Option Role). CarriesAs program roles o a) (ap (λ v. roles (port_of_value v)) may.1 ∙ script_use roles Take may.0 b may.2) k
   answer_public roles b (making what) a may k = absurd k
   answer_public roles b (putting c v) a may k = k
   answer_public roles b (choosing ports priority default) a may k = k
@@ -129,8 +129,8 @@ module _ (program : ProgramView) (checked : IsProgram program) (sealed : IsSeale
   go_checked : (target : Option ℕ) (n : ℕ) (ts : Kernels) (p : Place) → Suits known target (Spawn (Go n)) (count_terms ts) → IsChecked known (new_task program (seed_of (Go n) (values_of ts) p))
   go_checked target n ts p f =
       let text = taken known program.bodies n (count_terms ts) checked.bodies_fit f in
-      let given = values_in (without_last (values_of ts)) ++ port (port_number (last_of (values_of ts))) ∷ [] in
-      let many = enough_values ts (port_number (last_of (values_of ts))) in
+      let given = values_in (without_last (values_of ts)) ++ port (port_of_value (last_of (values_of ts))) ∷ [] in
+      let many = enough_values ts (port_of_value (last_of (values_of ts))) in
       let arity : length (procedure_at program.bodies n).parameters ≡ count_terms ts = text.1 in
       record {
         bound = named-closed (procedure_at program.bodies n).parameters given (procedure_at program.bodies n).body (omega (arith, many, arity)) text.0.bound;

@@ -18,7 +18,7 @@ use Rattle.ca_meaning.specs.PipelineTable.{FeedPorts, feed_makes}
 use Rattle.ca_meaning.specs.System.{a_feed}
 use Rattle.ca_meaning.specs.Task.{TaskBody, script, system_task, body_fill}
 use Rattle.ca_meaning.specs.State.{State, Task, Tasks, runs}
-use Rattle.ca_meaning.specs.Going.{Stands}
+use Rattle.ca_meaning.specs.Going.{RunsAtOperation}
 use Rattle.ca_meaning.specs.Steps.{Step}
 use Rattle.ca_meaning.specs.Sound.{Sound}
 use Rattle.ca_meaning.proofs.Waits.{each-weaker}
@@ -29,7 +29,7 @@ use Rattle.ca_laws.proofs.Acts.{wait_of}
 use Rattle.ca_laws.proofs.Acted.{acts}
 use Rattle.ca_laws.proofs.Stood.{AllStood}
 use Rattle.ca_laws.proofs.Deeding.{comes}
-use Rattle.ca_roles.specs.Roles.{replies, hidden, IsReply, Roles, known_as, Grows, IsPublic, Carries}
+use Rattle.ca_roles.specs.Roles.{replies, hidden, IsReply, Roles, known_as, Grows, IsPublic, ChannelCarries}
 use Rattle.ca_roles.specs.Sealed.{IsSealed}
 use Rattle.ca_roles.specs.Typed.{TypedBody, TypedTask, IsTypedResult, MayAsk, Typed}
 use Rattle.ca_roles.proofs.NewRoles.{GrowsAt, known_grows, grows_at}
@@ -52,7 +52,7 @@ is_checked known (script b) k = k
 is_checked known (system_task b) k = tt
 
 -- what a task may ask for where it stands
-pub may_ask : (program : ProgramView) (checked : IsProgram program) (sealed : IsSealed program) (roles : Roles) (s : State) → Typed program roles s → AllBodies (IsOf (known_in checked.plain program)) s.tasks → (t : ℕ) (op : OpView) (x : Task) → Stands s t op x → MayAsk program roles x.body op
+pub may_ask : (program : ProgramView) (checked : IsProgram program) (sealed : IsSealed program) (roles : Roles) (s : State) → Typed program roles s → AllBodies (IsOf (known_in checked.plain program)) s.tasks → (t : ℕ) (op : OpView) (x : Task) → RunsAtOperation s t op x → MayAsk program roles x.body op
 may_ask program checked sealed roles s typed bodies t op x at = body_asks program checked sealed t roles s x.body op (typed.tasks t x at.0).body (is_checked (known_in checked.plain program) x.body (bodies t x at.0)) at.2 at.3
 
 -- From a typed state to the next, with the roles before and after the event.
@@ -130,7 +130,7 @@ module _ (program : ProgramView) (checked : IsProgram program) (sealed : IsSeale
   g : Grows roles more
   g = grows_at program roles more s s2 e typed x grows_so
 
-  asks : (t : ℕ) (op : OpView) (y : Task) → Stands s t op y → MayAsk program roles y.body op
+  asks : (t : ℕ) (op : OpView) (y : Task) → RunsAtOperation s t op y → MayAsk program roles y.body op
   asks = may_ask program checked sealed roles s typed bodies
 
   made_typed : (t : ℕ) (y : Task) (p : ℕ) (what : WhatView) (moment : Option ℕ) → s.tasks t ≡ Some y → e ≡ made t p what moment → TypedBody program t more (body_fill (port p) y.body)
@@ -185,7 +185,7 @@ module _ (program : ProgramView) (checked : IsProgram program) (sealed : IsSeale
   pub typed_after : Typed program more s2
   typed_after = record {
     tasks = tasks_after;
-    held = λ p c at. each-weaker (Carries program roles p) (Carries program more p) c.held (carries_more program roles more g p) (held_after program roles s s2 typed sound stood asks e x p c at);
+    held = λ p c at. each-weaker (ChannelCarries program roles p) (ChannelCarries program more p) c.held (carries_more program roles more g p) (held_after program roles s s2 typed sound stood asks e x p c at);
     posts = posts_after program roles more s s2 e typed sound asks x g;
     registries = registries_after program roles more s s2 e typed sound asks x grows_so;
     deadlines = deadlines_after program roles more s s2 e typed x grows_so;

@@ -7,17 +7,17 @@ use Rattle.ca_term.specs.Operation.{OpView, taking, putting, choosing, posting, 
 use Rattle.ca_term.specs.Program.{ProgramView, IsProgram, known_in}
 use Rattle.ca_term.specs.Event.{take_of, put_of, EventView, made, spawned, done, met, parked, posted, settled, defaulted, closed, registered, printed, ticked, over as is_over}
 use Rattle.ca_meaning.specs.ChannelSteps.{other_side}
-use Rattle.ca_meaning.specs.Operands.{port_number}
+use Rattle.ca_meaning.specs.Operands.{port_of_value}
 use Rattle.ca_meaning.specs.State.{State, Task, Mode, running, waiting, over, runs}
 use Rattle.ca_meaning.specs.Task.{body_fill}
 use Rattle.ca_meaning.specs.Choice.{branches_of}
-use Rattle.ca_meaning.specs.Going.{IsAtOp, Stands}
+use Rattle.ca_meaning.specs.Going.{IsAtOp, RunsAtOperation}
 use Rattle.ca_meaning.specs.Steps.{Step}
 use Rattle.ca_meaning.proofs.Refusals.{each-get}
 use Rattle.ca_meaning.proofs.Single.{same_task, same_op}
 use Rattle.ca_laws.specs.Deeds.{Deed, did_take, did_wait, did_post, did_default, did_make, did_spawn, did_close, did_register, did_print, did_end, is_wait, deed_of, deed_on, deed}
 use Rattle.ca_laws.proofs.Acts.{wait_of, IsPutAnswer, Replies, got, gave, chose, chose_put, chose_default, posts, posts_late, creates, starts, shuts, enrols, prints, Acts, idles, parks, stops, goes}
-use Rattle.ca_roles.specs.Roles.{public, Roles, Grows, IsPublic, Carries}
+use Rattle.ca_roles.specs.Roles.{public, Roles, Grows, IsPublic, ChannelCarries}
 use Rattle.ca_roles.specs.Sealed.{IsSealed}
 use Rattle.ca_roles.specs.Typed.{IsPublicPort, IsPublicBranch, TypedBody, TypedTask, MayAsk}
 use Rattle.ca_roles.proofs.Sealing.{public_more}
@@ -32,17 +32,17 @@ no_wait w e = absurd cc
 
 -- How a task comes to a deed: it stands at its operation, or it waits, or it ends.
 pub data Acting (s : State) (t : ℕ) (x : Task) (c : Deed) : Type 0 where
-  stands : (op : OpView) → Stands s t op x → Acting s t x c
+  stands : (op : OpView) → RunsAtOperation s t op x → Acting s t x c
   waits : (w : ℕ) → x.mode ≡ waiting w → Acting s t x c
   ends : (how : Ending) → c ≡ did_end how → Acting s t x c
 
 module _ (program : ProgramView) (s s2 : State) (t : ℕ) (x : Task) (there : s.tasks t ≡ Some x) (c : Deed) where
-  own : (u : ℕ) (z : Task) (op : OpView) (d : Deed) → Stands s u op z → cond (eqb u t) (Some d) None ≡ Some c → Acting s t x c
+  own : (u : ℕ) (z : Task) (op : OpView) (d : Deed) → RunsAtOperation s u op z → cond (eqb u t) (Some d) None ≡ Some c → Acting s t x c
   own u z op d st e = by (eqb u t) refl e where
     by : (b : Bool) → eqb u t ≡ b → cond b (Some d) None ≡ Some c → Acting s t x c
     by true i e =
-        let here = subst (λ n. Stands s n op z) (eqb-true u t i) st in
-        stands op (subst (Stands s t op) (same_task s.tasks t z x here.0 there) here)
+        let here = subst (λ n. RunsAtOperation s n op z) (eqb-true u t i) st in
+        stands op (subst (RunsAtOperation s t op) (same_task s.tasks t z x here.0 there) here)
     by false i e = absurd (let k : None ≡ Some c = e in cc)
 
   ended : (u : ℕ) (how : Ending) → cond (eqb u t) (Some (did_end how)) None ≡ Some c → Acting s t x c
@@ -62,7 +62,7 @@ module _ (program : ProgramView) (s s2 : State) (t : ℕ) (x : Task) (there : s.
     by over m e = absurd (let k : None ≡ Some c = e in cc)
     by (waiting n) m e = at n (eqb n w) m e
 
-  either : (u w : ℕ) (z : Task) (op : OpView) (d f : Deed) → Stands s u op z → cond (eqb u t) (Some d) (cond (is_wait w (wait_of x.mode)) (Some f) None) ≡ Some c → Acting s t x c
+  either : (u w : ℕ) (z : Task) (op : OpView) (d f : Deed) → RunsAtOperation s u op z → cond (eqb u t) (Some d) (cond (is_wait w (wait_of x.mode)) (Some f) None) ≡ Some c → Acting s t x c
   either u w z op d f st e = by (eqb u t) refl e where
     by : (b : Bool) → eqb u t ≡ b → cond b (Some d) (cond (is_wait w (wait_of x.mode)) (Some f) None) ≡ Some c → Acting s t x c
     by true i e = own u z op d st (ap (λ b. cond b (Some d) None) i ∙ e)
@@ -107,8 +107,8 @@ module _ (program : ProgramView) (checked : IsProgram program) (sealed : IsSeale
 
   -- what is known of the answers of the event
   pub record Answers : Type 0 where
-    pub asks : (op : OpView) → Stands s t op x → MayAsk program roles x.body op
-    pub takes : (k p : ℕ) (a : Tree) → its ≡ Some (did_take k p a) → (a ≡ nil) ⊎ Carries program roles p a
+    pub asks : (op : OpView) → RunsAtOperation s t op x → MayAsk program roles x.body op
+    pub takes : (k p : ℕ) (a : Tree) → its ≡ Some (did_take k p a) → (a ≡ nil) ⊎ ChannelCarries program roles p a
     pub makes : (p : ℕ) (what : WhatView) (m : Option ℕ) → its ≡ Some (did_make p what m) → IsAtOp x.body (making what) → TypedBody program t more (body_fill (port p) x.body)
     pub registers : (name : RegisterName) (args : Trees) (a : Tree) → its ≡ Some (did_register name args a) → IsPublic roles a
 
@@ -116,12 +116,12 @@ module _ (program : ProgramView) (checked : IsProgram program) (sealed : IsSeale
     fill : (op : OpView) (a : Tree) → IsAtOp x.body op → MayAsk program roles x.body op → IsAnswer program more op a → TypedBody program t more (body_fill a x.body)
     fill op a at may k = body_goes program checked sealed t more x.body op a (body_more program roles more g t x.body typed.body) at (ask_more program roles more g x.body op may) k
 
-    got_more : (p : ℕ) (a : Tree) → (a ≡ nil) ⊎ Carries program roles p a → (a ≡ nil) ⊎ Carries program more p a
+    got_more : (p : ℕ) (a : Tree) → (a ≡ nil) ⊎ ChannelCarries program roles p a → (a ≡ nil) ⊎ ChannelCarries program more p a
     got_more p a (inl k) = inl k
     got_more p a (inr k) = inr (carries_more program roles more g p a k)
 
     filled : (op : OpView) (c : Deed) (a : Tree) → its ≡ Some c → IsAtOp x.body op → MayAsk program roles x.body op → Replies op c a → TypedBody program t more (body_fill a x.body)
-    filled op c a is at may (got {c = ch} d) = fill (taking ch) a at may (got_more (port_number ch) a (answers.takes 0 (port_number ch) a (is ∙ ap (λ z. Some z) d)))
+    filled op c a is at may (got {c = ch} d) = fill (taking ch) a at may (got_more (port_of_value ch) a (answers.takes 0 (port_of_value ch) a (is ∙ ap (λ z. Some z) d)))
     filled op c a is at may (gave {c = ch} {v} d i) = fill (putting ch v) a at may (put_answer more a i)
     filled op c a is at may (chose {ports} {priority} {default} k p v d i j) =
         let open_port : IsPublicPort roles p = each-get (IsPublicBranch roles) (branches_of (choosing ports priority default)) k (take_of p) may.0 i in

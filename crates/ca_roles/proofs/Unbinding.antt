@@ -6,7 +6,7 @@ use Rattle.ca_term.specs.Kernel.{Kernel, Kernels, Bindings, const, var, branch, 
 use Rattle.ca_meaning.specs.Sound.{Each}
 use Rattle.ca_meaning.proofs.Waits.{each-weaker}
 use Rattle.ca_roles.specs.Roles.{Role, public, hidden, Roles, known_as}
-use Rattle.ca_roles.specs.Sealed.{IsNamed, Bound, Sealed, AllSealed, SealedBindings, SealedInits, SealedFounds, all_public}
+use Rattle.ca_roles.specs.Sealed.{IsNamed, IsHiddenBound, Sealed, AllSealed, SealedBindings, SealedInits, SealedFounds, all_public}
 use Rattle.ca_roles.proofs.Counted.{Unbound, AllUnbound, UnboundIn}
 
 module _ (me : ℕ) (roles : Roles) (m : ℕ) (role : Role) where
@@ -25,7 +25,7 @@ module _ (me : ℕ) (roles : Roles) (m : ℕ) (role : Role) where
   operand_unbound s (hidden u x) t (q, inl i) = subst (Unbound m) (sym i.1) tt
   operand_unbound s (hidden u x) t (q, inr i) = subst (Unbound m) (sym i.1) tt
 
-  bound_unbound : (s : Roles) (r : Role) (t : Kernel) → (Sealed me roles t s → Unbound m t) → Bound me roles r t (Sealed me roles t s) → Unbound m t
+  bound_unbound : (s : Roles) (r : Role) (t : Kernel) → (Sealed me roles t s → Unbound m t) → IsHiddenBound me roles r t (Sealed me roles t s) → Unbound m t
   bound_unbound s public t f h = f h
   bound_unbound s (hidden u x) t f (q, inl h) = f h.1
   bound_unbound s (hidden u x) t f (q, inr h) = subst (Unbound m) (sym h.1) tt

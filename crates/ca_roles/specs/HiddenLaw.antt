@@ -11,11 +11,11 @@ use Rattle.ca_meaning.specs.PipelineTable.{FeedPorts, feed_makes}
 use Rattle.ca_meaning.specs.State.{State, Task, Opening}
 use Rattle.ca_meaning.specs.System.{a_feed}
 use Rattle.ca_meaning.specs.Task.{system_task}
-use Rattle.ca_meaning.specs.Going.{Stands}
+use Rattle.ca_meaning.specs.Going.{RunsAtOperation}
 use Rattle.ca_meaning.specs.Steps.{Step}
 use Rattle.ca_meaning.specs.History.{closes as is_closed}
 use Rattle.ca_roles.specs.Users.{Closes}
-use Rattle.ca_roles.specs.Roles.{Hidden, replies, Role, hidden, Roles, nobody, Grows, IsReply}
+use Rattle.ca_roles.specs.Roles.{Hidden, replies, Role, hidden, Roles, no_roles, Grows, IsReply}
 use Rattle.ca_roles.specs.Typed.{MayAsk, Typed}
 
 -- in the state, by the roles of its ports
@@ -23,7 +23,7 @@ pub record KeepsRoles (program : ProgramView) (roles : Roles) (s : State) : Type
   -- tasks, channels, waits and registries hold of hidden ports only what they may
   pub typed : Typed program roles s
   -- and a task asks only for what it may
-  pub asks : (t : ℕ) (op : OpView) (x : Task) → Stands s t op x → MayAsk program roles x.body op
+  pub asks : (t : ℕ) (op : OpView) (x : Task) → RunsAtOperation s t op x → MayAsk program roles x.body op
 
 -- by the event, which comes in this state
 pub record FollowsRoles (program : ProgramView) (roles more : Roles) (s : State) (e : EventView) : Type 0 where
@@ -47,4 +47,4 @@ pub record HiddenLaw (program : ProgramView) (journal : List EventView) (s : Sta
   pub opening : State
   pub opens : Opening program opening
   pub roles : Roles
-  pub along : RolesAlong program nobody opening journal roles s
+  pub along : RolesAlong program no_roles opening journal roles s

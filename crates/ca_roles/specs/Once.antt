@@ -49,14 +49,14 @@ is_in P (port n) = P n
 is_in P v = false
 
 -- the port itself, or a name of it
-abbrev pub stands_for : Test → Test → Kernel → Bool
-stands_for P N (const v) = is_in P v
-stands_for P N (var n) = N n
-stands_for P N t = false
+abbrev pub stands_for_port : Test → Test → Kernel → Bool
+stands_for_port P N (const v) = is_in P v
+stands_for_port P N (var n) = N n
+stands_for_port P N t = false
 
-abbrev pub first : (Kernel → Bool) → Kernels → Bool
-first f none = false
-first f (item t ts) = f t
+abbrev pub holds_of_first : (Kernel → Bool) → Kernels → Bool
+holds_of_first f none = false
+holds_of_first f (item t ts) = f t
 
 abbrev pub behind_first : (Kernels → Bool) → Kernels → Bool
 behind_first f none = false
@@ -64,45 +64,45 @@ behind_first f (item t ts) = f ts
 
 -- the port that it uses alone is a feed's and a mult's third operand, and a collect's first
 abbrev pub own_operand : User → (Kernel → Bool) → Kernels → Bool
-own_operand the_feed f ts = behind_first (behind_first (first f)) ts
-own_operand the_collect f ts = first f ts
-own_operand the_mult f ts = behind_first (behind_first (first f)) ts
+own_operand the_feed f ts = behind_first (behind_first (holds_of_first f)) ts
+own_operand the_collect f ts = holds_of_first f ts
+own_operand the_mult f ts = behind_first (behind_first (holds_of_first f)) ts
 
 abbrev pub one_if : Bool → ℕ
 one_if b = cond b 1 0
 
 abbrev pub node : User → Test → Test → Head → Kernels → ℕ
-node k P N h ts = cond (is_user k (user_of h)) (one_if (own_operand k (stands_for P N) ts)) 0
+node k P N h ts = cond (is_user k (user_of h)) (one_if (own_operand k (stands_for_port P N) ts)) 0
 
 -- How many places of the term start such a task with one of the ports P, or with one of the names N or a name that is
 -- bound to one. A loop's text counts twice, since it may run again.
 abbrev mutual
-  pub uses : User → Test → Kernel → Test → ℕ
-  uses k P (const v) N = 0
-  uses k P (var n) N = 0
-  uses k P (branch c a b) N = uses k P c N + uses k P a N + uses k P b N
-  uses k P (bind bs body) N = uses_behind k P bs N (uses k P body)
-  uses k P (loop fs bs body) N = uses_behind k P bs N (λ (M : Test). uses k P body M + uses k P body M)
-  uses k P (seq ts) N = uses_all k P ts N
-  uses k P (frame body) N = uses k P body no_names
-  uses k P (turn ns again now) N = uses k P again no_names + uses k P again no_names + uses k P now no_names
-  uses k P (apply h ts p) N = node k P N h ts + uses_all k P ts N
+  pub use_count : User → Test → Kernel → Test → ℕ
+  use_count k P (const v) N = 0
+  use_count k P (var n) N = 0
+  use_count k P (branch c a b) N = use_count k P c N + use_count k P a N + use_count k P b N
+  use_count k P (bind bs body) N = uses_behind k P bs N (use_count k P body)
+  use_count k P (loop fs bs body) N = uses_behind k P bs N (λ (M : Test). use_count k P body M + use_count k P body M)
+  use_count k P (seq ts) N = uses_all k P ts N
+  use_count k P (frame body) N = use_count k P body no_names
+  use_count k P (turn ns again now) N = use_count k P again no_names + use_count k P again no_names + use_count k P now no_names
+  use_count k P (apply h ts p) N = node k P N h ts + uses_all k P ts N
 
   pub uses_all : User → Test → Kernels → Test → ℕ
   uses_all k P none N = 0
-  uses_all k P (item t ts) N = uses k P t N + uses_all k P ts N
+  uses_all k P (item t ts) N = use_count k P t N + uses_all k P ts N
 
   -- in the bindings, and in what stands behind them
   pub uses_behind : User → Test → Bindings → Test → (Test → ℕ) → ℕ
   uses_behind k P empty N K = K N
-  uses_behind k P (binding n t bs) N K = uses k P t N + uses_behind k P bs (known N n (stands_for P N t)) K
+  uses_behind k P (binding n t bs) N K = use_count k P t N + uses_behind k P bs (known N n (stands_for_port P N t)) K
 
 abbrev pub no_ports : Test
 no_ports p = false
 
 -- a name that these bindings and this text use at most once for each of the tasks
 abbrev pub IsUsedOnce : ℕ → Bindings → Kernel → Type 0
-IsUsedOnce n bs body = (k : User) → uses_behind k no_ports bs (only n) (uses k no_ports body) ≤ 1
+IsUsedOnce n bs body = (k : User) → uses_behind k no_ports bs (only n) (use_count k no_ports body) ≤ 1
 
 -- each name of each `let` in the term is used at most once
 abbrev mutual

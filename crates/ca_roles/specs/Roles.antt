@@ -27,8 +27,8 @@ pub data Role : Type 0 where
 abbrev pub Roles : Type 0
 Roles = ℕ → Option Role
 
-abbrev pub nobody : Roles
-nobody n = None
+abbrev pub no_roles : Roles
+no_roles n = None
 
 abbrev pub known_as : Roles → ℕ → Role → Roles
 known_as roles n r = update eqb roles n (Some r)
@@ -75,5 +75,5 @@ CarriesAs program roles (Some (hidden t (replies w))) x = (v : Tree) × (p : ℕ
 CarriesAs program roles (Some (hidden t (reply w v))) x = (ys : Trees) × (x ≡ vector ys) × Outs program w v (outputs ys) × ArePublic roles ys
 CarriesAs program roles (Some (hidden t acks)) x = x ≡ bool true
 
-abbrev pub Carries : ProgramView → Roles → ℕ → Tree → Type 0
-Carries program roles p x = CarriesAs program roles (roles p) x
+abbrev pub ChannelCarries : ProgramView → Roles → ℕ → Tree → Type 0
+ChannelCarries program roles p x = CarriesAs program roles (roles p) x

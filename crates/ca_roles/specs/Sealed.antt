@@ -13,7 +13,7 @@ use Rattle.ca_term.specs.Fits.{count_terms}
 use Rattle.ca_term.specs.Kernel.{Kernel, Kernels, Bindings, Founds, const, var, branch, bind, loop, seq, frame, turn, apply, none, item, empty, binding}
 use Rattle.ca_term.specs.Program.{ProcedureView, ProgramView}
 use Rattle.ca_meaning.specs.Applied.{Work}
-use Rattle.ca_roles.specs.Roles.{Hidden, jobs, replies, reply, acks, Role, public, hidden, Roles, nobody, known_as, IsPublic}
+use Rattle.ca_roles.specs.Roles.{Hidden, jobs, replies, reply, acks, Role, public, hidden, Roles, no_roles, known_as, IsPublic}
 
 -- of the running task: a hidden port itself, which that task made
 abbrev pub IsHiddenPort : ℕ → Roles → Hidden → Kernel → Type 0
@@ -24,25 +24,25 @@ abbrev pub IsNamed : ℕ → Roles → Roles → Role → Kernel → Type 0
 IsNamed me roles scope public t = ⊥
 IsNamed me roles scope (hidden u h) t = (u ≡ me) × (IsHiddenPort me roles h t ⊎ ((n : ℕ) × (t ≡ var n) × (scope n ≡ Some (hidden me h))))
 
-abbrev pub Operand : ℕ → Roles → Roles → Role → Kernel → Type 0 → Type 0
-Operand me roles scope public t P = P
-Operand me roles scope (hidden u h) t P = IsNamed me roles scope (hidden u h) t
+abbrev pub HiddenOperand : ℕ → Roles → Roles → Role → Kernel → Type 0 → Type 0
+HiddenOperand me roles scope public t P = P
+HiddenOperand me roles scope (hidden u h) t P = IsNamed me roles scope (hidden u h) t
 
 -- a channel for it has such a buffer
-abbrev pub Holds : Hidden → MakeKind → Type 0
-Holds (jobs w) kind = kind ≡ Fixed
-Holds (replies w) kind = kind ≡ Fixed
-Holds (reply w v) kind = ⊥
-Holds acks kind = kind ≡ Unbuffered
+abbrev pub HasHiddenBuffer : Hidden → MakeKind → Type 0
+HasHiddenBuffer (jobs w) kind = kind ≡ Fixed
+HasHiddenBuffer (replies w) kind = kind ≡ Fixed
+HasHiddenBuffer (reply w v) kind = ⊥
+HasHiddenBuffer acks kind = kind ≡ Unbuffered
 
 -- a new channel for it
 abbrev pub IsMake : Hidden → Kernel → Type 0
-IsMake h t = (kind : MakeKind) × (ts : Kernels) × (p : Place) × (t ≡ apply (Make kind) ts p) × Holds h kind
+IsMake h t = (kind : MakeKind) × (ts : Kernels) × (p : Place) × (t ≡ apply (Make kind) ts p) × HasHiddenBuffer h kind
 
 -- a hidden name is bound to a new channel, or by now to the port that was made
-abbrev pub Bound : ℕ → Roles → Role → Kernel → Type 0 → Type 0
-Bound me roles public t P = P
-Bound me roles (hidden u h) t P = (u ≡ me) × ((IsMake h t × P) ⊎ IsHiddenPort me roles h t)
+abbrev pub IsHiddenBound : ℕ → Roles → Role → Kernel → Type 0 → Type 0
+IsHiddenBound me roles public t P = P
+IsHiddenBound me roles (hidden u h) t P = (u ≡ me) × ((IsMake h t × P) ⊎ IsHiddenPort me roles h t)
 
 -- a job's keyword is written there
 pub data KeywordIs : Tree → Kernels → Type 0 where
@@ -85,7 +85,7 @@ SealedFounds roles [] scope behind = behind ≡ scope
 SealedFounds roles (f ∷ fs) scope behind = IsPublic roles f.1 × (scope f.0 ≡ None) × SealedFounds roles fs (known_as scope f.0 public) behind
 
 abbrev pub all_public : List ℕ → Roles
-all_public [] = nobody
+all_public [] = no_roles
 all_public (n ∷ ns) = known_as (all_public ns) n public
 
 -- A term that task me runs, with the roles of the ports and of the names in scope. Each binder binds a new name.
@@ -97,19 +97,19 @@ abbrev mutual
   Sealed me roles (bind bs body) scope = (inner : Roles) × SealedBindings me roles bs scope inner × Sealed me roles body inner
   Sealed me roles (loop fs bs body) scope = (mid inner : Roles) × SealedInits me roles bs scope mid × SealedFounds roles fs mid inner × Sealed me roles body inner
   Sealed me roles (seq ts) scope = AllSealed me roles [] ts scope
-  Sealed me roles (frame body) scope = Sealed me roles body nobody
-  Sealed me roles (turn ns again now) scope = Sealed me roles again (all_public ns) × Sealed me roles now nobody
+  Sealed me roles (frame body) scope = Sealed me roles body no_roles
+  Sealed me roles (turn ns again now) scope = Sealed me roles again (all_public ns) × Sealed me roles now no_roles
   Sealed me roles (apply h ts p) scope = (mask : List Role) × HasMask me h p ts mask × AllSealed me roles mask ts scope
 
   pub AllSealed : ℕ → Roles → List Role → Kernels → Roles → Type 0
   AllSealed me roles mask none scope = Unit {0}
   AllSealed me roles [] (item t ts) scope = Sealed me roles t scope × AllSealed me roles [] ts scope
-  AllSealed me roles (r ∷ mask) (item t ts) scope = Operand me roles scope r t (Sealed me roles t scope) × AllSealed me roles mask ts scope
+  AllSealed me roles (r ∷ mask) (item t ts) scope = HiddenOperand me roles scope r t (Sealed me roles t scope) × AllSealed me roles mask ts scope
 
   -- from the scope before the bindings to the one behind them
   pub SealedBindings : ℕ → Roles → Bindings → Roles → Roles → Type 0
   SealedBindings me roles empty scope inner = inner ≡ scope
-  SealedBindings me roles (binding n t bs) scope inner = (r : Role) × Bound me roles r t (Sealed me roles t scope) × (scope n ≡ None) × SealedBindings me roles bs (known_as scope n r) inner
+  SealedBindings me roles (binding n t bs) scope inner = (r : Role) × IsHiddenBound me roles r t (Sealed me roles t scope) × (scope n ≡ None) × SealedBindings me roles bs (known_as scope n r) inner
 
   pub SealedInits : ℕ → Roles → Bindings → Roles → Roles → Type 0
   SealedInits me roles empty scope inner = inner ≡ scope
@@ -117,9 +117,9 @@ abbrev mutual
 
 -- a text with these parameters, whatever task runs it
 abbrev pub IsSealedProcedure : ProcedureView → Type 0
-IsSealedProcedure t = (me : ℕ) → Sealed me nobody t.body (all_public t.parameters)
+IsSealedProcedure t = (me : ℕ) → Sealed me no_roles t.body (all_public t.parameters)
 
 pub record IsSealed (program : ProgramView) : Type 0 where
   pub functions : All IsSealedProcedure program.functions
   pub bodies : All IsSealedProcedure program.bodies
-  pub main : (me : ℕ) → Sealed me nobody program.main nobody
+  pub main : (me : ℕ) → Sealed me no_roles program.main no_roles

@@ -5,7 +5,7 @@ use Rattle.ca_term.specs.Program.{ProgramView}
 use Rattle.ca_meaning.specs.System.{SystemBody, a_mult, a_delivery, a_mix, a_pub, a_pipe, a_merge, an_onto, a_feed, a_job, a_collect}
 use Rattle.ca_meaning.specs.Task.{TaskBody, script, system_task, new_task}
 use Rattle.ca_meaning.specs.State.{State, Task}
-use Rattle.ca_meaning.specs.Going.{Stands}
+use Rattle.ca_meaning.specs.Going.{RunsAtOperation}
 use Rattle.ca_roles.specs.Once.{User, the_feed, the_collect, the_mult}
 
 -- the port that it uses alone: a feed and a collect their queue of replies, a mult the channel of its answers
@@ -38,4 +38,4 @@ AreSole s = (k : User) (q t u : ℕ) → IsUser s k q t → IsUser s k q u → t
 
 -- Where a task stands at the Spawn of such a user, the port has none yet.
 abbrev pub ComeFirst : ProgramView → State → Type 0
-ComeFirst program s = (t : ℕ) (x : Task) (seed : SeedView) (k : User) (q u : ℕ) → Stands s t (spawning seed) x → own_of (new_task program seed) ≡ owns k q → IsUser s k q u → ⊥
+ComeFirst program s = (t : ℕ) (x : Task) (seed : SeedView) (k : User) (q u : ℕ) → RunsAtOperation s t (spawning seed) x → own_of (new_task program seed) ≡ owns k q → IsUser s k q u → ⊥

@@ -25,7 +25,7 @@ use Rattle.ca_meaning.specs.State.{State, Task, Deadline, waiting}
 use Rattle.ca_meaning.specs.Choice.{branches_of}
 use Rattle.ca_meaning.specs.Going.{IsAtOp}
 use Rattle.ca_meaning.specs.Sound.{Each}
-use Rattle.ca_roles.specs.Roles.{Hidden, jobs, replies, reply, acks, Role, public, hidden, Roles, nobody, IsPublic, ArePublic, IsReply, Carries}
+use Rattle.ca_roles.specs.Roles.{Hidden, jobs, replies, reply, acks, Role, public, hidden, Roles, no_roles, IsPublic, ArePublic, IsReply, ChannelCarries}
 use Rattle.ca_roles.specs.Sealed.{Sealed}
 use Rattle.ca_roles.specs.Users.{MayUse, MayClose}
 
@@ -117,7 +117,7 @@ TypedSystem program roles (a_collect c l n) =
 
 -- the body of task me
 abbrev pub TypedBody : ProgramView → ℕ → Roles → TaskBody → Type 0
-TypedBody program me roles (script b) = Sealed me roles b.term nobody
+TypedBody program me roles (script b) = Sealed me roles b.term no_roles
 TypedBody program me roles (system_task b) = TypedSystem program roles b
 
 abbrev pub IsTypedResult : Roles → Option ℕ → Type 0
@@ -142,7 +142,7 @@ IsPublicWhat roles what = Unit {0}
 -- puts.
 abbrev pub MayAsk : ProgramView → Roles → TaskBody → OpView → Type 0
 MayAsk program roles b (taking c) = (p : ℕ) × (c ≡ port p) × MayUse (roles p) Take p b
-MayAsk program roles b (putting c v) = (p : ℕ) × (c ≡ port p) × MayUse (roles p) Put p b × Carries program roles p v
+MayAsk program roles b (putting c v) = (p : ℕ) × (c ≡ port p) × MayUse (roles p) Put p b × ChannelCarries program roles p v
 MayAsk program roles b (choosing ports priority default) = Each (IsPublicBranch roles) (branches_of (choosing ports priority default)) × IsPublicOption roles default
 MayAsk program roles b (posting c v) = (p : ℕ) × (c ≡ port p) × IsPublicPort roles p × IsPublic roles v
 MayAsk program roles b (closing c) = (p : ℕ) × (c ≡ port p) × MayClose (roles p) p b
@@ -187,7 +187,7 @@ IsTypedPost roles s p h = owner_of h.wait s.waits ≡ None → IsPublicPort role
 pub record Typed (program : ProgramView) (roles : Roles) (s : State) : Type 0 where
   pub tasks : (t : ℕ) (x : Task) → s.tasks t ≡ Some x → TypedTask program roles t x
   -- a channel carries only what its role says
-  pub held : (p : ℕ) (c : Channel) → s.channels p ≡ Some c → Each (Carries program roles p) c.held
+  pub held : (p : ℕ) (c : Channel) → s.channels p ≡ Some c → Each (ChannelCarries program roles p) c.held
   pub posts : (side : Side) (p : ℕ) → Each (IsTypedPost roles s p) (queue side p s.waits)
   pub registries : (p : ℕ) (r : Registry) → s.registries p ≡ Some r → IsPublicPort roles p × TypedRegistry roles r
   pub deadlines : Each (λ (d : Deadline). IsPublicPort roles d.port) s.deadlines

@@ -13,11 +13,11 @@ use Rattle.ca_roles.specs.Roles.{Hidden, jobs, replies, reply, acks, Role, publi
 
 -- The task of this body may take from channel p, which is hidden: jobs take from their channel, a collect from its
 -- queue and from the reply port at which it is, a mult its answers.
-abbrev pub Takes : ℕ → Hidden → TaskBody → Type 0
-Takes p (jobs w) b = (n : Next JobState) × (b ≡ system_task (a_job p w n))
-Takes p (replies w) b = (c : CollectPorts) × (l : Place) × (n : Next CollectState) × (b ≡ system_task (a_collect c l n)) × (c.replies ≡ p)
-Takes p (reply w v) b = (c : CollectPorts) × (l : Place) × (b ≡ system_task (a_collect c l (to (collect_opens p))))
-Takes p acks b = (t : MultPorts) × (l : Place) × (n : Next MultState) × (b ≡ system_task (a_mult t l n)) × (t.acks ≡ p)
+abbrev pub MayTakeHidden : ℕ → Hidden → TaskBody → Type 0
+MayTakeHidden p (jobs w) b = (n : Next JobState) × (b ≡ system_task (a_job p w n))
+MayTakeHidden p (replies w) b = (c : CollectPorts) × (l : Place) × (n : Next CollectState) × (b ≡ system_task (a_collect c l n)) × (c.replies ≡ p)
+MayTakeHidden p (reply w v) b = (c : CollectPorts) × (l : Place) × (b ≡ system_task (a_collect c l (to (collect_opens p))))
+MayTakeHidden p acks b = (t : MultPorts) × (l : Place) × (n : Next MultState) × (b ≡ system_task (a_mult t l n)) × (t.acks ≡ p)
 
 -- It may put on it: a feed on its jobs' channel and its queue, a job on the reply port that it was given, a delivery
 -- its answer.
@@ -35,7 +35,7 @@ Closes p (reply w v) b = ⊥
 Closes p acks b = ⊥
 
 abbrev pub Uses : Side → ℕ → Hidden → TaskBody → Type 0
-Uses Take p h b = Takes p h b
+Uses Take p h b = MayTakeHidden p h b
 Uses Put p h b = Puts p h b
 
 -- by the role of the port: what is public every task may use

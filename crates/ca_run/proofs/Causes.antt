@@ -4,7 +4,7 @@ use Rattle.ca_journal.specs.declared.journal.Journal.{Journal}
 use Rattle.ca_meaning.specs.Solo.{NoTimeouts}
 use Rattle.ca_meaning.proofs.Unasked.{unasked}
 use Rattle.ca_journal.specs.Events.{events}
-use Rattle.ca_table.specs.Moments.{WentOn}
+use Rattle.ca_table.specs.Moments.{ToldWentOn}
 use Rattle.ca_pool.specs.PoolEnds.{IsSolo}
 use Rattle.ca_term.specs.Program.{ProgramView}
 use Rattle.ca_term.specs.Event.{EventView}
@@ -12,13 +12,13 @@ use Rattle.ca_words.specs.declared.command.Command.{Command}
 use Rattle.ca_run.specs.declared.run.ScriptRun.{ScriptRun}
 use Rattle.ca_run.specs.declared.answer.Answer.{Answer}
 use Rattle.ca_run.specs.declared.answer.Answer.TheVariants.{Usage, Refused, Accepted, Ran, Found}
-use Rattle.ca_run.specs.Top.{ClockSpan, ToldNothing, reads, workers_of}
+use Rattle.ca_run.specs.Top.{ClockSpan, ToldNothing, reads_source, workers_of}
 use Rattle.ca_run.specs.Answers.{AnswersTo, RunsNothing, journal_of}
 use Rattle.ca_run.proofs.Finishes.{same_command}
 use Rattle.ca_run.proofs.Lawful.{no_journal, same_journal}
 
-told_none : (program : ProgramView) (journal : List EventView) (least : ℕ) (before after : Option (List ℕ)) → IsSolo program journal least before after → NoTimeouts journal → WentOn [] before after
-told_none program journal least before after solo none = subst (λ answers. WentOn answers before after) (unasked program solo.answers journal solo.solo none) solo.told
+told_none : (program : ProgramView) (journal : List EventView) (least : ℕ) (before after : Option (List ℕ)) → IsSolo program journal least before after → NoTimeouts journal → ToldWentOn [] before after
+told_none program journal least before after solo none = subst (λ answers. ToldWentOn answers before after) (unasked program solo.answers journal solo.solo none) solo.told
 
 silent_run : (c : Command) (span : ClockSpan) (before after : Option (List ℕ)) (m : ScriptRun) (shown : Bool) → AnswersTo (Some c) span before after (Ran m shown) → NoTimeouts (events m.journal) → ToldNothing (Some c) (Some span)
 silent_run c span before after m shown h none d e one =
@@ -46,8 +46,8 @@ without_run (Found f) e = tt
 without_run (Ran m shown) e = absurd (let z : Some m.journal ≡ None = e in cc)
 
 -- where the source stays as it is unless a script is to be read, it does for a command that reads none
-pub read_nothing : {P : Type 0} (asked o : Option Command) (c : Command) → o ≡ asked → (((d : Command) → o ≡ Some d → reads d ≡ false) → P) → asked ≡ Some c → reads c ≡ false → P
-read_nothing asked o c same unread is silent = unread (λ d e. subst (λ (x : Command). reads x ≡ false) (same_command c d (sym is ∙ sym same ∙ e)) silent)
+pub read_nothing : {P : Type 0} (asked o : Option Command) (c : Command) → o ≡ asked → (((d : Command) → o ≡ Some d → reads_source d ≡ false) → P) → asked ≡ Some c → reads_source c ≡ false → P
+read_nothing asked o c same unread is silent = unread (λ d e. subst (λ (x : Command). reads_source x ≡ false) (same_command c d (sym is ∙ sym same ∙ e)) silent)
 
 -- status 8 is none of these
 pub not_eight : {G : Type 0} (s : ℕ) → s ≡ 8 → (s ≡ 1) ⊎ ((s ≡ 2) ⊎ (s ≡ 6)) → G

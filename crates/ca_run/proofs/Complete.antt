@@ -18,7 +18,7 @@ use Rattle.ca_run.specs.declared.finding.Finding.{Finding}
 use Rattle.ca_run.specs.Findings.{finding_status}
 use Rattle.ca_run.specs.Inputs.{HasProgram, ReadWhole, greatest_input, greatest_length}
 use Rattle.ca_run.specs.Marker.{IsParted}
-use Rattle.ca_run.specs.Top.{ClockSpan, HasScript, IsComplete, IsDone, IsLongPart, IsParts, IsRefused, IsScript, IsSteady, IsTooLong, ReadPart, ReadParts, Refused as RefusedFrom, RefusedFor, judges, runs}
+use Rattle.ca_run.specs.Top.{ClockSpan, HasScript, IsComplete, IsAcceptedStatus, IsLongPart, IsParts, IsScriptRefused, IsScript, IsSteady, IsTooLong, ReadPart, ReadParts, Refused as RefusedFrom, RefusedFor, judges, runs_script}
 use Rattle.ca_run.proofs.Markers.{one_script}
 use Rattle.ca_run.specs.Answers.{AnswersTo, refusal_line, status_of, status_of_end}
 use Rattle.ca_run.proofs.Finishes.{end_of_run, finding_is}
@@ -90,7 +90,7 @@ refused_script Report before after line (inl t) g = short_enough greatest_input 
 refused_script Report before after line (inr (inl h)) g = long_part before after line h g
 refused_script Report before after line (inr (inr r)) g = read_part before after r.0 line r.1 r.2 g
 
-run_done : (c : Command) (e : ScriptEnd) → runs c ≡ true → IsDone c (status_of_end e)
+run_done : (c : Command) (e : ScriptEnd) → runs_script c ≡ true → IsAcceptedStatus c (status_of_end e)
 run_done (Run workers budget journal) e r = end_of_run e
 run_done Check e r = absurd (let z : false ≡ true = r in cc)
 run_done (Load n workers) e r = end_of_run e
@@ -98,7 +98,7 @@ run_done Replay e r = absurd (let z : false ≡ true = r in cc)
 run_done Follow e r = absurd (let z : false ≡ true = r in cc)
 run_done Report e r = absurd (let z : false ≡ true = r in cc)
 
-found_done : (c : Command) (f : Finding) → judges c ≡ true → IsDone c (finding_status f)
+found_done : (c : Command) (f : Finding) → judges c ≡ true → IsAcceptedStatus c (finding_status f)
 found_done (Run workers budget journal) f r = absurd (let z : false ≡ true = r in cc)
 found_done Check f r = absurd (let z : false ≡ true = r in cc)
 found_done (Load n workers) f r = absurd (let z : false ≡ true = r in cc)
@@ -114,7 +114,7 @@ complete_by None span before after (Ran m shown) h = absurd h
 complete_by None span before after (Found f) h = absurd h
 complete_by (Some c) span before after Usage h = absurd h
 complete_by (Some c) span before after (Refused r) h = inr (inl (refl, refused_script c before after (refusal_line r) h))
-complete_by (Some c) span before after Accepted h = inl (subst (λ (d : Command). IsDone d 0) (sym h.0) refl)
+complete_by (Some c) span before after Accepted h = inl (subst (λ (d : Command). IsAcceptedStatus d 0) (sym h.0) refl)
 complete_by (Some c) span before after (Ran m shown) h = inl (run_done c m.end h.0)
 complete_by (Some c) span before after (Found f) h = inl (found_done c f h.0)
 

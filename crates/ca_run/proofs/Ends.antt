@@ -7,9 +7,9 @@ use Rattle.ca_term.specs.declared.place.Place.{Place as PlaceKind}
 use Rattle.ca_term.specs.Event.{EventView, over}
 use Rattle.ca_term.specs.Program.{ProgramView}
 use Rattle.ca_meaning.specs.Ends.{RunEnd, faulted, EndsWith, HasEnd}
-use Rattle.ca_journal.specs.Latest.{last_of}
+use Rattle.ca_journal.specs.Latest.{last_listed}
 use Rattle.ca_journal.proofs.Latest.{last_push}
-use Rattle.ca_run.specs.Answers.{end_of, line_of_end, main_fault}
+use Rattle.ca_run.specs.Answers.{end_shown, line_of_end, main_fault}
 use Rattle.ca_run.specs.declared.run.ScriptEnd.TheVariants.{Faulted}
 use Rattle.ca_run.specs.Top.{EndLine}
 
@@ -23,8 +23,8 @@ abbrev pub Told : List EventView → Option (FaultKind × PlaceKind) → Type 0
 Told journal o = (f : FaultKind) (p : PlaceKind) (r : Option PortId) → EndsWith journal (over 0 (FaultedEnding f p r)) → o ≡ Some (f, p)
 
 -- what an event that ends the main text by a fault tells
-pub told_by : (journal : List EventView) (o : Option EventView) → o ≡ last_of journal → Told journal (told_of o)
-told_by journal o last f p r ends = ap told_of (last ∙ ap last_of ends.1 ∙ last_push ends.0 (over 0 (FaultedEnding f p r)))
+pub told_by : (journal : List EventView) (o : Option EventView) → o ≡ last_listed journal → Told journal (told_of o)
+told_by journal o last f p r ends = ap told_of (last ∙ ap last_listed ends.1 ∙ last_push ends.0 (over 0 (FaultedEnding f p r)))
 
 has_fault : (program : ProgramView) (budget : ℕ) (journal : List EventView) (end : RunEnd) → HasEnd program budget journal end → end ≡ faulted → HasEnd program budget journal faulted
 has_fault program budget journal end h e = subst (HasEnd program budget journal) e h
@@ -40,8 +40,8 @@ same x y e = cc
 same_fault : (f g : FaultKind) (p q : PlaceKind) → ◌≡◌ {A = Option (FaultKind × PlaceKind)} (Some (f, p)) (Some (g, q)) → Faulted f p ≡ Faulted g q
 same_fault f g p q e = ap (λ (x : FaultKind × PlaceKind). Faulted x.0 x.1) (same (f, p) (g, q) e)
 
-pub fault_line : (program : ProgramView) (budget : ℕ) (journal : List EventView) (end : RunEnd) (f : FaultKind) (p : PlaceKind) (o : Option (FaultKind × PlaceKind)) → HasEnd program budget journal end → end ≡ faulted → Told journal o → o ≡ Some (f, p) → EndLine journal (end_of (Faulted f p)) (line_of_end (Faulted f p))
+pub fault_line : (program : ProgramView) (budget : ℕ) (journal : List EventView) (end : RunEnd) (f : FaultKind) (p : PlaceKind) (o : Option (FaultKind × PlaceKind)) → HasEnd program budget journal end → end ≡ faulted → Told journal o → o ≡ Some (f, p) → EndLine journal (end_shown (Faulted f p)) (line_of_end (Faulted f p))
 fault_line program budget journal end f p o h e told some =
     let x = (has_fault program budget journal end h e).1 in
     let same : Faulted x.0 x.1 ≡ Faulted f p = same_fault x.0 f x.1 p (sym (told x.0 x.1 x.2 x.3) ∙ some) in
-    subst (λ y. EndLine journal (end_of y) (line_of_end y)) same (x.0, x.1, x.2, x.3, refl)
+    subst (λ y. EndLine journal (end_shown y) (line_of_end y)) same (x.0, x.1, x.2, x.3, refl)

@@ -14,10 +14,10 @@ use Rattle.ca_journal.specs.declared.journal.Journal.{Journal}
 use Rattle.ca_journal.specs.Events.{events}
 use Rattle.ca_run.specs.declared.finding.Finding.{Finding}
 use Rattle.ca_run.specs.declared.finding.Finding.TheVariants.{NoJournal, BadLine, IllegalAt, Stands, Written, Lines}
-use Rattle.ca_run.specs.Findings.{finding_status, finding_text, Finds, IsFinding, IsFollowed, IsRejected, IsReplayed, IsReported}
+use Rattle.ca_run.specs.Findings.{finding_status, finding_text, CommandFinds, IsFinding, IsFollowedText, IsRejected, IsReplayed, IsReported}
 use Rattle.ca_run.specs.Inputs.{ReadWhole, greatest_input}
-use Rattle.ca_run.specs.Top.{ClockSpan, Refused as RefusedFrom, Accepted as AcceptedFrom, Completed, CompletedFor, Partly, RunText, JudgesJournal, Writes, judges, runs, usage}
-use Rattle.ca_run.specs.Answers.{answer_text, status_of, status_of_end, journal_of, refusal_line, end_of, line_of_end, AnswersTo, RunsNothing}
+use Rattle.ca_run.specs.Top.{ClockSpan, Refused as RefusedFrom, Accepted as AcceptedFrom, Completed, CompletedFor, Partly, RunText, JudgesJournal, Writes, judges, runs_script, usage}
+use Rattle.ca_run.specs.Answers.{answer_text, status_of, status_of_end, journal_of, refusal_line, end_shown, line_of_end, AnswersTo, RunsNothing}
 
 on_ok : {T E : Type 0} (r : Result T E) (P : Type 0) → OnOk r P → is_ok r ≡ true → P
 on_ok (Ok x) P h e = h
@@ -94,7 +94,7 @@ number_of faulted = 3
 number_of limit = 5
 number_of stuck = 4
 
-by_status : (e : ScriptEnd) (want : RunEnd) → status_of_end e ≡ number_of want → end_of e ≡ want
+by_status : (e : ScriptEnd) (want : RunEnd) → status_of_end e ≡ number_of want → end_shown e ≡ want
 by_status Ended ended q = refl
 by_status Ended faulted q = absurd (omega (arith, q))
 by_status Ended limit q = absurd (omega (arith, q))
@@ -125,8 +125,8 @@ number_small limit = omega arith
 number_small stuck = omega arith
 
 -- A run that has come to an end has completed with it.
-completed : (c : Command) (span : ClockSpan) (before after held taken : Option (List ℕ)) (m : ScriptRun) (shown : Bool) → AnswersTo (Some c) span before after (Ran m shown) → Appends held taken (answer_text (Ran m shown)) → Completed c before after held taken (Some span) (Some m.journal) (end_of m.end)
-completed c span before after held taken m shown h p = (h.2, (answer_text (Ran m shown), subst (λ (b : Bool). RunText b (events m.journal) (end_of m.end) (answer_text (Ran m shown))) h.1 (line_of_end m.end, h.3, refl), p))
+completed : (c : Command) (span : ClockSpan) (before after held taken : Option (List ℕ)) (m : ScriptRun) (shown : Bool) → AnswersTo (Some c) span before after (Ran m shown) → Appends held taken (answer_text (Ran m shown)) → Completed c before after held taken (Some span) (Some m.journal) (end_shown m.end)
+completed c span before after held taken m shown h p = (h.2, (answer_text (Ran m shown), subst (λ (b : Bool). RunText b (events m.journal) (end_shown m.end) (answer_text (Ran m shown))) h.1 (line_of_end m.end, h.3, refl), p))
 
 run_for : (asked : Option Command) (span : ClockSpan) (before after held taken : Option (List ℕ)) (m : ScriptRun) (shown : Bool) (want : RunEnd) → status_of_end m.end ≡ number_of want → AnswersTo asked span before after (Ran m shown) → Appends held taken (answer_text (Ran m shown)) → CompletedFor asked before after held taken (Some span) (Some m.journal) want
 run_for None span before after held taken m shown want s h p = absurd h
@@ -156,7 +156,7 @@ found_for : (asked : Option Command) (span : ClockSpan) (before after : Option (
 found_for None span before after f h = absurd h
 found_for (Some c) span before after f h = (c, refl, h.0, h.1)
 
-not_run : {G : Type 0} (c : Command) → judges c ≡ true → runs c ≡ true → G
+not_run : {G : Type 0} (c : Command) → judges c ≡ true → runs_script c ≡ true → G
 not_run (Run workers budget journal) j r = absurd (let z : false ≡ true = j in cc)
 not_run Check j r = absurd (let z : false ≡ true = j in cc)
 not_run (Load n workers) j r = absurd (let z : false ≡ true = j in cc)
@@ -167,13 +167,13 @@ not_run Report j r = absurd (let z : false ≡ true = r in cc)
 never_found : {G : Type 0} (asked : Option Command) (before after : Option (List ℕ)) (f : Finding) (c : Command) → asked ≡ Some c → judges c ≡ false → FoundFor asked before after f → G
 never_found asked before after f c e off h = absurd (let z : true ≡ false = sym h.2 ∙ ap judges (same_command h.0 c (sym h.1 ∙ e)) ∙ off in cc)
 
-never_checks : {G : Type 0} (c : Command) → c ≡ Check → runs c ≡ true → G
-never_checks c e r = absurd (let z : false ≡ true = sym (ap runs e) ∙ r in cc)
+never_checks : {G : Type 0} (c : Command) → c ≡ Check → runs_script c ≡ true → G
+never_checks c e r = absurd (let z : false ≡ true = sym (ap runs_script e) ∙ r in cc)
 
 of_command : (asked : Option Command) (before after held taken : Option (List ℕ)) (clock : Option ClockSpan) (journal : Option Journal) (end : RunEnd) (c : Command) → asked ≡ Some c → CompletedFor asked before after held taken clock journal end → Completed c before after held taken clock journal end
 of_command asked before after held taken clock journal end c e h = subst (λ (d : Command). Completed d before after held taken clock journal end) (same_command h.0 c (sym h.1 ∙ e)) h.3
 
-pub ended_of : (asked : Option Command) (span : ClockSpan) (before after held taken : Option (List ℕ)) (a : Answer) (c : Command) → asked ≡ Some c → runs c ≡ true → status_of a ≡ 0 → AnswersTo asked span before after a → Appends held taken (answer_text a) → Completed c before after held taken (Some span) (journal_of a) ended
+pub ended_of : (asked : Option Command) (span : ClockSpan) (before after held taken : Option (List ℕ)) (a : Answer) (c : Command) → asked ≡ Some c → runs_script c ≡ true → status_of a ≡ 0 → AnswersTo asked span before after a → Appends held taken (answer_text a) → Completed c before after held taken (Some span) (journal_of a) ended
 ended_of asked span before after held taken Usage c q r s h p = absurd (omega (arith, s))
 ended_of asked span before after held taken (Refused f) c q r s h p = absurd (omega (arith, s))
 ended_of asked span before after held taken Accepted c q r s h p = never_checks c (same_command c Check (sym q ∙ check_asked asked span before after h)) r
@@ -258,11 +258,11 @@ told_run (Some c) span before after held taken m shown n h p = record {
   text = answer_text (Ran m shown);
   count = n;
   prefix = p;
-  source = (c, refl, (span, refl, (end_of m.end, h.2, subst (λ (b : Bool). RunText b (events m.journal) (end_of m.end) (answer_text (Ran m shown))) h.1 (line_of_end m.end, h.3, refl))));
+  source = (c, refl, (span, refl, (end_shown m.end, h.2, subst (λ (b : Bool). RunText b (events m.journal) (end_shown m.end) (answer_text (Ran m shown))) h.1 (line_of_end m.end, h.3, refl))));
 }
 
 -- what is told of a finding
-finds_of : (c : Command) (input : List ℕ) (f : Finding) → judges c ≡ true → IsFinding c input f → Finds c input (finding_text f)
+finds_of : (c : Command) (input : List ℕ) (f : Finding) → judges c ≡ true → IsFinding c input f → CommandFinds c input (finding_text f)
 finds_of (Run workers budget journal) input f j h = absurd (let z : false ≡ true = j in cc)
 finds_of Check input f j h = absurd (let z : false ≡ true = j in cc)
 finds_of (Load n workers) input f j h = absurd (let z : false ≡ true = j in cc)
@@ -298,7 +298,7 @@ partly_of asked span before after held taken (Ran m shown) n h p = told_run aske
 
 -- a command that runs a script was asked for
 abbrev pub RunAsked : Option Command → Type 0
-RunAsked asked = (command : Command) × (asked ≡ Some command) × (runs command ≡ true)
+RunAsked asked = (command : Command) × (asked ≡ Some command) × (runs_script command ≡ true)
 
 run_asked : (asked : Option Command) (span : ClockSpan) (before after : Option (List ℕ)) (m : ScriptRun) (shown : Bool) → AnswersTo asked span before after (Ran m shown) → RunAsked asked
 run_asked None span before after m shown h = absurd h
@@ -353,7 +353,7 @@ no_end_but e s = absurd (let k = end_under_six e in omega (arith, k, s))
 never_ran : {G : Type 0} (asked : Option Command) (span : ClockSpan) (before after : Option (List ℕ)) (m : ScriptRun) (shown : Bool) (c : Command) → asked ≡ Some c → judges c ≡ true → AnswersTo asked span before after (Ran m shown) → G
 never_ran asked span before after m shown c q j h =
     let r = run_asked asked span before after m shown h in
-    not_run c j (ap runs (sym (same_command r.0 c (sym r.1 ∙ q))) ∙ r.2)
+    not_run c j (ap runs_script (sym (same_command r.0 c (sym r.1 ∙ q))) ∙ r.2)
 
 never_accepted : {G : Type 0} (asked : Option Command) (span : ClockSpan) (before after : Option (List ℕ)) (c : Command) → asked ≡ Some c → judges c ≡ true → AnswersTo asked span before after Accepted → G
 never_accepted asked span before after c q j h =
@@ -393,7 +393,7 @@ replayed_of asked span before after held taken (Found f) q s h p =
     let found = found_for asked span before after f h in
     (found.3.0, finding_text f, found.3.1, replayed_by found.0 found.3.0 f (same_command found.0 Replay (sym found.1 ∙ q)) s found.3.2, p)
 
-followed_by : (c : Command) (input : List ℕ) (f : Finding) → c ≡ Follow → finding_status f ≡ 0 → IsFinding c input f → IsFollowed input (finding_text f)
+followed_by : (c : Command) (input : List ℕ) (f : Finding) → c ≡ Follow → finding_status f ≡ 0 → IsFinding c input f → IsFollowedText input (finding_text f)
 followed_by c input NoJournal e s h = absurd (omega (arith, s))
 followed_by c input (BadLine k) e s h = absurd (omega (arith, s))
 followed_by c input (IllegalAt k) e s h = absurd (omega (arith, s))
@@ -401,7 +401,7 @@ followed_by c input (Stands t) e s h = absurd (let z : Replay ≡ Follow = sym h
 followed_by c input (Written t) e s h = h.1
 followed_by c input (Lines t) e s h = absurd (let z : Report ≡ Follow = sym h.0 ∙ e in cc)
 
-pub followed_of : (asked : Option Command) (span : ClockSpan) (before after held taken : Option (List ℕ)) (a : Answer) → asked ≡ Some Follow → status_of a ≡ 0 → AnswersTo asked span before after a → Appends held taken (answer_text a) → Writes IsFollowed before after held taken
+pub followed_of : (asked : Option Command) (span : ClockSpan) (before after held taken : Option (List ℕ)) (a : Answer) → asked ≡ Some Follow → status_of a ≡ 0 → AnswersTo asked span before after a → Appends held taken (answer_text a) → Writes IsFollowedText before after held taken
 followed_of asked span before after held taken Usage q s h p = absurd (omega (arith, s))
 followed_of asked span before after held taken (Refused r) q s h p = absurd (omega (arith, s))
 followed_of asked span before after held taken Accepted q s h p = never_accepted asked span before after Follow q refl h

@@ -5,7 +5,7 @@ use Rattle.std.specs.List.{list_all}
 use Rattle.std.specs.Str.{bytes_eq}
 use Rattle.std.specs.Str.Parse.{digits_value}
 use Rattle.std.proofs.lemmas.Bool.Decides.{nat_tests}
-use Rattle.ca_words.specs.Words.{Text, bare, between, number_of, setting, one_number, is_number, is_run_word, is_load_word, joined, workers_in, budget_in, workers_of, budget_of, journal_of, run_with, load_with, run_words, load_words, alone, command_in}
+use Rattle.ca_words.specs.Words.{Text, bare_word, between, number_asked, setting, one_number, is_number, is_run_word, is_load_word, options_joined, workers_in, budget_in, workers_asked, budget_asked, journal_asked, run_with, load_with, run_words, load_words, wordless, command_in}
 use Rattle.ca_words.specs.declared.command.Command.{Command}
 use Rattle.ca_words.specs.declared.command.Command.TheVariants.{Check, Follow, Load, Run, Replay, Report}
 use Rattle.ca_run.specs.Answers.{IsFit}
@@ -38,7 +38,7 @@ between_fits least most n m e =
     let high : n ≤ most = at_most n most b.1 in
     (omega (arith, is, low), omega (arith, is, high))
 
-number_fits : (least most : ℕ) (v : Text) (m : ℕ) → number_of least most v ≡ Some m → Within least most m
+number_fits : (least most : ℕ) (v : Text) (m : ℕ) → number_asked least most v ≡ Some m → Within least most m
 number_fits least most v m e = between_fits least most (digits_value 10 v) m (taken (is_number v) (between least most (digits_value 10 v)) m e).1
 
 setting_fits : (default least most : ℕ) (vs : List Text) (m : ℕ) → Within least most default → setting default least most vs ≡ Some m → Within least most m
@@ -58,26 +58,26 @@ load_fits (Some n) (Some w) c hw e = subst IsFit (same (Load n w) c e) (hw w ref
 load_fits (Some n) None c hw e = absurd (let q : None ≡ Some c = e in cc)
 load_fits None w c hw e = absurd (let q : None ≡ Some c = e in cc)
 
-alone_fits : (d : Command) (ws : List Text) (c : Command) → IsFit d → alone d ws ≡ Some c → IsFit c
+alone_fits : (d : Command) (ws : List Text) (c : Command) → IsFit d → wordless d ws ≡ Some c → IsFit c
 alone_fits d [] c fit e = subst IsFit (same d c e) fit
 alone_fits d (w ∷ ws) c fit e = absurd (let q : None ≡ Some c = e in cc)
 
 run_words_fit : (ws : List Text) (c : Command) → run_words ws ≡ Some c → IsFit c
 run_words_fit ws c e =
-    run_fits (workers_of ws) (budget_of ws) (journal_of ws) c
+    run_fits (workers_asked ws) (budget_asked ws) (journal_asked ws) c
     (λ n h. setting_fits 1 1 16 (filter_map workers_in ws) n (omega arith, omega arith) h)
     (λ n h. setting_fits 1000000 1 4000000 (filter_map budget_in ws) n (omega arith, omega arith) h)
-    (taken (list_all is_run_word ws) (run_with (workers_of ws) (budget_of ws) (journal_of ws)) c e).1
+    (taken (list_all is_run_word ws) (run_with (workers_asked ws) (budget_asked ws) (journal_asked ws)) c e).1
 
 load_words_fit : (ws : List Text) (c : Command) → load_words ws ≡ Some c → IsFit c
 load_words_fit ws c e =
-    load_fits (one_number 1 20000 (filter_map bare ws)) (workers_of ws) c
+    load_fits (one_number 1 20000 (filter_map bare_word ws)) (workers_asked ws) c
     (λ n h. setting_fits 1 1 16 (filter_map workers_in ws) n (omega arith, omega arith) h)
-    (taken (list_all is_load_word ws) (load_with (one_number 1 20000 (filter_map bare ws)) (workers_of ws)) c e).1
+    (taken (list_all is_load_word ws) (load_with (one_number 1 20000 (filter_map bare_word ws)) (workers_asked ws)) c e).1
 
 -- a choice by the command's name
 named : (r k l p j q : Bool) (ws : List Text) (c : Command)
-    → (if r then run_words ws else (if k then alone Check ws else (if l then load_words ws else (if p then alone Replay ws else (if j then alone Follow ws else (if q then alone Report ws else None)))))) ≡ Some c → IsFit c
+    → (if r then run_words ws else (if k then wordless Check ws else (if l then load_words ws else (if p then wordless Replay ws else (if j then wordless Follow ws else (if q then wordless Report ws else None)))))) ≡ Some c → IsFit c
 named true k l p j q ws c e = run_words_fit ws c e
 named false true l p j q ws c e = alone_fits Check ws c tt e
 named false false true p j q ws c e = load_words_fit ws c e
@@ -88,4 +88,4 @@ named false false false false false false ws c e = absurd (let o : None ≡ Some
 
 pub asked_fits : (ws : List Text) (c : Command) → command_in ws ≡ Some c → IsFit c
 asked_fits [] c e = absurd (let q : None ≡ Some c = e in cc)
-asked_fits (w ∷ ws) c e = named (bytes_eq w (codes "run")) (bytes_eq w (codes "check")) (bytes_eq w (codes "load")) (bytes_eq w (codes "replay")) (bytes_eq w (codes "follow")) (bytes_eq w (codes "report")) (joined ws) c e
+asked_fits (w ∷ ws) c e = named (bytes_eq w (codes "run")) (bytes_eq w (codes "check")) (bytes_eq w (codes "load")) (bytes_eq w (codes "replay")) (bytes_eq w (codes "follow")) (bytes_eq w (codes "report")) (options_joined ws) c e

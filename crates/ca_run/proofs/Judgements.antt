@@ -9,7 +9,7 @@ use Rattle.ca_run.specs.declared.answer.Answer.TheVariants.{Usage, Refused, Acce
 use Rattle.ca_run.specs.Generator.{load_text}
 use Rattle.ca_run.specs.Inputs.{greatest_input, greatest_length, ProgramOf, ReadWhole}
 use Rattle.ca_run.specs.Marker.{IsParted}
-use Rattle.ca_run.specs.Top.{ClockSpan, Given, Refused as RefusedFrom, RefusedFor, IsRefused, IsTooLong, IsLongPart, error_line, first_place, judges, reads}
+use Rattle.ca_run.specs.Top.{ClockSpan, GivenScript, Refused as RefusedFrom, RefusedFor, IsScriptRefused, IsTooLong, IsLongPart, error_line, first_place, judges, reads_source}
 use Rattle.ca_run.specs.Answers.{Judged, JudgedInput, JudgedProgram, RefusedPart, refusal_line, AnswersTo}
 
 pub judged_by_program : (command : Command) (span : ClockSpan) (input : List ℕ) (program : ProgramView) (a : Answer) → ProgramOf input program → JudgedProgram command span program a → Judged command span input a
@@ -20,7 +20,7 @@ judged_by_program command span input program (Found f) p h = absurd h
 judged_by_program command span input program (Ran m shown) p h = (h.0, h.1, record { program = program; is_program = p; legal = h.2.legal; has_end = h.2.has_end; moments = h.2.moments; solo = h.2.solo }, h.2.told)
 
 -- a script that is refused
-refused_by : (command : Command) (before after : Option (List ℕ)) (line : List ℕ) → IsRefused command before after line → RefusedFrom command before after line
+refused_by : (command : Command) (before after : Option (List ℕ)) (line : List ℕ) → IsScriptRefused command before after line → RefusedFrom command before after line
 refused_by (Run workers budget journal) before after line h = inr h
 refused_by Check before after line h = inr h
 refused_by (Load n workers) before after line h = h
@@ -28,7 +28,7 @@ refused_by Replay before after line h = inr (inr h)
 refused_by Follow before after line h = inr (inr h)
 refused_by Report before after line h = inr (inr h)
 
-pub too_long : (command : Command) (before after : Option (List ℕ)) (line : List ℕ) → reads command ≡ true → judges command ≡ false → IsTooLong greatest_length before after line → RefusedFrom command before after line
+pub too_long : (command : Command) (before after : Option (List ℕ)) (line : List ℕ) → reads_source command ≡ true → judges command ≡ false → IsTooLong greatest_length before after line → RefusedFrom command before after line
 too_long (Run workers budget journal) before after line r j h = inl h
 too_long Check before after line r j h = inl h
 too_long (Load n workers) before after line r j h = absurd (let z : false ≡ true = r in cc)
@@ -36,7 +36,7 @@ too_long Replay before after line r j h = absurd (let z : true ≡ false = j in 
 too_long Follow before after line r j h = absurd (let z : true ≡ false = j in cc)
 too_long Report before after line r j h = absurd (let z : true ≡ false = j in cc)
 
-given_read : (command : Command) (before after : Option (List ℕ)) (input : List ℕ) → reads command ≡ true → judges command ≡ false → ReadWhole greatest_length before after input → Given command before after input
+given_read : (command : Command) (before after : Option (List ℕ)) (input : List ℕ) → reads_source command ≡ true → judges command ≡ false → ReadWhole greatest_length before after input → GivenScript command before after input
 given_read (Run workers budget journal) before after input r j h = h
 given_read Check before after input r j h = h
 given_read (Load n workers) before after input r j h = absurd (let z : false ≡ true = r in cc)
@@ -45,7 +45,7 @@ given_read Follow before after input r j h = absurd (let z : true ≡ false = j 
 given_read Report before after input r j h = absurd (let z : true ≡ false = j in cc)
 
 -- what is accepted was read
-accepted_read : (command : Command) (before after : Option (List ℕ)) (input : List ℕ) → command ≡ Check → Given command before after input → ReadWhole greatest_length before after input
+accepted_read : (command : Command) (before after : Option (List ℕ)) (input : List ℕ) → command ≡ Check → GivenScript command before after input → ReadWhole greatest_length before after input
 accepted_read (Run workers budget journal) before after input e g = g
 accepted_read Check before after input e g = g
 accepted_read (Load n workers) before after input e g = absurd (let z : Load n workers ≡ Check = e in cc)
@@ -53,14 +53,14 @@ accepted_read Replay before after input e g = absurd (let z : Replay ≡ Check =
 accepted_read Follow before after input e g = absurd (let z : Follow ≡ Check = e in cc)
 accepted_read Report before after input e g = absurd (let z : Report ≡ Check = e in cc)
 
-pub answers_given : (command : Command) (span : ClockSpan) (before after : Option (List ℕ)) (input : List ℕ) (a : Answer) → Given command before after input → Judged command span input a → AnswersTo (Some command) span before after a
+pub answers_given : (command : Command) (span : ClockSpan) (before after : Option (List ℕ)) (input : List ℕ) (a : Answer) → GivenScript command before after input → Judged command span input a → AnswersTo (Some command) span before after a
 answers_given command span before after input Usage g h = h
 answers_given command span before after input (Refused r) g h = refused_by command before after (refusal_line r) (input, g, h)
 answers_given command span before after input Accepted g h = (h.0, (input, accepted_read command before after input h.0 g, h.1))
 answers_given command span before after input (Found f) g h = absurd h
 answers_given command span before after input (Ran m shown) g h = (h.0, h.1, (input, g, h.2), h.3)
 
-pub answers_by_text : (command : Command) (span : ClockSpan) (before after : Option (List ℕ)) (input : List ℕ) (a : Answer) → reads command ≡ true → judges command ≡ false
+pub answers_by_text : (command : Command) (span : ClockSpan) (before after : Option (List ℕ)) (input : List ℕ) (a : Answer) → reads_source command ≡ true → judges command ≡ false
     → Consumes before after input → IsAtEnd after → length input ≤ greatest_length → Judged command span input a → AnswersTo (Some command) span before after a
 answers_by_text command span before after input a r j read whole short h = answers_given command span before after input a (given_read command before after input r j (record { read = read; whole = whole; short = short })) h
 
@@ -86,7 +86,7 @@ long_part Follow before after line j h = inr (inl h)
 long_part Report before after line j h = inr (inl h)
 
 given_part : (command : Command) (before after : Option (List ℕ)) (script : List ℕ) → judges command ≡ true
-    → ((journal : List ℕ) × ((input : List ℕ) × ReadWhole greatest_input before after input × IsParted input script journal) × (length script ≤ greatest_length)) → Given command before after script
+    → ((journal : List ℕ) × ((input : List ℕ) × ReadWhole greatest_input before after input × IsParted input script journal) × (length script ≤ greatest_length)) → GivenScript command before after script
 given_part (Run workers budget journal) before after script j h = absurd (let z : false ≡ true = j in cc)
 given_part Check before after script j h = absurd (let z : false ≡ true = j in cc)
 given_part (Load n workers) before after script j h = absurd (let z : false ≡ true = j in cc)

@@ -4,11 +4,11 @@ use Rattle.ca_term.specs.Program.{ProgramView}
 use Rattle.ca_words.specs.declared.command.Command.{Command}
 use Rattle.ca_run.specs.declared.finding.Finding.{Finding}
 use Rattle.ca_run.specs.declared.finding.Finding.TheVariants.{NoJournal, BadLine, IllegalAt, Stands, Written, Lines}
-use Rattle.ca_run.specs.Findings.{Asks, IsFinding, IsFindingOf}
+use Rattle.ca_run.specs.Findings.{IsJournalInput, IsFinding, IsFindingOf}
 use Rattle.ca_run.specs.Inputs.{ProgramOf, greatest_length}
 use Rattle.ca_run.specs.Marker.{IsParted}
 
-finding_in : (c : Command) (input text : List ℕ) (program : ProgramView) (f : Finding) → Asks input program text → IsFindingOf c program text f → IsFinding c input f
+finding_in : (c : Command) (input text : List ℕ) (program : ProgramView) (f : Finding) → IsJournalInput input program text → IsFindingOf c program text f → IsFinding c input f
 finding_in c input text program NoJournal a h = absurd h
 finding_in c input text program (BadLine k) a h = inr (inl (program, text, k, a, h, refl))
 finding_in c input text program (IllegalAt k) a h = inr (inr (program, h.0, k, record { text = text; asks = a; reads = h.1 }, h.2, refl))

@@ -5,7 +5,7 @@ use Rattle.ca_value.specs.Tree.{Tree, Trees, TreePairs, text, none, item}
 use Rattle.ca_value.specs.IsValue.{written, AreValues, IsValue}
 use Rattle.ca_term.specs.Event.{EventView, BranchView, take_of, put_of, made, spawned, done, met, parked, posted, settled, defaulted, closed, registered, printed, ticked, over}
 use Rattle.ca_term.specs.Program.{ProgramView}
-use Rattle.ca_meaning.specs.Legal.{GoesOn, Legal}
+use Rattle.ca_meaning.specs.Legal.{EndsLast, Legal}
 use Rattle.ca_meaning.specs.RunValues.{EventHas, IsOffered, OffersIn}
 use Rattle.ca_meaning.specs.Shown.{EventShown}
 use Rattle.ca_meaning.specs.Sound.{Each}
@@ -70,7 +70,7 @@ all_told (e ∷ es) h s = (record { shown = s.0; values = values_told e h.0 }, a
 
 -- ---- each beginning of a legal journal is one
 
-goes_front : (xs ys : List EventView) → GoesOn (xs ++ ys) → GoesOn xs
+goes_front : (xs ys : List EventView) → EndsLast (xs ++ ys) → EndsLast xs
 goes_front [] ys h = tt
 goes_front (x ∷ []) ys h = tt
 goes_front (x ∷ y ∷ xs) ys h = (h.0, goes_front (y ∷ xs) ys h.1)
@@ -82,7 +82,7 @@ legal_front program journal k h =
     record {
       state = split.0;
       reaches = record { opening = h.reaches.opening; opens = h.reaches.opens; steps = split.1 };
-      goes_on = goes_front (take k journal) (drop k journal) (subst GoesOn parts h.goes_on);
+      goes_on = goes_front (take k journal) (drop k journal) (subst EndsLast parts h.goes_on);
     }
 
 -- ---- what an input of both comes to

@@ -11,8 +11,8 @@ use Rattle.ca_meaning.specs.Texts.{output, fault_line}
 use Rattle.ca_meaning.specs.Legal.{Legal}
 use Rattle.ca_meaning.specs.Ends.{RunEnd, ended, faulted, limit, stuck, HasEnd}
 use Rattle.ca_reader.specs.Kind.{kind_name}
-use Rattle.ca_derived.specs.Kind.{kind_name as forms_kind_name}
-use Rattle.ca_forms.specs.Kind.{kind_name as check_kind_name}
+use Rattle.ca_derived.specs.Kind.{forms_error_name as forms_kind_name}
+use Rattle.ca_forms.specs.Kind.{check_error_name as check_kind_name}
 use Rattle.ca_words.specs.declared.command.Command.{Command}
 use Rattle.ca_words.specs.declared.command.Command.TheVariants.{Check, Follow, Load, Run, Replay, Report}
 use Rattle.ca_table.specs.Moments.{KeepsTime}
@@ -30,7 +30,7 @@ use Rattle.ca_journal.specs.Events.{events}
 use Rattle.ca_run.specs.Findings.{finding_status, finding_text, IsFinding}
 use Rattle.ca_run.specs.Inputs.{greatest_input, greatest_length, HasProgram, ProgramOf, ReadWhole}
 use Rattle.ca_run.specs.Marker.{IsParted}
-use Rattle.ca_run.specs.Top.{ClockSpan, budget_of, judges, runs, shows_journal, usage, error_line, first_place, RefusedFor, RunOf, EndLine, workers_of, Refused as RefusedFrom, Accepted as AcceptedFrom, Ran as RanFrom}
+use Rattle.ca_run.specs.Top.{ClockSpan, budget_of, judges, runs_script, shows_journal, usage, error_line, first_place, RefusedFor, RunOf, EndLine, workers_of, Refused as RefusedFrom, Accepted as AcceptedFrom, Ran as RanFrom}
 
 abbrev pub refusal_line : Refusal → List ℕ
 refusal_line TooLong = error_line (codes "TooLong") first_place
@@ -39,11 +39,11 @@ refusal_line (Underived k p) = error_line (forms_kind_name k) p
 refusal_line (Unchecked k p) = error_line (check_kind_name k) p
 
 -- the end that a run has come to, and the line that tells it
-abbrev pub end_of : ScriptEnd → RunEnd
-end_of Ended = ended
-end_of (Faulted fault place) = faulted
-end_of Limit = limit
-end_of Stuck = stuck
+abbrev pub end_shown : ScriptEnd → RunEnd
+end_shown Ended = ended
+end_shown (Faulted fault place) = faulted
+end_shown Limit = limit
+end_shown Stuck = stuck
 
 abbrev pub line_of_end : ScriptEnd → List ℕ
 line_of_end Ended = []
@@ -98,10 +98,10 @@ RunsNothing (Found f) = Unit {0}
 
 -- The run of the program has come to that end for the budget, which its line tells. Its moments are answers of the clock
 -- in that span; with one worker it is the schedule's over them.
-pub record IsRun (workers budget : ℕ) (span : ClockSpan) (program : ProgramView) (m : ScriptRun) : Type 0 where
+pub record IsScriptRun (workers budget : ℕ) (span : ClockSpan) (program : ProgramView) (m : ScriptRun) : Type 0 where
   pub legal : Legal program (events m.journal)
-  pub has_end : HasEnd program budget (events m.journal) (end_of m.end)
-  pub told : EndLine (events m.journal) (end_of m.end) (line_of_end m.end)
+  pub has_end : HasEnd program budget (events m.journal) (end_shown m.end)
+  pub told : EndLine (events m.journal) (end_shown m.end) (line_of_end m.end)
   pub moments : KeepsTime (events m.journal) span.least span.before span.after
   pub solo : workers ≡ 1 → IsSolo program (events m.journal) span.least span.before span.after
 
@@ -120,7 +120,7 @@ JudgedProgram command span program Usage = ⊥
 JudgedProgram command span program (Refused r) = ⊥
 JudgedProgram command span program Accepted = command ≡ Check
 JudgedProgram command span program (Found f) = ⊥
-JudgedProgram command span program (Ran m shown) = (runs command ≡ true) × (shown ≡ shows_journal command) × IsRun (workers_of command) (budget_of command) span program m
+JudgedProgram command span program (Ran m shown) = (runs_script command ≡ true) × (shown ≡ shows_journal command) × IsScriptRun (workers_of command) (budget_of command) span program m
 
 -- a text's program, or the line with which it is refused
 abbrev pub IsScripted : List ℕ → Scripted → Type 0
@@ -146,7 +146,7 @@ Judged command span input Usage = ⊥
 Judged command span input (Refused r) = RefusedFor input (refusal_line r)
 Judged command span input Accepted = (command ≡ Check) × HasProgram input
 Judged command span input (Found f) = ⊥
-Judged command span input (Ran m shown) = (runs command ≡ true) × (shown ≡ shows_journal command) × RunOf (workers_of command) (budget_of command) span input (events m.journal) (end_of m.end) × EndLine (events m.journal) (end_of m.end) (line_of_end m.end)
+Judged command span input (Ran m shown) = (runs_script command ≡ true) × (shown ≡ shows_journal command) × RunOf (workers_of command) (budget_of command) span input (events m.journal) (end_shown m.end) × EndLine (events m.journal) (end_shown m.end) (line_of_end m.end)
 
 -- what the words and the source come to
 abbrev pub AnswersTo : Option Command → ClockSpan → Option (List ℕ) → Option (List ℕ) → Answer → Type 0
@@ -158,6 +158,6 @@ AnswersTo None span before after (Found f) = ⊥
 AnswersTo (Some c) span before after Usage = ⊥
 AnswersTo (Some c) span before after (Refused r) = RefusedFrom c before after (refusal_line r)
 AnswersTo (Some c) span before after Accepted = (c ≡ Check) × AcceptedFrom before after
-AnswersTo (Some c) span before after (Ran m shown) = (runs c ≡ true) × (shown ≡ shows_journal c) × RanFrom c span before after (events m.journal) (end_of m.end)
-    × EndLine (events m.journal) (end_of m.end) (line_of_end m.end)
+AnswersTo (Some c) span before after (Ran m shown) = (runs_script c ≡ true) × (shown ≡ shows_journal c) × RanFrom c span before after (events m.journal) (end_shown m.end)
+    × EndLine (events m.journal) (end_shown m.end) (line_of_end m.end)
 AnswersTo (Some c) span before after (Found f) = (judges c ≡ true) × ((input : List ℕ) × ReadWhole greatest_input before after input × IsFinding c input f)

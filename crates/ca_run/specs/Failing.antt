@@ -20,8 +20,8 @@ abbrev pub calls_failed : {D : Type 0} → Failing D → ℕ
 calls_failed f = f.faults
 
 -- the next call is a listed one
-abbrev pub IsListed : {D : Type 0} → Failing D → Type 0
-IsListed f = Contains (listed_calls f) (calls_made f)
+abbrev pub IsListedCall : {D : Type 0} → Failing D → Type 0
+IsListedCall f = Contains (listed_calls f) (calls_made f)
 
 -- a call was counted, and the list stays
 pub record CountsCall {D : Type 0} (before after : Failing D) : Type 0 where

@@ -18,7 +18,7 @@ use Rattle.ca_run.specs.Inputs.{greatest_length, ProgramOf}
 use Rattle.ca_run.specs.Marker.{IsParted, IsUnparted}
 
 -- the input is parted into a script that is no longer than one may be and has this program, and the text of a journal
-pub record Asks (input : List ℕ) (program : ProgramView) (text : List ℕ) : Type 0 where
+pub record IsJournalInput (input : List ℕ) (program : ProgramView) (text : List ℕ) : Type 0 where
   pub script : List ℕ
   pub parted : IsParted input script text
   pub short : length script ≤ greatest_length
@@ -27,7 +27,7 @@ pub record Asks (input : List ℕ) (program : ProgramView) (text : List ℕ) : T
 -- and the journal has these events
 pub record AsksOf (input : List ℕ) (program : ProgramView) (journal : List EventView) : Type 0 where
   pub text : List ℕ
-  pub asks : Asks input program text
+  pub asks : IsJournalInput input program text
   pub reads : JournalReads text journal
 
 -- a line that ends with a number
@@ -42,7 +42,7 @@ HasNoJournal input line = IsUnparted input × (line ≡ codes "no journal\n")
 
 -- that line of the journal is none
 abbrev pub HasBadLine : List ℕ → List ℕ → Type 0
-HasBadLine input line = (program : ProgramView) × (text : List ℕ) × (k : ℕ) × Asks input program text × IsBadLine k text × (line ≡ numbered_line (codes "bad line ") k)
+HasBadLine input line = (program : ProgramView) × (text : List ℕ) × (k : ℕ) × IsJournalInput input program text × IsBadLine k text × (line ≡ numbered_line (codes "bad line ") k)
 
 -- that event of the journal is the first that no legal run has there
 abbrev pub HasIllegal : List ℕ → List ℕ → Type 0
@@ -66,21 +66,21 @@ abbrev pub IsReplayed : List ℕ → List ℕ → Type 0
 IsReplayed input line = (program : ProgramView) × (journal : List EventView) × (s : Standing) × AsksOf input program journal × IsVerdict program journal (IsLegal s) × (line ≡ standing_line s)
 
 -- the journal is legal, and the text is what that run writes
-abbrev pub IsFollowed : List ℕ → List ℕ → Type 0
-IsFollowed input text = (program : ProgramView) × (journal : List EventView) × AsksOf input program journal × Legal program journal × (text ≡ output journal)
+abbrev pub IsFollowedText : List ℕ → List ℕ → Type 0
+IsFollowedText input text = (program : ProgramView) × (journal : List EventView) × AsksOf input program journal × Legal program journal × (text ≡ output journal)
 
 -- the journal is legal, and the text is the report on it
 abbrev pub IsReported : List ℕ → List ℕ → Type 0
 IsReported input text = (program : ProgramView) × (journal : List EventView) × AsksOf input program journal × ((legal : Legal program journal) × (text ≡ report_text journal legal.state))
 
 -- what a command that reads a journal tells of an input
-abbrev pub Finds : Command → List ℕ → List ℕ → Type 0
-Finds (Run workers budget journal) input text = ⊥
-Finds Check input text = ⊥
-Finds (Load n workers) input text = ⊥
-Finds Replay input text = IsRejected input text ⊎ IsReplayed input text
-Finds Follow input text = IsRejected input text ⊎ IsFollowed input text
-Finds Report input text = IsRejected input text ⊎ IsReported input text
+abbrev pub CommandFinds : Command → List ℕ → List ℕ → Type 0
+CommandFinds (Run workers budget journal) input text = ⊥
+CommandFinds Check input text = ⊥
+CommandFinds (Load n workers) input text = ⊥
+CommandFinds Replay input text = IsRejected input text ⊎ IsReplayed input text
+CommandFinds Follow input text = IsRejected input text ⊎ IsFollowedText input text
+CommandFinds Report input text = IsRejected input text ⊎ IsReported input text
 
 -- ---- a finding: its text, its status, and when it is right
 
@@ -105,7 +105,7 @@ IsFinding c input NoJournal = IsRejected input (finding_text NoJournal)
 IsFinding c input (BadLine k) = IsRejected input (finding_text (BadLine k))
 IsFinding c input (IllegalAt k) = IsRejected input (finding_text (IllegalAt k))
 IsFinding c input (Stands s) = (c ≡ Replay) × IsReplayed input (finding_text (Stands s))
-IsFinding c input (Written t) = (c ≡ Follow) × IsFollowed input (finding_text (Written t))
+IsFinding c input (Written t) = (c ≡ Follow) × IsFollowedText input (finding_text (Written t))
 IsFinding c input (Lines t) = (c ≡ Report) × IsReported input (finding_text (Lines t))
 
 -- what replay, follow and report find of a program and a journal's events

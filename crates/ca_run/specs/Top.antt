@@ -17,20 +17,20 @@ use Rattle.ca_reader.specs.Form.{FormTrees}
 use Rattle.ca_reader.specs.Kind.{kind_name}
 use Rattle.ca_reader.specs.Reads.{Reads, ReadFault}
 use Rattle.ca_derived.specs.declared.error.FormsErrorKind.{FormsErrorKind}
-use Rattle.ca_derived.specs.Kind.{kind_name as forms_kind_name}
+use Rattle.ca_derived.specs.Kind.{forms_error_name as forms_kind_name}
 use Rattle.ca_derived.specs.Outcome.{made, refused}
 use Rattle.ca_derived.specs.Expand.{expand}
 use Rattle.ca_forms.specs.declared.error.CheckErrorKind.{CheckErrorKind}
-use Rattle.ca_forms.specs.Kind.{kind_name as check_kind_name}
+use Rattle.ca_forms.specs.Kind.{check_error_name as check_kind_name}
 use Rattle.ca_check.specs.Expansion.{expansion_of}
 use Rattle.ca_words.specs.declared.command.Command.{Command}
 use Rattle.ca_words.specs.declared.command.Command.TheVariants.{Check, Follow, Load, Run, Replay, Report}
 use Rattle.ca_journal.specs.declared.journal.Journal.{Journal}
 use Rattle.ca_journal.specs.Events.{events}
 use Rattle.ca_sealed.specs.KeepsLaws.{KeepsLaws}
-use Rattle.ca_table.specs.Moments.{KeepsTime, WentOn}
+use Rattle.ca_table.specs.Moments.{KeepsTime, ToldWentOn}
 use Rattle.ca_pool.specs.PoolEnds.{IsSolo}
-use Rattle.ca_run.specs.Findings.{Finds}
+use Rattle.ca_run.specs.Findings.{CommandFinds}
 use Rattle.ca_run.specs.Generator.{load_text}
 use Rattle.ca_run.specs.Inputs.{greatest_input, greatest_length, Derives, HasProgram, ProgramOf, ReadWhole}
 use Rattle.ca_run.specs.Marker.{IsParted}
@@ -54,22 +54,22 @@ workers_of Follow = 0
 workers_of Report = 0
 
 -- a script is run, and not only checked
-abbrev pub runs : Command → Bool
-runs (Run workers budget journal) = true
-runs Check = false
-runs (Load n workers) = true
-runs Replay = false
-runs Follow = false
-runs Report = false
+abbrev pub runs_script : Command → Bool
+runs_script (Run workers budget journal) = true
+runs_script Check = false
+runs_script (Load n workers) = true
+runs_script Replay = false
+runs_script Follow = false
+runs_script Report = false
 
 -- its script is read from the source
-abbrev pub reads : Command → Bool
-reads (Run workers budget journal) = true
-reads Check = true
-reads (Load n workers) = false
-reads Replay = true
-reads Follow = true
-reads Report = true
+abbrev pub reads_source : Command → Bool
+reads_source (Run workers budget journal) = true
+reads_source Check = true
+reads_source (Load n workers) = false
+reads_source Replay = true
+reads_source Follow = true
+reads_source Report = true
 
 -- a journal is read behind the script, to be judged
 abbrev pub judges : Command → Bool
@@ -131,22 +131,22 @@ abbrev pub ReadPart : Option (List ℕ) → Option (List ℕ) → List ℕ → T
 ReadPart before after script = (journal : List ℕ) × ReadParts before after script journal × (length script ≤ greatest_length)
 
 -- the script of a command: what was read, or its part before the marker line, or the generator's, for which nothing is read
-abbrev pub Given : Command → Option (List ℕ) → Option (List ℕ) → List ℕ → Type 0
-Given (Run workers budget journal) before after script = ReadWhole greatest_length before after script
-Given Check before after script = ReadWhole greatest_length before after script
-Given (Load n workers) before after script = (after ≡ before) × (script ≡ load_text n)
-Given Replay before after script = ReadPart before after script
-Given Follow before after script = ReadPart before after script
-Given Report before after script = ReadPart before after script
+abbrev pub GivenScript : Command → Option (List ℕ) → Option (List ℕ) → List ℕ → Type 0
+GivenScript (Run workers budget journal) before after script = ReadWhole greatest_length before after script
+GivenScript Check before after script = ReadWhole greatest_length before after script
+GivenScript (Load n workers) before after script = (after ≡ before) × (script ≡ load_text n)
+GivenScript Replay before after script = ReadPart before after script
+GivenScript Follow before after script = ReadPart before after script
+GivenScript Report before after script = ReadPart before after script
 
 -- the events are a run of the command's script, with the clock in that span
 abbrev pub Ran : Command → ClockSpan → Option (List ℕ) → Option (List ℕ) → List EventView → RunEnd → Type 0
-Ran command span before after journal end = (input : List ℕ) × Given command before after input × RunOf (workers_of command) (budget_of command) span input journal end
+Ran command span before after journal end = (input : List ℕ) × GivenScript command before after input × RunOf (workers_of command) (budget_of command) span input journal end
 
 -- the events are a run of the command's script, and keep the laws that each run of its program keeps
 abbrev pub IsLawful : Option Command → Option (List ℕ) → Option (List ℕ) → List EventView → Type 0
 IsLawful asked before after journal =
-    (command : Command) × (input : List ℕ) × (program : ProgramView) × (asked ≡ Some command) × Given command before after input × ProgramOf input program × Legal program journal × KeepsLaws program journal
+    (command : Command) × (input : List ℕ) × (program : ProgramView) × (asked ≡ Some command) × GivenScript command before after input × ProgramOf input program × Legal program journal × KeepsLaws program journal
 
 -- what was read is a script that has a program
 abbrev pub Accepted : Option (List ℕ) → Option (List ℕ) → Type 0
@@ -154,7 +154,7 @@ Accepted before after = (input : List ℕ) × ReadWhole greatest_length before a
 
 -- a command that reads its script was asked for
 abbrev pub ReadsScript : Option Command → Type 0
-ReadsScript asked = (command : Command) × (asked ≡ Some command) × (reads command ≡ true)
+ReadsScript asked = (command : Command) × (asked ≡ Some command) × (reads_source command ≡ true)
 
 -- a command that judges a journal was asked for
 abbrev pub JudgesJournal : Option Command → Type 0
@@ -162,7 +162,7 @@ JudgesJournal asked = (command : Command) × (asked ≡ Some command) × (judges
 
 -- a command that runs its script was asked for, and this has a program
 abbrev pub RunsScript : Option Command → Option (List ℕ) → Option (List ℕ) → Type 0
-RunsScript asked before after = (command : Command) × (input : List ℕ) × (asked ≡ Some command) × (runs command ≡ true) × Given command before after input × HasProgram input
+RunsScript asked before after = (command : Command) × (input : List ℕ) × (asked ≡ Some command) × (runs_script command ≡ true) × GivenScript command before after input × HasProgram input
 
 -- a line that names an error and its place
 abbrev pub error_line : List ℕ → Place → List ℕ
@@ -198,17 +198,17 @@ abbrev pub IsLongPart : Option (List ℕ) → Option (List ℕ) → List ℕ →
 IsLongPart before after line = (script : List ℕ) × (journal : List ℕ) × ReadParts before after script journal × (greatest_length < length script) × (line ≡ error_line (codes "TooLong") first_place)
 
 -- the command's script is refused with this line
-abbrev pub IsRefused : Command → Option (List ℕ) → Option (List ℕ) → List ℕ → Type 0
-IsRefused command before after line = (input : List ℕ) × Given command before after input × RefusedFor input line
+abbrev pub IsScriptRefused : Command → Option (List ℕ) → Option (List ℕ) → List ℕ → Type 0
+IsScriptRefused command before after line = (input : List ℕ) × GivenScript command before after input × RefusedFor input line
 
 -- what was read is refused with this line: it or its script is too long, or it is the whole source and its script is refused
 abbrev pub Refused : Command → Option (List ℕ) → Option (List ℕ) → List ℕ → Type 0
-Refused (Run workers budget journal) before after line = IsTooLong greatest_length before after line ⊎ IsRefused (Run workers budget journal) before after line
-Refused Check before after line = IsTooLong greatest_length before after line ⊎ IsRefused Check before after line
-Refused (Load n workers) before after line = IsRefused (Load n workers) before after line
-Refused Replay before after line = IsTooLong greatest_input before after line ⊎ (IsLongPart before after line ⊎ IsRefused Replay before after line)
-Refused Follow before after line = IsTooLong greatest_input before after line ⊎ (IsLongPart before after line ⊎ IsRefused Follow before after line)
-Refused Report before after line = IsTooLong greatest_input before after line ⊎ (IsLongPart before after line ⊎ IsRefused Report before after line)
+Refused (Run workers budget journal) before after line = IsTooLong greatest_length before after line ⊎ IsScriptRefused (Run workers budget journal) before after line
+Refused Check before after line = IsTooLong greatest_length before after line ⊎ IsScriptRefused Check before after line
+Refused (Load n workers) before after line = IsScriptRefused (Load n workers) before after line
+Refused Replay before after line = IsTooLong greatest_input before after line ⊎ (IsLongPart before after line ⊎ IsScriptRefused Replay before after line)
+Refused Follow before after line = IsTooLong greatest_input before after line ⊎ (IsLongPart before after line ⊎ IsScriptRefused Follow before after line)
+Refused Report before after line = IsTooLong greatest_input before after line ⊎ (IsLongPart before after line ⊎ IsScriptRefused Report before after line)
 
 -- the line that says which words are admitted
 abbrev pub usage : List ℕ
@@ -225,16 +225,16 @@ Completed command before after held taken clock journal end = MatchOption clock 
 
 -- the same of the command that was asked for, which runs a script
 abbrev pub CompletedFor : Option Command → Option (List ℕ) → Option (List ℕ) → Option (List ℕ) → Option (List ℕ) → Option ClockSpan → Option Journal → RunEnd → Type 0
-CompletedFor asked before after held taken clock journal end = (command : Command) × (asked ≡ Some command) × (runs command ≡ true) × Completed command before after held taken clock journal end
+CompletedFor asked before after held taken clock journal end = (command : Command) × (asked ≡ Some command) × (runs_script command ≡ true) × Completed command before after held taken clock journal end
 
 -- what was read whole is told this of
-abbrev pub Found : Command → Option (List ℕ) → Option (List ℕ) → List ℕ → Type 0
-Found command before after text = (input : List ℕ) × ReadWhole greatest_input before after input × Finds command input text
+abbrev pub FindsWhole : Command → Option (List ℕ) → Option (List ℕ) → List ℕ → Type 0
+FindsWhole command before after text = (input : List ℕ) × ReadWhole greatest_input before after input × CommandFinds command input text
 
 -- the text of an answer without a run: the usage line, a refusal's, that of a script that is accepted, or what is found of a journal
-abbrev pub Told : Option Command → Option (List ℕ) → Option (List ℕ) → List ℕ → Type 0
-Told None before after text = text ≡ usage
-Told (Some command) before after text = Refused command before after text ⊎ (((command ≡ Check) × Accepted before after × (text ≡ codes "ok\n")) ⊎ Found command before after text)
+abbrev pub ToldText : Option Command → Option (List ℕ) → Option (List ℕ) → List ℕ → Type 0
+ToldText None before after text = text ≡ usage
+ToldText (Some command) before after text = Refused command before after text ⊎ (((command ≡ Check) × Accepted before after × (text ≡ codes "ok\n")) ⊎ FindsWhole command before after text)
 
 -- What was read whole is such that this line is right, which was taken.
 abbrev pub Writes : (List ℕ → List ℕ → Type 0) → Option (List ℕ) → Option (List ℕ) → Option (List ℕ) → Option (List ℕ) → Type 0
@@ -245,12 +245,12 @@ pub record Partly (command : Option Command) (before after held taken : Option (
   pub text : List ℕ
   pub count : ℕ
   pub prefix : Appends held taken (take count text)
-  pub source : MatchOption journal (Told command before after text)
+  pub source : MatchOption journal (ToldText command before after text)
       (λ j. (c : Command) × (command ≡ Some c) × ((span : ClockSpan) × (clock ≡ Some span) × ((end : RunEnd) × Ran c span before after (events j) end × RunText (shows_journal c) (events j) end text)))
 
 -- with one worker, the clock told no answer in its span
 abbrev pub ToldNothing : Option Command → Option ClockSpan → Type 0
-ToldNothing asked clock = (command : Command) → asked ≡ Some command → workers_of command ≡ 1 → MatchOption clock ⊥ (λ span. WentOn [] span.before span.after)
+ToldNothing asked clock = (command : Command) → asked ≡ Some command → workers_of command ≡ 1 → MatchOption clock ⊥ (λ span. ToldWentOn [] span.before span.after)
 
 -- the count of a device's faults did not rise
 abbrev pub IsSteady : ℕ → ℕ → Type 0
@@ -281,16 +281,16 @@ HasScript Follow left = IsParts left
 HasScript Report left = IsParts left
 
 -- the statuses of an accepted script: those of a run's ends, that of a check, or those of what is found of a journal
-abbrev pub IsDone : Command → ℕ → Type 0
-IsDone (Run workers budget journal) status = (status ≡ 0) ⊎ (3 ≤ status × status ≤ 5)
-IsDone Check status = status ≡ 0
-IsDone (Load n workers) status = (status ≡ 0) ⊎ (3 ≤ status × status ≤ 5)
-IsDone Replay status = (status ≡ 0) ⊎ (status ≡ 10)
-IsDone Follow status = (status ≡ 0) ⊎ (status ≡ 10)
-IsDone Report status = (status ≡ 0) ⊎ (status ≡ 10)
+abbrev pub IsAcceptedStatus : Command → ℕ → Type 0
+IsAcceptedStatus (Run workers budget journal) status = (status ≡ 0) ⊎ (3 ≤ status × status ≤ 5)
+IsAcceptedStatus Check status = status ≡ 0
+IsAcceptedStatus (Load n workers) status = (status ≡ 0) ⊎ (3 ≤ status × status ≤ 5)
+IsAcceptedStatus Replay status = (status ≡ 0) ⊎ (status ≡ 10)
+IsAcceptedStatus Follow status = (status ≡ 0) ⊎ (status ≡ 10)
+IsAcceptedStatus Report status = (status ≡ 0) ⊎ (status ≡ 10)
 
 -- The status where no device failed: with other words than a command's it is 1, with a command's that of an accepted
 -- script, or 2, but not where it is told that there is such a script; or there was not the memory, and it is 8.
 abbrev pub IsComplete : Option Command → Option (List ℕ) → ℕ → Type 0
 IsComplete None left status = (status ≡ 1) ⊎ (status ≡ 8)
-IsComplete (Some command) left status = IsDone command status ⊎ (((status ≡ 2) × (HasScript command left → ⊥)) ⊎ (status ≡ 8))
+IsComplete (Some command) left status = IsAcceptedStatus command status ⊎ (((status ≡ 2) × (HasScript command left → ⊥)) ⊎ (status ≡ 8))

@@ -6,7 +6,7 @@ ghost use Rattle.ca_meaning.specs.Texts.{output};
 ghost use Rattle.ca_journal.specs.Events.{events};
 ghost use Rattle.ca_timers.specs.Causes.{Rose};
 ghost use Rattle.ca_run.specs.Inputs.{HasProgram};
-ghost use Rattle.ca_run.specs.Top.{error_line, judges, runs, span_between};
+ghost use Rattle.ca_run.specs.Top.{error_line, judges, runs_script, span_between};
 ghost use Rattle.ca_run.specs.Answers.{answer_text, line_of_end, refusal_line, IsFit, IsScripted, Judged, JudgedProgram, RunsNothing};
 ghost use Rattle.ca_run.specs.Stops.{clock_left};
 ghost use Rattle.ca_run.specs.declared.stop.Stop.TheVariants.{ClockFailed, SourceFailed};
@@ -89,9 +89,9 @@ pub fn judge_text<R: Threads + Wait + Sync, C: Clock + Drop + Send, G: Gate + Sy
     requires unjudged { judges command ≡ false }
     ensures judged { IfOk result (λ j. Judged command (span_between C.least C.readings clock j.1) input.now j.0) }
     ensures unasked { IfOk result (λ j. RunsNothing j.0 → j.1 ≡ clock) }
-    ensures idle { runs command ≡ false → clock_left result ≡ Some clock }
+    ensures idle { runs_script command ≡ false → clock_left result ≡ Some clock }
     ensures failed { (c : C) → result ≡ Err (ClockFailed c) → Rose (C.faults clock) (C.faults c) }
-    ensures ran { (c : C) → result ≡ Err (ClockFailed c) → (runs command ≡ true) × HasProgram input.now }
+    ensures ran { (c : C) → result ≡ Err (ClockFailed c) → (runs_script command ≡ true) × HasProgram input.now }
     ensures unbroken { (c : C) → result ≢ Err (SourceFailed c) }
 {
     match program_of(alloc, input) {
@@ -141,9 +141,9 @@ fn answer_of<R: Threads + Wait + Sync, C: Clock + Drop + Send, G: Gate + Sync>(
     requires unjudged { judges command ≡ false }
     ensures judged { IfOk result (λ j. JudgedProgram command (span_between C.least C.readings clock j.1) (program_view program.now) j.0) }
     ensures unasked { IfOk result (λ j. RunsNothing j.0 → j.1 ≡ clock) }
-    ensures idle { runs command ≡ false → clock_left result ≡ Some clock }
+    ensures idle { runs_script command ≡ false → clock_left result ≡ Some clock }
     ensures failed { (c : C) → result ≡ Err (ClockFailed c) → Rose (C.faults clock) (C.faults c) }
-    ensures ran { (c : C) → result ≡ Err (ClockFailed c) → runs command ≡ true }
+    ensures ran { (c : C) → result ≡ Err (ClockFailed c) → runs_script command ≡ true }
     ensures unbroken { (c : C) → result ≢ Err (SourceFailed c) }
 {
     let (workers, budget, shown) = match command {

@@ -3,7 +3,7 @@ ghost use Rattle.std.specs.Io.{ReadsAtMost};
 ghost use Rattle.std.specs.Io.KnownBytes.{ReadConsumes, WriteAppends};
 ghost use Rattle.ca_timers.specs.Causes.{HasCause, one_more};
 ghost use Rattle.ca_timers.specs.Readings.{Tells, StaysTold};
-ghost use Rattle.ca_run.specs.Failing.{device_of, listed_calls, calls_made, calls_failed, IsListed, CountsCall, CountsNothing, FailsAside};
+ghost use Rattle.ca_run.specs.Failing.{device_of, listed_calls, calls_made, calls_failed, IsListedCall, CountsCall, CountsNothing, FailsAside};
 
 use crate::device::{Failed, Sink, Source};
 use ca_timers::clock::Clock;
@@ -44,7 +44,7 @@ impl<'a, D> Failing<'a, D> {
 
     // Counts the call, and says whether it fails; a fault is counted too.
     fn fails(&mut self) -> bool
-        ensures listed { IsTrue result ↔ IsListed self.old }
+        ensures listed { IsTrue result ↔ IsListedCall self.old }
         ensures device { device_of self.new ≡ device_of self.old }
         ensures counted { CountsCall self.old self.new }
         ensures later { calls_failed self.old ≤ calls_failed self.new }
@@ -71,8 +71,8 @@ impl<'a, S: Source> Source for Failing<'a, S> {
         ensures bytes { ReadConsumes (S.left (device_of self.old)) (S.left (device_of self.new)) result into.new }
         ensures cause { HasCause (S.faults (device_of self.old) + calls_failed self.old) (S.faults (device_of self.new) + calls_failed self.new) result }
         ensures counted { CountsCall self.old self.new }
-        ensures listed { IsListed self.old → FailsAside self.old self.new result }
-        ensures unlisted { (IsListed self.old → ⊥) → (calls_failed self.new ≡ calls_failed self.old) × HasCause (S.faults (device_of self.old)) (S.faults (device_of self.new)) result }
+        ensures listed { IsListedCall self.old → FailsAside self.old self.new result }
+        ensures unlisted { (IsListedCall self.old → ⊥) → (calls_failed self.new ≡ calls_failed self.old) × HasCause (S.faults (device_of self.old)) (S.faults (device_of self.new)) result }
     {
         if self.fails() {
             return Err(Failed);
@@ -105,8 +105,8 @@ impl<'a, K: Sink> Sink for Failing<'a, K> {
         ensures bytes { WriteAppends (K.held (device_of self.old)) (K.held (device_of self.new)) result piece.now }
         ensures cause { HasCause (K.faults (device_of self.old) + calls_failed self.old) (K.faults (device_of self.new) + calls_failed self.new) result }
         ensures counted { CountsCall self.old self.new }
-        ensures listed { IsListed self.old → FailsAside self.old self.new result }
-        ensures unlisted { (IsListed self.old → ⊥) → (calls_failed self.new ≡ calls_failed self.old) × HasCause (K.faults (device_of self.old)) (K.faults (device_of self.new)) result }
+        ensures listed { IsListedCall self.old → FailsAside self.old self.new result }
+        ensures unlisted { (IsListedCall self.old → ⊥) → (calls_failed self.new ≡ calls_failed self.old) × HasCause (K.faults (device_of self.old)) (K.faults (device_of self.new)) result }
     {
         if self.fails() {
             return Err(Failed);
@@ -161,8 +161,8 @@ impl<'a, C: Clock> Clock for Failing<'a, C> {
         ensures readings { IfOk result (λ m. Tells (C.readings (device_of self.old)) (C.readings (device_of self.new)) m) }
         ensures silent { OnErr result (StaysTold (C.readings (device_of self.old)) (C.readings (device_of self.new))) }
         ensures counted { CountsCall self.old self.new }
-        ensures listed { IsListed self.old → FailsAside self.old self.new result }
-        ensures unlisted { (IsListed self.old → ⊥) → (calls_failed self.new ≡ calls_failed self.old) × HasCause (C.faults (device_of self.old)) (C.faults (device_of self.new)) result }
+        ensures listed { IsListedCall self.old → FailsAside self.old self.new result }
+        ensures unlisted { (IsListedCall self.old → ⊥) → (calls_failed self.new ≡ calls_failed self.old) × HasCause (C.faults (device_of self.old)) (C.faults (device_of self.new)) result }
     {
         if self.fails() {
             return Err(Failed);

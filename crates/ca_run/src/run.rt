@@ -13,7 +13,7 @@ ghost use Rattle.ca_timers.specs.Causes.{Rose};
 ghost use Rattle.ca_table.specs.Moments.{KeepsTime};
 ghost use Rattle.ca_pool.specs.PoolEnds.{IsSolo, end_view};
 ghost use Rattle.ca_pool.specs.declared.run_end.RunStop.TheVariants.{ClockFailed};
-ghost use Rattle.ca_run.specs.Answers.{end_of, line_of_end, main_fault};
+ghost use Rattle.ca_run.specs.Answers.{end_shown, line_of_end, main_fault};
 ghost use Rattle.ca_run.specs.Top.{EndLine};
 
 use ca_journal::journal::Journal;
@@ -84,8 +84,8 @@ fn fault_of(note: &Note) -> Option<(Fault, Place)>
 fn told(alloc: Global, journal: Journal, end: PoolEnd) -> Result<ScriptRun, OutOfMemory>
     requires end { (program : ProgramView) × (budget : ℕ) × HasEnd program budget (events journal) (end_view end) }
     ensures journal { IfOk result (λ run. run.journal ≡ journal) }
-    ensures end { IfOk result (λ run. end_of run.end ≡ end_view end) }
-    ensures line { IfOk result (λ run. EndLine (events run.journal) (end_of run.end) (line_of_end run.end)) }
+    ensures end { IfOk result (λ run. end_shown run.end ≡ end_view end) }
+    ensures line { IfOk result (λ run. EndLine (events run.journal) (end_shown run.end) (line_of_end run.end)) }
 {
     let end = match end {
         PoolEnd::Ended => ScriptEnd::Ended,
@@ -118,8 +118,8 @@ pub fn run_script<R: Threads + Wait + Sync, C: Clock + Drop + Send, G: Gate + Sy
     requires workers { (0 < workers) × (workers ≤ 16) }
     requires budget { 0 < budget }
     ensures legal { IfOk result (λ m. Legal (program_view program.now) (events m.0.journal)) }
-    ensures end { IfOk result (λ m. HasEnd (program_view program.now) budget (events m.0.journal) (end_of m.0.end)) }
-    ensures line { IfOk result (λ m. EndLine (events m.0.journal) (end_of m.0.end) (line_of_end m.0.end)) }
+    ensures end { IfOk result (λ m. HasEnd (program_view program.now) budget (events m.0.journal) (end_shown m.0.end)) }
+    ensures line { IfOk result (λ m. EndLine (events m.0.journal) (end_shown m.0.end) (line_of_end m.0.end)) }
     ensures moments { IfOk result (λ m. KeepsTime (events m.0.journal) (C.least clock) (C.readings clock) (C.readings m.1)) }
     ensures failed { (c : C) → result ≡ Err (ClockFailed c) → Rose (C.faults clock) (C.faults c) }
     ensures solo { IfOk result (λ m. workers ≡ 1 → IsSolo (program_view program.now) (events m.0.journal) (C.least clock) (C.readings clock) (C.readings m.1)) }

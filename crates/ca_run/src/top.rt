@@ -7,8 +7,8 @@ ghost use Rattle.ca_meaning.specs.Solo.{NoTimeouts};
 ghost use Rattle.ca_timers.specs.Causes.{Rose};
 ghost use Rattle.ca_words.specs.Words.{command_in};
 ghost use Rattle.ca_words.specs.declared.command.Command.TheVariants.{Check, Follow, Load, Replay, Report};
-ghost use Rattle.ca_run.specs.Findings.{finding_status, IsFollowed, IsRejected, IsReplayed, IsReported};
-ghost use Rattle.ca_run.specs.Top.{Accepted, ClockSpan, Completed, CompletedFor, IsComplete, IsLawful, NoneRose, ReadsScript, Refused, RunsScript, Partly, ToldNothing, JudgesJournal, Writes, judges, reads, runs, span_between, span_of, usage};
+ghost use Rattle.ca_run.specs.Findings.{finding_status, IsFollowedText, IsRejected, IsReplayed, IsReported};
+ghost use Rattle.ca_run.specs.Top.{Accepted, ClockSpan, Completed, CompletedFor, IsComplete, IsLawful, NoneRose, ReadsScript, Refused, RunsScript, Partly, ToldNothing, JudgesJournal, Writes, judges, reads_source, runs_script, span_between, span_of, usage};
 ghost use Rattle.ca_run.specs.Answers.{status_of, journal_of, AnswersTo, IsFit, RunsNothing};
 ghost use Rattle.ca_run.specs.Stops.{clock_left};
 ghost use Rattle.ca_run.specs.declared.answer.Answer.{Answer};
@@ -66,7 +66,7 @@ fn judge_source<R: Threads + Wait + Sync, S: Source, C: Clock + Drop + Send, G: 
     gate: &G,
 ) -> Result<(Answer, C), Stop<C>>
     requires fit { IsFit command }
-    requires read { reads command ≡ true }
+    requires read { reads_source command ≡ true }
     requires unjudged { judges command ≡ false }
     ensures answers { (j : Answer × C) → result ≡ Ok j → AnswersTo (Some command) (span_between C.least C.readings clock j.1) (S.left source.old) (S.left source.new) j.0 }
     ensures later { S.faults source.old ≤ S.faults source.new }
@@ -74,7 +74,7 @@ fn judge_source<R: Threads + Wait + Sync, S: Source, C: Clock + Drop + Send, G: 
     ensures failed { (c : C) → result ≡ Err (ClockFailed c) → Rose (C.faults clock) (C.faults c) }
     ensures ran { (c : C) → result ≡ Err (ClockFailed c) → RunsScript (Some command) (S.left source.old) (S.left source.new) }
     ensures unasked { (j : Answer × C) → result ≡ Ok j → RunsNothing j.0 → j.1 ≡ clock }
-    ensures idle { runs command ≡ false → clock_left result ≡ Some clock }
+    ensures idle { runs_script command ≡ false → clock_left result ≡ Some clock }
 {
     let input = match read_all(alloc, source, GREATEST_LENGTH) {
         Ok(input) => input,
@@ -150,7 +150,7 @@ fn judge<R: Threads + Wait + Sync, S: Source, C: Clock + Drop + Send, G: Gate + 
     gate: &G,
 ) -> Result<(Answer, C), Stop<C>>
     requires fit { (c : Command) → asked ≡ Some c → IsFit c }
-    ensures unread { ((c : Command) → asked ≡ Some c → reads c ≡ false) → source.new ≡ source.old }
+    ensures unread { ((c : Command) → asked ≡ Some c → reads_source c ≡ false) → source.new ≡ source.old }
     ensures admitted { asked ≡ None → result ≡ Ok (Answer.Usage, clock) }
     ensures answers { (j : Answer × C) → result ≡ Ok j → AnswersTo asked (span_between C.least C.readings clock j.1) (S.left source.old) (S.left source.new) j.0 }
     ensures later { S.faults source.old ≤ S.faults source.new }
@@ -158,7 +158,7 @@ fn judge<R: Threads + Wait + Sync, S: Source, C: Clock + Drop + Send, G: Gate + 
     ensures failed { (c : C) → result ≡ Err (ClockFailed c) → Rose (C.faults clock) (C.faults c) }
     ensures ran { (c : C) → result ≡ Err (ClockFailed c) → RunsScript asked (S.left source.old) (S.left source.new) }
     ensures unasked { (j : Answer × C) → result ≡ Ok j → RunsNothing j.0 → j.1 ≡ clock }
-    ensures idle { ((c : Command) → asked ≡ Some c → runs c ≡ false) → clock_left result ≡ Some clock }
+    ensures idle { ((c : Command) → asked ≡ Some c → runs_script c ≡ false) → clock_left result ≡ Some clock }
 {
     let Some(command) = asked else {
         return Ok((Answer::Usage, clock));
@@ -201,7 +201,7 @@ pub fn main_call<
     // body is ever cut. It ends with the main text's end, a fault of the main text, where nothing can go on, or at its
     // budget. The moments of its timeouts and ticks never fall, and each is an answer that the clock gave in this call, in
     // order, where the clock tells its answers; with one worker it is the run of the stated schedule over these answers.
-    ensures ended { (command : Command) → command_in (map string_bytes words.now) ≡ Some command → runs command ≡ true → result.status ≡ 0 → Completed command (S.left source.old) (S.left source.new) (K.held sink.old) (K.held sink.new) (span_of C.least C.readings clock result.clock) result.journal ended }
+    ensures ended { (command : Command) → command_in (map string_bytes words.now) ≡ Some command → runs_script command ≡ true → result.status ≡ 0 → Completed command (S.left source.old) (S.left source.new) (K.held sink.old) (K.held sink.new) (span_of C.least C.readings clock result.clock) result.journal ended }
     ensures faulted { result.status ≡ 3 → CompletedFor (command_in (map string_bytes words.now)) (S.left source.old) (S.left source.new) (K.held sink.old) (K.held sink.new) (span_of C.least C.readings clock result.clock) result.journal faulted }
     ensures stuck { result.status ≡ 4 → CompletedFor (command_in (map string_bytes words.now)) (S.left source.old) (S.left source.new) (K.held sink.old) (K.held sink.new) (span_of C.least C.readings clock result.clock) result.journal stuck }
     ensures limit { result.status ≡ 5 → CompletedFor (command_in (map string_bytes words.now)) (S.left source.old) (S.left source.new) (K.held sink.old) (K.held sink.new) (span_of C.least C.readings clock result.clock) result.journal limit }
@@ -215,15 +215,15 @@ pub fn main_call<
     ensures refused { result.status ≡ 2 → (command : Command) × (line : List ℕ) × (command_in (map string_bytes words.now) ≡ Some command) × Refused command (S.left source.old) (S.left source.new) line × Appends (K.held sink.old) (K.held sink.new) line }
     // What is found of a journal.
     ensures replayed { command_in (map string_bytes words.now) ≡ Some Replay → result.status ≡ 0 → Writes IsReplayed (S.left source.old) (S.left source.new) (K.held sink.old) (K.held sink.new) }
-    ensures followed { command_in (map string_bytes words.now) ≡ Some Follow → result.status ≡ 0 → Writes IsFollowed (S.left source.old) (S.left source.new) (K.held sink.old) (K.held sink.new) }
+    ensures followed { command_in (map string_bytes words.now) ≡ Some Follow → result.status ≡ 0 → Writes IsFollowedText (S.left source.old) (S.left source.new) (K.held sink.old) (K.held sink.new) }
     ensures reported { command_in (map string_bytes words.now) ≡ Some Report → result.status ≡ 0 → Writes IsReported (S.left source.old) (S.left source.new) (K.held sink.old) (K.held sink.new) }
     ensures rejected { result.status ≡ 10 → JudgesJournal (command_in (map string_bytes words.now)) × Writes IsRejected (S.left source.old) (S.left source.new) (K.held sink.old) (K.held sink.new) }
     ensures read { result.status ≡ 6 → ReadsScript (command_in (map string_bytes words.now)) × Rose (S.faults source.old) (S.faults source.new) }
-    ensures unread { (command : Command) → command_in (map string_bytes words.now) ≡ Some command → reads command ≡ false → source.new ≡ source.old }
+    ensures unread { (command : Command) → command_in (map string_bytes words.now) ≡ Some command → reads_source command ≡ false → source.new ≡ source.old }
     ensures write { result.status ≡ 7 → Rose (K.faults sink.old) (K.faults sink.new) }
     ensures partial { result.status ≡ 7 → Partly (command_in (map string_bytes words.now)) (S.left source.old) (S.left source.new) (K.held sink.old) (K.held sink.new) (span_of C.least C.readings clock result.clock) result.journal }
     ensures admitted { command_in (map string_bytes words.now) ≡ None → (source.new ≡ source.old) × ((result.status ≡ 1) ⊎ ((result.status ≡ 7) ⊎ (result.status ≡ 8))) }
-    ensures unasked { ((result.status ≡ 1) ⊎ ((result.status ≡ 2) ⊎ (result.status ≡ 6))) ⊎ ((c : Command) → command_in (map string_bytes words.now) ≡ Some c → runs c ≡ false) → result.clock ≡ Some clock }
+    ensures unasked { ((result.status ≡ 1) ⊎ ((result.status ≡ 2) ⊎ (result.status ≡ 6))) ⊎ ((c : Command) → command_in (map string_bytes words.now) ≡ Some c → runs_script c ≡ false) → result.clock ≡ Some clock }
     ensures unrun { result.status ≡ 7 → result.journal ≡ None → result.clock ≡ Some clock }
     ensures untimed { (j : Journal) → result.journal ≡ Some j → NoTimeouts (events j) → ToldNothing (command_in (map string_bytes words.now)) (span_of C.least C.readings clock result.clock) }
     ensures kept { result.clock ≡ None → result.status ≡ 8 }
@@ -235,7 +235,7 @@ pub fn main_call<
     // Where no device failed, an accepted script comes to its end, or there was not the memory: the clauses above say of each
     // end which it is and what was written.
     ensures complete { NoneRose (S.faults source.old) (S.faults source.new) (K.faults sink.old) (K.faults sink.new) (C.faults clock) (option_map C.faults result.clock) → IsComplete (command_in (map string_bytes words.now)) (S.left source.old) result.status }
-    ensures journal { IsSome result.journal → ((command : Command) × (command_in (map string_bytes words.now) ≡ Some command) × (runs command ≡ true)) × ((result.status ≡ 0) ⊎ ((3 ≤ result.status × result.status ≤ 5) ⊎ (result.status ≡ 7))) }
+    ensures journal { IsSome result.journal → ((command : Command) × (command_in (map string_bytes words.now) ≡ Some command) × (runs_script command ≡ true)) × ((result.status ≡ 0) ⊎ ((3 ≤ result.status × result.status ≤ 5) ⊎ (result.status ≡ 7))) }
 {
     journals_of_a_text_keep_the_laws();
     let Ok(asked) = asked(alloc, words) else {

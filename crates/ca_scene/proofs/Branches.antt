@@ -15,7 +15,7 @@ use Rattle.ca_scene.specs.Same.{same_branch, same_branches}
 use Rattle.ca_meaning.specs.Operands.{values_in}
 use Rattle.ca_meaning.specs.Choice.{branch_of, row, is_ready, any_ready}
 use Rattle.ca_meaning.specs.State.{State}
-use Rattle.ca_scene.specs.Admits.{ready_before, settling, settling_in}
+use Rattle.ca_scene.specs.Admits.{ready_before, settling_at, settling_in}
 
 pub branch_there : (vs : List Value) (k : ℕ) (d : Value) → k < length vs → Some (branch_of (view (get_or vs k d))) ≡ slice_get (map branch_of (values_in (trees vs))) k
 branch_there [] k d e = absurd (omega (arith, e))
@@ -69,7 +69,7 @@ just_one [] d c h = absurd (let k : 0 ≡ 1 = h in cc)
 just_one (b ∷ []) d c h = and_last (same_branch (branch_view b) c)
 just_one (b ∷ a ∷ bs) d c h = absurd (let k : suc (suc (length bs)) ≡ 1 = h in omega (arith, k))
 
-pub settling_there : (s : Scene) (scene : IsScene s) (p : ℕ) (r : Room) → room_at s p ≡ Some r → settling (scene_state s) p ≡ settle_row (room_channel r) (head (room_queue Take r)) (head (room_queue Put r))
+pub settling_there : (s : Scene) (scene : IsScene s) (p : ℕ) (r : Room) → room_at s p ≡ Some r → settling_at (scene_state s) p ≡ settle_row (room_channel r) (head (room_queue Take r)) (head (room_queue Put r))
 settling_there s scene p r e =
     ap (λ o. settling_in (option_map room_channel o) (front Take p (waits_in s.waits.entries)) (front Put p (waits_in s.waits.entries))) e
     ∙ ap₂ (λ (a b : Option Handler). settle_row (room_channel r) a b) (front_there s scene p Take r e) (front_there s scene p Put r e)

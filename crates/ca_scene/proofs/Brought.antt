@@ -14,14 +14,14 @@ use Rattle.ca_meaning.specs.State.{State, Task, Mode, running, waiting, over}
 use Rattle.ca_meaning.specs.Task.{body_at}
 use Rattle.ca_meaning.proofs.ValuesApart.{brings_apart}
 use Rattle.ca_meaning.specs.Refusal.{registering_gives}
-use Rattle.ca_registry.specs.Gives.{gives}
+use Rattle.ca_registry.specs.Gives.{gives_answer}
 use Rattle.ca_registry.specs.Mixes.{TogglesApart}
 use Rattle.ca_registry.specs.Needs.{keys_pass}
 use Rattle.ca_registry.specs.Publications.{PlacesItself}
 use Rattle.ca_scene.specs.Admits.{asked_by, asked_in, asks, op_of, registers, standing_of}
 use Rattle.ca_scene.specs.Registering.{OpApart}
 use Rattle.ca_scene.specs.Same.{same_items, same_name}
-use Rattle.ca_scene.specs.Standing.{Shown, shown, shown_op, shown_end, shown_fault, elsewhere}
+use Rattle.ca_scene.specs.Standing.{Shown, shown_at, shown_op, shown_end, shown_fault, elsewhere}
 use Rattle.ca_scene.proofs.Asked.{no_some, runs_of, stands_of}
 use Rattle.ca_scene.proofs.Sames.{items_true, same_name_true}
 
@@ -65,25 +65,25 @@ module _ (s : State) (t : ℕ) (h : Holds any s) where
     by (Some x) there k = mode x there x.mode k
 
   -- and of the one that it is shown to stand at
-  pub shown_apart : (w : WantView) → Some (shown_op w) ≡ option_map shown (standing_of (s.tasks t)) → OpApart w.op
+  pub shown_apart : (w : WantView) → Some (shown_op w) ≡ option_map shown_at (standing_of (s.tasks t)) → OpApart w.op
   shown_apart w e = by (standing_of (s.tasks t)) refl e where
-    at : (a : At) → standing_of (s.tasks t) ≡ Some a → shown_op w ≡ shown a → OpApart w.op
+    at : (a : At) → standing_of (s.tasks t) ≡ Some a → shown_op w ≡ shown_at a → OpApart w.op
     at (at_op v) is k = let r = runs_of s t (at_op v) is in subst (λ (u : WantView). OpApart u.op) (let j : v ≡ w = cc in j) (at_want r.0 v r.1.0 r.2)
     at local is k = absurd cc
     at (ended v) is k = absurd cc
     at (faulted f p) is k = absurd cc
     at nowhere is k = absurd cc
 
-    by : (o : Option At) → standing_of (s.tasks t) ≡ o → Some (shown_op w) ≡ option_map shown o → OpApart w.op
+    by : (o : Option At) → standing_of (s.tasks t) ≡ o → Some (shown_op w) ≡ option_map shown_at o → OpApart w.op
     by None is k = absurd cc
-    by (Some a) is k = at a is (let j : shown_op w ≡ shown a = cc in j)
+    by (Some a) is k = at a is (let j : shown_op w ≡ shown_at a = cc in j)
 
   -- of the operation at which it doesn't fault
   pub wanted_apart : (op : OpView) → asks s t ≡ Some op → OpApart op
   wanted_apart op e = let st = stands_of s t op e in brought st.0 op st.1.0 st.1.2
 
 -- the test of a Register, where the operation asks for it
-pub registered_so : (s : State) (t : ℕ) (name n : RegisterName) (args vs : Trees) (v : Tree) (b : Bool) → asks s t ≡ Some (registering n vs) → same_name name n ≡ true → same_items args vs ≡ true → gives v (registering_gives s n vs) ≡ b → registers name args (asks s t) && gives v (registering_gives s name args) ≡ b
+pub registered_so : (s : State) (t : ℕ) (name n : RegisterName) (args vs : Trees) (v : Tree) (b : Bool) → asks s t ≡ Some (registering n vs) → same_name name n ≡ true → same_items args vs ≡ true → gives_answer v (registering_gives s n vs) ≡ b → registers name args (asks s t) && gives_answer v (registering_gives s name args) ≡ b
 registered_so s t name n args vs v b e sn si g =
-    ap (λ (c : Bool). c && gives v (registering_gives s name args)) (ap (registers name args) e ∙ and_from (same_name name n) (same_items args vs) sn si)
-    ∙ ap₂ (λ (m : RegisterName) (us : Trees). gives v (registering_gives s m us)) (same_name_true name n sn) (items_true args vs si) ∙ g
+    ap (λ (c : Bool). c && gives_answer v (registering_gives s name args)) (ap (registers name args) e ∙ and_from (same_name name n) (same_items args vs) sn si)
+    ∙ ap₂ (λ (m : RegisterName) (us : Trees). gives_answer v (registering_gives s m us)) (same_name_true name n sn) (items_true args vs si) ∙ g

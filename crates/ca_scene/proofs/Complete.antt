@@ -20,21 +20,21 @@ use Rattle.ca_meaning.specs.Channel.{Channel}
 use Rattle.ca_meaning.specs.Wait.{Handler, side_of, port_of, front, owner_of, is_among}
 use Rattle.ca_meaning.specs.Row.{Row, not_ready, completes, meets, Settling, settles}
 use Rattle.ca_meaning.specs.Registry.{answers}
-use Rattle.ca_registry.specs.Gives.{gives}
+use Rattle.ca_registry.specs.Gives.{gives_answer}
 use Rattle.ca_meaning.specs.Task.{body_at}
 use Rattle.ca_meaning.specs.State.{State, Task, Tasks, Mode, running, waiting, due}
 use Rattle.ca_meaning.specs.TaskSteps.{IsMoment, moments}
 use Rattle.ca_meaning.specs.Choice.{branches_of, has_priority, default_of, parks, row, is_ready, any_ready, Picks}
-use Rattle.ca_meaning.specs.Going.{Stands, Goes, Wakes}
+use Rattle.ca_meaning.specs.Going.{RunsAtOperation, Goes, Wakes}
 use Rattle.ca_meaning.specs.Refusal.{fault_at}
 use Rattle.ca_meaning.specs.Steps.{Step}
 use Rattle.ca_scene.specs.Same.{same, same_side, same_branch, same_branches, same_numbers, same_number, same_fault, same_place, same_kind}
-use Rattle.ca_scene.specs.Admits.{asks, prints, closes, posts, makes, is_moment, is_reading, completes_with, meets_so, ready_before, may_pick, is_branch, does, meets_at, meets_by, is_waiting, waits_on, owner_waits, can_wake, is_new, parks_on, is_default, defaults_to, settling_in, settling, settles_so, seeds, spawns, registers, standing_of, is_ended, is_fault, faults_at, has_result, is_empty, admits}
+use Rattle.ca_scene.specs.Admits.{asks, prints, operation_closes, posts, operation_makes, is_moment, is_reading, completes_with, meets_so, ready_before, may_pick, is_branch, completes_branch, meets_at, meets_by, is_waiting, waits_on, owner_waits, can_wake, is_new, parks_on, is_default, defaults_to, settling_in, settling_at, settles_so, seeds, spawns, registers, standing_of, is_ended, is_fault, faults_at, has_result, has_none, admits}
 use Rattle.ca_scene.proofs.Sames.{never, same_from, same_self, same_items_from, same_side_itself, same_branch_itself, same_branches_itself, same_numbers_itself, same_number_itself, same_what_itself, same_fault_itself, same_place_itself, same_name_itself, same_kind_itself}
 use Rattle.ca_scene.proofs.Asked.{asks_of, standing_is}
 
 -- a test of what the task asks for
-tested : (s : State) (t : ℕ) (op : OpView) (x : Task) (f : Option OpView → Bool) → Stands s t op x → f (Some op) ≡ true → f (asks s t) ≡ true
+tested : (s : State) (t : ℕ) (op : OpView) (x : Task) (f : Option OpView → Bool) → RunsAtOperation s t op x → f (Some op) ≡ true → f (asks s t) ≡ true
 tested s t op x f st e = ap f (asks_of s t op x st) ∙ e
 
 none_there : {A : Type 0} (o : Option A) → o ≡ None → not (is_some o) ≡ true
@@ -100,18 +100,18 @@ wakes_other program s t w p q x a v tasks woken m at g k = by (owner_of w s.wait
   by None k = refl
   by (Some u) (y, uy, n, h) = there u y n (eqb t u) refl (ap (λ (z : Tasks). z u) (sym g.2) ∙ uy)
 
-not_empty : (ns : List ℕ) → ns ≢ [] → not (is_empty ns) ≡ true
+not_empty : (ns : List ℕ) → ns ≢ [] → not (has_none ns) ≡ true
 not_empty [] f = absurd (f refl)
 not_empty (n ∷ ns) f = refl
 
 -- what a step allows is admitted
 pub complete : (program : ProgramView) (s s2 : State) (e : EventView) → Step program s e s2 → admits s e ≡ true
 complete program s s2 (made t p what m) x =
-    both (makes what (asks s t)) _ (tested s t (making what) x.0 (makes what) x.2 (same_what_itself what))
+    both (operation_makes what (asks s t)) _ (tested s t (making what) x.0 (operation_makes what) x.2 (same_what_itself what))
     (both (not (is_some (s.channels p))) _ (none_there (s.channels p) x.3)
     (both (not (is_some (s.registries p))) (is_moment s.now what m) (none_there (s.registries p) x.4) (moment_shown s.now what m x.5)))
 complete program s s2 (done t k b a) x =
-    tested s t x.1 x.0 (does s k b a) x.4
+    tested s t x.1 x.0 (completes_branch s k b a) x.4
     (both (is_branch b (slice_get (branches_of x.1) k)) _ (ap (is_branch b) x.5.0 ∙ same_branch_itself b)
     (both (may_pick s x.1 k) (completes_with a (row s b)) (picks_may s x.1 k b x.5) (ap (completes_with a) x.6 ∙ same_self a)))
 complete program s s2 (met t k side p v w o) x =
@@ -134,21 +134,21 @@ complete program s s2 (posted t w p v) x =
     both (posts p v (asks s t)) _ (tested s t (posting (port p) v) x.0 (posts p v) x.2 (both (eqb p p) (same v v) (eq-eqb p p refl) (same_self v)))
     (both (not (any_ready s (put_of p v ∷ []))) (is_new s w) (off (any_ready s (put_of p v ∷ [])) x.3) (off (is_among w s.used) x.4))
 complete program s s2 (settled w k side p v) x =
-    both (settles_so w k side v (settling s p)) (can_wake s w)
+    both (settles_so w k side v (settling_at s p)) (can_wake s w)
     (ap (λ c. settles_so w k side v (settling_in c (front Take p s.waits) (front Put p s.waits))) x.4 ∙ ap (settles_so w k side v) x.5
     ∙ both (same_side side side) _ (same_side_itself side) (both (same v v) _ (same_self v) (both (eqb x.2.wait w) (eqb x.2.branch k) (eq-eqb x.2.wait w x.6) (eq-eqb x.2.branch k x.7))))
     (wakes_can program s w p _ x.3 x.8)
 complete program s s2 (defaulted t v) x =
     tested s t x.1 x.0 (defaults_to s v) x.3
     (both (is_default v (default_of x.1)) (not (any_ready s (branches_of x.1))) (ap (is_default v) x.4 ∙ same_self v) (off (any_ready s (branches_of x.1)) x.5))
-complete program s s2 (closed t p) x = tested s t (closing (port p)) x.0 (closes p) x.2 (eq-eqb p p refl)
+complete program s s2 (closed t p) x = tested s t (closing (port p)) x.0 (operation_closes p) x.2 (eq-eqb p p refl)
 complete program s s2 (registered t name args v) x =
     both (registers name args (asks s t)) _ (tested s t (registering name args) x.0 (registers name args) x.3 (both _ _ (same_name_itself name) (same_items_from args args refl)))
-    (ap (gives v) x.4 ∙ same_self v)
+    (ap (gives_answer v) x.4 ∙ same_self v)
 complete program s s2 (printed t line) x = tested s t (printing line) x.0 (prints line) x.2 ((bytes_eq-Decides line line).1 refl)
 complete program s s2 (ticked m ports) x =
     both (nat_le s.now m) _ (le-leb s.now m x.0) (both (nat_lt m moments) _ (lt-ltb m moments x.1)
-    (both (same_numbers (due m s.deadlines) ports) (not (is_empty ports)) (ap (λ z. same_numbers z ports) x.2 ∙ same_numbers_itself ports) (not_empty ports x.3)))
+    (both (same_numbers (due m s.deadlines) ports) (not (has_none ports)) (ap (λ z. same_numbers z ports) x.2 ∙ same_numbers_itself ports) (not_empty ports x.3)))
 complete program s s2 (is_over t Ended) x = ap is_ended (standing_is s t x.0 x.2) ∙ ap (λ a. is_ended (Some a)) x.3
 complete program s s2 (is_over t (Faulted f p r)) x =
     both (faults_at s f p (standing_of (s.tasks t))) _ (ap (faults_at s f p) (standing_is s t x.0 x.1) ∙ ap (is_fault f p) x.2 ∙ both (same_fault f f) (same_place p p) (same_fault_itself f) (same_place_itself p))

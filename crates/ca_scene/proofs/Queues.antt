@@ -12,9 +12,9 @@ use Rattle.ca_meaning.specs.Row.{Row, not_ready, row_at, put_row, take_row}
 use Rattle.ca_meaning.specs.Choice.{row, is_ready}
 use Rattle.ca_scene.specs.declared.room.Room.{Room}
 use Rattle.ca_scene.specs.declared.scene.Scene.{Scene}
-use Rattle.ca_scene.specs.Scene.{first_of, firsts, queues_at, room_queue, room_channel, room_at, waits_in, scene_state, IsQueued, IsScene}
+use Rattle.ca_scene.specs.Scene.{first_handlers, firsts, queues_at, room_queue, room_channel, room_at, waits_in, scene_state, IsQueued, IsScene}
 
-head_first : (hs q r : List Handler) → head q ≡ head r → head (first_of hs ++ q) ≡ head (hs ++ r)
+head_first : (hs q r : List Handler) → head q ≡ head r → head (first_handlers hs ++ q) ≡ head (hs ++ r)
 head_first [] q r e = e
 head_first (h ∷ hs) q r e = refl
 
@@ -22,11 +22,11 @@ pub head_firsts : (side : Side) (p : ℕ) (ws : List Wait) → head (firsts side
 head_firsts side p [] = refl
 head_firsts side p (x ∷ xs) = head_first (handlers side p x.number 0 x.branches) (firsts side p xs) (queue side p xs) (head_firsts side p xs)
 
-counted : (side : Side) (p w k : ℕ) (bs : List BranchView) (n : ℕ) → length (first_of (handlers side p w k bs)) + n ≡ cond (joins side p bs) (suc n) n
+counted : (side : Side) (p w k : ℕ) (bs : List BranchView) (n : ℕ) → length (first_handlers (handlers side p w k bs)) + n ≡ cond (joins side p bs) (suc n) n
 counted side p w k [] n = omega arith
 counted side p w k (b ∷ bs) n = by (is_on side p b) (counted side p w (suc k) bs n) where
-  by : (t : Bool) → length (first_of (handlers side p w (suc k) bs)) + n ≡ cond (joins side p bs) (suc n) n
-      → length (first_of (cond t (record { wait = w; branch = k; value = brought b } ∷ handlers side p w (suc k) bs) (handlers side p w (suc k) bs))) + n ≡ cond (cond t true (joins side p bs)) (suc n) n
+  by : (t : Bool) → length (first_handlers (handlers side p w (suc k) bs)) + n ≡ cond (joins side p bs) (suc n) n
+      → length (first_handlers (cond t (record { wait = w; branch = k; value = brought b } ∷ handlers side p w (suc k) bs) (handlers side p w (suc k) bs))) + n ≡ cond (cond t true (joins side p bs)) (suc n) n
   by true e = omega arith
   by false e = e
 
@@ -38,7 +38,7 @@ length_append (x ∷ xs) ys = let e : length (xs ++ ys) ≡ length xs + length y
 pub length_firsts : (side : Side) (p : ℕ) (ws : List Wait) → length (firsts side p ws) ≡ pending side p ws
 length_firsts side p [] = refl
 length_firsts side p (x ∷ xs) =
-    length_append (first_of (handlers side p x.number 0 x.branches)) (firsts side p xs)
+    length_append (first_handlers (handlers side p x.number 0 x.branches)) (firsts side p xs)
     ∙ counted side p x.number 0 x.branches (length (firsts side p xs))
     ∙ ap (λ n. cond (joins side p x.branches) (suc n) n) (length_firsts side p xs)
 
@@ -74,10 +74,10 @@ filter_first t (h ∷ hs) f = ap (λ c. cond c (h ∷ filter t hs) (filter t hs)
 
 pub firsts_append : (side : Side) (p : ℕ) (xs ys : List Wait) → firsts side p (xs ++ ys) ≡ firsts side p xs ++ firsts side p ys
 firsts_append side p [] ys = refl
-firsts_append side p (x ∷ xs) ys = ap (λ l. first_of (handlers side p x.number 0 x.branches) ++ l) (firsts_append side p xs ys) ∙ sym (append_assoc (first_of (handlers side p x.number 0 x.branches)) (firsts side p xs) (firsts side p ys))
+firsts_append side p (x ∷ xs) ys = ap (λ l. first_handlers (handlers side p x.number 0 x.branches) ++ l) (firsts_append side p xs ys) ∙ sym (append_assoc (first_handlers (handlers side p x.number 0 x.branches)) (firsts side p xs) (firsts side p ys))
 
-pub firsts_joined : (side : Side) (p : ℕ) (ws : List Wait) (x : Wait) → firsts side p (ws ++ x ∷ []) ≡ firsts side p ws ++ first_of (handlers side p x.number 0 x.branches)
-firsts_joined side p ws x = firsts_append side p ws (x ∷ []) ∙ ap (λ l. firsts side p ws ++ l) (append-nil (first_of (handlers side p x.number 0 x.branches)))
+pub firsts_joined : (side : Side) (p : ℕ) (ws : List Wait) (x : Wait) → firsts side p (ws ++ x ∷ []) ≡ firsts side p ws ++ first_handlers (handlers side p x.number 0 x.branches)
+firsts_joined side p ws x = firsts_append side p ws (x ∷ []) ∙ ap (λ l. firsts side p ws ++ l) (append-nil (first_handlers (handlers side p x.number 0 x.branches)))
 
 module _ (s : Scene) (scene : IsScene s) (p : ℕ) where
   pub crowd_there : (side : Side) (r : Room) → room_at s p ≡ Some r → nat_le 1024 (length (room_queue side r)) ≡ nat_le 1024 (pending side p (scene_state s).waits)
@@ -94,7 +94,7 @@ of_one : (w : ℕ) (h : Handler) (b : Bool) → eqb w h.wait ≡ b → filter (o
 of_one w h true e = ap (λ c. cond (not c) (h ∷ []) []) e
 of_one w h false e = ap (λ c. cond (not c) (h ∷ []) []) e
 
-of_first : (w n : ℕ) (hs : List Handler) (b : Bool) → eqb w n ≡ b → ((h : Handler) → head hs ≡ Some h → h.wait ≡ n) → filter (others w) (first_of hs) ≡ cond b [] (first_of hs)
+of_first : (w n : ℕ) (hs : List Handler) (b : Bool) → eqb w n ≡ b → ((h : Handler) → head hs ≡ Some h → h.wait ≡ n) → filter (others w) (first_handlers hs) ≡ cond b [] (first_handlers hs)
 of_first w n [] true e f = refl
 of_first w n [] false e f = refl
 of_first w n (h ∷ hs) b e f = of_one w h b (ap (eqb w) (f h refl) ∙ e)
@@ -110,14 +110,14 @@ head_number side p n k (a ∷ bs) h e = by (is_on side p a) e (λ f. head_number
   by false e more = more e
 
 -- of one wait's first handler: all or nothing
-pub of_wait : (side : Side) (p n k : ℕ) (bs : List BranchView) (w : ℕ) (b : Bool) → eqb w n ≡ b → filter (others w) (first_of (handlers side p n k bs)) ≡ cond b [] (first_of (handlers side p n k bs))
+pub of_wait : (side : Side) (p n k : ℕ) (bs : List BranchView) (w : ℕ) (b : Bool) → eqb w n ≡ b → filter (others w) (first_handlers (handlers side p n k bs)) ≡ cond b [] (first_handlers (handlers side p n k bs))
 of_wait side p n k bs w b e = of_first w n (handlers side p n k bs) b e (head_number side p n k bs)
 
 -- the queue of the waits without w is the queue without w's handler
 pub firsts_without : (side : Side) (p w : ℕ) (ws : List Wait) → firsts side p (without w ws) ≡ filter (others w) (firsts side p ws)
 firsts_without side p w [] = refl
-firsts_without side p w (x ∷ xs) = by (eqb w x.number) refl (firsts_without side p w xs) ∙ sym (filter-append (others w) (first_of (handlers side p x.number 0 x.branches)) (firsts side p xs)) where
+firsts_without side p w (x ∷ xs) = by (eqb w x.number) refl (firsts_without side p w xs) ∙ sym (filter-append (others w) (first_handlers (handlers side p x.number 0 x.branches)) (firsts side p xs)) where
   by : (b : Bool) → eqb w x.number ≡ b → firsts side p (without w xs) ≡ filter (others w) (firsts side p xs)
-      → firsts side p (cond (not b) (x ∷ without w xs) (without w xs)) ≡ filter (others w) (first_of (handlers side p x.number 0 x.branches)) ++ filter (others w) (firsts side p xs)
+      → firsts side p (cond (not b) (x ∷ without w xs) (without w xs)) ≡ filter (others w) (first_handlers (handlers side p x.number 0 x.branches)) ++ filter (others w) (firsts side p xs)
   by true e ih = ih ∙ ap (λ l. l ++ filter (others w) (firsts side p xs)) (sym (of_wait side p x.number 0 x.branches w true e))
-  by false e ih = ap (λ l. first_of (handlers side p x.number 0 x.branches) ++ l) ih ∙ ap (λ l. l ++ filter (others w) (firsts side p xs)) (sym (of_wait side p x.number 0 x.branches w false e))
+  by false e ih = ap (λ l. first_handlers (handlers side p x.number 0 x.branches) ++ l) ih ∙ ap (λ l. l ++ filter (others w) (firsts side p xs)) (sym (of_wait side p x.number 0 x.branches w false e))

@@ -18,18 +18,18 @@ use Rattle.ca_meaning.specs.Channel.{Channel, channel_made}
 use Rattle.ca_meaning.specs.Wait.{Handler, side_of, port_of, front, without, owner_of, told, is_among}
 use Rattle.ca_meaning.specs.Row.{Row, not_ready, completes, meets, Settling, unsettled, settles, settle_row}
 use Rattle.ca_meaning.specs.Registry.{Registry, Registered, answers, refuses}
-use Rattle.ca_registry.specs.Gives.{gives}
-use Rattle.ca_meaning.specs.Task.{TaskBody, body_at, new_task, reply}
+use Rattle.ca_registry.specs.Gives.{gives_answer}
+use Rattle.ca_meaning.specs.Task.{TaskBody, body_at, new_task, body_reply}
 use Rattle.ca_meaning.specs.State.{State, Task, Tasks, Mode, running, waiting, over, runs, due, open_after, shut_at, shut_all, shut_result}
 use Rattle.ca_meaning.specs.TaskSteps.{IsMoment, moments, kind_of, result_of, with_deadline}
 use Rattle.ca_meaning.specs.Choice.{branches_of, has_priority, default_of, parks, row, is_ready, any_ready, NoneReady, Picks}
-use Rattle.ca_meaning.specs.Going.{Runs, Stands, Goes, Wakes}
+use Rattle.ca_meaning.specs.Going.{Runs, RunsAtOperation, Goes, Wakes}
 use Rattle.ca_meaning.specs.ChannelSteps.{other_side, with_default}
 use Rattle.ca_meaning.specs.Refusal.{fault_at, registering_gives}
 use Rattle.ca_meaning.specs.Steps.{Step}
 use Rattle.ca_meaning.proofs.Possible.{body_rests, goes_there, waiters_kept}
 use Rattle.ca_scene.specs.Same.{same, same_side, same_branch, same_branches, same_numbers, same_number, same_fault, same_place, same_kind}
-use Rattle.ca_scene.specs.Admits.{asks, prints, closes, posts, makes, is_moment, is_reading, completes_with, meets_so, ready_before, may_pick, is_branch, does, meets_at, meets_by, is_waiting, waits_on, owner_waits, can_wake, is_new, parks_on, is_default, defaults_to, settling_in, settling, settles_so, seeds, spawns, registers, standing_of, is_ended, is_fault, faults_at, has_result, is_empty, admits}
+use Rattle.ca_scene.specs.Admits.{asks, prints, operation_closes, posts, operation_makes, is_moment, is_reading, completes_with, meets_so, ready_before, may_pick, is_branch, completes_branch, meets_at, meets_by, is_waiting, waits_on, owner_waits, can_wake, is_new, parks_on, is_default, defaults_to, settling_in, settling_at, settles_so, seeds, spawns, registers, standing_of, is_ended, is_fault, faults_at, has_result, has_none, admits}
 use Rattle.ca_scene.specs.Admitted.{Woken, Admitted}
 use Rattle.ca_scene.proofs.Sames.{never, same_true, same_side_true, same_branch_true, same_branches_true, same_numbers_true, same_number_true, same_fault_true, same_place_true, same_kind_true}
 use Rattle.ca_scene.proofs.Asked.{no_some, stands_of, runs_of, prints_is, closes_is, posts_is, makes_is, registers_is, spawns_is, ended_is}
@@ -119,7 +119,7 @@ default_is : (v : Tree) (o : Option Tree) → is_default v o ≡ true → o ≡ 
 default_is v None e = never e
 default_is v (Some u) e = ap (λ (z : Tree). Some z) (sym (same_true v u e))
 
-answers_of : (v : Tree) (r : Registered) → gives v r ≡ true → (q : Registry) × (r ≡ answers v q)
+answers_of : (v : Tree) (r : Registered) → gives_answer v r ≡ true → (q : Registry) × (r ≡ answers v q)
 answers_of v (answers u q) e = (q, ap (λ z. answers z q) (sym (same_true v u e)))
 answers_of v (refuses f) e = never e
 
@@ -130,7 +130,7 @@ fault_is f p (Some g) e = let k = parts (same_fault f g.0) (same_place p g.1) e 
 abbrev SettlesSo : State → ℕ → ℕ → Side → ℕ → Tree → Type 0
 SettlesSo s w k side p v = (c after : Channel) × (h : Handler) × (s.channels p ≡ Some c) × (settle_row c (front Take p s.waits) (front Put p s.waits) ≡ settles side h v after) × (h.wait ≡ w) × (h.branch ≡ k)
 
-settles_of : (s : State) (w k : ℕ) (side : Side) (p : ℕ) (v : Tree) → settles_so w k side v (settling s p) ≡ true → SettlesSo s w k side p v
+settles_of : (s : State) (w k : ℕ) (side : Side) (p : ℕ) (v : Tree) → settles_so w k side v (settling_at s p) ≡ true → SettlesSo s w k side p v
 settles_of s w k side p v e = by (s.channels p) refl e where
   row_is : (c : Channel) → s.channels p ≡ Some c → (r : Settling) → settle_row c (front Take p s.waits) (front Put p s.waits) ≡ r → settles_so w k side v r ≡ true → SettlesSo s w k side p v
   row_is c at unsettled r e = never e
@@ -144,7 +144,7 @@ settles_of s w k side p v e = by (s.channels p) refl e where
   by None at e = never e
   by (Some c) at e = row_is c at (settle_row c (front Take p s.waits) (front Put p s.waits)) refl e
 
-filled : (ns : List ℕ) → not (is_empty ns) ≡ true → ns ≢ []
+filled : (ns : List ℕ) → not (has_none ns) ≡ true → ns ≢ []
 filled [] e = never e
 filled (n ∷ ns) e = λ k. cc
 
@@ -167,7 +167,7 @@ meeting s k side p v w o op e = let m = parts (may_pick s op k) (meets_at s side
 
 pub admitted : (s : State) (e : EventView) → admits s e ≡ true → Admitted s e
 admitted s (made t p what m) e =
-    let a = parts (makes what (asks s t)) _ e in
+    let a = parts (operation_makes what (asks s t)) _ e in
     let b = parts (not (is_some (s.channels p))) _ a.1 in
     let c = parts (not (is_some (s.registries p))) (is_moment s.now what m) b.1 in
     let st = stands_of s t (making what) (makes_is what (asks s t) a.0) in
@@ -179,7 +179,7 @@ admitted s (spawned t u kind result) e =
     let st = stands_of s t (spawning b.0) b.1 in
     (st.0, b.0, st.1, none_of (s.tasks u) a.1, same_kind_true (kind_of b.0) kind c.0, same_number_true (result_of b.0) result c.1)
 admitted s (done t k b a) e =
-    let o = asked s t (does s k b a) refl e in
+    let o = asked s t (completes_branch s k b a) refl e in
     let st = stands_of s t o.0 o.1 in
     let x = parts (is_branch b (slice_get (branches_of o.0) k)) _ o.2 in
     let y = parts (may_pick s o.0 k) (completes_with a (row s b)) x.1 in
@@ -206,7 +206,7 @@ admitted s (posted t w p v) e =
     let st = stands_of s t (posting (port p) v) (posts_is p v (asks s t) a.0) in
     (st.0, st.1, isnt (any_ready s (put_of p v ∷ [])) b.0, isnt (is_among w s.used) b.1)
 admitted s (settled w k side p v) e =
-    let a = parts (settles_so w k side v (settling s p)) (can_wake s w) e in
+    let a = parts (settles_so w k side v (settling_at s p)) (can_wake s w) e in
     let b = settles_of s w k side p v a.0 in
     (b.0, b.1, b.2, b.3, b.4, b.5, b.6, woken_of s w a.1)
 admitted s (defaulted t v) e =
@@ -224,7 +224,7 @@ admitted s (printed t line) e = stands_of s t (printing line) (prints_is line (a
 admitted s (ticked m ports) e =
     let a = parts (nat_le s.now m) _ e in
     let b = parts (nat_lt m moments) _ a.1 in
-    let c = parts (same_numbers (due m s.deadlines) ports) (not (is_empty ports)) b.1 in
+    let c = parts (same_numbers (due m s.deadlines) ports) (not (has_none ports)) b.1 in
     (leb-true s.now m a.0, ltb-true m moments b.0, same_numbers_true (due m s.deadlines) ports c.0, filled ports c.1)
 admitted s (is_over t Ended) e =
     let a = ended_is (standing_of (s.tasks t)) e in
@@ -242,7 +242,7 @@ admitted s (is_over t (Faulted f p r)) e =
 -- the tasks once the owner of the wait, if it has one, has its answer
 wakes : (program : ProgramView) (s : State) (tasks : Tasks) (w p : ℕ) (v : Tree) → ((u w : ℕ) (y : Task) → s.tasks u ≡ Some y → y.mode ≡ waiting w → tasks u ≡ Some y) → (o : Option ℕ) → Woken s w o → (after : Tasks) × Wakes program o tasks w p v after
 wakes program s tasks w p v kept None k = (tasks, refl)
-wakes program s tasks w p v kept (Some u) k = let g = goes_there program tasks u k.0 (reply k.0.body p v) in (g.0, (k.0, kept u w k.0 k.1 k.2, k.2, g.1))
+wakes program s tasks w p v kept (Some u) k = let g = goes_there program tasks u k.0 (body_reply k.0.body p v) in (g.0, (k.0, kept u w k.0 k.1 k.2, k.2, g.1))
 
 -- what is admitted is a step
 pub step_there : (program : ProgramView) (s : State) (e : EventView) → Admitted s e → (s2 : State) × Step program s e s2
@@ -251,9 +251,9 @@ step_there program s (spawned t u kind result) x =
     let g = goes_there program s.tasks t x.0 nil in
     let b = body_rests program (new_task program x.1) in
     (_, (x.0, x.1, g.0, b.0, x.2, x.3, x.4, x.5, g.1, b.1, refl))
-step_there program s (done t k b a) x = let g = goes_there program s.tasks t x.0 (reply x.0.body (port_of b) a) in (_, (x.0, x.1, g.0, x.2, x.3, x.4, x.5, g.1, refl))
+step_there program s (done t k b a) x = let g = goes_there program s.tasks t x.0 (body_reply x.0.body (port_of b) a) in (_, (x.0, x.1, g.0, x.2, x.3, x.4, x.5, g.1, refl))
 step_there program s (met t k side p v w o) x =
-    let g = goes_there program s.tasks t x.0 (reply x.0.body p (told side v)) in
+    let g = goes_there program s.tasks t x.0 (body_reply x.0.body p (told side v)) in
     let n = wakes program s g.0 w p (told (other_side side) v) (λ u i y is m. ap (λ (z : Tasks). z u) g.1.2 ∙ waiters_kept s t x.0 (runs x.0.result g.1.0) x.4.0 x.4.1 u i y is m) (owner_of w s.waits) x.11 in
     (_, (x.0, x.1, x.2, x.3, g.0, n.0, x.4, x.5, x.6, x.7, x.8, x.9, x.10, g.1, n.1, refl))
 step_there program s (parked t w bs) x = (_, (x.0, x.1, x.2, x.3, x.4, x.5, x.6, x.7, refl))

@@ -19,7 +19,7 @@ use Rattle.ca_meaning.specs.Row.{Row, not_ready, completes, meets, Settling, uns
 use Rattle.ca_meaning.specs.Task.{TaskBody, body_at}
 use Rattle.ca_meaning.specs.State.{State, Task, Mode, running, waiting, over, due}
 use Rattle.ca_meaning.specs.TaskSteps.{moments, kind_of, result_of}
-use Rattle.ca_registry.specs.Gives.{gives}
+use Rattle.ca_registry.specs.Gives.{gives_answer}
 use Rattle.ca_meaning.specs.Choice.{branches_of, has_priority, default_of, parks, row, is_ready, any_ready}
 use Rattle.ca_meaning.specs.Refusal.{refusal, fault_at, registering_gives}
 use Rattle.ca_scene.specs.Same.{same, same_side, same_branch, same_branches, same_numbers, same_number, same_what, same_items, same_fault, same_place, same_name, same_kind}
@@ -38,13 +38,13 @@ abbrev pub asked_by : Option Task → Option OpView
 asked_by None = None
 asked_by (Some x) = asked_in x.mode x.body
 
-abbrev pub unless : Option Fault → OpView → Option OpView
-unless None op = Some op
-unless (Some f) op = None
+abbrev pub unless_fault : Option Fault → OpView → Option OpView
+unless_fault None op = Some op
+unless_fault (Some f) op = None
 
 abbrev pub not_refused : State → Option OpView → Option OpView
 not_refused s None = None
-not_refused s (Some op) = unless (refusal s op) op
+not_refused s (Some op) = unless_fault (refusal s op) op
 
 abbrev pub asks : State → ℕ → Option OpView
 asks s t = not_refused s (asked_by (s.tasks t))
@@ -54,21 +54,21 @@ abbrev pub prints : List ℕ → Option OpView → Bool
 prints line (Some (printing l)) = bytes_eq line l
 prints line o = false
 
-abbrev pub is_port : ℕ → Tree → Bool
-is_port p (port q) = eqb p q
-is_port p v = false
+abbrev pub is_port_value : ℕ → Tree → Bool
+is_port_value p (port q) = eqb p q
+is_port_value p v = false
 
-abbrev pub closes : ℕ → Option OpView → Bool
-closes p (Some (closing c)) = is_port p c
-closes p o = false
+abbrev pub operation_closes : ℕ → Option OpView → Bool
+operation_closes p (Some (closing c)) = is_port_value p c
+operation_closes p o = false
 
 abbrev pub posts : ℕ → Tree → Option OpView → Bool
-posts p v (Some (posting c u)) = is_port p c && same v u
+posts p v (Some (posting c u)) = is_port_value p c && same v u
 posts p v o = false
 
-abbrev pub makes : WhatView → Option OpView → Bool
-makes what (Some (making w)) = same_what what w
-makes what o = false
+abbrev pub operation_makes : WhatView → Option OpView → Bool
+operation_makes what (Some (making w)) = same_what what w
+operation_makes what o = false
 
 -- a timeout's Make shows a reading of the clock, the others none
 abbrev pub is_reading : ℕ → Option ℕ → Bool
@@ -110,9 +110,9 @@ abbrev pub is_branch : BranchView → Option BranchView → Bool
 is_branch b None = false
 is_branch b (Some c) = same_branch b c
 
-abbrev pub does : State → ℕ → BranchView → Tree → Option OpView → Bool
-does s k b a None = false
-does s k b a (Some op) = is_branch b (slice_get (branches_of op) k) && (may_pick s op k && completes_with a (row s b))
+abbrev pub completes_branch : State → ℕ → BranchView → Tree → Option OpView → Bool
+completes_branch s k b a None = false
+completes_branch s k b a (Some op) = is_branch b (slice_get (branches_of op) k) && (may_pick s op k && completes_with a (row s b))
 
 abbrev pub meets_at : State → Side → ℕ → Tree → ℕ → ℕ → Option BranchView → Bool
 meets_at s side p v w o None = false
@@ -159,8 +159,8 @@ abbrev pub settling_in : Option Channel → Option Handler → Option Handler �
 settling_in None taker putter = unsettled
 settling_in (Some c) taker putter = settle_row c taker putter
 
-abbrev pub settling : State → ℕ → Settling
-settling s p = settling_in (s.channels p) (front Take p s.waits) (front Put p s.waits)
+abbrev pub settling_at : State → ℕ → Settling
+settling_at s p = settling_in (s.channels p) (front Take p s.waits) (front Put p s.waits)
 
 abbrev pub settles_so : ℕ → ℕ → Side → Tree → Settling → Bool
 settles_so w k side v unsettled = false
@@ -203,23 +203,23 @@ abbrev pub has_result : Option ℕ → Option Task → Bool
 has_result r None = false
 has_result r (Some x) = same_number x.result r
 
-abbrev pub is_empty : List ℕ → Bool
-is_empty [] = true
-is_empty (n ∷ ns) = false
+abbrev pub has_none : List ℕ → Bool
+has_none [] = true
+has_none (n ∷ ns) = false
 
 -- the state admits the event
 abbrev pub admits : State → EventView → Bool
-admits s (made t p what m) = makes what (asks s t) && (not (is_some (s.channels p)) && (not (is_some (s.registries p)) && is_moment s.now what m))
+admits s (made t p what m) = operation_makes what (asks s t) && (not (is_some (s.channels p)) && (not (is_some (s.registries p)) && is_moment s.now what m))
 admits s (spawned t u kind result) = spawns kind result (asks s t) && not (is_some (s.tasks u))
-admits s (done t k b a) = does s k b a (asks s t)
+admits s (done t k b a) = completes_branch s k b a (asks s t)
 admits s (met t k side p v w o) = meets_by s k side p v w o (asks s t) && can_wake s w
 admits s (parked t w bs) = parks_on s bs (asks s t) && is_new s w
 admits s (posted t w p v) = posts p v (asks s t) && (not (any_ready s (put_of p v ∷ [])) && is_new s w)
-admits s (settled w k side p v) = settles_so w k side v (settling s p) && can_wake s w
+admits s (settled w k side p v) = settles_so w k side v (settling_at s p) && can_wake s w
 admits s (defaulted t v) = defaults_to s v (asks s t)
-admits s (closed t p) = closes p (asks s t)
-admits s (registered t name args v) = registers name args (asks s t) && gives v (registering_gives s name args)
+admits s (closed t p) = operation_closes p (asks s t)
+admits s (registered t name args v) = registers name args (asks s t) && gives_answer v (registering_gives s name args)
 admits s (printed t line) = prints line (asks s t)
-admits s (ticked m ports) = nat_le s.now m && (nat_lt m moments && (same_numbers (due m s.deadlines) ports && not (is_empty ports)))
+admits s (ticked m ports) = nat_le s.now m && (nat_lt m moments && (same_numbers (due m s.deadlines) ports && not (has_none ports)))
 admits s (is_over t Ended) = is_ended (standing_of (s.tasks t))
 admits s (is_over t (Faulted f p r)) = faults_at s f p (standing_of (s.tasks t)) && has_result (option_map port_number r) (s.tasks t)

@@ -39,9 +39,9 @@ same_number (Some a) (Some b) = eqb a b
 same_number a b = false
 
 -- the number is the one that stands there
-abbrev pub is_there : ℕ → Option ℕ → Bool
-is_there p None = false
-is_there p (Some n) = eqb n p
+abbrev pub is_number_there : ℕ → Option ℕ → Bool
+is_number_there p None = false
+is_number_there p (Some n) = eqb n p
 
 abbrev pub same_what : WhatView → WhatView → Bool
 same_what unbuffered unbuffered = true

@@ -23,7 +23,7 @@ use Rattle.ca_scene.specs.declared.room.Room.{Room}
 use Rattle.ca_scene.specs.declared.room.Handler.{Handler as HandlerCode}
 use Rattle.ca_scene.specs.declared.scene.Scene.{Scene}
 use Rattle.ca_scene.specs.declared.scene.Waiting.{Waiting}
-pub use Rattle.ca_scene.specs.Standing.{Shown, shown_op, shown_end, shown_fault, elsewhere, shown, standing_view}
+pub use Rattle.ca_scene.specs.Standing.{Shown, shown_op, shown_end, shown_fault, elsewhere, shown_at, standing_view}
 
 abbrev pub mode_view : ModeCode → Mode
 mode_view ModeCode.Running = running
@@ -34,8 +34,8 @@ abbrev pub task_body : TaskBodyCode → TaskBody
 task_body (TaskBodyCode.Script b) = script (body_view b)
 task_body (TaskBodyCode.System t) = system_task (table_body t)
 
-abbrev pub task_view : TaskCode → Task
-task_view x = record { result = option_map port_number x.result; body = task_body x.body; mode = mode_view x.mode }
+abbrev pub task_code_view : TaskCode → Task
+task_code_view x = record { result = option_map port_number x.result; body = task_body x.body; mode = mode_view x.mode }
 
 abbrev pub task_at : Scene → ℕ → Option TaskCode
 task_at s t = get nat_eq s.tasks t
@@ -43,21 +43,21 @@ task_at s t = get nat_eq s.tasks t
 abbrev pub room_at : Scene → ℕ → Option Room
 room_at s p = get nat_eq s.rooms p
 
-abbrev pub registry_at : Scene → ℕ → Option Registry
-registry_at s p = get nat_eq s.registries p
+abbrev pub scene_registry : Scene → ℕ → Option Registry
+scene_registry s p = get nat_eq s.registries p
 
 abbrev pub tasks_of : Scene → Tasks
-tasks_of s t = option_map task_view (task_at s t)
+tasks_of s t = option_map task_code_view (task_at s t)
 
-abbrev pub handler_view : HandlerCode → Handler
-handler_view h = record { wait = h.wait; branch = h.branch; value = view h.value }
+abbrev pub handler_code_view : HandlerCode → Handler
+handler_code_view h = record { wait = h.wait; branch = h.branch; value = view h.value }
 
 abbrev pub room_channel : Room → Channel
 room_channel r = record { policy = policy_view r.policy; capacity = r.capacity; held = map view r.held.items; closed = r.closed }
 
 abbrev pub room_queue : Side → Room → List Handler
-room_queue Take r = map handler_view r.takes.items
-room_queue Put r = map handler_view r.puts.items
+room_queue Take r = map handler_code_view r.takes.items
+room_queue Put r = map handler_code_view r.puts.items
 
 abbrev pub wait_or : ℕ → Option Waiting → List Wait → List Wait
 wait_or n None ws = ws
@@ -83,7 +83,7 @@ abbrev pub scene_state : Scene → State
 scene_state s = record {
   tasks = tasks_of s;
   channels = λ p. option_map room_channel (room_at s p);
-  registries = λ p. option_map registry_view (registry_at s p);
+  registries = λ p. option_map registry_view (scene_registry s p);
   deadlines = s.timers.deadlines;
   now = s.timers.moment;
   waits = waits_in s.waits.entries;
@@ -91,13 +91,13 @@ scene_state s = record {
 }
 
 -- The queues of the channels: of each wait the first branch on that side alone, since no other one is ever served.
-abbrev pub first_of : List Handler → List Handler
-first_of [] = []
-first_of (h ∷ hs) = h ∷ []
+abbrev pub first_handlers : List Handler → List Handler
+first_handlers [] = []
+first_handlers (h ∷ hs) = h ∷ []
 
 abbrev pub firsts : Side → ℕ → List Wait → List Handler
 firsts side p [] = []
-firsts side p (x ∷ xs) = first_of (handlers side p x.number 0 x.branches) ++ firsts side p xs
+firsts side p (x ∷ xs) = first_handlers (handlers side p x.number 0 x.branches) ++ firsts side p xs
 
 abbrev pub queues_at : Side → Option Room → List Handler
 queues_at side None = []
@@ -108,14 +108,14 @@ abbrev pub IsQueued : (ℕ → Option Room) → List Wait → Type 0
 IsQueued rooms ws = (side : Side) (p : ℕ) → queues_at side (rooms p) ≡ firsts side p ws
 
 -- where the task stands is told
-abbrev pub IsShown : TaskCode → Type 0
-IsShown x = standing_view x.standing ≡ shown (body_at (task_body x.body))
+abbrev pub IsStandingShown : TaskCode → Type 0
+IsStandingShown x = standing_view x.standing ≡ shown_at (body_at (task_body x.body))
 
-abbrev pub AreShown : (ℕ → Option TaskCode) → Type 0
-AreShown tasks = (t : ℕ) (x : TaskCode) → tasks t ≡ Some x → IsShown x
+abbrev pub TasksAreShown : (ℕ → Option TaskCode) → Type 0
+TasksAreShown tasks = (t : ℕ) (x : TaskCode) → tasks t ≡ Some x → IsStandingShown x
 
 -- what is kept beside the state agrees with it
 pub record IsScene (s : Scene) : Type 0 where
-  pub shown : AreShown (task_at s)
+  pub shown : TasksAreShown (task_at s)
   pub queued : IsQueued (room_at s) (waits_in s.waits.entries)
   pub distinct : IsDistinct nat_eq (keys s.waits)

@@ -12,12 +12,12 @@ pub data Shown : Type 0 where
   shown_fault : Fault → Place → Shown
   elsewhere : Shown
 
-abbrev pub shown : At → Shown
-shown local = elsewhere
-shown (at_op w) = shown_op w
-shown (ended v) = shown_end
-shown (faulted f p) = shown_fault f p
-shown nowhere = elsewhere
+abbrev pub shown_at : At → Shown
+shown_at local = elsewhere
+shown_at (at_op w) = shown_op w
+shown_at (ended v) = shown_end
+shown_at (faulted f p) = shown_fault f p
+shown_at nowhere = elsewhere
 
 abbrev pub standing_view : Standing → Shown
 standing_view (Standing.AtOp w) = shown_op (want_view w)

@@ -5,7 +5,7 @@ ghost use Rattle.ca_value.specs.Seq.{list};
 ghost use Rattle.ca_value.specs.View.{view};
 ghost use Rattle.ca_term.specs.Event.{event_view};
 ghost use Rattle.ca_meaning.specs.RunValues.{Holds};
-ghost use Rattle.ca_scene.specs.Admits.{admits, asks, prints, closes, posts, is_port};
+ghost use Rattle.ca_scene.specs.Admits.{admits, asks, prints, operation_closes, posts, is_port_value};
 ghost use Rattle.ca_scene.specs.Scene.{scene_state, IsScene};
 
 use crate::choosing::Meeting;
@@ -115,7 +115,7 @@ impl Scene {
     fn admits_close(&self, task: u64, port: u64) -> bool
         requires scene { IsScene self.now }
         requires values { Holds any (scene_state self.now) }
-        ensures { result ≡ closes port (asks (scene_state self.now) task) }
+        ensures { result ≡ operation_closes port (asks (scene_state self.now) task) }
     {
         match self.asks(task) {
             Some(Op::Close(channel)) => is_port(port, channel),
@@ -136,7 +136,7 @@ impl Scene {
 }
 
 fn is_port(port: u64, value: &Value) -> bool
-    ensures { result ≡ is_port port (view value.now) }
+    ensures { result ≡ is_port_value port (view value.now) }
 {
     match value {
         Value::Port(other) => port == other.n,

@@ -7,7 +7,7 @@ ghost use Rattle.ca_term.specs.Operation.{op_view};
 ghost use Rattle.ca_meaning.specs.Choice.{row, branch_of};
 ghost use Rattle.ca_meaning.specs.Operands.{values_in};
 ghost use Rattle.ca_meaning.specs.RunValues.{Holds};
-ghost use Rattle.ca_scene.specs.Admits.{asks, completes_with, meets_so, ready_before, may_pick, does, parks_on, defaults_to, meets_at, meets_by};
+ghost use Rattle.ca_scene.specs.Admits.{asks, completes_with, meets_so, ready_before, may_pick, completes_branch, parks_on, defaults_to, meets_at, meets_by};
 ghost use Rattle.ca_scene.specs.Look.{look_view};
 ghost use Rattle.ca_scene.specs.Scene.{scene_state, IsScene};
 
@@ -93,7 +93,7 @@ impl Scene {
     pub(crate) fn admits_done(&self, task: u64, place: u64, branch: &Branch, answer: &Value) -> bool
         requires scene { IsScene self.now }
         requires values { Holds any (scene_state self.now) }
-        ensures { result ≡ does (scene_state self.now) place (branch_view branch.now) (view answer.now) (asks (scene_state self.now) task) }
+        ensures { result ≡ completes_branch (scene_state self.now) place (branch_view branch.now) (view answer.now) (asks (scene_state self.now) task) }
     {
         let nil = Value::Nil;
         match self.asks(task) {

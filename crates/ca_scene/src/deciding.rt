@@ -7,7 +7,7 @@ ghost use Rattle.ca_meaning.specs.Row.{put_row, take_row, settle_row, settle_tak
 ghost use Rattle.ca_meaning.specs.Wait.{head};
 ghost use Rattle.ca_scene.specs.Admits.{completes_with, meets_so, settles_so};
 ghost use Rattle.ca_scene.specs.Same.{same};
-ghost use Rattle.ca_scene.specs.Scene.{handler_view, room_channel, room_queue};
+ghost use Rattle.ca_scene.specs.Scene.{handler_code_view, room_channel, room_queue};
 
 use crate::room::{Handler, Room};
 use crate::same::same_side;
@@ -117,7 +117,7 @@ impl Room {
     }
 
     fn serves(&self, handler: &Handler, wait: u64, branch: u64, side: Side, value: &Value) -> bool
-        ensures { settles_so wait branch side (view value.now) (settle_take (room_channel self.now) (room_channel self.now).held (Some (handler_view handler.now))) ≡ result }
+        ensures { settles_so wait branch side (view value.now) (settle_take (room_channel self.now) (room_channel self.now).held (Some (handler_code_view handler.now))) ≡ result }
     {
         match self.held.front() {
             Some(first) => {

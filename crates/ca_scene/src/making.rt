@@ -4,7 +4,7 @@ ghost use Rattle.ca_value.specs.IsValue.{any};
 ghost use Rattle.ca_term.specs.Event.{port_number, made, spawned as spawned_by};
 ghost use Rattle.ca_term.specs.Operation.{what_view};
 ghost use Rattle.ca_meaning.specs.RunValues.{Holds};
-ghost use Rattle.ca_scene.specs.Admits.{admits, asks, is_moment, is_reading, makes, spawns};
+ghost use Rattle.ca_scene.specs.Admits.{admits, asks, is_moment, is_reading, operation_makes, spawns};
 ghost use Rattle.ca_scene.specs.Scene.{scene_state, IsScene};
 
 use crate::same::{same_kind, same_port, same_what};
@@ -19,7 +19,7 @@ impl Scene {
     fn wants_to_make(&self, task: u64, what: &What) -> bool
         requires scene { IsScene self.now }
         requires values { Holds any (scene_state self.now) }
-        ensures { result ≡ makes (what_view what.now) (asks (scene_state self.now) task) }
+        ensures { result ≡ operation_makes (what_view what.now) (asks (scene_state self.now) task) }
     {
         match self.asks(task) {
             Some(Op::Make(made)) => same_what(what, made),

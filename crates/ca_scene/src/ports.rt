@@ -10,13 +10,13 @@ use ca_value::value::PortId;
 
 impl Scene {
     ghost use Rattle.std.specs.Prelude.{option_map};
-    ghost use Rattle.ca_registry.specs.Kind.{kind_of};
+    ghost use Rattle.ca_registry.specs.Kind.{kind_of_registry};
     ghost use Rattle.ca_registry.specs.Registry.{registry_view};
-    ghost use Rattle.ca_scene.specs.Scene.{registry_at};
+    ghost use Rattle.ca_scene.specs.Scene.{scene_registry};
 
     // Which registry stands at the port.
     fn registry_kind(&self, port: PortId) -> Option<PortKind>
-        ensures { result ≡ kind_of (option_map registry_view (registry_at self.now port.n)) }
+        ensures { result ≡ kind_of_registry (option_map registry_view (scene_registry self.now port.n)) }
     {
         match self.registries.get(&port.n) {
             Some(registry) => Some(registry.kind()),

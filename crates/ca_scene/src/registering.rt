@@ -8,7 +8,7 @@ ghost use Rattle.ca_term.specs.Operation.{registering};
 ghost use Rattle.ca_meaning.specs.Operands.{rest_of};
 ghost use Rattle.ca_meaning.specs.Refusal.{fault_of_registered, registering_gives, unfit};
 ghost use Rattle.ca_meaning.specs.RunValues.{BringsApart, Holds};
-ghost use Rattle.ca_registry.specs.Gives.{gives};
+ghost use Rattle.ca_registry.specs.Gives.{gives_answer};
 ghost use Rattle.ca_scene.specs.Admits.{admits};
 ghost use Rattle.ca_scene.specs.Scene.{scene_state, IsScene};
 
@@ -67,7 +67,7 @@ impl Scene {
     #[tactic(auto, using(ca_registry::proofs::KeyLaws::refused_keys, ca_registry::proofs::KeyLaws::same_table, crate::proofs::Brought::toggles_apart, crate::proofs::Brought::places_itself))]
     fn registry_gives(&self, name: RegisterName, args: &[Value], answer: &Value) -> bool
         requires apart { BringsApart (trees args.now) }
-        ensures { gives (view answer.now) (registering_gives (scene_state self.now) name (trees args.now)) ≡ result }
+        ensures { gives_answer (view answer.now) (registering_gives (scene_state self.now) name (trees args.now)) ≡ result }
     {
         let rest = behind_first(args);
         match self.registries.get(&port_at(args, 0).n) {

@@ -6,7 +6,7 @@ ghost use Rattle.ca_meaning.specs.Channel.{has_room};
 ghost use Rattle.ca_meaning.specs.Choice.{is_ready};
 ghost use Rattle.ca_meaning.specs.Row.{put_row, take_row};
 ghost use Rattle.ca_meaning.specs.Wait.{head};
-ghost use Rattle.ca_scene.specs.Scene.{handler_view, room_channel, room_queue};
+ghost use Rattle.ca_scene.specs.Scene.{handler_code_view, room_channel, room_queue};
 
 use crate::room::{Handler, Room};
 use ca_meaning::row::Policy;
@@ -26,7 +26,7 @@ impl Room {
 
     /// The first wait on that side.
     pub fn front(&self, side: Side) -> Option<&Handler>
-        ensures { option_map (λ h. handler_view h.now) result ≡ head (room_queue side self.now) }
+        ensures { option_map (λ h. handler_code_view h.now) result ≡ head (room_queue side self.now) }
     {
         match side {
             Side::Take => self.takes.front(),

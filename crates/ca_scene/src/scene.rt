@@ -2,7 +2,7 @@
 ghost use Rattle.std.specs.Prelude.{◌≡◌, [], option_map};
 ghost use Rattle.ca_term.specs.Operation.{op_view};
 ghost use Rattle.ca_scene.specs.Admits.{asked_by, standing_of};
-ghost use Rattle.ca_scene.specs.Scene.{IsScene, shown, standing_view, tasks_of};
+ghost use Rattle.ca_scene.specs.Scene.{IsScene, shown_at, standing_view, tasks_of};
 
 use crate::room::Room;
 use crate::task::{Mode, Standing, Task};
@@ -68,7 +68,7 @@ impl Scene {
     /// Where the task stands, where it runs.
     pub fn standing(&self, task: u64) -> Option<&Standing>
         requires { IsScene self.now }
-        ensures { option_map (λ s. standing_view s.now) result ≡ option_map shown (standing_of (tasks_of self.now task)) }
+        ensures { option_map (λ s. standing_view s.now) result ≡ option_map shown_at (standing_of (tasks_of self.now task)) }
     {
         let task = self.tasks.get(&task)?;
         match task.mode {

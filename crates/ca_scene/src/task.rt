@@ -3,7 +3,7 @@ ghost use Rattle.std.specs.Prelude.{◌≡◌, option_map};
 ghost use Rattle.ca_term.specs.Operation.{op_view};
 ghost use Rattle.ca_meaning.specs.Task.{body_at};
 ghost use Rattle.ca_scene.specs.Admits.{op_of};
-ghost use Rattle.ca_scene.specs.Scene.{task_body, IsShown};
+ghost use Rattle.ca_scene.specs.Scene.{task_body, IsStandingShown};
 
 use ca_meaning::body::Body;
 use ca_system_tasks::table::SystemTable;
@@ -47,7 +47,7 @@ pub struct Task {
 impl Task {
     /// The operation that its body stands at.
     pub fn asked(&self) -> Option<&Op>
-        requires { IsShown self.now }
+        requires { IsStandingShown self.now }
         ensures { option_map (λ o. op_view o.now) result ≡ op_of (body_at (task_body self.now.body)) }
     {
         match &self.standing {

@@ -3,7 +3,7 @@ ghost use Rattle.std.specs.Prelude.{◌≡◌, is_some, map, not, slice_get};
 ghost use Rattle.ca_term.specs.Event.{port_number, ticked};
 ghost use Rattle.ca_value.specs.Deadlines.{due};
 ghost use Rattle.ca_scene.specs.Admits.{admits, is_reading};
-ghost use Rattle.ca_scene.specs.Same.{same_numbers, is_there};
+ghost use Rattle.ca_scene.specs.Same.{same_numbers, is_number_there};
 ghost use Rattle.ca_scene.specs.Scene.{scene_state};
 
 use crate::scene::Scene;
@@ -25,7 +25,7 @@ pub(crate) fn is_reading(now: u64, moment: Option<u64>) -> bool
 
 // Whether the port is the one that is due at that place, from 0.
 fn is_due(timers: &Timers, moment: u64, place: u64, port: PortId) -> bool
-    ensures { result ≡ is_there port.n (slice_get (due moment timers.now.deadlines) place) }
+    ensures { result ≡ is_number_there port.n (slice_get (due moment timers.now.deadlines) place) }
 {
     match timers.due(moment, place) {
         Some(due) => due.n == port.n,

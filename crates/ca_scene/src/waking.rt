@@ -2,7 +2,7 @@
 ghost use Rattle.std.specs.Prelude.{◌≡◌, nat_eq};
 ghost use Rattle.indexmap.specs.IndexMap.{get};
 ghost use Rattle.ca_value.specs.View.{view};
-ghost use Rattle.ca_scene.specs.Admits.{can_wake, is_new, settles_so, settling, waits_on};
+ghost use Rattle.ca_scene.specs.Admits.{can_wake, is_new, settles_so, settling_at, waits_on};
 ghost use Rattle.ca_scene.specs.Scene.{scene_state, tasks_of, owner_in, IsScene};
 
 use crate::scene::Scene;
@@ -63,7 +63,7 @@ impl Scene {
         value: &Value,
     ) -> bool
         requires { IsScene self.now }
-        ensures { settles_so wait branch side (view value.now) (settling (scene_state self.now) port) ≡ result }
+        ensures { settles_so wait branch side (view value.now) (settling_at (scene_state self.now) port) ≡ result }
     {
         match self.rooms.get(&port) {
             None => false,

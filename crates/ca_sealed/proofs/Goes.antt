@@ -8,8 +8,8 @@ use Rattle.ca_term.specs.Kernel.{Kernel, var}
 use Rattle.ca_term.specs.Program.{ProcedureView}
 use Rattle.ca_term.specs.View.{kernels_of}
 use Rattle.ca_forms.specs.Uses.{uses}
-use Rattle.ca_forms.specs.Meaning.{Meaning, size, nothing, local, iff, operation, block}
-use Rattle.ca_forms.specs.Go.{task, in_task, unmade, go}
+use Rattle.ca_forms.specs.Meaning.{Meaning, size, nothing, local_name, iff, operation, block}
+use Rattle.ca_forms.specs.Go.{task, in_task, unmade, go_meaning}
 use Rattle.ca_meaning.specs.Sound.{Each}
 use Rattle.ca_sealed.proofs.Used.{Below, below_more, below_append, uses_only, uses_below, in_left, in_right}
 use Rattle.ca_sealed.proofs.Outcomes.{if_after, size_named}
@@ -28,20 +28,20 @@ vars_tidy n (m ∷ ms) b = (b.0, vars_tidy n ms b.1)
 
 -- the body behind its result port, which has the number r
 abbrev pub sent_on : ℕ → Place → List Meaning
-sent_on r p = iff (operation (Builtin IsNil) (local (suc r) ∷ []) p) nothing (operation Post (local r ∷ local (suc r) ∷ []) p) ∷ operation Close (local r ∷ []) p ∷ []
+sent_on r p = iff (operation (Builtin IsNil) (local_name (suc r) ∷ []) p) nothing (operation Post (local_name r ∷ local_name (suc r) ∷ []) p) ∷ operation Close (local_name r ∷ []) p ∷ []
 
 pub tidy_task : (g r : ℕ) (body : Meaning) (p : Place) → Keeps g (suc r) body → Keeps g (suc r) (task body r p)
 tidy_task g r body p f = tidy_name_as g (suc r) [] body (block (sent_on r p)) f (tidy_block g (suc (suc r)) (sent_on r p) (
-  tidy_iff g (suc (suc r)) (operation (Builtin IsNil) (local (suc r) ∷ []) p) nothing (operation Post (local r ∷ local (suc r) ∷ []) p)
-      (tidy_operation g (suc (suc r)) (Builtin IsNil) (local (suc r) ∷ []) p (result, tt) (λ ts. refl))
+  tidy_iff g (suc (suc r)) (operation (Builtin IsNil) (local_name (suc r) ∷ []) p) nothing (operation Post (local_name r ∷ local_name (suc r) ∷ []) p)
+      (tidy_operation g (suc (suc r)) (Builtin IsNil) (local_name (suc r) ∷ []) p (result, tt) (λ ts. refl))
       (tidy_nothing g (suc (suc r)))
-      (tidy_operation g (suc (suc r)) Post (local r ∷ local (suc r) ∷ []) p (port, (result, tt)) (λ ts. refl)),
-  (tidy_operation g (suc (suc r)) Close (local r ∷ []) p (port, tt) (λ ts. refl), tt),
+      (tidy_operation g (suc (suc r)) Post (local_name r ∷ local_name (suc r) ∷ []) p (port, (result, tt)) (λ ts. refl)),
+  (tidy_operation g (suc (suc r)) Close (local_name r ∷ []) p (port, tt) (λ ts. refl), tt),
 )) where
-  port : Keeps g (suc (suc r)) (local r)
+  port : Keeps g (suc (suc r)) (local_name r)
   port = tidy_local g (suc (suc r)) r (omega arith)
 
-  result : Keeps g (suc (suc r)) (local (suc r))
+  result : Keeps g (suc (suc r)) (local_name (suc r))
   result = tidy_local g (suc (suc r)) (suc r) (omega arith)
 
 -- the body of a go block, in a scope of n names outside
@@ -59,8 +59,8 @@ tidy_made n t w = record {
 pub tidy_unmade : IsTidyText unmade
 tidy_unmade = record { base = 0; used = []; size = 0; tidy = tt; only = tt; bound = λ k l u. absurd (omega (arith, l)); below = tt }
 
-pub tidy_go : (g n : ℕ) (body : Meaning) (p : Place) → Keeps g n body → Keeps g n (go body p)
-tidy_go g n body p f = at_size g n (go body p) (λ env s l st.
+pub tidy_go : (g n : ℕ) (body : Meaning) (p : Place) → Keeps g n body → Keeps g n (go_meaning body p)
+tidy_go g n body p f = at_size g n (go_meaning body p) (λ env s l st.
     if_after (task body (size env) p (in_task env) (record s { bodies = s.bodies ++ unmade ∷ [] })) _ _ _
     (tidy_task g (size env) body p (weaken g n (suc (size env)) body (omega (arith, l)) f) (in_task env) (record s { bodies = s.bodies ++ unmade ∷ [] })
     (holds_named g (size env) [] env st))

@@ -2,7 +2,7 @@
 use Rattle.std.proofs.Common.{inl, inr, ℕ, zero, suc, ◌+◌, List, [], ◌∷◌, refl}
 use Rattle.ca_term.specs.Kernel.{Kernel, Kernels, Bindings, const, var, branch, bind, loop, seq, frame, turn, apply, none, item, empty, binding}
 use Rattle.ca_term.specs.Fits.{count_bindings}
-use Rattle.ca_roles.specs.Roles.{public, Roles, nobody, known_as}
+use Rattle.ca_roles.specs.Roles.{public, Roles, no_roles, known_as}
 use Rattle.ca_roles.specs.Sealed.{Sealed, SealedBindings, SealedInits}
 use Rattle.ca_roles.specs.Once.{UsesOnce, AllOnce, BindOnce, InitsOnce}
 use Rattle.ca_roles.proofs.Unused.{public_once}
@@ -14,10 +14,10 @@ use Rattle.ca_sealed.proofs.SecretsOnce.{secret_body, secret_once}
 use Rattle.ca_sealed.proofs.Sealing.{SealedFirst, first_then, inits_bindings, Passed, Begun, only_behind, stands_at, sealed, sealed_inits, sealed_first}
 
 -- public names are used by none of these tasks
-pub inits_once : (bs : Bindings) (body : Kernel) (scope inner : Roles) → InitsOnce bs → SealedInits 0 nobody bs scope inner → Sealed 0 nobody body inner → BindOnce bs body
+pub inits_once : (bs : Bindings) (body : Kernel) (scope inner : Roles) → InitsOnce bs → SealedInits 0 no_roles bs scope inner → Sealed 0 no_roles body inner → BindOnce bs body
 inits_once empty body scope inner i h b = tt
 inits_once (binding m t bs) body scope inner i h b = (
-  public_once 0 nobody (known_as scope m public) inner m bs body (here scope m m public refl) (inits_bindings 0 bs (known_as scope m public) inner h.2) b,
+  public_once 0 no_roles (known_as scope m public) inner m bs body (here scope m m public refl) (inits_bindings 0 bs (known_as scope m public) inner h.2) b,
   i.0,
   inits_once bs body (known_as scope m public) inner i.1 h.2 b,
 )
@@ -28,12 +28,12 @@ FirstOnce bs zero = Unit {0}
 FirstOnce empty (suc i) = Unit {0}
 FirstOnce (binding m t bs) (suc i) = UsesOnce t × FirstOnce bs i
 
-pub first_once : (bs : Bindings) (i : ℕ) (body : Kernel) (scope mid inner : Roles) → FirstOnce bs i → SealedFirst 0 bs i scope mid → SealedBindings 0 nobody (behind i bs) mid inner
-    → Sealed 0 nobody body inner → BindOnce (behind i bs) body → BindOnce bs body
+pub first_once : (bs : Bindings) (i : ℕ) (body : Kernel) (scope mid inner : Roles) → FirstOnce bs i → SealedFirst 0 bs i scope mid → SealedBindings 0 no_roles (behind i bs) mid inner
+    → Sealed 0 no_roles body inner → BindOnce (behind i bs) body → BindOnce bs body
 first_once bs zero body scope mid inner f s h b o = o
 first_once empty (suc i) body scope mid inner f s h b o = o
 first_once (binding m t bs) (suc i) body scope mid inner f s h b o = (
-  public_once 0 nobody (known_as scope m public) inner m bs body (here scope m m public refl) (first_then 0 bs i (known_as scope m public) mid inner s.2 h) b,
+  public_once 0 no_roles (known_as scope m public) inner m bs body (here scope m m public refl) (first_then 0 bs i (known_as scope m public) mid inner s.2 h) b,
   f.0,
   first_once bs i body (known_as scope m public) mid inner f.1 s.2 h b o,
 )

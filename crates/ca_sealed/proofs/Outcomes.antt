@@ -7,8 +7,8 @@ use Rattle.ca_term.specs.declared.place.Place.{Place}
 use Rattle.ca_term.specs.Closed.{IsIn}
 use Rattle.ca_term.specs.Fits.{count_bindings}
 use Rattle.ca_term.specs.Kernel.{Bindings, empty, binding}
-use Rattle.ca_forms.specs.Outcome.{Gathered, Outcome, done, refused, after}
-use Rattle.ca_forms.specs.Meaning.{Env, Meaning, Named, size, named, behind, joined, last_of}
+use Rattle.ca_forms.specs.Outcome.{Gathered, WalkOutcome, done, refused, after_walk}
+use Rattle.ca_forms.specs.Meaning.{Env, Meaning, Named, size, behind_name, behind, bindings_joined, last_position}
 use Rattle.ca_forms.specs.Binders.{Binder, Bound, one, many, spread_items, spread_one, spread, width}
 use Rattle.ca_forms.specs.Plain.{again}
 use Rattle.ca_forms.specs.Tops.{Tops, numbers, same_names, names_of}
@@ -22,35 +22,35 @@ all_of_each P (x ∷ xs) e zero d l = e.0
 all_of_each P (x ∷ xs) e (suc k) d l = all_of_each P xs e.1 k d (omega (arith, l))
 
 -- where something was done, it is this
-abbrev pub IfDone : {A : Type 0} → Outcome A → (A → Gathered → Type 0) → Type 0
+abbrev pub IfDone : {A : Type 0} → WalkOutcome A → (A → Gathered → Type 0) → Type 0
 IfDone (done a s) P = P a s
 IfDone (refused e p) P = Unit {0}
 
-pub if_after : {A B : Type 0} (o : Outcome A) (f : A → Gathered → Outcome B) (P : A → Gathered → Type 0) (Q : B → Gathered → Type 0)
-    → IfDone o P → ((a : A) (s : Gathered) → P a s → IfDone (f a s) Q) → IfDone (after o f) Q
+pub if_after : {A B : Type 0} (o : WalkOutcome A) (f : A → Gathered → WalkOutcome B) (P : A → Gathered → Type 0) (Q : B → Gathered → Type 0)
+    → IfDone o P → ((a : A) (s : Gathered) → P a s → IfDone (f a s) Q) → IfDone (after_walk o f) Q
 if_after (done a s) f P Q h g = g a s h
 if_after (refused e p) f P Q h g = tt
 
-pub any_done : {A : Type 0} (o : Outcome A) → IfDone o (λ a s. Unit {0})
+pub any_done : {A : Type 0} (o : WalkOutcome A) → IfDone o (λ a s. Unit {0})
 any_done (done a s) = tt
 any_done (refused e p) = tt
 
-pub if_cond : {A : Type 0} (b : Bool) (x y : Outcome A) (Q : A → Gathered → Type 0) → IfDone x Q → IfDone y Q → IfDone (cond b x y) Q
+pub if_cond : {A : Type 0} (b : Bool) (x y : WalkOutcome A) (Q : A → Gathered → Type 0) → IfDone x Q → IfDone y Q → IfDone (cond b x y) Q
 if_cond true x y Q g h = g
 if_cond false x y Q g h = h
 
-pub size_named : (x : List ℕ) (env : Env) → size (named x env) ≡ suc (size env)
+pub size_named : (x : List ℕ) (env : Env) → size (behind_name x env) ≡ suc (size env)
 size_named x env = length-append env.scope (x ∷ []) ∙ omega arith
 
 pub size_behind : (bs : List Named) (env : Env) → size (behind bs env) ≡ size env + length bs
 size_behind bs env = length-append env.scope (map (λ b. b.name) bs) ∙ ap (λ n. size env + n) (length-map bs (λ b. b.name))
 
-pub joined_count : (bs cs : Bindings) → count_bindings (joined bs cs) ≡ count_bindings bs + count_bindings cs
+pub joined_count : (bs cs : Bindings) → count_bindings (bindings_joined bs cs) ≡ count_bindings bs + count_bindings cs
 joined_count empty cs = omega arith
 joined_count (binding n t bs) cs = omega (arith, joined_count bs cs)
 
 -- a name's number is one of the scope
-pub below_of : (x : List ℕ) (ys : List (List ℕ)) (i : ℕ) (best : Option ℕ) (n : ℕ) → ((m : ℕ) → best ≡ Some m → m < i) → last_of x ys i best ≡ Some n → n < i + length ys
+pub below_of : (x : List ℕ) (ys : List (List ℕ)) (i : ℕ) (best : Option ℕ) (n : ℕ) → ((m : ℕ) → best ≡ Some m → m < i) → last_position x ys i best ≡ Some n → n < i + length ys
 below_of x [] i best n f e = omega (arith, f n e)
 below_of x (y ∷ ys) i best n f e = omega (arith, below_of x ys (suc i) (cond (bytes_eq x y) (Some i) best) n (more (bytes_eq x y)) e) where
   more : (b : Bool) (m : ℕ) → cond b (Some i) best ≡ Some m → m < suc i

@@ -8,9 +8,9 @@ use Rattle.ca_term.specs.declared.place.Place.{Place}
 use Rattle.ca_term.specs.declared.head.Head.TheVariants.{Recur, Builtin}
 use Rattle.ca_forms.specs.declared.error.CheckErrorKind.TheVariants.{BadForm, BadArity, TooMany}
 use Rattle.ca_forms.specs.Outcome.{Gathered}
-use Rattle.ca_forms.specs.Meaning.{Env, Meaning, Named, size, constant, nothing, local, fail, iff, operation, block, unnamed, lets, loops, name_as}
+use Rattle.ca_forms.specs.Meaning.{Env, Meaning, Named, size, constant_value, nothing, local_name, fail_with, iff, operation, block, unnamed, lets, loops, name_as}
 use Rattle.ca_forms.specs.Binders.{Part, Pair, Binder, Bound, one, many, with_bound, bounds, binder, is_vector, bindings_in, spread_items, spread_one, spread, width, letting, is_pattern, patterns}
-use Rattle.ca_forms.specs.Plain.{meanings, number, let_of, row_let, row_if, row_if_not, row_when, row_when_not, is_even, cond_of, row_cond, and_of, or_of, by_truth, by_some, only, one_bound, if_bound, row_if_bound, row_when_bound, again, binders, loop_over_patterns, looping, loop_of, row_loop, recur_of, row_recur, recur_with_next, row_while, counting, dotimes, row_dotimes, nth_bound, doseq, row_doseq}
+use Rattle.ca_forms.specs.Plain.{meanings, constant_number, let_of, row_let, row_if, row_if_not, row_when, row_when_not, has_even_length, cond_of, row_cond, and_of, or_of, by_truth, by_some, lone_name, one_bound, if_bound, row_if_bound, row_when_bound, again, binders, loop_over_patterns, looping, loop_of, row_loop, recur_of, row_recur, recur_with_next, row_while, counting, dotimes, row_dotimes, nth_bound, doseq, row_doseq}
 use Rattle.ca_sealed.proofs.Outcomes.{spread_one_length, widths, spread_length, again_length}
 use Rattle.ca_sealed.proofs.Words.{Holds, Makes, Keeps, weaken, tidy_constant, tidy_nothing, tidy_local, tidy_fail, tidy_cond, tidy_iff, tidy_unless, AllKeep, all_weaken, all_append, tidy_operation, tidy_block, tidy_body, tidy_when, NamedKeep, named_weaken, named_append, tidy_lets, tidy_loops, tidy_name_as, at_size, tidy_hide}
 
@@ -60,14 +60,14 @@ bindings_keep g q f bs e = by (is_vector q.form) (bounds_keep g q.within f) e wh
 pub items_keep : (g : ℕ) (p : Place) (h : ℕ) (xs : List (List ℕ)) (i n : ℕ) → h < n → NamedKeep g n (spread_items p h xs i)
 items_keep g p h [] i n l = tt
 items_keep g p h (x ∷ xs) i n l = (
-  tidy_operation g n (Builtin PartOf) (local h ∷ constant (int (pos i)) ∷ []) p (tidy_local g n h l, (tidy_constant g n (int (pos i)) tt, tt)) (λ ts. refl),
+  tidy_operation g n (Builtin PartOf) (local_name h ∷ constant_value (int (pos i)) ∷ []) p (tidy_local g n h l, (tidy_constant g n (int (pos i)) tt, tt)) (λ ts. refl),
   items_keep g p h xs (suc i) (suc n) (omega (arith, l)),
 )
 
 pub spread_one_keep : (g : ℕ) (p : Place) (n : ℕ) (b : Binder) (m : Meaning) → Keeps g n m → NamedKeep g n (spread_one p n b m)
 spread_one_keep g p n (one x) m f = (f, tt)
 spread_one_keep g p n (many xs q) m f =
-    (tidy_cond g n (nat_lt 4096 (length xs)) (fail TooMany q) m (tidy_fail g n TooMany q) f, items_keep g p n xs 0 (suc n) (omega arith))
+    (tidy_cond g n (nat_lt 4096 (length xs)) (fail_with TooMany q) m (tidy_fail g n TooMany q) f, items_keep g p n xs 0 (suc n) (omega arith))
 
 pub spread_keep : (g : ℕ) (p : Place) (n : ℕ) (bs : List Bound) → BoundsKeep g bs → NamedKeep g n (spread p n bs)
 spread_keep g p n [] f = tt
@@ -80,7 +80,7 @@ tidy_letting g n bs body p f h = at_size g n (letting bs body p) (λ env s l st.
 
 pub tidy_let_of : (g : ℕ) (o : Option (List Bound)) (body : Meaning) (p : Place) → ((bs : List Bound) → o ≡ Some bs → BoundsKeep g bs) → Keeps g 0 body → Keeps g 0 (let_of o body p)
 tidy_let_of g None body p f h = tidy_fail g 0 BadForm p
-tidy_let_of g (Some bs) body p f h = tidy_cond g 0 (nat_lt 64 (length bs)) (fail TooMany p) (letting bs body p) (tidy_fail g 0 TooMany p) (tidy_letting g 0 bs body p (f bs refl) h)
+tidy_let_of g (Some bs) body p f h = tidy_cond g 0 (nat_lt 64 (length bs)) (fail_with TooMany p) (letting bs body p) (tidy_fail g 0 TooMany p) (tidy_letting g 0 bs body p (f bs refl) h)
 
 pub tidy_row_let : (g : ℕ) (p : Place) (qs : List Part) → PartsKeep g qs → Keeps g 0 (row_let p qs)
 tidy_row_let g p [] f = tidy_fail g 0 BadForm p
@@ -114,19 +114,19 @@ tidy_cond_of g n (a ∷ []) f = tidy_nothing g n
 tidy_cond_of g n (a ∷ b ∷ ms) f = tidy_iff g n a b (cond_of ms) f.0 f.1.0 (tidy_cond_of g n ms f.1.1)
 
 pub tidy_row_cond : (g : ℕ) (p : Place) (qs : List Part) → PartsKeep g qs → Keeps g 0 (row_cond p qs)
-tidy_row_cond g p qs f = tidy_cond g 0 (is_even qs) (cond_of (meanings qs)) (fail BadForm p) (tidy_cond_of g 0 (meanings qs) (means_keep g qs f)) (tidy_fail g 0 BadForm p)
+tidy_row_cond g p qs f = tidy_cond g 0 (has_even_length qs) (cond_of (meanings qs)) (fail_with BadForm p) (tidy_cond_of g 0 (meanings qs) (means_keep g qs f)) (tidy_fail g 0 BadForm p)
 
 pub tidy_and : (g n : ℕ) (ms : List Meaning) → AllKeep g n ms → Keeps g n (and_of ms)
 tidy_and g n [] f = tidy_constant g n (bool true) tt
 tidy_and g n (a ∷ []) f = f.0
-tidy_and g n (a ∷ b ∷ ms) f = tidy_hide g n a (λ h. iff (local h) (and_of (b ∷ ms)) (local h)) f.0
-    (λ h l. tidy_iff g (suc h) (local h) (and_of (b ∷ ms)) (local h) (tidy_local g (suc h) h (omega arith)) (weaken g n (suc h) (and_of (b ∷ ms)) (omega (arith, l)) (tidy_and g n (b ∷ ms) f.1)) (tidy_local g (suc h) h (omega arith)))
+tidy_and g n (a ∷ b ∷ ms) f = tidy_hide g n a (λ h. iff (local_name h) (and_of (b ∷ ms)) (local_name h)) f.0
+    (λ h l. tidy_iff g (suc h) (local_name h) (and_of (b ∷ ms)) (local_name h) (tidy_local g (suc h) h (omega arith)) (weaken g n (suc h) (and_of (b ∷ ms)) (omega (arith, l)) (tidy_and g n (b ∷ ms) f.1)) (tidy_local g (suc h) h (omega arith)))
 
 pub tidy_or : (g n : ℕ) (ms : List Meaning) → AllKeep g n ms → Keeps g n (or_of ms)
 tidy_or g n [] f = tidy_nothing g n
 tidy_or g n (a ∷ []) f = f.0
-tidy_or g n (a ∷ b ∷ ms) f = tidy_hide g n a (λ h. iff (local h) (local h) (or_of (b ∷ ms))) f.0
-    (λ h l. tidy_iff g (suc h) (local h) (local h) (or_of (b ∷ ms)) (tidy_local g (suc h) h (omega arith)) (tidy_local g (suc h) h (omega arith)) (weaken g n (suc h) (or_of (b ∷ ms)) (omega (arith, l)) (tidy_or g n (b ∷ ms) f.1)))
+tidy_or g n (a ∷ b ∷ ms) f = tidy_hide g n a (λ h. iff (local_name h) (local_name h) (or_of (b ∷ ms))) f.0
+    (λ h l. tidy_iff g (suc h) (local_name h) (local_name h) (or_of (b ∷ ms)) (tidy_local g (suc h) h (omega arith)) (tidy_local g (suc h) h (omega arith)) (weaken g n (suc h) (or_of (b ∷ ms)) (omega (arith, l)) (tidy_or g n (b ∷ ms) f.1)))
 
 -- a test of a name
 abbrev pub TestKeeps : ℕ → (Place → ℕ → Meaning) → Type 0
@@ -136,13 +136,13 @@ pub tidy_truth : (g : ℕ) → TestKeeps g by_truth
 tidy_truth g p h = tidy_local g (suc h) h (omega arith)
 
 pub tidy_some : (g : ℕ) → TestKeeps g by_some
-tidy_some g p h = tidy_operation g (suc h) (Builtin IsSome) (local h ∷ []) p (tidy_local g (suc h) h (omega arith), tt) (λ ts. refl)
+tidy_some g p h = tidy_operation g (suc h) (Builtin IsSome) (local_name h ∷ []) p (tidy_local g (suc h) h (omega arith), tt) (λ ts. refl)
 
 abbrev pub IfNamedKeeps : ℕ → Option Named → Type 0
 IfNamedKeeps g None = Unit {0}
 IfNamedKeeps g (Some x) = Keeps g 0 x.means
 
-pub tidy_only : (g : ℕ) (b : Binder) (m : Meaning) → Keeps g 0 m → IfNamedKeeps g (only b m)
+pub tidy_only : (g : ℕ) (b : Binder) (m : Meaning) → Keeps g 0 m → IfNamedKeeps g (lone_name b m)
 tidy_only g (one x) m f = f
 tidy_only g (many xs q) m f = tt
 
@@ -154,9 +154,9 @@ tidy_one_bound g (Some (b ∷ c ∷ bs)) f = tt
 
 pub tidy_if_bound : (g : ℕ) (test : Place → ℕ → Meaning) (x : Option Named) (a b : Meaning) (p : Place) → TestKeeps g test → IfNamedKeeps g x → Keeps g 0 a → Keeps g 0 b → Keeps g 0 (if_bound test x a b p)
 tidy_if_bound g test None a b p t f ga gb = tidy_fail g 0 BadForm p
-tidy_if_bound g test (Some x) a b p t f ga gb = tidy_hide g 0 x.means (λ h. iff (test p h) (name_as x.name (local h) a) b) f
-    (λ h l. tidy_iff g (suc h) (test p h) (name_as x.name (local h) a) b (t p h)
-    (tidy_name_as g (suc h) x.name (local h) a (tidy_local g (suc h) h (omega arith)) (weaken g 0 (suc (suc h)) a (omega arith) ga)) (weaken g 0 (suc h) b (omega arith) gb))
+tidy_if_bound g test (Some x) a b p t f ga gb = tidy_hide g 0 x.means (λ h. iff (test p h) (name_as x.name (local_name h) a) b) f
+    (λ h l. tidy_iff g (suc h) (test p h) (name_as x.name (local_name h) a) b (t p h)
+    (tidy_name_as g (suc h) x.name (local_name h) a (tidy_local g (suc h) h (omega arith)) (weaken g 0 (suc (suc h)) a (omega arith) ga)) (weaken g 0 (suc h) b (omega arith) gb))
 
 pub tidy_row_if_bound : (g : ℕ) (test : Place → ℕ → Meaning) (p : Place) (qs : List Part) → TestKeeps g test → PartsKeep g qs → Keeps g 0 (row_if_bound test p qs)
 tidy_row_if_bound g test p [] t f = tidy_fail g 0 BadForm p
@@ -212,7 +212,7 @@ tidy_looping g bs body p f h = at_size g 0 (looping bs body p) (λ env s l st. b
 
 pub tidy_loop_of : (g : ℕ) (o : Option (List Bound)) (body : Meaning) (p : Place) → ((bs : List Bound) → o ≡ Some bs → BoundsKeep g bs) → Keeps g 0 body → Keeps g 0 (loop_of o body p)
 tidy_loop_of g None body p f h = tidy_fail g 0 BadForm p
-tidy_loop_of g (Some bs) body p f h = tidy_cond g 0 (nat_lt 64 (length bs)) (fail TooMany p) (looping bs body p) (tidy_fail g 0 TooMany p) (tidy_looping g bs body p (f bs refl) h)
+tidy_loop_of g (Some bs) body p f h = tidy_cond g 0 (nat_lt 64 (length bs)) (fail_with TooMany p) (looping bs body p) (tidy_fail g 0 TooMany p) (tidy_looping g bs body p (f bs refl) h)
 
 pub tidy_row_loop : (g : ℕ) (p : Place) (qs : List Part) → PartsKeep g qs → Keeps g 0 (row_loop p qs)
 tidy_row_loop g p [] f = tidy_fail g 0 BadForm p
@@ -222,12 +222,12 @@ pub tidy_row_recur : (g : ℕ) (p : Place) (qs : List Part) → PartsKeep g qs �
 tidy_row_recur g p qs f env s st = by env.target where
   by : (o : Option ℕ) → Makes env s (recur_of o (meanings qs) p env s)
   by None = tt
-  by (Some j) = tidy_cond g 0 (nat_eq (length (meanings qs)) j) (operation Recur (meanings qs) p) (fail BadArity p)
+  by (Some j) = tidy_cond g 0 (nat_eq (length (meanings qs)) j) (operation Recur (meanings qs) p) (fail_with BadArity p)
       (tidy_operation g 0 Recur (meanings qs) p (means_keep g qs f) (λ ts. refl)) (tidy_fail g 0 BadArity p) env s st
 
 pub tidy_next : (g n i : ℕ) (p : Place) → i < n → Keeps g n (recur_with_next i p)
-tidy_next g n i p l = tidy_operation g n Recur (operation (Builtin Inc) (local i ∷ []) p ∷ []) p
-    (tidy_operation g n (Builtin Inc) (local i ∷ []) p (tidy_local g n i l, tt) (λ ts. refl), tt) (λ ts. refl)
+tidy_next g n i p l = tidy_operation g n Recur (operation (Builtin Inc) (local_name i ∷ []) p ∷ []) p
+    (tidy_operation g n (Builtin Inc) (local_name i ∷ []) p (tidy_local g n i l, tt) (λ ts. refl), tt) (λ ts. refl)
 
 pub tidy_row_while : (g : ℕ) (p : Place) (qs : List Part) → PartsKeep g qs → Keeps g 0 (row_while p qs)
 tidy_row_while g p [] f = tidy_fail g 0 BadForm p
@@ -239,11 +239,11 @@ tidy_row_while g p (c ∷ qs) f = tidy_loops g 0 [] (block (iff c.means (block (
 -- ms stand in a scope of at least m names, to which the name that counts may be added
 pub tidy_counting : (g : ℕ) (m : ℕ) (i : List ℕ) (n : ℕ) (ms : List Meaning) (p : Place) → n < m → ((h : ℕ) → m ≤ h → AllKeep g (suc h) ms) → Keeps g m (counting i n ms p)
 tidy_counting g m i n ms p l f = at_size g m (counting i n ms p) (λ env s l2 st.
-    tidy_loops g (size env) (record { name = i; means = number 0 } ∷ [])
-    (block (iff (operation (Builtin Less) (local (size env) ∷ local n ∷ []) p) (block (ms ++ recur_with_next (size env) p ∷ [])) nothing ∷ []))
+    tidy_loops g (size env) (record { name = i; means = constant_number 0 } ∷ [])
+    (block (iff (operation (Builtin Less) (local_name (size env) ∷ local_name n ∷ []) p) (block (ms ++ recur_with_next (size env) p ∷ [])) nothing ∷ []))
     (tidy_constant g (size env) (int (pos 0)) tt, tt)
-    (tidy_when g (size env + 1) (operation (Builtin Less) (local (size env) ∷ local n ∷ []) p) (block (ms ++ recur_with_next (size env) p ∷ []))
-    (tidy_operation g (size env + 1) (Builtin Less) (local (size env) ∷ local n ∷ []) p
+    (tidy_when g (size env + 1) (operation (Builtin Less) (local_name (size env) ∷ local_name n ∷ []) p) (block (ms ++ recur_with_next (size env) p ∷ []))
+    (tidy_operation g (size env + 1) (Builtin Less) (local_name (size env) ∷ local_name n ∷ []) p
     (tidy_local g (size env + 1) (size env) (omega arith), (tidy_local g (size env + 1) n (omega (arith, l, l2)), tt)) (λ ts. refl))
     (tidy_block g (size env + 1) (ms ++ recur_with_next (size env) p ∷ []) (all_append g (size env + 1) ms (recur_with_next (size env) p ∷ [])
     (all_weaken g (suc (size env)) (size env + 1) ms (omega arith) (f (size env) l2)) (tidy_next g (size env + 1) (size env) p (omega arith), tt)))) env s st)
@@ -263,14 +263,14 @@ tidy_letting_one g n b body p f h = at_size g n (letting (b ∷ []) body p) (λ 
     (weaken g 0 (size env + length (spread p (size env) (b ∷ []))) body (omega arith) h) env s st)
 
 pub tidy_nth_bound : (g n : ℕ) (b : Binder) (h j : ℕ) (p : Place) → h < n → j < n → Keeps g n (nth_bound b h j p).means
-tidy_nth_bound g n b h j p l k = tidy_operation g n (Builtin Nth) (local h ∷ local j ∷ []) p (tidy_local g n h l, (tidy_local g n j k, tt)) (λ ts. refl)
+tidy_nth_bound g n b h j p l k = tidy_operation g n (Builtin Nth) (local_name h ∷ local_name j ∷ []) p (tidy_local g n h l, (tidy_local g n j k, tt)) (λ ts. refl)
 
 pub tidy_doseq_one : (g : ℕ) (b : Bound) (body : Meaning) (p : Place) → Keeps g 0 b.means → Keeps g 0 body → Keeps g 0 (doseq (Some (b ∷ [])) body p)
 tidy_doseq_one g b body p f h = at_size g 0 (doseq (Some (b ∷ [])) body p) (λ env s l st.
-    tidy_lets g (size env) (unnamed (operation (Builtin Items) (b.means ∷ []) p) ∷ unnamed (operation (Builtin Count) (local (size env) ∷ []) p) ∷ [])
+    tidy_lets g (size env) (unnamed (operation (Builtin Items) (b.means ∷ []) p) ∷ unnamed (operation (Builtin Count) (local_name (size env) ∷ []) p) ∷ [])
     (block (counting [] (size env + 1) (letting (nth_bound b.by (size env) (size env + 2) p ∷ []) body p ∷ []) p ∷ [])) (
       tidy_operation g (size env) (Builtin Items) (b.means ∷ []) p (weaken g 0 (size env) b.means (omega arith) f, tt) (λ ts. refl),
-      (tidy_operation g (suc (size env)) (Builtin Count) (local (size env) ∷ []) p (tidy_local g (suc (size env)) (size env) (omega arith), tt) (λ ts. refl), tt),
+      (tidy_operation g (suc (size env)) (Builtin Count) (local_name (size env) ∷ []) p (tidy_local g (suc (size env)) (size env) (omega arith), tt) (λ ts. refl), tt),
     )
     (tidy_body g (size env + 2) (counting [] (size env + 1) (letting (nth_bound b.by (size env) (size env + 2) p ∷ []) body p ∷ []) p)
     (tidy_counting g (size env + 2) [] (size env + 1) (letting (nth_bound b.by (size env) (size env + 2) p ∷ []) body p ∷ []) p (omega arith)

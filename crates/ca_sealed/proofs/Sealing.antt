@@ -2,7 +2,7 @@
 use Rattle.std.proofs.Common.{◌≡◌, inl, inr, ℕ, zero, suc, ◌+◌, List, [], ◌∷◌, refl, sym, subst, arith, None}
 use Rattle.ca_term.specs.Kernel.{Kernel, Kernels, Bindings, const, var, branch, bind, loop, seq, frame, turn, apply, none, item, empty, binding}
 use Rattle.ca_term.specs.Fits.{count_bindings}
-use Rattle.ca_roles.specs.Roles.{public, Roles, nobody, known_as}
+use Rattle.ca_roles.specs.Roles.{public, Roles, no_roles, known_as}
 use Rattle.ca_roles.specs.Sealed.{plain, Sealed, AllSealed, SealedBindings, SealedInits}
 use Rattle.ca_sealed.proofs.Used.{Only, OnlyTerms, OnlyBindings}
 use Rattle.ca_sealed.proofs.Tidy.{behind, Tidy, TidyTerms, TidyBindings, TidyFirst}
@@ -14,23 +14,23 @@ module _ (me : ℕ) where
   abbrev pub SealedFirst : Bindings → ℕ → Roles → Roles → Type 0
   SealedFirst bs zero scope mid = mid ≡ scope
   SealedFirst empty (suc i) scope mid = ⊥
-  SealedFirst (binding m t bs) (suc i) scope mid = Sealed me nobody t scope × (scope m ≡ None) × SealedFirst bs i (known_as scope m public) mid
+  SealedFirst (binding m t bs) (suc i) scope mid = Sealed me no_roles t scope × (scope m ≡ None) × SealedFirst bs i (known_as scope m public) mid
 
   -- then the others
-  pub first_then : (bs : Bindings) (i : ℕ) (scope mid inner : Roles) → SealedFirst bs i scope mid → SealedBindings me nobody (behind i bs) mid inner → SealedBindings me nobody bs scope inner
-  first_then bs zero scope mid inner f b = subst (λ z. SealedBindings me nobody bs z inner) f b
+  pub first_then : (bs : Bindings) (i : ℕ) (scope mid inner : Roles) → SealedFirst bs i scope mid → SealedBindings me no_roles (behind i bs) mid inner → SealedBindings me no_roles bs scope inner
+  first_then bs zero scope mid inner f b = subst (λ z. SealedBindings me no_roles bs z inner) f b
   first_then empty (suc i) scope mid inner f b = absurd f
   first_then (binding m t bs) (suc i) scope mid inner f b = (public, f.0, f.1, first_then bs i (known_as scope m public) mid inner f.2 b)
 
   -- all of them are public
-  pub inits_bindings : (bs : Bindings) (scope inner : Roles) → SealedInits me nobody bs scope inner → SealedBindings me nobody bs scope inner
+  pub inits_bindings : (bs : Bindings) (scope inner : Roles) → SealedInits me no_roles bs scope inner → SealedBindings me no_roles bs scope inner
   inits_bindings empty scope inner h = h
   inits_bindings (binding m t bs) scope inner h = (public, h.0, h.1, inits_bindings bs (known_as scope m public) inner h.2)
 
 module _ (me base : ℕ) (us : List ℕ) where
   -- the scope behind the bindings
   abbrev pub Passed : ℕ → Bindings → Roles → Type 0
-  Passed n bs scope = (inner : Roles) × SealedInits me nobody bs scope inner × Stands base us (n + count_bindings bs) inner
+  Passed n bs scope = (inner : Roles) × SealedInits me no_roles bs scope inner × Stands base us (n + count_bindings bs) inner
 
   -- the scope behind so many of them
   abbrev pub Begun : ℕ → Bindings → ℕ → Roles → Type 0
@@ -45,7 +45,7 @@ module _ (me base : ℕ) (us : List ℕ) where
   stands_at n m scope e s = subst (λ k. Stands base us (suc n) (known_as scope k public)) (sym e) (stands_next base us n scope s)
 
   mutual
-    pub sealed : (n : ℕ) (t : Kernel) → Tidy n t → Only base us t → (scope : Roles) → Stands base us n scope → Sealed me nobody t scope
+    pub sealed : (n : ℕ) (t : Kernel) → Tidy n t → Only base us t → (scope : Roles) → Stands base us n scope → Sealed me no_roles t scope
     sealed n (const v) w o scope s = w
     sealed n (var m) w o scope s = s.0 m w o
     sealed n (branch c a b) w o scope s = (sealed n c w.0 o.0 scope s, sealed n a w.1 o.1 scope s, sealed n b w.2 o.2 scope s)
@@ -65,7 +65,7 @@ module _ (me base : ℕ) (us : List ℕ) where
     sealed n (turn names text now) w o scope s = absurd w
     sealed n (apply h ts p) w o scope s = ([], plain w.0, sealed_terms n ts w.1 o scope s)
 
-    pub sealed_terms : (n : ℕ) (ts : Kernels) → TidyTerms n ts → OnlyTerms base us ts → (scope : Roles) → Stands base us n scope → AllSealed me nobody [] ts scope
+    pub sealed_terms : (n : ℕ) (ts : Kernels) → TidyTerms n ts → OnlyTerms base us ts → (scope : Roles) → Stands base us n scope → AllSealed me no_roles [] ts scope
     sealed_terms n none w o scope s = tt
     sealed_terms n (item t ts) w o scope s = (sealed n t w.0 o.0 scope s, sealed_terms n ts w.1 o.1 scope s)
 

@@ -9,10 +9,10 @@ use Rattle.ca_term.specs.declared.head.RegisterName.{RegisterName}
 use Rattle.ca_term.specs.Kernel.{Kernel, Bindings, const, var, branch, seq}
 use Rattle.ca_term.specs.View.{kernels_of}
 use Rattle.ca_meaning.specs.Applied.{Work}
-use Rattle.ca_forms.specs.Channels.{whole, built, made, started, registered, nth_of, repeated}
+use Rattle.ca_forms.specs.Channels.{whole_number, built, make_call, spawn_call, register_call, nth_call, repeated}
 use Rattle.ca_forms.specs.Meaning.{numbered}
 use Rattle.ca_sealed.proofs.Used.{Only, OnlyBindings}
-use Rattle.ca_roles.specs.Roles.{jobs, replies, acks, Role, public, hidden, Roles, nobody, known_as}
+use Rattle.ca_roles.specs.Roles.{jobs, replies, acks, Role, public, hidden, Roles, no_roles, known_as}
 use Rattle.ca_roles.specs.Sealed.{KeywordIs, no_keyword, a_keyword, plain, of_job, of_feed, of_collect, of_mult as mult_mask, Sealed, AllSealed, SealedBindings}
 use Rattle.ca_sealed.proofs.Tidy.{HasKeyword, bare, keyed, Secret, of_mult, of_place, of_pipeline}
 use Rattle.ca_sealed.proofs.Scopes.{Fresh, Stands, here, apart, fresh_next, with_roles, before, first}
@@ -23,17 +23,17 @@ keyword_is bare j = no_keyword
 keyword_is keyed j = a_keyword
 
 module _ (me base : ℕ) (us : List ℕ) where
-  pub keyword_sealed : {k : Tree} {ks : List Kernel} → HasKeyword k ks → (scope : Roles) → AllSealed me nobody [] (kernels_of ks) scope
+  pub keyword_sealed : {k : Tree} {ks : List Kernel} → HasKeyword k ks → (scope : Roles) → AllSealed me no_roles [] (kernels_of ks) scope
   keyword_sealed bare scope = tt
   keyword_sealed keyed scope = (tt, tt)
 
   -- the terms of a form with hidden names, in the scope behind its operands
   abbrev pub IsBehind : Bindings → Kernel → Roles → Type 0
-  IsBehind rest body scope = (inner : Roles) × SealedBindings me nobody rest scope inner × Sealed me nobody body inner
+  IsBehind rest body scope = (inner : Roles) × SealedBindings me no_roles rest scope inner × Sealed me no_roles body inner
 
   pub mult_sealed : (m h a o : ℕ) (p : Place) → a ≡ m → o ≡ suc m → (scope : Roles) → scope h ≡ Some public → h < m → Fresh m scope
-      → IsBehind (numbered m (made MakeKind.Unbuffered [] p ∷ made MakeKind.Mult (var h ∷ []) p ∷ []))
-      (seq (kernels_of (started SystemTask.Mult (var o ∷ var h ∷ var a ∷ []) p ∷ var o ∷ []))) scope
+      → IsBehind (numbered m (make_call MakeKind.Unbuffered [] p ∷ make_call MakeKind.Mult (var h ∷ []) p ∷ []))
+      (seq (kernels_of (spawn_call SystemTask.Mult (var o ∷ var h ∷ var a ∷ []) p ∷ var o ∷ []))) scope
   mult_sealed m h a o p ea eo scope at l s =
       let rs : List Role = hidden me acks ∷ public ∷ [] in
       let o_is : with_roles m rs scope o ≡ Some public = first (suc m) public [] (known_as scope m (hidden me acks)) o eo in
@@ -56,9 +56,9 @@ module _ (me base : ℕ) (us : List ℕ) where
 
   pub place_sealed : (q hp ht a o w : ℕ) (p : Place) → a ≡ suc q → o ≡ suc (suc q) → w ≡ suc (suc (suc q)) → (scope : Roles)
       → scope hp ≡ Some public → scope ht ≡ Some public → hp < q → ht < q → Fresh q scope
-      → IsBehind (numbered q (made MakeKind.Unbuffered [] p ∷ made MakeKind.Unbuffered [] p ∷ made MakeKind.Mult (var q ∷ []) p
-      ∷ registered RegisterName.Place (var hp ∷ var ht ∷ var o ∷ var q ∷ []) p ∷ []))
-      (seq (kernels_of (branch (built Equal (nth_of w 0 p ∷ var o ∷ []) p) (started SystemTask.Mult (var o ∷ var q ∷ var a ∷ []) p) (const nil) ∷ var w ∷ []))) scope
+      → IsBehind (numbered q (make_call MakeKind.Unbuffered [] p ∷ make_call MakeKind.Unbuffered [] p ∷ make_call MakeKind.Mult (var q ∷ []) p
+      ∷ register_call RegisterName.Place (var hp ∷ var ht ∷ var o ∷ var q ∷ []) p ∷ []))
+      (seq (kernels_of (branch (built Equal (nth_call w 0 p ∷ var o ∷ []) p) (spawn_call SystemTask.Mult (var o ∷ var q ∷ var a ∷ []) p) (const nil) ∷ var w ∷ []))) scope
   place_sealed q hp ht a o w p ea eo ew scope is_p is_t lp lt s =
       let s1 : Roles = known_as scope q public in
       let s2 : Roles = known_as s1 (suc q) (hidden me acks) in
@@ -105,7 +105,7 @@ module _ (me base : ℕ) (us : List ℕ) where
 
   -- a job is started n times, i being the next number
   pub repeated_sealed : (x : Work) (ks : List Kernel) (n j i : ℕ) → HasKeyword x.keyword ks → (scope : Roles) → scope n ≡ Some public → scope j ≡ Some (hidden me (jobs x))
-      → n < i → j < i → Fresh i scope → Sealed me nobody (repeated n i (started (SystemTask.Job x.transform x.function) (var j ∷ ks) x.place) x.place) scope
+      → n < i → j < i → Fresh i scope → Sealed me no_roles (repeated n i (spawn_call (SystemTask.Job x.transform x.function) (var j ∷ ks) x.place) x.place) scope
   repeated_sealed x ks n j i k scope is_n is_j ln lj s =
       let inner : Roles = known_as scope i public in
       let at_n : inner n ≡ Some public = apart scope i n public (λ e. omega (arith, e, ln)) ∙ is_n in
@@ -130,10 +130,10 @@ module _ (me base : ℕ) (us : List ℕ) where
 
   pub pipeline_sealed : (x : Work) (ks : List Kernel) (m n t f z j q r i : ℕ) → HasKeyword x.keyword ks → j ≡ m → q ≡ suc m → r ≡ suc (suc m) → i ≡ suc (suc (suc m))
       → (scope : Roles) → scope n ≡ Some public → scope t ≡ Some public → scope f ≡ Some public → scope z ≡ Some public → n < m → t < m → f < m → z < m → Fresh m scope
-      → IsBehind (numbered m (made MakeKind.Fixed (var n ∷ []) x.place ∷ made MakeKind.Fixed (var n ∷ []) x.place ∷ made MakeKind.Fixed (whole 1 ∷ []) x.place ∷ []))
-      (seq (kernels_of (repeated n i (started (SystemTask.Job x.transform x.function) (var j ∷ ks) x.place) x.place
-      ∷ started SystemTask.Feed (var f ∷ var j ∷ var q ∷ []) x.place
-      ∷ started SystemTask.Collect (var q ∷ var t ∷ var z ∷ var r ∷ []) x.place
+      → IsBehind (numbered m (make_call MakeKind.Fixed (var n ∷ []) x.place ∷ make_call MakeKind.Fixed (var n ∷ []) x.place ∷ make_call MakeKind.Fixed (whole_number 1 ∷ []) x.place ∷ []))
+      (seq (kernels_of (repeated n i (spawn_call (SystemTask.Job x.transform x.function) (var j ∷ ks) x.place) x.place
+      ∷ spawn_call SystemTask.Feed (var f ∷ var j ∷ var q ∷ []) x.place
+      ∷ spawn_call SystemTask.Collect (var q ∷ var t ∷ var z ∷ var r ∷ []) x.place
       ∷ var r ∷ []))) scope
   pipeline_sealed x ks m n t f z j q r i k ej eq er ei scope is_n is_t is_f is_z ln lt lf lz s =
       let rs : List Role = hidden me (jobs x) ∷ hidden me (replies x) ∷ public ∷ [] in

@@ -11,9 +11,9 @@ use Rattle.ca_term.specs.Kernel.{Kernel, Kernels, Bindings, const, var, branch, 
 use Rattle.ca_term.specs.Fits.{count_bindings}
 use Rattle.ca_term.specs.View.{kernels_of}
 use Rattle.ca_meaning.specs.Applied.{Work}
-use Rattle.ca_forms.specs.Channels.{whole, built, made, started, registered, nth_of, repeated}
+use Rattle.ca_forms.specs.Channels.{whole_number, built, make_call, spawn_call, register_call, nth_call, repeated}
 use Rattle.ca_forms.specs.Meaning.{numbered}
-use Rattle.ca_roles.specs.Roles.{nobody, IsPublic}
+use Rattle.ca_roles.specs.Roles.{no_roles, IsPublic}
 use Rattle.ca_roles.specs.Sealed.{hides_in}
 
 -- the further operands of a job
@@ -25,20 +25,20 @@ pub data HasKeyword : Tree → List Kernel → Type 0 where
 pub data Secret : ℕ → Bindings → Kernel → Type 0 where
   -- `mult`: a takes the acknowledgements
   of_mult : {m h a o : ℕ} {p : Place} → h < m → a ≡ m → o ≡ suc m → Secret m
-      (numbered m (made MakeKind.Unbuffered [] p ∷ made MakeKind.Mult (var h ∷ []) p ∷ []))
-      (seq (kernels_of (started SystemTask.Mult (var o ∷ var h ∷ var a ∷ []) p ∷ var o ∷ [])))
+      (numbered m (make_call MakeKind.Unbuffered [] p ∷ make_call MakeKind.Mult (var h ∷ []) p ∷ []))
+      (seq (kernels_of (spawn_call SystemTask.Mult (var o ∷ var h ∷ var a ∷ []) p ∷ var o ∷ [])))
   -- the mult that `sub` places
   of_place : {q hp ht a o w : ℕ} {p : Place} → hp < q → ht < q → a ≡ suc q → o ≡ suc (suc q) → w ≡ suc (suc (suc q)) → Secret q
-      (numbered q (made MakeKind.Unbuffered [] p ∷ made MakeKind.Unbuffered [] p ∷ made MakeKind.Mult (var q ∷ []) p
-      ∷ registered RegisterName.Place (var hp ∷ var ht ∷ var o ∷ var q ∷ []) p ∷ []))
-      (seq (kernels_of (branch (built Equal (nth_of w 0 p ∷ var o ∷ []) p) (started SystemTask.Mult (var o ∷ var q ∷ var a ∷ []) p) (const nil) ∷ var w ∷ [])))
+      (numbered q (make_call MakeKind.Unbuffered [] p ∷ make_call MakeKind.Unbuffered [] p ∷ make_call MakeKind.Mult (var q ∷ []) p
+      ∷ register_call RegisterName.Place (var hp ∷ var ht ∷ var o ∷ var q ∷ []) p ∷ []))
+      (seq (kernels_of (branch (built Equal (nth_call w 0 p ∷ var o ∷ []) p) (spawn_call SystemTask.Mult (var o ∷ var q ∷ var a ∷ []) p) (const nil) ∷ var w ∷ [])))
   -- `pipeline`: j takes the jobs of the work, q their reply ports
   of_pipeline : {m n t f z j q r i : ℕ} (w : Work) (ks : List Kernel) → HasKeyword w.keyword ks → n < m → t < m → f < m → z < m
       → j ≡ m → q ≡ suc m → r ≡ suc (suc m) → i ≡ suc (suc (suc m)) → Secret m
-      (numbered m (made MakeKind.Fixed (var n ∷ []) w.place ∷ made MakeKind.Fixed (var n ∷ []) w.place ∷ made MakeKind.Fixed (whole 1 ∷ []) w.place ∷ []))
-      (seq (kernels_of (repeated n i (started (SystemTask.Job w.transform w.function) (var j ∷ ks) w.place) w.place
-      ∷ started SystemTask.Feed (var f ∷ var j ∷ var q ∷ []) w.place
-      ∷ started SystemTask.Collect (var q ∷ var t ∷ var z ∷ var r ∷ []) w.place
+      (numbered m (make_call MakeKind.Fixed (var n ∷ []) w.place ∷ make_call MakeKind.Fixed (var n ∷ []) w.place ∷ make_call MakeKind.Fixed (whole_number 1 ∷ []) w.place ∷ []))
+      (seq (kernels_of (repeated n i (spawn_call (SystemTask.Job w.transform w.function) (var j ∷ ks) w.place) w.place
+      ∷ spawn_call SystemTask.Feed (var f ∷ var j ∷ var q ∷ []) w.place
+      ∷ spawn_call SystemTask.Collect (var q ∷ var t ∷ var z ∷ var r ∷ []) w.place
       ∷ var r ∷ [])))
 
 -- what stands behind so many bindings
@@ -49,7 +49,7 @@ behind (suc i) (binding m t bs) = behind i bs
 
 abbrev mutual
   pub Tidy : ℕ → Kernel → Type 0
-  Tidy n (const v) = IsPublic nobody v
+  Tidy n (const v) = IsPublic no_roles v
   Tidy n (var m) = m < n
   Tidy n (branch c a b) = Tidy n c × Tidy n a × Tidy n b
   Tidy n (bind bs body) = (TidyBindings n bs × Tidy (n + count_bindings bs) body) ⊎ ((i : ℕ) × TidyFirst n bs i × Secret (n + i) (behind i bs) body)

@@ -10,12 +10,12 @@ use Rattle.ca_reader.specs.Form.{FormTree, form, atom, group}
 use Rattle.ca_forms.specs.declared.special.Special.{Special}
 use Rattle.ca_forms.specs.declared.error.CheckErrorKind.TheVariants.{TooMany}
 use Rattle.ca_forms.specs.Uses.{uses}
-use Rattle.ca_forms.specs.Outcome.{Gathered, Outcome, done, refused, after}
+use Rattle.ca_forms.specs.Outcome.{Gathered, WalkOutcome, done, refused, after_walk}
 use Rattle.ca_forms.specs.Meaning.{Env, Signature, Meaning}
 use Rattle.ca_forms.specs.Binders.{Part, Binder, is_pattern}
 use Rattle.ca_forms.specs.Plain.{meanings}
 use Rattle.ca_forms.specs.Walk.{walk}
-use Rattle.ca_forms.specs.Tops.{Tops, Written, Top, definition, function, expression, wrong, top_name, definition_of, def_top, parameters_in, function_of, note_in, defn_behind, defn_top, word_at_head, behind_head, list_top, list_parts, top, numbers, same_names, names_of, over_parameters, straight, looped, body_of, signature, function_env, Settled, settled}
+use Rattle.ca_forms.specs.Tops.{Tops, Written, Top, definition, function, expression, wrong, top_name, definition_of, def_top, parameters_in, function_top, note_in, defn_behind, defn_top, word_at_head, behind_head, list_top, list_parts, top, numbers, same_names, names_of, over_parameters, straight, looped, body_of, signature, function_env, Settled, body_settled}
 use Rattle.ca_sealed.proofs.Used.{Below, below_more, below_append, Only, uses_only, uses_below, uses_extends, extended_same, in_left, in_right}
 use Rattle.ca_sealed.proofs.Outcomes.{IfDone, if_cond, numbers_below, in_numbers, same_names_length, names_length}
 use Rattle.ca_sealed.proofs.Tidy.{Tidy}
@@ -40,7 +40,7 @@ tidy_def_top g (x ∷ []) f = tt
 tidy_def_top g (x ∷ e ∷ []) f = tidy_definition_of g (top_name x.form) e.means f.2.0
 tidy_def_top g (x ∷ e ∷ y ∷ qs) f = tt
 
-pub tidy_function_of : (g : ℕ) (x : Option (List ℕ)) (bs : Option (List Binder)) (n : Option (List ℕ × Place)) (qs : List Part) → PartsKeep g qs → TopKeeps g (function_of x bs n qs)
+pub tidy_function_of : (g : ℕ) (x : Option (List ℕ)) (bs : Option (List Binder)) (n : Option (List ℕ × Place)) (qs : List Part) → PartsKeep g qs → TopKeeps g (function_top x bs n qs)
 tidy_function_of g None bs n qs f = tt
 tidy_function_of g (Some x) None n qs f = tt
 tidy_function_of g (Some x) (Some bs) n qs f = tidy_block g 0 (meanings qs) (means_keep g qs f)
@@ -122,7 +122,7 @@ body_makes f p t sig s looping h a = by looping where
   here : Holds g (function_size f t) within
   here = (omega (arith, length-append t.scope (names_of f.parameters)), omega (arith, length-append t.scope (names_of f.parameters)), a)
 
-  moved : (o : Outcome Kernel) → Makes within s o → IfDone o (λ body s2. Grew s s2 (Tidy (function_size f t) body))
+  moved : (o : WalkOutcome Kernel) → Makes within s o → IfDone o (λ body s2. Grew s s2 (Tidy (function_size f t) body))
   moved o m = subst (λ i. IfDone o (λ body s2. Grew s s2 (Tidy i body))) (length-append t.scope (names_of f.parameters)) m
 
   by : (b : Bool) → IfDone (body_of b f p (function_env sig t) s) (λ body s2. Grew s s2 (Tidy (function_size f t) body))
@@ -141,20 +141,20 @@ pub record Settles (f : Written) (t : Tops) (s : Gathered) (r : Settled) (s2 : G
   pub grew : Grew s s2 (Tidy (function_size f t) r.body)
 
 pub settled_settles : (f : Written) (p : Place) (t : Tops) (s : Gathered) (looping : Bool) → Keeps (length t.scope) 0 f.body → AreBelow (length t.scope) t.functions
-    → (n : ℕ) (hidden : List ℕ) → Below (length t.scope) hidden → IfDone (settled n looping hidden f p t s) (Settles f t s)
+    → (n : ℕ) (hidden : List ℕ) → Below (length t.scope) hidden → IfDone (body_settled n looping hidden f p t s) (Settles f t s)
 settled_settles f p t s looping h a zero hidden b = tt
 settled_settles f p t s looping h a (suc n) hidden b = by (body_of looping f p (function_env (signature f hidden false) t) s)
     (body_makes f p t (signature f hidden false) s looping h (are_below_behind (length t.scope) t.functions (signature f hidden false) a b))
     (λ body. settled_settles f p t s looping h a n (uses (length t.scope) body hidden) (uses_below (length t.scope) body hidden b)) where
-      by : (o : Outcome Kernel) → IfDone o (λ body s2. Grew s s2 (Tidy (function_size f t) body))
-          → ((body : Kernel) → IfDone (settled n looping (uses (length t.scope) body hidden) f p t s) (Settles f t s))
-          → IfDone (after o (λ body s2. cond (nat_lt 64 (length (uses (length t.scope) body hidden))) (refused TooMany p)
+      by : (o : WalkOutcome Kernel) → IfDone o (λ body s2. Grew s s2 (Tidy (function_size f t) body))
+          → ((body : Kernel) → IfDone (body_settled n looping (uses (length t.scope) body hidden) f p t s) (Settles f t s))
+          → IfDone (after_walk o (λ body s2. cond (nat_lt 64 (length (uses (length t.scope) body hidden))) (refused TooMany p)
           (cond (nat_eq (length (uses (length t.scope) body hidden)) (length hidden)) (done (record { body = body; hidden = hidden }) s2)
-          (settled n looping (uses (length t.scope) body hidden) f p t s)))) (Settles f t s)
+          (body_settled n looping (uses (length t.scope) body hidden) f p t s)))) (Settles f t s)
       by (refused e q) m rest = tt
       by (done body s2) m rest = if_cond (nat_lt 64 (length (uses (length t.scope) body hidden))) (refused TooMany p) _ (Settles f t s) tt
           (same (nat_eq (length (uses (length t.scope) body hidden)) (length hidden)) (eqb-true (length (uses (length t.scope) body hidden)) (length hidden))) where
             same : (c : Bool) → (c ≡ true → length (uses (length t.scope) body hidden) ≡ length hidden)
-                → IfDone (cond c (done (record { body = body; hidden = hidden }) s2) (settled n looping (uses (length t.scope) body hidden) f p t s)) (Settles f t s)
+                → IfDone (cond c (done (record { body = body; hidden = hidden }) s2) (body_settled n looping (uses (length t.scope) body hidden) f p t s)) (Settles f t s)
             same true e = record { below = b; same = e refl; grew = m }
             same false e = rest body

@@ -4,7 +4,7 @@ use Rattle.std.proofs.lemmas.List.{append-nil, append_assoc, length-append}
 use Rattle.std.proofs.lemmas.Bool.{ltb-true, ltb-false, eqb-true}
 use Rattle.ca_term.specs.Kernel.{Kernel, Kernels, Bindings, const, var, branch, bind, loop, seq, frame, turn, apply, none, item, empty, binding}
 use Rattle.ca_term.specs.Closed.{IsIn}
-use Rattle.ca_forms.specs.Uses.{is_among, noted, uses, uses_items, uses_bindings}
+use Rattle.ca_forms.specs.Uses.{is_name_among, name_noted, uses, uses_items, uses_bindings}
 
 -- each of the numbers is below n
 abbrev pub Below : ℕ → List ℕ → Type 0
@@ -71,22 +71,22 @@ pub in_right : (m : ℕ) (xs ys : List ℕ) → IsIn m ys → IsIn m (xs ++ ys)
 in_right m [] ys h = h
 in_right m (x ∷ xs) ys h = inr (in_right m xs ys h)
 
-pub among_in : (m : ℕ) (xs : List ℕ) → is_among m xs ≡ true → IsIn m xs
+pub among_in : (m : ℕ) (xs : List ℕ) → is_name_among m xs ≡ true → IsIn m xs
 among_in m [] e = cc
 among_in m (x ∷ xs) e = by (m == x) (eqb-true m x) (λ r. among_in m xs r) e where
-  by : (b : Bool) → (b ≡ true → m ≡ x) → (is_among m xs ≡ true → IsIn m xs) → (b || is_among m xs) ≡ true → IsIn m (x ∷ xs)
+  by : (b : Bool) → (b ≡ true → m ≡ x) → (is_name_among m xs ≡ true → IsIn m xs) → (b || is_name_among m xs) ≡ true → IsIn m (x ∷ xs)
   by true f r e = inl (f refl)
   by false f r e = inr (r e)
 
 -- what was seen stays, and what is used is seen
-pub noted_keeps : (n m : ℕ) (seen : List ℕ) → Within seen (noted n m seen)
-noted_keeps n m seen x h = by (nat_lt m n && not (is_among m seen)) where
+pub noted_keeps : (n m : ℕ) (seen : List ℕ) → Within seen (name_noted n m seen)
+noted_keeps n m seen x h = by (nat_lt m n && not (is_name_among m seen)) where
   by : (b : Bool) → IsIn x (cond b (seen ++ m ∷ []) seen)
   by true = in_left x seen (m ∷ []) h
   by false = h
 
-pub noted_has : (n m : ℕ) (seen : List ℕ) → m < n → IsIn m (noted n m seen)
-noted_has n m seen l = by (nat_lt m n) (ltb-false m n) (is_among m seen) (among_in m seen) where
+pub noted_has : (n m : ℕ) (seen : List ℕ) → m < n → IsIn m (name_noted n m seen)
+noted_has n m seen l = by (nat_lt m n) (ltb-false m n) (is_name_among m seen) (among_in m seen) where
   by : (a : Bool) → (a ≡ false → n ≤ m) → (b : Bool) → (b ≡ true → IsIn m seen) → IsIn m (cond (a && not b) (seen ++ m ∷ []) seen)
   by true f true g = g refl
   by true f false g = in_right m seen (m ∷ []) (inl refl)
@@ -146,8 +146,8 @@ mutual
       (only_more n (uses n t seen) (uses_bindings n bs (uses n t seen)) (uses_bindings_keep n bs (uses n t seen)) t (uses_only n t seen), uses_bindings_only n bs (uses n t seen))
 
 -- what is used is below
-pub noted_below : (n m : ℕ) (seen : List ℕ) → Below n seen → Below n (noted n m seen)
-noted_below n m seen g = by (nat_lt m n) (is_among m seen) (ltb-true m n) where
+pub noted_below : (n m : ℕ) (seen : List ℕ) → Below n seen → Below n (name_noted n m seen)
+noted_below n m seen g = by (nat_lt m n) (is_name_among m seen) (ltb-true m n) where
   by : (a b : Bool) → (a ≡ true → m < n) → Below n (cond (a && not b) (seen ++ m ∷ []) seen)
   by false b f = g
   by true true f = g
@@ -180,8 +180,8 @@ Extends seen out = (extra : List ℕ) × (out ≡ seen ++ extra)
 pub extends_on : (a b c : List ℕ) → Extends a b → Extends b c → Extends a c
 extends_on a b c x y = (x.0 ++ y.0, y.1 ∙ ap (λ (l : List ℕ). l ++ y.0) x.1 ∙ append_assoc a x.0 y.0)
 
-pub noted_extends : (n m : ℕ) (seen : List ℕ) → Extends seen (noted n m seen)
-noted_extends n m seen = by (nat_lt m n && not (is_among m seen)) where
+pub noted_extends : (n m : ℕ) (seen : List ℕ) → Extends seen (name_noted n m seen)
+noted_extends n m seen = by (nat_lt m n && not (is_name_among m seen)) where
   by : (b : Bool) → Extends seen (cond b (seen ++ m ∷ []) seen)
   by true = (m ∷ [], refl)
   by false = ([], sym (append-nil seen))

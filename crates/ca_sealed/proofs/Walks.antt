@@ -16,14 +16,14 @@ use Rattle.ca_forms.specs.Meaning.{block}
 use Rattle.ca_forms.specs.Binders.{Part}
 use Rattle.ca_forms.specs.Plain.{meanings, row_loop, by_truth, by_some}
 use Rattle.ca_forms.specs.Channels.{parking, blocking}
-use Rattle.ca_forms.specs.Walk.{row, row_or_call, headed, row_list, row_atom, row_group, walk, walk_shape, parts, within, within_shape, pairs}
+use Rattle.ca_forms.specs.Walk.{special_row, row_or_call, headed, row_list, row_atom, row_group, walk, walk_shape, walked_parts, within, within_shape, pairs}
 use Rattle.ca_sealed.proofs.Words.{Keeps, tidy_constant, tidy_fail, tidy_cond, tidy_operation, tidy_body}
 use Rattle.ca_sealed.proofs.Goes.{tidy_go}
 use Rattle.ca_sealed.proofs.Names.{tidy_symbol, tidy_written, tidy_builtin_call, tidy_row_call, tidy_keyword}
 use Rattle.ca_sealed.proofs.Rows.{PairsKeep, PartsKeep, means_keep, block_keep, tidy_row_let, tidy_row_if, tidy_row_if_not, tidy_row_when, tidy_row_when_not, tidy_row_cond, tidy_and, tidy_or, tidy_truth, tidy_some, tidy_row_if_bound, tidy_row_when_bound, tidy_row_loop, tidy_row_recur, tidy_row_while, tidy_row_dotimes, tidy_row_doseq}
 use Rattle.ca_sealed.proofs.ChannelRows.{tidy_row_of_one, tidy_row_of_two, parking_keep, blocking_keep, tidy_row_take, tidy_row_put, tidy_row_alts, tidy_row_offer, tidy_row_poll, tidy_row_chan, tidy_row_promise, tidy_row_mult, tidy_row_tap, tidy_row_mix, tidy_row_change_of_one, tidy_row_change_of_two, tidy_row_pub, tidy_row_sub, tidy_row_unsub, tidy_row_unsub_all, tidy_row_pipe, tidy_row_merge, tidy_row_pipeline, tidy_row_onto, tidy_row_to}
 
-pub tidy_row : (g : ℕ) (k : Special) (p : Place) (qs : List Part) → PartsKeep g qs → Keeps g 0 (row k p qs)
+pub tidy_row : (g : ℕ) (k : Special) (p : Place) (qs : List Part) → PartsKeep g qs → Keeps g 0 (special_row k p qs)
 tidy_row g Special.Def p qs f = tidy_fail g 0 BadForm p
 tidy_row g Special.Defn p qs f = tidy_fail g 0 BadForm p
 tidy_row g Special.Do p qs f = block_keep g 0 qs f
@@ -122,9 +122,9 @@ mutual
 
   pub tidy_shape : (g : ℕ) (s : ShapeTree) (p : Place) → Keeps g 0 (walk_shape s p)
   tidy_shape g (atom a) p = tidy_row_atom g a p
-  tidy_shape g (group b fs) p = tidy_cond g 0 (nat_lt 4096 (length (parts fs))) _ (row_group b (parts fs) p) (tidy_fail g 0 TooMany p) (tidy_row_group g b (parts fs) p (tidy_parts g fs))
+  tidy_shape g (group b fs) p = tidy_cond g 0 (nat_lt 4096 (length (walked_parts fs))) _ (row_group b (walked_parts fs) p) (tidy_fail g 0 TooMany p) (tidy_row_group g b (walked_parts fs) p (tidy_parts g fs))
 
-  pub tidy_parts : (g : ℕ) (fs : FormTrees) → PartsKeep g (parts fs)
+  pub tidy_parts : (g : ℕ) (fs : FormTrees) → PartsKeep g (walked_parts fs)
   tidy_parts g none = tt
   tidy_parts g (item f fs) = (tidy_walk g f, tidy_within g f, tidy_parts g fs)
 

@@ -10,12 +10,12 @@ use Rattle.ca_term.specs.Fits.{count_bindings}
 use Rattle.ca_term.specs.Program.{ProcedureView}
 use Rattle.ca_term.specs.View.{kernels_of}
 use Rattle.ca_forms.specs.declared.error.CheckErrorKind.{CheckErrorKind}
-use Rattle.ca_forms.specs.Outcome.{Gathered, Outcome, done, after, limited}
-use Rattle.ca_forms.specs.Meaning.{Env, Signature, Meaning, Named, size, inner, named, fail, constant, nothing, local, iff, unless, before_others, in_order, operation, block, unnamed, binds, behind, lets, loops, name_as, hide, numbered, joined, hiding}
+use Rattle.ca_forms.specs.Outcome.{Gathered, WalkOutcome, done, after_walk, limited}
+use Rattle.ca_forms.specs.Meaning.{Env, Signature, Meaning, Named, size, inner, behind_name, fail_with, constant_value, nothing, local_name, iff, unless, before_others, means_in_order, operation, block, unnamed, binds, behind, lets, loops, name_as, hide, numbered, bindings_joined, hiding}
 use Rattle.ca_meaning.specs.Sound.{Each}
 use Rattle.ca_sealed.proofs.Used.{Only, Below}
 use Rattle.ca_sealed.proofs.Outcomes.{IfDone, if_after, if_cond, size_named, size_behind, joined_count}
-use Rattle.ca_roles.specs.Roles.{nobody, IsPublic}
+use Rattle.ca_roles.specs.Roles.{no_roles, IsPublic}
 use Rattle.ca_roles.specs.Sealed.{hides_in}
 use Rattle.ca_sealed.proofs.Tidy.{Secret, Tidy, TidyTerms, TidyBindings, TidyFirst, behind as rest_behind}
 
@@ -55,7 +55,7 @@ AreBelow g (f ∷ fs) = Below g f.hidden × AreBelow g fs
 abbrev pub Holds : ℕ → ℕ → Env → Type 0
 Holds g n env = (n ≤ size env) × (g ≤ size env) × AreBelow g env.functions
 
-abbrev pub Makes : Env → Gathered → Outcome Kernel → Type 0
+abbrev pub Makes : Env → Gathered → WalkOutcome Kernel → Type 0
 Makes env s o = IfDone o (λ t s2. Grew s s2 (Tidy (size env) t))
 
 -- it makes tidy terms wherever n names are in scope
@@ -65,20 +65,20 @@ Keeps g n m = (env : Env) (s : Gathered) → Holds g n env → Makes env s (m en
 pub weaken : (g n m : ℕ) (b : Meaning) → n ≤ m → Keeps g n b → Keeps g m b
 weaken g n m b l f env s st = f env s (omega (arith, l, st.0), st.1, st.2)
 
-pub tidy_constant : (g n : ℕ) (v : Tree) → IsPublic nobody v → Keeps g n (constant v)
-tidy_constant g n v p env s st = stays s (IsPublic nobody v) p
+pub tidy_constant : (g n : ℕ) (v : Tree) → IsPublic no_roles v → Keeps g n (constant_value v)
+tidy_constant g n v p env s st = stays s (IsPublic no_roles v) p
 
 pub tidy_nothing : (g n : ℕ) → Keeps g n nothing
 tidy_nothing g n = tidy_constant g n nil tt
 
-pub tidy_local : (g n h : ℕ) → h < n → Keeps g n (local h)
+pub tidy_local : (g n h : ℕ) → h < n → Keeps g n (local_name h)
 tidy_local g n h l env s st = stays s (h < size env) (omega (arith, l, st.0))
 
 -- a name of the main text
-pub tidy_low : (g n h : ℕ) → h < g → Keeps g n (local h)
+pub tidy_low : (g n h : ℕ) → h < g → Keeps g n (local_name h)
 tidy_low g n h l env s st = stays s (h < size env) (omega (arith, l, st.1))
 
-pub tidy_fail : (g n : ℕ) (e : CheckErrorKind) (p : Place) → Keeps g n (fail e p)
+pub tidy_fail : (g n : ℕ) (e : CheckErrorKind) (p : Place) → Keeps g n (fail_with e p)
 tidy_fail g n e p env s st = tt
 
 pub tidy_cond : (g n : ℕ) (b : Bool) (x y : Meaning) → Keeps g n x → Keeps g n y → Keeps g n (cond b x y)
@@ -121,14 +121,14 @@ makes_before g n zero m env s f st = f env s st
 makes_before g n (suc i) m env s f st = f (inner env) s st
 
 -- terms in order
-abbrev pub MakesAll : Env → Gathered → Outcome Kernels → Type 0
+abbrev pub MakesAll : Env → Gathered → WalkOutcome Kernels → Type 0
 MakesAll env s o = IfDone o (λ ts s2. Grew s s2 (TidyTerms (size env) ts))
 
-pub tidy_in_order : (g n : ℕ) (ms : List Meaning) → AllKeep g n ms → (env : Env) (s : Gathered) → Holds g n env → MakesAll env s (in_order ms env s)
+pub tidy_in_order : (g n : ℕ) (ms : List Meaning) → AllKeep g n ms → (env : Env) (s : Gathered) → Holds g n env → MakesAll env s (means_in_order ms env s)
 tidy_in_order g n [] f env s st = stays s (Unit {0}) tt
 tidy_in_order g n (m ∷ ms) f env s st =
     if_after (m (before_others (length ms) env) s) _ _ _ (makes_before g n (length ms) m env s f.0 st) (λ t s1 x.
-    if_after (in_order ms env s1) _ _ _ (tidy_in_order g n ms f.1 env s1 st) (λ ts s2 y. behind_it s s1 s2 _ _ x y))
+    if_after (means_in_order ms env s1) _ _ _ (tidy_in_order g n ms f.1 env s1 st) (λ ts s2 y. behind_it s s1 s2 _ _ x y))
 
 -- a form that has no hidden operands, whatever they are
 abbrev pub HidesNone : Head → Type 0
@@ -136,14 +136,14 @@ HidesNone h = (ts : Kernels) → hides_in h ts ≡ false
 
 pub tidy_operation : (g n : ℕ) (h : Head) (ms : List Meaning) (p : Place) → AllKeep g n ms → HidesNone h → Keeps g n (operation h ms p)
 tidy_operation g n h ms p f u env s st =
-    if_after (in_order ms (inner env) s) _ _ _ (tidy_in_order g n ms f (inner env) s st) (λ ts s2 x. makes_limited env s s2 (apply h ts p) ((u ts, x.0), x.1))
+    if_after (means_in_order ms (inner env) s) _ _ _ (tidy_in_order g n ms f (inner env) s st) (λ ts s2 x. makes_limited env s s2 (apply h ts p) ((u ts, x.0), x.1))
 
-pub makes_seq : (env : Env) (s : Gathered) (o : Outcome Kernels) → MakesAll env s o → Makes env s (after o (λ ts s. limited (seq ts) s))
+pub makes_seq : (env : Env) (s : Gathered) (o : WalkOutcome Kernels) → MakesAll env s o → Makes env s (after_walk o (λ ts s. limited (seq ts) s))
 makes_seq env s o h = if_after o _ _ _ h (λ ts s2 x. makes_limited env s s2 (seq ts) x)
 
 pub tidy_block : (g n : ℕ) (ms : List Meaning) → AllKeep g n ms → Keeps g n (block ms)
 tidy_block g n [] f env s st = tidy_nothing g n env s st
-tidy_block g n (m ∷ ms) f env s st = makes_seq env s (in_order (m ∷ ms) env s) (tidy_in_order g n (m ∷ ms) f env s st)
+tidy_block g n (m ∷ ms) f env s st = makes_seq env s (means_in_order (m ∷ ms) env s) (tidy_in_order g n (m ∷ ms) f env s st)
 
 pub tidy_body : (g n : ℕ) (m : Meaning) → Keeps g n m → Keeps g n (block (m ∷ []))
 tidy_body g n m f = tidy_block g n (m ∷ []) (f, tt)
@@ -165,17 +165,17 @@ pub named_append : (g n : ℕ) (bs cs : List Named) → NamedKeep g n bs → Nam
 named_append g n [] cs f h = named_weaken g (n + 0) n cs (omega arith) h
 named_append g n (b ∷ bs) cs f h = (f.0, named_append g (suc n) bs cs f.1 (named_weaken g (n + suc (length bs)) (suc n + length bs) cs (omega arith) h))
 
-pub holds_named : (g n : ℕ) (x : List ℕ) (env : Env) → Holds g n env → Holds g (suc n) (named x env)
+pub holds_named : (g n : ℕ) (x : List ℕ) (env : Env) → Holds g n env → Holds g (suc n) (behind_name x env)
 holds_named g n x env st = (omega (arith, size_named x env, st.0), omega (arith, size_named x env, st.1), st.2)
 
-abbrev pub MakesBindings : Env → Gathered → ℕ → Outcome Bindings → Type 0
+abbrev pub MakesBindings : Env → Gathered → ℕ → WalkOutcome Bindings → Type 0
 MakesBindings env s i o = IfDone o (λ ts s2. (count_bindings ts ≡ i) × Grew s s2 (TidyBindings (size env) ts))
 
 pub tidy_binds : (g n : ℕ) (bs : List Named) → NamedKeep g n bs → (env : Env) (s : Gathered) → Holds g n env → MakesBindings env s (length bs) (binds bs env s)
 tidy_binds g n [] f env s st = (refl, stays s (Unit {0}) tt)
 tidy_binds g n (b ∷ bs) f env s st =
     if_after (b.means (inner env) s) _ _ _ (f.0 (inner env) s st) (λ t s1 x.
-    if_after (binds bs (named b.name env) s1) _ _ _ (tidy_binds g (suc n) bs f.1 (named b.name env) s1 (holds_named g n b.name env st)) (λ ts s2 y.
+    if_after (binds bs (behind_name b.name env) s1) _ _ _ (tidy_binds g (suc n) bs f.1 (behind_name b.name env) s1 (holds_named g n b.name env st)) (λ ts s2 y.
     (ap suc y.0, ((refl, x.0, subst (λ m. TidyBindings m ts) (size_named b.name env) y.1.0), λ m. y.1.1 (x.1 m)))))
 
 pub holds_behind : (g n : ℕ) (bs : List Named) (env : Env) → Holds g n env → Holds g (n + length bs) (behind bs env)
@@ -221,15 +221,15 @@ pub numbered_tidy : (n : ℕ) (ts : List Kernel) → TidyNumbered n ts → (coun
 numbered_tidy n [] w = (refl, tt)
 numbered_tidy n (t ∷ ts) w = (ap suc (numbered_tidy (suc n) ts w.1).0, (refl, w.0, (numbered_tidy (suc n) ts w.1).1))
 
-pub joined_tidy : (n : ℕ) (bs cs : Bindings) → TidyBindings n bs → TidyBindings (n + count_bindings bs) cs → TidyBindings n (joined bs cs)
+pub joined_tidy : (n : ℕ) (bs cs : Bindings) → TidyBindings n bs → TidyBindings (n + count_bindings bs) cs → TidyBindings n (bindings_joined bs cs)
 joined_tidy n empty cs w v = subst (λ m. TidyBindings m cs) (omega arith) v
 joined_tidy n (binding m t bs) cs w v = (w.0, w.1, joined_tidy (suc n) bs cs w.2 (subst (λ m. TidyBindings m cs) (omega arith) v))
 
-pub joined_first : (n : ℕ) (bs cs : Bindings) → TidyBindings n bs → TidyFirst n (joined bs cs) (count_bindings bs)
+pub joined_first : (n : ℕ) (bs cs : Bindings) → TidyBindings n bs → TidyFirst n (bindings_joined bs cs) (count_bindings bs)
 joined_first n empty cs w = tt
 joined_first n (binding m t bs) cs w = (w.0, w.1, joined_first (suc n) bs cs w.2)
 
-pub joined_behind : (bs cs : Bindings) → cs ≡ rest_behind (count_bindings bs) (joined bs cs)
+pub joined_behind : (bs cs : Bindings) → cs ≡ rest_behind (count_bindings bs) (bindings_joined bs cs)
 joined_behind empty cs = refl
 joined_behind (binding m t bs) cs = joined_behind bs cs
 
@@ -242,7 +242,7 @@ tidy_hiding g n ms more body f wm wb env s st =
     let count : count_bindings bs ≡ length ms = x.0 ∙ length-map ms unnamed in
     let rest : (count_bindings (numbered (size env + length ms) (more (size env))) ≡ length (more (size env)))
     × TidyBindings (size env + length ms) (numbered (size env + length ms) (more (size env))) = numbered_tidy (size env + length ms) (more (size env)) (wm (size env)) in
-    makes_limited env s s2 (bind (joined bs (numbered (size env + length ms) (more (size env)))) (seq (kernels_of (body (size env))))) (
+    makes_limited env s s2 (bind (bindings_joined bs (numbered (size env + length ms) (more (size env)))) (seq (kernels_of (body (size env))))) (
       inl (
         joined_tidy (size env) bs (numbered (size env + length ms) (more (size env))) x.1.0
             (subst (λ i. TidyBindings (size env + i) (numbered (size env + length ms) (more (size env)))) (sym count) rest.1),
@@ -259,7 +259,7 @@ tidy_secret g n ms more body f w env s st =
     if_after (binds (map unnamed ms) env s) _ _ _ (tidy_binds g n (map unnamed ms) (unnamed_keep g n ms f) env s st) (λ bs s2 x.
     let count : length ms ≡ count_bindings bs = sym (x.0 ∙ length-map ms unnamed) in
     let rest : Bindings = numbered (size env + length ms) (more (size env)) in
-    makes_limited env s s2 (bind (joined bs rest) (seq (kernels_of (body (size env))))) (
+    makes_limited env s s2 (bind (bindings_joined bs rest) (seq (kernels_of (body (size env))))) (
       inr (
         count_bindings bs,
         joined_first (size env) bs rest x.1.0,

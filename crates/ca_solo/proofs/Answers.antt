@@ -6,7 +6,7 @@ use Rattle.ca_meaning.specs.Wait.{owner_of}
 use Rattle.ca_meaning.specs.State.{State, Deadline}
 use Rattle.ca_meaning.specs.Solo.{Desk, opening_desk, AsksBefore, AsksAfter, IsPicked, IsTurnOf, TicksAtPick, TicksIdle, CountsAlts, ReadsMoment, Leaves, joined_by, made_one, TaskTurn, IsNext, SoloSteps}
 use Rattle.ca_solo.specs.Positions.{Phase, settling, free, picked, in_time, Position, and_later, also_later}
-use Rattle.ca_solo.specs.Alone.{Follows, Alone}
+use Rattle.ca_solo.specs.Alone.{PhaseFollows, Alone}
 
 module _ (rs : List ℕ) where
   before_later : (ds : List Deadline) (r l : List ℕ) → AsksBefore ds r l → AsksBefore ds (r ++ rs) (l ++ rs)
@@ -76,7 +76,7 @@ module _ (rs : List ℕ) where
   steps_later program [] s d s2 d2 x = (x.0, ap (and_later rs) x.1)
   steps_later program (e ∷ es) s d s2 d2 x = (x.0, and_later rs x.1, x.2, next_later s d e x.1 x.3, steps_later program es x.0 x.1 s2 d2 x.4)
 
-  follows_later : (s : State) (d desk : Desk) (f : Phase) → Follows s d desk f → Follows s (and_later rs d) (and_later rs desk) f
+  follows_later : (s : State) (d desk : Desk) (f : Phase) → PhaseFollows s d desk f → PhaseFollows s (and_later rs d) (and_later rs desk) f
   follows_later s d desk (settling us) x = (ap (and_later rs) x.0, x.1, x.2)
   follows_later s d desk free x = ((x.0.0, x.0.1, ap (and_later rs) x.0.2), x.1)
   follows_later s d desk picked x = ((x.0.0, x.0.1, x.0.2, ap (and_later rs) x.0.3), x.1)

@@ -7,9 +7,9 @@ use Rattle.ca_meaning.specs.Task.{TaskBody}
 use Rattle.ca_meaning.specs.State.{State, Tasks}
 use Rattle.ca_meaning.specs.Steps.{Step}
 use Rattle.ca_meaning.specs.Sound.{Sound}
-use Rattle.ca_meaning.specs.Solo.{Desk, alts_of, joined_by, made_one, ReadsMoment, CountsAlts, Leaves}
+use Rattle.ca_meaning.specs.Solo.{Desk, alts_counted, joined_by, made_one, ReadsMoment, CountsAlts, Leaves}
 use Rattle.ca_solo.specs.Positions.{Position, first_position}
-use Rattle.ca_solo.specs.Moves.{Move, picks, is_in_time, is_late, waits_idle, makes_one, settles_one, passes_one, yields, rests}
+use Rattle.ca_solo.specs.Moves.{SoloMove, picks, is_in_time, is_late, waits_idle, makes_one, settles_one, passes_one, yields, rests}
 use Rattle.ca_solo.specs.Seats.{Uncounted}
 use Rattle.ca_meaning.proofs.Tasks.{Puts, nothing, one, IsRested, rested_kept, step_puts}
 
@@ -25,7 +25,7 @@ alts_of_desk d d2 e u = ap (λ (z : Desk). z.alts u) e
 
 counts_alts : (s : State) (d : Desk) (t : ℕ) (d2 : Desk) → CountsAlts s d t d2 → (u : ℕ) → s.tasks u ≡ None → d2.alts u ≡ d.alts u
 counts_alts s d t d2 x u n = alts_of_desk d2 _ x.4 u ∙ by (eqb t u) refl where
-  by : (b : Bool) → eqb t u ≡ b → cond b (alts_of x.1 (d.alts u)) (d.alts u) ≡ d.alts u
+  by : (b : Bool) → eqb t u ≡ b → cond b (alts_counted x.1 (d.alts u)) (d.alts u) ≡ d.alts u
   by true is = absurd (let k : None ≡ Some x.0 = sym n ∙ ap s.tasks (sym (eqb-true t u is)) ∙ x.2 in cc)
   by false is = refl
 
@@ -56,7 +56,7 @@ module _ (program : ProgramView) (w : Position) (sound : Sound w.state) where
   gone : (e : EventView) (s2 : State) → Step program w.state e s2 → (u : ℕ) → s2.tasks u ≡ None → w.state.tasks u ≡ None
   gone e s2 x u n = not_before w.state.tasks s2.tasks (step_puts program IsRested (rested_kept program) w.state s2 e sound.rested x) u n
 
-  pub move_uncounted : Uncounted w → (w2 : Position) (es : List EventView) → Move program w w2 es → Uncounted w2
+  pub move_uncounted : Uncounted w → (w2 : Position) (es : List EventView) → SoloMove program w w2 es → Uncounted w2
   move_uncounted all w2 es (picks x e) = subst Uncounted (sym x.4) all
   move_uncounted all w2 es (is_in_time x e) = subst Uncounted (sym x.3) all
   move_uncounted all w2 es (is_late m ports x e) = subst Uncounted (sym x.7) (λ u n. all u (gone (ticked m ports) x.2 x.5 u n))

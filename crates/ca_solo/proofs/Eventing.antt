@@ -9,26 +9,26 @@ use Rattle.ca_meaning.specs.State.{State}
 use Rattle.ca_meaning.specs.Sound.{Each}
 use Rattle.ca_meaning.specs.EndsLaw.{is_of}
 use Rattle.ca_meaning.specs.Solo.{Lane, Desk, NoneSettles, SettlesFirst, patience, IsPicked, IsTurnOf, joined_by}
-use Rattle.ca_solo.specs.Stirs.{port_if, done_stirs, done_stirred, stirred, In, Ascends, OnlyThese}
+use Rattle.ca_solo.specs.Stirs.{port_if, done_stirs, done_stirred, stirred, AmongPorts, PortsAscend, OnlyThese}
 use Rattle.ca_solo.specs.Positions.{Phase, settling, free, picked, in_time, Position}
 use Rattle.ca_solo.specs.Moves.{MayMake, MakesOne, SettlesOne}
-use Rattle.ca_solo.specs.Alone.{Follows, Alone}
+use Rattle.ca_solo.specs.Alone.{PhaseFollows, Alone}
 use Rattle.ca_solo.proofs.Settling.{settles_later}
 use Rattle.ca_solo.proofs.Following.{next_of, sound, shows, follows_in}
 
 -- an event of a task stirs one channel at most
-one_ascends : (o : Option ℕ) → Ascends (port_if o)
+one_ascends : (o : Option ℕ) → PortsAscend (port_if o)
 one_ascends None = tt
 one_ascends (Some p) = (tt, tt)
 
-one_done : (o : Option Channel) (b : BranchView) → Ascends (done_stirred o b)
+one_done : (o : Option Channel) (b : BranchView) → PortsAscend (done_stirred o b)
 one_done None b = tt
 one_done (Some c) b = by (done_stirs c b) where
-  by : (t : Bool) → Ascends (cond t (port_of b ∷ []) [])
+  by : (t : Bool) → PortsAscend (cond t (port_of b ∷ []) [])
   by true = (tt, tt)
   by false = tt
 
-pub stirs_one : (s : State) (t : ℕ) (e : EventView) → is_of t e ≡ true → Ascends (stirred s e)
+pub stirs_one : (s : State) (t : ℕ) (e : EventView) → is_of t e ≡ true → PortsAscend (stirred s e)
 stirs_one s t (made u p what moment) is = tt
 stirs_one s t (spawned u v kind result) is = tt
 stirs_one s t (done u k b a) is = one_done (s.channels (port_of b)) b
@@ -44,9 +44,9 @@ stirs_one s t (ticked m ports) is = absurd (let k : false ≡ true = is in cc)
 stirs_one s t (is_over u Ended) is = tt
 stirs_one s t (is_over u (Faulted fault place result)) is = one_ascends (option_map port_number result)
 
-least_first : (s : State) (p : ℕ) (ps : List ℕ) → Ascends (p ∷ ps) → OnlyThese s (p ∷ ps) → SettlesFirst s p
+least_first : (s : State) (p : ℕ) (ps : List ℕ) → PortsAscend (p ∷ ps) → OnlyThese s (p ∷ ps) → SettlesFirst s p
 least_first s p ps up only q lt can = ⊎_elim (λ is. let e : q ≡ p = is in omega (arith, e, lt)) (λ more. by ps up.0 more) (only q can) where
-  by : (qs : List ℕ) → Each (λ q. p ≤ q) qs → In q qs → ⊥
+  by : (qs : List ℕ) → Each (λ q. p ≤ q) qs → AmongPorts q qs → ⊥
   by [] a i = i
   by (r ∷ rs) a (inl e) = let le : p ≤ r = a.0 in omega (arith, e, le, lt)
   by (r ∷ rs) a (inr i) = by rs a.1 i
@@ -61,7 +61,7 @@ module _ (program : ProgramView) (readings : List ℕ) (journal : List EventView
   abbrev Turn : Position → Desk → ℕ → Type 0
   Turn w d t = NoneSettles w.state × IsTurnOf w.state d t w.desk
 
-  turn_at : (w : Position) (d : Desk) (f : Phase) (lane : Lane) → Follows w.state d w.desk f → MayMake f → w.desk.lane ≡ Some lane → lane.events < patience → Turn w d lane.task
+  turn_at : (w : Position) (d : Desk) (f : Phase) (lane : Lane) → PhaseFollows w.state d w.desk f → MayMake f → w.desk.lane ≡ Some lane → lane.events < patience → Turn w d lane.task
   turn_at w d (settling []) lane x may on few = (x.2, inl (lane, ap (λ (z : Desk). z.lane) x.0 ∙ on, few, refl, sym x.0))
   turn_at w d (settling (p ∷ ps)) lane x may on few = absurd may
   turn_at w d free lane x may on few = absurd may

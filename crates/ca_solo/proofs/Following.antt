@@ -10,7 +10,7 @@ use Rattle.ca_meaning.specs.Legal.{Reaches}
 use Rattle.ca_meaning.specs.Solo.{Lane, Desk, opening_desk, IsFree, TaskTurn, IsNext, SoloSteps}
 use Rattle.ca_meaning.proofs.Soundness.{reached_sound}
 use Rattle.ca_solo.specs.Positions.{Phase, Position}
-use Rattle.ca_solo.specs.Alone.{IsFreed, Follows, Alone}
+use Rattle.ca_solo.specs.Alone.{IsFreed, PhaseFollows, Alone}
 
 -- one step more
 pub one_step_more : (program : ProgramView) (es : List EventView) (s a b : State) (d i j : Desk) (e : EventView) → SoloSteps program s d es a i → Step program a e b → IsNext a i e j → SoloSteps program s d (es ++ e ∷ []) b j
@@ -53,12 +53,12 @@ module _ (program : ProgramView) (readings : List ℕ) (journal : List EventView
   sound w a = reached_sound program journal w.state (record { opening = a.opening; opens = a.opens; steps = steps_of program journal a.opening w.state (opening_desk readings) a.desk a.steps })
 
   -- nothing is shown
-  pub silent : (w w2 : Position) → (a : Alone program readings journal w) → w2.state ≡ w.state → Follows w2.state a.desk w2.desk w2.phase → Alone program readings journal w2
+  pub silent : (w w2 : Position) → (a : Alone program readings journal w) → w2.state ≡ w.state → PhaseFollows w2.state a.desk w2.desk w2.phase → Alone program readings journal w2
   silent w w2 a same f = record { opening = a.opening; opens = a.opens; desk = a.desk; steps = subst (λ z. SoloSteps program a.opening (opening_desk readings) journal z a.desk) (sym same) a.steps; follows = f }
 
-  pub shows : (w w2 : Position) → (a : Alone program readings journal w) → (e : EventView) (d2 : Desk) → Step program w.state e w2.state → IsNext w.state a.desk e d2 → Follows w2.state d2 w2.desk w2.phase → Alone program readings (journal ++ e ∷ []) w2
+  pub shows : (w w2 : Position) → (a : Alone program readings journal w) → (e : EventView) (d2 : Desk) → Step program w.state e w2.state → IsNext w.state a.desk e d2 → PhaseFollows w2.state d2 w2.desk w2.phase → Alone program readings (journal ++ e ∷ []) w2
   shows w w2 a e d2 step next f = record { opening = a.opening; opens = a.opens; desk = d2; steps = one_step_more program journal a.opening w.state w2.state (opening_desk readings) a.desk d2 e a.steps step next; follows = f }
 
   -- what is known in each phase
-  pub follows_in : (w : Position) (f : Phase) → (a : Alone program readings journal w) → w.phase ≡ f → Follows w.state a.desk w.desk f
-  follows_in w f a e = subst (Follows w.state a.desk w.desk) e a.follows
+  pub follows_in : (w : Position) (f : Phase) → (a : Alone program readings journal w) → w.phase ≡ f → PhaseFollows w.state a.desk w.desk f
+  follows_in w f a e = subst (PhaseFollows w.state a.desk w.desk) e a.follows

@@ -6,13 +6,13 @@ use Rattle.ca_meaning.specs.State.{State, Opening}
 use Rattle.ca_meaning.specs.Solo.{Desk, opening_desk, Solo}
 use Rattle.ca_solo.specs.Stirs.{OnlyThese}
 use Rattle.ca_solo.specs.Positions.{Phase, settling, free, picked, in_time, Position, first_position, HasUsed}
-use Rattle.ca_solo.specs.Moves.{Move, picks, is_in_time, is_late, waits_idle, makes_one, settles_one, passes_one, yields, rests}
-use Rattle.ca_solo.specs.Alone.{Follows, Alone}
+use Rattle.ca_solo.specs.Moves.{SoloMove, picks, is_in_time, is_late, waits_idle, makes_one, settles_one, passes_one, yields, rests}
+use Rattle.ca_solo.specs.Alone.{PhaseFollows, Alone}
 use Rattle.ca_solo.proofs.Eventing.{makes_one_kept, settles_one_kept}
 use Rattle.ca_solo.proofs.Turning.{picks_kept, in_time_kept, late_kept, waits_idle_kept, passes_one_kept, yields_kept, rests_kept}
 
 module _ (program : ProgramView) (readings : List ℕ) (journal : List EventView) where
-  pub move_kept : (w w2 : Position) (es : List EventView) → Alone program readings journal w → Move program w w2 es → Alone program readings (journal ++ es) w2
+  pub move_kept : (w w2 : Position) (es : List EventView) → Alone program readings journal w → SoloMove program w w2 es → Alone program readings (journal ++ es) w2
   move_kept w w2 es a (picks x e) = subst (λ z. Alone program readings (journal ++ z) w2) (sym e) (subst (λ z. Alone program readings z w2) (sym (append-nil journal)) (picks_kept program readings journal w w2 a x))
   move_kept w w2 es a (is_in_time x e) = subst (λ z. Alone program readings (journal ++ z) w2) (sym e) (subst (λ z. Alone program readings z w2) (sym (append-nil journal)) (in_time_kept program readings journal w w2 a x))
   move_kept w w2 es a (is_late m ports x e) = subst (λ z. Alone program readings (journal ++ z) w2) (sym e) (late_kept program readings journal w w2 m ports a x)
@@ -33,7 +33,7 @@ starts_alone program readings s o = record { opening = s; opens = o; desk = open
 
 pub ends_solo : (program : ProgramView) (readings : List ℕ) (journal : List EventView) (w : Position) → Alone program readings journal w → HasUsed w.phase → w.desk.readings ≡ [] → Solo program readings journal
 ends_solo program readings journal w a m none = record { opening = a.opening; state = w.state; desk = a.desk; opens = a.opens; steps = a.steps; none_left = by w.phase a.follows m } where
-  by : (f : Phase) → Follows w.state a.desk w.desk f → HasUsed f → a.desk.readings ≡ []
+  by : (f : Phase) → PhaseFollows w.state a.desk w.desk f → HasUsed f → a.desk.readings ≡ []
   by (settling us) x m = ap (λ (z : Desk). z.readings) x.0 ∙ none
   by free x m = sym (ap (λ (z : Desk). z.readings) x.0.2) ∙ none
   by picked x m = sym (ap (λ (z : Desk). z.readings) x.0.3) ∙ none

@@ -18,26 +18,26 @@ use Rattle.ca_meaning.specs.Legal.{Reaches}
 use Rattle.ca_meaning.specs.Solo.{CanSettle}
 use Rattle.ca_meaning.proofs.Soundness.{reached_sound}
 use Rattle.ca_meaning.proofs.Effects.{channels_of, waits_of}
-use Rattle.ca_solo.specs.Stirs.{port_if, done_stirs, done_stirred, stirred, In}
+use Rattle.ca_solo.specs.Stirs.{port_if, done_stirs, done_stirred, stirred, AmongPorts}
 use Rattle.ca_solo.proofs.Ways.{CanIn, can_way, way_can, fewer_can, one_can, made_can, shut_can, joined_can, changed_can, way_back}
 
 -- After an event only a channel that it stirs can settle, or one that could before.
 abbrev Later : State → EventView → ℕ → Type 0
-Later s e q = In q (stirred s e) ⊎ CanIn s.channels s.waits q
+Later s e q = AmongPorts q (stirred s e) ⊎ CanIn s.channels s.waits q
 
 moved_can : (s2 : State) (f : Channels) (ws : List Wait) (q : ℕ) → s2.channels ≡ f → s2.waits ≡ ws → CanIn s2.channels s2.waits q → CanIn f ws q
 moved_can s2 f ws q a b k = subst (λ z. CanIn f z q) b (subst (λ (z : Channels). CanIn z s2.waits q) a k)
 
-shut_if : (o : Option ℕ) (f : Channels) (ws : List Wait) (q : ℕ) → CanIn (shut_result o f) ws q → In q (port_if o) ⊎ CanIn f ws q
+shut_if : (o : Option ℕ) (f : Channels) (ws : List Wait) (q : ℕ) → CanIn (shut_result o f) ws q → AmongPorts q (port_if o) ⊎ CanIn f ws q
 shut_if None f ws q k = inr k
 shut_if (Some p) f ws q k = shut_can (p ∷ []) f ws q k
 
-one_stirs : (p : ℕ) (q : ℕ) (A : Type 0) → (q ≡ p) ⊎ A → In q (p ∷ []) ⊎ A
+one_stirs : (p : ℕ) (q : ℕ) (A : Type 0) → (q ≡ p) ⊎ A → AmongPorts q (p ∷ []) ⊎ A
 one_stirs p q A (inl e) = inl (inl e)
 one_stirs p q A (inr a) = inr a
 
 -- a Done whose channel it doesn't stir
-done_later : (s : State) (b : BranchView) (a : Tree) (d : Channel) (q : ℕ) → row s b ≡ completes a d → CanIn (update eqb s.channels (port_of b) (Some d)) s.waits q → In q (done_stirred (s.channels (port_of b)) b) ⊎ CanIn s.channels s.waits q
+done_later : (s : State) (b : BranchView) (a : Tree) (d : Channel) (q : ℕ) → row s b ≡ completes a d → CanIn (update eqb s.channels (port_of b) (Some d)) s.waits q → AmongPorts q (done_stirred (s.channels (port_of b)) b) ⊎ CanIn s.channels s.waits q
 done_later s b a d q picks k = at_channel (s.channels (port_of b)) refl where
   taker : Option Handler
   taker = front Take (port_of b) s.waits
@@ -45,11 +45,11 @@ done_later s b a d q picks k = at_channel (s.channels (port_of b)) refl where
   putter : Option Handler
   putter = front Put (port_of b) s.waits
 
-  by : (c : Channel) → s.channels (port_of b) ≡ Some c → (t : Bool) → done_stirs c b ≡ t → In q (cond t (port_of b ∷ []) []) ⊎ CanIn s.channels s.waits q
+  by : (c : Channel) → s.channels (port_of b) ≡ Some c → (t : Bool) → done_stirs c b ≡ t → AmongPorts q (cond t (port_of b ∷ []) []) ⊎ CanIn s.channels s.waits q
   by c at true e = one_stirs (port_of b) q (CanIn s.channels s.waits q) (one_can s.channels (port_of b) q (Some d) s.waits k)
   by c at false e = inr (changed_can s.channels (port_of b) q c d s.waits at (way_back c d b taker putter a (sym (ap (λ (o : Option Channel). row_at o taker putter b) at) ∙ picks) e) k)
 
-  at_channel : (o : Option Channel) → s.channels (port_of b) ≡ o → In q (done_stirred o b) ⊎ CanIn s.channels s.waits q
+  at_channel : (o : Option Channel) → s.channels (port_of b) ≡ o → AmongPorts q (done_stirred o b) ⊎ CanIn s.channels s.waits q
   at_channel None at = absurd (let n : not_ready ≡ completes a d = sym (ap (λ (o : Option Channel). row_at o taker putter b) at) ∙ picks in cc)
   at_channel (Some c) at = by c at (done_stirs c b) refl
 
@@ -75,8 +75,8 @@ later program s s2 (ticked m ports) sound x q k = shut_can ports s.channels s.wa
 later program s s2 (is_over t Ended) sound x q k = inr (moved_can s2 _ _ q (channels_of x.4) (waits_of x.4) k)
 later program s s2 (is_over t (Faulted fault place result)) sound x q k = shut_if (option_map port_number result) s.channels s.waits q (moved_can s2 _ _ q (channels_of x.4) (waits_of x.4) k)
 
-pub settles_later : (program : ProgramView) (s s2 : State) (e : EventView) → Sound s → Step program s e s2 → (q : ℕ) → CanSettle s2 q → In q (stirred s e) ⊎ CanSettle s q
+pub settles_later : (program : ProgramView) (s s2 : State) (e : EventView) → Sound s → Step program s e s2 → (q : ℕ) → CanSettle s2 q → AmongPorts q (stirred s e) ⊎ CanSettle s q
 settles_later program s s2 e sound x q k = ⊎_elim (λ i. inl i) (λ z. inr (way_can s q z)) (later program s s2 e sound x q (can_way s2 q k))
 
-pub reached_settles_later : (program : ProgramView) (journal : List EventView) (s s2 : State) (e : EventView) → Reaches program journal s → Step program s e s2 → (q : ℕ) → CanSettle s2 q → In q (stirred s e) ⊎ CanSettle s q
+pub reached_settles_later : (program : ProgramView) (journal : List EventView) (s s2 : State) (e : EventView) → Reaches program journal s → Step program s e s2 → (q : ℕ) → CanSettle s2 q → AmongPorts q (stirred s e) ⊎ CanSettle s q
 reached_settles_later program journal s s2 e r x q can = settles_later program s s2 e (reached_sound program journal s r) x q can

@@ -10,16 +10,16 @@ use Rattle.ca_meaning.specs.State.{State, Task, Tasks, running, waiting, over}
 use Rattle.ca_meaning.specs.Going.{Goes, Wakes}
 use Rattle.ca_meaning.specs.Steps.{Step}
 use Rattle.ca_meaning.specs.EndsLaw.{is_of}
-use Rattle.ca_meaning.specs.Solo.{Lane, Desk, counted, joined_by, made_one, ReadsMoment, CountsAlts, Leaves}
-use Rattle.ca_solo.specs.Stirs.{In}
+use Rattle.ca_meaning.specs.Solo.{Lane, Desk, event_counted, joined_by, made_one, ReadsMoment, CountsAlts, Leaves}
+use Rattle.ca_solo.specs.Stirs.{AmongPorts}
 use Rattle.ca_solo.specs.Seats.{On, AllSit}
 
-pub in_more : (t : ℕ) (xs ys : List ℕ) → In t xs → In t (xs ++ ys)
+pub in_more : (t : ℕ) (xs ys : List ℕ) → AmongPorts t xs → AmongPorts t (xs ++ ys)
 in_more t [] ys i = absurd i
 in_more t (x ∷ xs) ys (inl e) = inl e
 in_more t (x ∷ xs) ys (inr i) = inr (in_more t xs ys i)
 
-pub in_last : (t : ℕ) (xs : List ℕ) → In t (xs ++ t ∷ [])
+pub in_last : (t : ℕ) (xs : List ℕ) → AmongPorts t (xs ++ t ∷ [])
 in_last t [] = inl refl
 in_last t (x ∷ xs) = inr (in_last t xs)
 
@@ -28,13 +28,13 @@ with_one None r = r
 with_one (Some u) r = r ++ u ∷ []
 
 -- a task is put that sits there
-put_sits : (tasks : Tasks) (l : Option Lane) (r : List ℕ) (t : ℕ) (z : Option Task) → AllSit tasks l r → On l t ⊎ In t r → AllSit (update eqb tasks t z) l r
+put_sits : (tasks : Tasks) (l : Option Lane) (r : List ℕ) (t : ℕ) (z : Option Task) → AllSit tasks l r → On l t ⊎ AmongPorts t r → AllSit (update eqb tasks t z) l r
 put_sits tasks l r t z all here u x at runs = by (eqb t u) refl at where
-  by : (b : Bool) → eqb t u ≡ b → cond b z (tasks u) ≡ Some x → On l u ⊎ In u r
-  by true is e = subst (λ n. On l n ⊎ In n r) (eqb-true t u is) here
+  by : (b : Bool) → eqb t u ≡ b → cond b z (tasks u) ≡ Some x → On l u ⊎ AmongPorts u r
+  by true is e = subst (λ n. On l n ⊎ AmongPorts n r) (eqb-true t u is) here
   by false is e = all u x e runs
 
-counted_sits : (tasks : Tasks) (l : Option Lane) (r : List ℕ) → AllSit tasks l r → AllSit tasks (counted l) r
+counted_sits : (tasks : Tasks) (l : Option Lane) (r : List ℕ) → AllSit tasks l r → AllSit tasks (event_counted l) r
 counted_sits tasks None r all = all
 counted_sits tasks (Some lane) r all = all
 
@@ -44,8 +44,8 @@ more_sits tasks l r u all t x at runs = ⊎_elim (λ o. inl o) (λ i. inr (in_mo
 on_lane_of : (l : Option Lane) (lane : Lane) (t : ℕ) → l ≡ Some lane → t ≡ lane.task → On l t
 on_lane_of l lane t e is = subst (λ z. On z t) (sym e) is
 
-goes_sits : (program : ProgramView) (tasks after : Tasks) (l : Option Lane) (r : List ℕ) (t : ℕ) (y : Task) (v : Tree) → On l t → Goes program tasks t y v after → AllSit tasks l r → AllSit after (counted l) r
-goes_sits program tasks after l r t y v on g all = subst (λ (z : Tasks). AllSit z (counted l) r) (sym g.2) (counted_sits _ l r (put_sits tasks l r t _ all (inl on)))
+goes_sits : (program : ProgramView) (tasks after : Tasks) (l : Option Lane) (r : List ℕ) (t : ℕ) (y : Task) (v : Tree) → On l t → Goes program tasks t y v after → AllSit tasks l r → AllSit after (event_counted l) r
+goes_sits program tasks after l r t y v on g all = subst (λ (z : Tasks). AllSit z (event_counted l) r) (sym g.2) (counted_sits _ l r (put_sits tasks l r t _ all (inl on)))
 
 pub wakes_sits : (program : ProgramView) (o : Option ℕ) (tasks after : Tasks) (l : Option Lane) (r : List ℕ) (w p : ℕ) (v : Tree) → Wakes program o tasks w p v after → AllSit tasks l r → AllSit after l (with_one o r)
 wakes_sits program None tasks after l r w p v x all = subst (λ (z : Tasks). AllSit z l r) (sym x) all
@@ -58,7 +58,7 @@ leaves_sits tasks l r t z on stops all u x at runs = by (eqb t u) refl at where
   only None a b = absurd a
   only (Some lane) a b = a ∙ sym b
 
-  by : (b : Bool) → eqb t u ≡ b → cond b (Some z) (tasks u) ≡ Some x → On None u ⊎ In u r
+  by : (b : Bool) → eqb t u ≡ b → cond b (Some z) (tasks u) ≡ Some x → On None u ⊎ AmongPorts u r
   by true is e = absurd (stops (let k : z ≡ x = cc in ap (λ (y : Task). y.mode) k ∙ runs))
   by false is e = ⊎_elim (λ o. let k : true ≡ false = sym (eq-eqb t u (only l on o)) ∙ is in absurd cc) (λ i. inr i) (all u x e runs)
 
@@ -83,8 +83,8 @@ pub joined_place : (o : Option ℕ) (d : Desk) → Placed (joined_by o d) d.lane
 joined_place None d = (refl, refl)
 joined_place (Some u) d = (refl, refl)
 
-then_placed : (d d1 d2 : Desk) → Placed d2 (counted d1.lane) d1.ready → Placed d1 d.lane d.ready → Placed d2 (counted d.lane) d.ready
-then_placed d d1 d2 a b = (a.0 ∙ ap counted b.0, a.1 ∙ b.1)
+then_placed : (d d1 d2 : Desk) → Placed d2 (event_counted d1.lane) d1.ready → Placed d1 d.lane d.ready → Placed d2 (event_counted d.lane) d.ready
+then_placed d d1 d2 a b = (a.0 ∙ ap event_counted b.0, a.1 ∙ b.1)
 
 then_left : (d d1 d2 : Desk) → Placed d2 None d1.ready → Placed d1 d.lane d.ready → Placed d2 None d.ready
 then_left d d1 d2 a b = (a.0, a.1 ∙ b.1)
@@ -104,14 +104,14 @@ over_not e = cc
 pub event_sits : (program : ProgramView) (s s2 : State) (d d2 : Desk) (lane : Lane) (e : EventView) → d.lane ≡ Some lane → is_of lane.task e ≡ true → Step program s e s2 → Leaves s d e d2 → AllSit s.tasks d.lane d.ready → AllSit s2.tasks d2.lane d2.ready
 event_sits program s s2 d d2 lane (made t p what moment) on is x y all = sits s2 x.1 d2 _ _ (tasks_of x.7) (then_placed d y.0 d2 (same_place d2 _ y.3) (read_place moment d y.0 y.2)) (goes_sits program s.tasks x.1 d.lane d.ready t x.0 _ (on_lane_of d.lane lane t on (eqb-true t lane.task is)) x.6 all)
 event_sits program s s2 d d2 lane (spawned t u kind result) on is x y all =
-    sits s2 _ d2 _ _ (tasks_of x.10) (same_place d2 _ y.1) (put_sits x.2 (counted d.lane) (d.ready ++ u ∷ []) u _ (more_sits x.2 (counted d.lane) d.ready u (goes_sits program s.tasks x.2 d.lane d.ready t x.0 _ (on_lane_of d.lane lane t on (eqb-true t lane.task is)) x.8 all)) (inr (in_last u d.ready)))
+    sits s2 _ d2 _ _ (tasks_of x.10) (same_place d2 _ y.1) (put_sits x.2 (event_counted d.lane) (d.ready ++ u ∷ []) u _ (more_sits x.2 (event_counted d.lane) d.ready u (goes_sits program s.tasks x.2 d.lane d.ready t x.0 _ (on_lane_of d.lane lane t on (eqb-true t lane.task is)) x.8 all)) (inr (in_last u d.ready)))
 event_sits program s s2 d d2 lane (done t k b a) on is x y all = sits s2 x.2 d2 _ _ (tasks_of x.8) (then_placed d y.0 d2 (same_place d2 _ y.3) (counts_place s d t y.0 y.2)) (goes_sits program s.tasks x.2 d.lane d.ready t x.0 _ (on_lane_of d.lane lane t on (eqb-true t lane.task is)) x.7 all)
 event_sits program s s2 d d2 lane (met t k side p v w o) on is x y all =
     let c = counts_place s d t y.0 y.2 in
     let j = joined_place (owner_of w s.waits) (made_one y.0) in
     let at = same_place d2 _ y.3 in
-    sits s2 x.5 d2 (counted d.lane) (with_one (owner_of w s.waits) d.ready) (tasks_of x.15) (at.0 ∙ j.0 ∙ ap counted c.0, at.1 ∙ j.1 ∙ ap (with_one (owner_of w s.waits)) c.1)
-    (wakes_sits program (owner_of w s.waits) x.4 x.5 (counted d.lane) d.ready w p _ x.14 (goes_sits program s.tasks x.4 d.lane d.ready t x.0 _ (on_lane_of d.lane lane t on (eqb-true t lane.task is)) x.13 all))
+    sits s2 x.5 d2 (event_counted d.lane) (with_one (owner_of w s.waits) d.ready) (tasks_of x.15) (at.0 ∙ j.0 ∙ ap event_counted c.0, at.1 ∙ j.1 ∙ ap (with_one (owner_of w s.waits)) c.1)
+    (wakes_sits program (owner_of w s.waits) x.4 x.5 (event_counted d.lane) d.ready w p _ x.14 (goes_sits program s.tasks x.4 d.lane d.ready t x.0 _ (on_lane_of d.lane lane t on (eqb-true t lane.task is)) x.13 all))
 event_sits program s s2 d d2 lane (parked t w bs) on is x y all = sits s2 _ d2 _ _ (tasks_of x.8) (then_left d y.0 d2 (same_place d2 _ y.3) (counts_place s d t y.0 y.2)) (leaves_sits s.tasks d.lane d.ready t _ (on_lane_of d.lane lane t on (eqb-true t lane.task is)) (waits_not w) all)
 event_sits program s s2 d d2 lane (posted t w p v) on is x y all = sits s2 x.1 d2 _ _ (tasks_of x.6) (same_place d2 _ y.1) (goes_sits program s.tasks x.1 d.lane d.ready t x.0 _ (on_lane_of d.lane lane t on (eqb-true t lane.task is)) x.5 all)
 event_sits program s s2 d d2 lane (settled w k side p v) on is x y all = absurd y

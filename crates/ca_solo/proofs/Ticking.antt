@@ -4,7 +4,7 @@ use Rattle.std.specs.List.Sorted.{IsPermutation, IsNonDecreasing}
 use Rattle.std.proofs.lemmas.List.Sorted.{Contains-permutation}
 use Rattle.ca_meaning.specs.State.{Deadline, due}
 use Rattle.ca_meaning.specs.Sound.{Each}
-use Rattle.ca_solo.specs.Stirs.{In, Ascends, Ordered}
+use Rattle.ca_solo.specs.Stirs.{AmongPorts, PortsAscend, Ordered}
 
 le_is : (a b : ℕ) → a ≤ b → nat_le a b ≡ true
 le_is a b le = by (nat_le a b) refl where
@@ -19,12 +19,12 @@ first_due m d ds le k = by (nat_le d.moment m) (le_is d.moment m le) k where
   by true e k = cc
   by false e k = let j : false ≡ true = e in cc
 
-in_at : (us : List ℕ) (k d : ℕ) → k < length us → In (get_or us k d) us
+in_at : (us : List ℕ) (k d : ℕ) → k < length us → AmongPorts (get_or us k d) us
 in_at [] k d lt = absurd (omega (arith, lt))
 in_at (u ∷ us) zero d lt = inl refl
 in_at (u ∷ us) (suc k) d lt = inr (in_at us k d (omega (arith, lt)))
 
-at_in : (us : List ℕ) (q : ℕ) → In q us → (k : ℕ) × (k < length us) × (get_or us k q ≡ q)
+at_in : (us : List ℕ) (q : ℕ) → AmongPorts q us → (k : ℕ) × (k < length us) × (get_or us k q ≡ q)
 at_in [] q i = absurd i
 at_in (u ∷ us) q (inl e) = (0, omega arith, sym e)
 at_in (u ∷ us) q (inr i) = let r = at_in us q i in let lt : r.0 < length us = r.1 in (suc r.0, omega (arith, lt), r.2)
@@ -33,9 +33,9 @@ each_at : (p : ℕ) (xs : List ℕ) → ((k d : ℕ) → k < length xs → p ≤
 each_at p [] f = tt
 each_at p (x ∷ xs) f = (f 0 0 (omega arith), each_at p xs (λ k d lt. f (suc k) d (omega (arith, lt))))
 
-ascends_of : (us : List ℕ) → IsNonDecreasing us → Ascends us
+ascends_of : (us : List ℕ) → IsNonDecreasing us → PortsAscend us
 ascends_of [] up = tt
 ascends_of (u ∷ us) up = (each_at u us (λ k d lt. up 0 (suc k) d (omega arith) (omega (arith, lt))), ascends_of us (λ i j d le lt. up (suc i) (suc j) d (omega (arith, le)) (omega (arith, lt))))
 
 pub ordered_by_sort : (ports us : List ℕ) → IsPermutation ports us → IsNonDecreasing us → Ordered ports us
-ordered_by_sort ports us same up = (ascends_of us up, λ q i. let r = Contains-permutation ports us q same (at_in ports q i) in subst (λ z. In z us) r.2 (in_at us r.0 q r.1))
+ordered_by_sort ports us same up = (ascends_of us up, λ q i. let r = Contains-permutation ports us q same (at_in ports q i) in subst (λ z. AmongPorts z us) r.2 (in_at us r.0 q r.1))

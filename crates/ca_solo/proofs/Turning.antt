@@ -7,13 +7,13 @@ use Rattle.ca_meaning.specs.Steps.{Step}
 use Rattle.ca_meaning.specs.Solo.{Desk, CanSettle, NoneSettles, IsFree, AsksBefore, AsksAfter}
 use Rattle.ca_solo.specs.Stirs.{Ordered, OnlyThese}
 use Rattle.ca_solo.specs.Positions.{settling, free, picked, in_time, Position, on_lane, with_readings}
-use Rattle.ca_solo.specs.Moves.{Picks, IsInTime, IsLate, WaitsIdle, PassesOne, Yields, Rests}
+use Rattle.ca_solo.specs.Moves.{PicksFront, IsInTime, IsLate, WaitsIdle, PassesOne, Yields, Rests}
 use Rattle.ca_solo.specs.Alone.{Alone}
 use Rattle.ca_solo.proofs.Settling.{settles_later}
 use Rattle.ca_solo.proofs.Following.{sound, silent, shows, follows_in, no_ready, is_free_of}
 
 module _ (program : ProgramView) (readings : List ℕ) (journal : List EventView) where
-  pub picks_kept : (w w2 : Position) → Alone program readings journal w → Picks w w2 → Alone program readings journal w2
+  pub picks_kept : (w w2 : Position) → Alone program readings journal w → PicksFront w w2 → Alone program readings journal w2
   picks_kept w w2 a x =
       let f = follows_in program readings journal w free a x.2 in
       subst (Alone program readings journal) (sym x.4) (silent program readings journal w (record { state = w.state; desk = on_lane w.desk x.0 x.1; phase = picked }) a refl (

@@ -11,7 +11,7 @@ use Rattle.ca_meaning.specs.Row.{not_ready, completes, row_at, row_on, unsettled
 use Rattle.ca_meaning.specs.State.{State, Channels, shut_at, shut_all}
 use Rattle.ca_meaning.specs.Choice.{row, any_ready}
 use Rattle.ca_meaning.specs.Solo.{CanSettle}
-use Rattle.ca_solo.specs.Stirs.{In, done_stirs}
+use Rattle.ca_solo.specs.Stirs.{AmongPorts, done_stirs}
 use Rattle.ca_meaning.proofs.Waits.{queue_without, queue_joined, other, no_head, head_filter, head_append, from_branch, on_port, takes_there, puts_there}
 use Rattle.ca_meaning.proofs.Rows.{TakeDone, gave, nothing_left, take_done, PutDone, refused, promised, accepted, put_done, take_waits, put_waits}
 use Rattle.ca_meaning.proofs.Channels.{none_is_ready}
@@ -97,7 +97,7 @@ made_can f p q o ws none k = ⊎_elim (λ is. by is k.2) (λ z. z) (one_can f p 
   by is (moves_in a t) = nothing_there Put q ws (ap (λ n. queue Put n ws) is ∙ none Put) t
   by is (serves a t) = nothing_there Take q ws (ap (λ n. queue Take n ws) is ∙ none Take) t
 
-pub shut_can : (ports : List ℕ) (f : Channels) (ws : List Wait) (q : ℕ) → CanIn (shut_all ports f) ws q → In q ports ⊎ CanIn f ws q
+pub shut_can : (ports : List ℕ) (f : Channels) (ws : List Wait) (q : ℕ) → CanIn (shut_all ports f) ws q → AmongPorts q ports ⊎ CanIn f ws q
 shut_can [] f ws q k = inr k
 shut_can (p ∷ ps) f ws q k = ⊎_elim (λ i. inl (inr i)) (λ z. ⊎_elim (λ is. inl (inl is)) (λ y. inr y) (one_can f p q (option_map shut (f p)) ws z)) (shut_can ps (shut_at p f) ws q k)
 

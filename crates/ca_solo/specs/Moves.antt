@@ -13,8 +13,8 @@ use Rattle.ca_solo.specs.Stirs.{stirred, Ordered}
 use Rattle.ca_solo.specs.Positions.{Phase, settling, free, picked, in_time, Position, on_lane, with_readings, first_position, HasUsed}
 
 -- the front task comes into the empty lane
-abbrev pub Picks : Position → Position → Type 0
-Picks w w2 =
+abbrev pub PicksFront : Position → Position → Type 0
+PicksFront w w2 =
     (t : ℕ) × (rest : List ℕ)
     × (w.phase ≡ free)
     × (w.desk.ready ≡ t ∷ rest)
@@ -96,27 +96,27 @@ abbrev pub Rests : Position → Position → Type 0
 Rests w w2 = (w.phase ≡ settling []) × (w.desk.lane ≡ None) × (w2 ≡ record w { phase = free })
 
 -- a move, with the events that it shows
-pub data Move (program : ProgramView) (w w2 : Position) (es : List EventView) : Type 0 where
-  picks : Picks w w2 → es ≡ [] → Move program w w2 es
-  is_in_time : IsInTime w w2 → es ≡ [] → Move program w w2 es
-  is_late : (m : ℕ) (ports : List ℕ) → IsLate program w m ports w2 → es ≡ ticked m ports ∷ [] → Move program w w2 es
-  waits_idle : (m : ℕ) (ports : List ℕ) → WaitsIdle program w m ports w2 → es ≡ ticked m ports ∷ [] → Move program w w2 es
-  makes_one : (e : EventView) → MakesOne program w e w2 → es ≡ e ∷ [] → Move program w w2 es
-  settles_one : (e : EventView) → SettlesOne program w e w2 → es ≡ e ∷ [] → Move program w w2 es
-  passes_one : PassesOne w w2 → es ≡ [] → Move program w w2 es
-  yields : Yields w w2 → es ≡ [] → Move program w w2 es
-  rests : Rests w w2 → es ≡ [] → Move program w w2 es
+pub data SoloMove (program : ProgramView) (w w2 : Position) (es : List EventView) : Type 0 where
+  picks : PicksFront w w2 → es ≡ [] → SoloMove program w w2 es
+  is_in_time : IsInTime w w2 → es ≡ [] → SoloMove program w w2 es
+  is_late : (m : ℕ) (ports : List ℕ) → IsLate program w m ports w2 → es ≡ ticked m ports ∷ [] → SoloMove program w w2 es
+  waits_idle : (m : ℕ) (ports : List ℕ) → WaitsIdle program w m ports w2 → es ≡ ticked m ports ∷ [] → SoloMove program w w2 es
+  makes_one : (e : EventView) → MakesOne program w e w2 → es ≡ e ∷ [] → SoloMove program w w2 es
+  settles_one : (e : EventView) → SettlesOne program w e w2 → es ≡ e ∷ [] → SoloMove program w w2 es
+  passes_one : PassesOne w w2 → es ≡ [] → SoloMove program w w2 es
+  yields : Yields w w2 → es ≡ [] → SoloMove program w w2 es
+  rests : Rests w w2 → es ≡ [] → SoloMove program w w2 es
 
 -- moves, one after the other, with all events that they show
-pub data Runs (program : ProgramView) (w : Position) : Position → List EventView → Type 0 where
-  stays : Runs program w w []
-  goes_on : {m w2 : Position} {es : List EventView} (hs : List EventView) → Runs program w m es → Move program m w2 hs → Runs program w w2 (es ++ hs)
+pub data SoloMoves (program : ProgramView) (w : Position) : Position → List EventView → Type 0 where
+  stays : SoloMoves program w w []
+  goes_on : {m w2 : Position} {es : List EventView} (hs : List EventView) → SoloMoves program w m es → SoloMove program m w2 hs → SoloMoves program w w2 (es ++ hs)
 
 -- moves from an opening show these events over these answers of the clock, none of which is left
 abbrev pub MadeByMoves : ProgramView → List ℕ → List EventView → Type 0
 MadeByMoves program readings journal =
     (s : State) × (w : Position)
     × Opening program s
-    × Runs program (first_position readings s) w journal
+    × SoloMoves program (first_position readings s) w journal
     × HasUsed w.phase
     × (w.desk.readings ≡ [])

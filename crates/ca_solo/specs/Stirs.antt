@@ -38,18 +38,18 @@ stirred s (ticked m ports) = ports
 stirred s (over t Ended) = []
 stirred s (over t (Faulted fault place result)) = port_if (option_map port_number result)
 
-abbrev pub In : ℕ → List ℕ → Type 0
-In q [] = ⊥
-In q (p ∷ ps) = (q ≡ p) ⊎ In q ps
+abbrev pub AmongPorts : ℕ → List ℕ → Type 0
+AmongPorts q [] = ⊥
+AmongPorts q (p ∷ ps) = (q ≡ p) ⊎ AmongPorts q ps
 
-abbrev pub Ascends : List ℕ → Type 0
-Ascends [] = Unit {0}
-Ascends (p ∷ ps) = Each (λ q. p ≤ q) ps × Ascends ps
+abbrev pub PortsAscend : List ℕ → Type 0
+PortsAscend [] = Unit {0}
+PortsAscend (p ∷ ps) = Each (λ q. p ≤ q) ps × PortsAscend ps
 
 -- the channels that a Tick closes, the least first
 abbrev pub Ordered : List ℕ → List ℕ → Type 0
-Ordered ports us = Ascends us × ((q : ℕ) → In q ports → In q us)
+Ordered ports us = PortsAscend us × ((q : ℕ) → AmongPorts q ports → AmongPorts q us)
 
 -- only these channels may settle
 abbrev pub OnlyThese : State → List ℕ → Type 0
-OnlyThese s us = (q : ℕ) → CanSettle s q → In q us
+OnlyThese s us = (q : ℕ) → CanSettle s q → AmongPorts q us

@@ -4,14 +4,14 @@ use Rattle.ca_value.specs.Tree.{Tree}
 use Rattle.ca_states.specs.Code.{CodeView, block_at, function_at}
 use Rattle.ca_states.specs.Machine.{begun, calling}
 use Rattle.ca_states.specs.Valid.{identity_entry}
-use Rattle.ca_states.specs.Standing.{HasRoom, Stands}
+use Rattle.ca_states.specs.Standing.{HasRoom, RunnerStands}
 use Rattle.ca_states.proofs.StandingLaws.{ValidParts, has_room, begun_length}
 
 -- the text that it returns to has a slot for its value
 pub identity_room : (C : CodeView) → ValidParts C → HasRoom C (identity_entry C) 1
 identity_room C v = has_room C v (identity_entry C) v.identity
 
-pub calling_standing : (C : CodeView) → ValidParts C → (n : ℕ) (vs : List Tree) → HasRoom C (function_at C n) (length vs) → Stands C (calling C n vs)
+pub calling_standing : (C : CodeView) → ValidParts C → (n : ℕ) (vs : List Tree) → HasRoom C (function_at C n) (length vs) → RunnerStands C (calling C n vs)
 calling_standing C v n vs room =
     let own = identity_room C v in
     let width = (block_at C C.identity).width in

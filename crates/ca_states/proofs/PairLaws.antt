@@ -14,7 +14,7 @@ use Rattle.ca_value.specs.declared.value.Value.{Value}
 use Rattle.ca_value.specs.declared.value.Value.TheVariants.{Nil, Bool as Truth, Int, Text, Key, Vector, Map, Port}
 use Rattle.ca_value.proofs.Lists.{entries_of_pairs_of}
 use Rattle.ca_term.specs.declared.place.Place.{Place}
-use Rattle.ca_states.specs.Machine.{answered, applied, done, read, reads, slots_from, taken_all, write}
+use Rattle.ca_states.specs.Machine.{slot_answered, builtin_applied, done, read, reads, slots_from, taken_all, slot_written}
 use Rattle.ca_states.proofs.RowLaws.{drop_item}
 
 -- another kind of value is not equal to an integer
@@ -41,24 +41,24 @@ not_here xs i x k lt e h =
     sym (ap (λ ys. value_at (pair_views ys) k) (drop_item xs i x lt e) ∙ step (pair_views (drop (i + 1) xs)) k (pair_view x) false h)
 
 -- `get` of a map under a key that holds an integer
-pub get_integer : (ps : List (Tree × Tree)) (k : Tree) (n : ℤ) → value_at ps k ≡ Some (int n) → (d : Tree) → applied Get (mapping (pairs_of ps) ∷ k ∷ d ∷ []) ≡ Ok (int n)
+pub get_integer : (ps : List (Tree × Tree)) (k : Tree) (n : ℤ) → value_at ps k ≡ Some (int n) → (d : Tree) → builtin_applied Get (mapping (pairs_of ps) ∷ k ∷ d ∷ []) ≡ Ok (int n)
 unfolding builtin_result
 get_integer ps k n e d =
     ap (λ qs. judged (Ok (unwrap_or (value_at qs k) d))) (entries_of_pairs_of ps)
     ∙ ap (λ o. judged (Ok (unwrap_or o d))) e
 
 pub get_found : (c : Value) (m : Table) (ps : List Pair) (k : ℤ) (o : Option ℤ) → c ≡ Map m → pair_views ps ≡ map_pairs m → IfSome o (λ n. value_at (pair_views ps) (int k) ≡ Some (int n))
-    → IfSome o (λ n. (d : Tree) → applied Get (view c ∷ int k ∷ d ∷ []) ≡ Ok (int n))
+    → IfSome o (λ n. (d : Tree) → builtin_applied Get (view c ∷ int k ∷ d ∷ []) ≡ Ok (int n))
 get_found c m ps k None ec ep h = tt
 get_found c m ps k (Some n) ec ep h = λ d.
     let e : value_at (map_pairs m) (int k) ≡ Some (int n) = subst (λ qs. value_at qs (int k) ≡ Some (int n)) ep h in
-    subst (λ v. applied Get (view v ∷ int k ∷ d ∷ []) ≡ Ok (int n)) (sym ec) (get_integer (map_pairs m) (int k) n e d)
+    subst (λ v. builtin_applied Get (view v ∷ int k ∷ d ∷ []) ≡ Ok (int n)) (sym ec) (get_integer (map_pairs m) (int k) n e d)
 
 -- `get` of a row of three
-pub get_row : (s t u : List Tree) (a n to : ℕ) (k z : ℤ) (p : Place) → n ≡ 3 → read s (a + 1) ≡ int k → ((d : Tree) → applied Get (read s a ∷ int k ∷ d ∷ []) ≡ Ok (int z))
-    → t ≡ taken_all s (slots_from a n) → u ≡ write t to (int z) → answered (taken_all s (slots_from a n)) to p (applied Get (reads s (slots_from a n))) ≡ done u
+pub get_row : (s t u : List Tree) (a n to : ℕ) (k z : ℤ) (p : Place) → n ≡ 3 → read s (a + 1) ≡ int k → ((d : Tree) → builtin_applied Get (read s a ∷ int k ∷ d ∷ []) ≡ Ok (int z))
+    → t ≡ taken_all s (slots_from a n) → u ≡ slot_written t to (int z) → slot_answered (taken_all s (slots_from a n)) to p (builtin_applied Get (reads s (slots_from a n))) ≡ done u
 get_row s t u a n to k z p en ek h et eu =
     let next : suc a ≡ a + 1 = omega arith in
-    let got : applied Get (reads s (slots_from a 3)) ≡ Ok (int z) = ap (λ x. applied Get (read s a ∷ x ∷ read s (suc (suc a)) ∷ [])) (ap (read s) next ∙ ek) ∙ h (read s (suc (suc a))) in
-    let all : applied Get (reads s (slots_from a n)) ≡ Ok (int z) = ap (λ m. applied Get (reads s (slots_from a m))) en ∙ got in
-    ap (answered (taken_all s (slots_from a n)) to p) all ∙ ap done (ap (λ r. write r to (int z)) (sym et) ∙ sym eu)
+    let got : builtin_applied Get (reads s (slots_from a 3)) ≡ Ok (int z) = ap (λ x. builtin_applied Get (read s a ∷ x ∷ read s (suc (suc a)) ∷ [])) (ap (read s) next ∙ ek) ∙ h (read s (suc (suc a))) in
+    let all : builtin_applied Get (reads s (slots_from a n)) ≡ Ok (int z) = ap (λ m. builtin_applied Get (reads s (slots_from a m))) en ∙ got in
+    ap (slot_answered (taken_all s (slots_from a n)) to p) all ∙ ap done (ap (λ r. slot_written r to (int z)) (sym et) ∙ sym eu)

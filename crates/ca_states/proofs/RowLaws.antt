@@ -9,7 +9,7 @@ use Rattle.ca_states.specs.declared.code.Block.{Block}
 use Rattle.ca_states.specs.Code.{Slots, has_slot, Instruction, BlockView, CodeView, block_at, no_block, block_view}
 use Rattle.ca_states.specs.Machine.{slots_from}
 use Rattle.ca_states.specs.Touched.{read_by, emptied_by, written_by, read_at, emptied_at, answered_at, targets}
-use Rattle.ca_states.specs.Valid.{Known, each, are_below, is_counted, is_counted_exit, is_target, is_instruction_in_range, is_exit_in_range, is_in_range, is_valid_block, are_valid_blocks, noted, noted_all, after, known_after, reads_known, past, implies, are_entry_slots_known}
+use Rattle.ca_states.specs.Valid.{KnownSlots, each, are_below, is_counted, is_counted_exit, is_target, is_instruction_in_range, is_exit_in_range, is_in_range, is_valid_block, are_valid_blocks, slot_noted, noted_all, after_instruction, known_after, reads_known, known_past, implies, are_entry_slots_known}
 use Rattle.ca_states.specs.Told.{said}
 
 pub drop_first : {A : Type 0} → (xs : List A) (i : ℕ) (d : A) → i < length xs → drop i xs ≡ get_or xs i d ∷ drop (i + 1) xs
@@ -85,24 +85,24 @@ pub row_end : (a i n : ℕ) → n ≤ i → slots_from a (n - i) ≡ []
 row_end a i n le = let e : n - i ≡ 0 = omega (arith, le) in ap (slots_from a) e
 
 -- what is known is so slot by slot
-pub noted_same : (b : Bool) (a : ℕ) (K L : Known) → ((k : ℕ) → K k ≡ L k) → (k : ℕ) → noted b a K k ≡ noted b a L k
+pub noted_same : (b : Bool) (a : ℕ) (K L : KnownSlots) → ((k : ℕ) → K k ≡ L k) → (k : ℕ) → slot_noted b a K k ≡ slot_noted b a L k
 noted_same b a K L h k = ap (λ x. cond (nat_eq k a) b x) (h k)
 
-pub noted_all_same : (b : Bool) (ks : List ℕ) (K L : Known) → ((k : ℕ) → K k ≡ L k) → (k : ℕ) → noted_all b ks K k ≡ noted_all b ks L k
+pub noted_all_same : (b : Bool) (ks : List ℕ) (K L : KnownSlots) → ((k : ℕ) → K k ≡ L k) → (k : ℕ) → noted_all b ks K k ≡ noted_all b ks L k
 noted_all_same b [] K L h k = h k
-noted_all_same b (a ∷ ks) K L h k = noted_all_same b ks (noted b a K) (noted b a L) (noted_same b a K L h) k
+noted_all_same b (a ∷ ks) K L h k = noted_all_same b ks (slot_noted b a K) (slot_noted b a L) (noted_same b a K L h) k
 
-pub each_same : (K L : Known) (ks : List ℕ) → ((k : ℕ) → K k ≡ L k) → each K ks ≡ each L ks
+pub each_same : (K L : KnownSlots) (ks : List ℕ) → ((k : ℕ) → K k ≡ L k) → each K ks ≡ each L ks
 each_same K L [] h = refl
 each_same K L (a ∷ ks) h = ap (λ b. b && each K ks) (h a) ∙ ap (λ b. L a && b) (each_same K L ks h)
 
-pub each_range : (K : Known) (a i n : ℕ) → i < n → each K (slots_from (a + i) (n - i)) ≡ (K (a + i) && each K (slots_from (a + (i + 1)) (n - (i + 1))))
+pub each_range : (K : KnownSlots) (a i n : ℕ) → i < n → each K (slots_from (a + i) (n - i)) ≡ (K (a + i) && each K (slots_from (a + (i + 1)) (n - (i + 1))))
 each_range K a i n lt = ap (each K) (row_first a i n lt)
 
-pub each_range_start : (K : Known) (a n : ℕ) → each K (slots_from (a + 0) (n - 0)) ≡ each K (slots_from a n)
+pub each_range_start : (K : KnownSlots) (a n : ℕ) → each K (slots_from (a + 0) (n - 0)) ≡ each K (slots_from a n)
 each_range_start K a n = ap (each K) (row_start a n)
 
-pub each_range_end : (K : Known) (a i n : ℕ) → n ≤ i → each K (slots_from a (n - i)) ≡ true
+pub each_range_end : (K : KnownSlots) (a i n : ℕ) → n ≤ i → each K (slots_from a (n - i)) ≡ true
 each_range_end K a i n le = ap (each K) (row_end a i n le)
 
 -- a row of slots is below the width, by its ends
@@ -131,13 +131,13 @@ row_test width a n lt aw = by (nat_le n (width - a)) refl (are_below width (slot
         absurd (omega (arith, h, g, lt))
 
 -- of slots in a row from a place on
-pub each_up : (K : Known) (i n : ℕ) → i < n → each K (slots_from i (n - i)) ≡ (K i && each K (slots_from (i + 1) (n - (i + 1))))
+pub each_up : (K : KnownSlots) (i n : ℕ) → i < n → each K (slots_from i (n - i)) ≡ (K i && each K (slots_from (i + 1) (n - (i + 1))))
 each_up K i n lt =
     let e : n - i ≡ suc (n - (i + 1)) = omega (arith, lt) in
     let f : suc i ≡ i + 1 = omega arith in
     ap (λ m. each K (slots_from i m)) e ∙ ap (λ m. K i && each K (slots_from m (n - (i + 1)))) f
 
-pub each_up_end : (K : Known) (i n : ℕ) → n ≤ i → each K (slots_from i (n - i)) ≡ true
+pub each_up_end : (K : KnownSlots) (i n : ℕ) → n ≤ i → each K (slots_from i (n - i)) ≡ true
 each_up_end K i n le = ap (each K) (row_end i i n le)
 
 -- each of them is below a greater width too
@@ -154,26 +154,26 @@ pub both : (a b : Bool) → IsTrue (a && b) → IsTrue a × IsTrue b
 both true b h = (refl, h)
 both false b h = absurd (let f : false ≡ true = h in cc)
 
-pub after_same : (i : Instruction) (K L : Known) → ((k : ℕ) → K k ≡ L k) → (k : ℕ) → after i K k ≡ after i L k
+pub after_same : (i : Instruction) (K L : KnownSlots) → ((k : ℕ) → K k ≡ L k) → (k : ℕ) → after_instruction i K k ≡ after_instruction i L k
 after_same i K L h = noted_all_same true (written_by i) (noted_all false (emptied_by i) K) (noted_all false (emptied_by i) L) (noted_all_same false (emptied_by i) K L h)
 
-pub past_same : (x : Exit) (K L : Known) → ((k : ℕ) → K k ≡ L k) → (k : ℕ) → past x K k ≡ past x L k
+pub past_same : (x : Exit) (K L : KnownSlots) → ((k : ℕ) → K k ≡ L k) → (k : ℕ) → known_past x K k ≡ known_past x L k
 past_same x K L h = noted_all_same true (answered_at x) (noted_all false (emptied_at x) K) (noted_all false (emptied_at x) L) (noted_all_same false (emptied_at x) K L h)
 
-pub known_after_same : (is : List Instruction) (K L : Known) → ((k : ℕ) → K k ≡ L k) → (k : ℕ) → known_after K is k ≡ known_after L is k
+pub known_after_same : (is : List Instruction) (K L : KnownSlots) → ((k : ℕ) → K k ≡ L k) → (k : ℕ) → known_after K is k ≡ known_after L is k
 known_after_same [] K L h k = h k
-known_after_same (i ∷ is) K L h k = known_after_same is (after i K) (after i L) (after_same i K L h) k
+known_after_same (i ∷ is) K L h k = known_after_same is (after_instruction i K) (after_instruction i L) (after_same i K L h) k
 
-pub reads_known_same : (is : List Instruction) (K L : Known) → ((k : ℕ) → K k ≡ L k) → reads_known K is ≡ reads_known L is
+pub reads_known_same : (is : List Instruction) (K L : KnownSlots) → ((k : ℕ) → K k ≡ L k) → reads_known K is ≡ reads_known L is
 reads_known_same [] K L h = refl
 reads_known_same (i ∷ is) K L h =
-    ap (λ b. b && reads_known (after i K) is) (each_same K L (read_by i) h)
-    ∙ ap (λ b. each L (read_by i) && b) (reads_known_same is (after i K) (after i L) (after_same i K L h))
+    ap (λ b. b && reads_known (after_instruction i K) is) (each_same K L (read_by i) h)
+    ∙ ap (λ b. each L (read_by i) && b) (reads_known_same is (after_instruction i K) (after_instruction i L) (after_same i K L h))
 
-pub entry_slots_same : (s : Slots) (K L : Known) → ((k : ℕ) → K k ≡ L k) → are_entry_slots_known K s ≡ are_entry_slots_known L s
+pub entry_slots_same : (s : Slots) (K L : KnownSlots) → ((k : ℕ) → K k ≡ L k) → are_entry_slots_known K s ≡ are_entry_slots_known L s
 entry_slots_same s K L h = each_same (λ k. implies (has_slot s k) (K k)) (λ k. implies (has_slot s k) (L k)) (slots_from 0 s.below) (λ k. ap (implies (has_slot s k)) (h k))
 
-pub targets_same : (C : CodeView) (ns : List ℕ) (K L : Known) → ((k : ℕ) → K k ≡ L k)
+pub targets_same : (C : CodeView) (ns : List ℕ) (K L : KnownSlots) → ((k : ℕ) → K k ≡ L k)
     → each (λ n. are_entry_slots_known K (block_at C n).entry) ns ≡ each (λ n. are_entry_slots_known L (block_at C n).entry) ns
 targets_same C ns K L h = each_same (λ n. are_entry_slots_known K (block_at C n).entry) (λ n. are_entry_slots_known L (block_at C n).entry) ns (λ n. entry_slots_same (block_at C n).entry K L h)
 
@@ -258,11 +258,11 @@ no_blocks_from C (x ∷ xs) n zero e = absurd (let g : Some x ≡ None = e in cc
 no_blocks_from C (x ∷ xs) n (suc m) e = no_blocks_from C xs n m e
 
 -- what the instructions of a block read and leave known, told by marks that say no more than its entry slots
-pub block_reads : (T : Known) (e : Slots) (is js : List Instruction) (r : Bool) → ((k : ℕ) → T k ≡ has_slot e k) → is ≡ js → r ≡ reads_known T is → reads_known (has_slot e) js ≡ r
+pub block_reads : (T : KnownSlots) (e : Slots) (is js : List Instruction) (r : Bool) → ((k : ℕ) → T k ≡ has_slot e k) → is ≡ js → r ≡ reads_known T is → reads_known (has_slot e) js ≡ r
 block_reads T e is js r t s h = sym (reads_known_same js T (has_slot e) t) ∙ ap (reads_known T) (sym s) ∙ sym h
 
-pub known_at_exit : (T U : Known) (e : Slots) (is js : List Instruction) → ((k : ℕ) → T k ≡ has_slot e k) → is ≡ js → ((k : ℕ) → U k ≡ known_after T is k) → (k : ℕ) → U k ≡ known_after (has_slot e) js k
+pub known_at_exit : (T U : KnownSlots) (e : Slots) (is js : List Instruction) → ((k : ℕ) → T k ≡ has_slot e k) → is ≡ js → ((k : ℕ) → U k ≡ known_after T is k) → (k : ℕ) → U k ≡ known_after (has_slot e) js k
 known_at_exit T U e is js t s h k = h k ∙ ap (λ z. known_after T z k) s ∙ known_after_same js T (has_slot e) t k
 
-pub known_at_targets : (x : Exit) (U V K : Known) → ((k : ℕ) → U k ≡ K k) → ((k : ℕ) → V k ≡ past x U k) → (k : ℕ) → V k ≡ past x K k
+pub known_at_targets : (x : Exit) (U V K : KnownSlots) → ((k : ℕ) → U k ≡ K k) → ((k : ℕ) → V k ≡ known_past x U k) → (k : ℕ) → V k ≡ known_past x K k
 known_at_targets x U V K u v k = v k ∙ past_same x U K u k

@@ -8,7 +8,7 @@ use Rattle.ca_value.specs.Outcome.{judged}
 use Rattle.ca_value.specs.Builtins.{builtin_result}
 use Rattle.ca_value.specs.declared.builtin.Builtin.TheVariants.{Str}
 use Rattle.ca_value.specs.declared.fault.ValueFault.TheVariants.{TooHeavy}
-use Rattle.ca_states.specs.Machine.{applied}
+use Rattle.ca_states.specs.Machine.{builtin_applied}
 
 -- a short text is judged as it is
 short : (s : List ℕ) → length s ≤ 20 → judged (Ok (text s)) ≡ Ok (text s)
@@ -16,6 +16,6 @@ short s le =
     let e : nat_le (suc (length s)) 65536 ≡ true = le-leb (suc (length s)) 65536 (omega (arith, le)) in
     ap (λ b. if b then (Ok (text s)) else Err TooHeavy) e
 
-pub str_integer : (n : ℤ) (s : List ℕ) (w : Tree) → s ≡ signed_decimal n → length s ≤ 20 → w ≡ text s → applied Str (int n ∷ []) ≡ Ok w
+pub str_integer : (n : ℤ) (s : List ℕ) (w : Tree) → s ≡ signed_decimal n → length s ≤ 20 → w ≡ text s → builtin_applied Str (int n ∷ []) ≡ Ok w
 unfolding builtin_result
 str_integer n s w es le ew = ap (λ r. judged (Ok (text r))) (append-nil (signed_decimal n) ∙ sym es) ∙ short s le ∙ ap Ok (sym ew)

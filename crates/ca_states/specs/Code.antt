@@ -19,12 +19,12 @@ pub record Slots : Type 0 where
   pub below : ℕ
   pub holes : List ℕ
 
-abbrev pub is_among : ℕ → List ℕ → Bool
-is_among k [] = false
-is_among k (n ∷ ns) = k == n || is_among k ns
+abbrev pub is_slot_among : ℕ → List ℕ → Bool
+is_slot_among k [] = false
+is_slot_among k (n ∷ ns) = k == n || is_slot_among k ns
 
 abbrev pub has_slot : Slots → ℕ → Bool
-has_slot s k = nat_lt k s.below && not (is_among k s.holes)
+has_slot s k = nat_lt k s.below && not (is_slot_among k s.holes)
 
 -- An instruction. The first number is the slot that its value comes into.
 pub data Instruction : Type 0 where
@@ -63,8 +63,8 @@ pub record CodeView : Type 0 where
   pub functions : List EntryPoint
   pub width : ℕ
 
-abbrev pub size : CodeView → ℕ
-size c = length c.blocks
+abbrev pub block_count : CodeView → ℕ
+block_count c = length c.blocks
 
 -- past the last block there is none
 abbrev pub no_block : BlockView
@@ -79,8 +79,8 @@ no_entry = record { block = 0; values = 0 }
 abbrev pub function_at : CodeView → ℕ → EntryPoint
 function_at c n = slice_index_or c.functions n no_entry
 
-abbrev pub body_at : CodeView → ℕ → EntryPoint
-body_at c n = slice_index_or c.bodies n no_entry
+abbrev pub body_entry : CodeView → ℕ → EntryPoint
+body_entry c n = slice_index_or c.bodies n no_entry
 
 -- What the code's types stand for. Spare room and marks are no part of it.
 abbrev pub slots_view : SlotSet → Slots

@@ -11,10 +11,10 @@ StopsAt (Stop.Fault f p) e = e ≡ failed f p
 StopsAt Stop.OutOfMemory e = Unit {0}
 
 -- several instructions in order, up to the first fault
-abbrev pub follows : Effect → (List Tree → Effect) → Effect
-follows (done s) f = f s
-follows (failed f p) g = failed f p
+abbrev pub effects_follow : Effect → (List Tree → Effect) → Effect
+effects_follow (done s) f = f s
+effects_follow (failed f p) g = failed f p
 
 abbrev pub effects : List Instruction → List Tree → Effect
 effects [] s = done s
-effects (i ∷ is) s = follows (effect i s) (effects is)
+effects (i ∷ is) s = effects_follow (effect i s) (effects is)

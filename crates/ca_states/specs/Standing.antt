@@ -2,7 +2,7 @@
 use Rattle.std.specs.Prelude.{◌≡◌, ℕ, ◌<◌, ◌≤◌, List, [], ◌∷◌, length, map, reverse, take, Bool, true, false, ◌&&◌, ◌==◌, IsTrue, Result, Ok, Err}
 use Rattle.ca_value.specs.Tree.{Tree, nil, bool, int, port}
 use Rattle.ca_value.specs.View.{view, views}
-use Rattle.ca_value.specs.Builtins.{admits}
+use Rattle.ca_value.specs.Builtins.{admits_arguments}
 use Rattle.ca_term.specs.declared.fault.Fault.{Fault}
 use Rattle.ca_term.specs.declared.place.Place.{Place}
 use Rattle.ca_term.specs.Operation.{OpView, taking, putting, op_view, want_view}
@@ -17,8 +17,8 @@ use Rattle.ca_states.specs.declared.runner.Start.TheVariants as begin
 use Rattle.ca_states.specs.declared.stop.Stop.{Stop}
 use Rattle.ca_states.specs.declared.runner.Halt.{Halt}
 use Rattle.ca_states.specs.declared.runner.Halt.TheVariants as halt
-use Rattle.ca_states.specs.Code.{CodeView, size, block_at, function_at, body_at}
-use Rattle.ca_states.specs.Machine.{Frame, State, Move, goes, ends, faults, waits, ComesTo, slots_from}
+use Rattle.ca_states.specs.Code.{CodeView, block_count, block_at, function_at, body_entry}
+use Rattle.ca_states.specs.Machine.{Frame, RunnerState, Move, goes, ends, faults, waits, ComesTo, slots_from}
 use Rattle.ca_states.specs.Valid.{are_below, takes, main_entry}
 
 -- What a runner stands for: the frames' last one in the list is the innermost.
@@ -32,7 +32,7 @@ frames_view fs = reverse (map frame_view fs)
 abbrev pub calls_view : Calls → List Frame
 calls_view c = frames_view (take c.depth c.frames.items)
 
-abbrev pub state_view : Runner → State
+abbrev pub state_view : Runner → RunnerState
 state_view r = record { block = r.block; slots = views r.slots.items; frames = calls_view r.calls; turns = r.turns }
 
 -- the slot that the answer to the operation comes into
@@ -42,7 +42,7 @@ waiting_slot r = r.answer
 -- where a start begins, and whether the code has it and it takes so many values
 abbrev pub entry_at : CodeView → Start → EntryPoint
 entry_at C begin.Main = main_entry C
-entry_at C (begin.Go n) = body_at C n
+entry_at C (begin.Go n) = body_entry C n
 entry_at C (begin.Function n) = function_at C n
 
 abbrev pub is_start : CodeView → Start → ℕ → Bool
@@ -55,22 +55,22 @@ IsStart C start count = IsTrue (is_start C start count)
 
 -- slots for that block: it is there, and they are as many as its text has
 abbrev pub HasSlots : CodeView → ℕ → List Tree → Type 0
-HasSlots C n s = (n < size C) × (length s ≡ (block_at C n).width)
+HasSlots C n s = (n < block_count C) × (length s ≡ (block_at C n).width)
 
 abbrev pub AreFrames : CodeView → List Frame → Type 0
 AreFrames C [] = Unit {0}
 AreFrames C (f ∷ fs) = HasSlots C f.next f.slots × (f.answer < length f.slots) × AreFrames C fs
 
 -- a runner that goes on in this code
-pub record Stands (C : CodeView) (c : State) : Type 0 where
+pub record RunnerStands (C : CodeView) (c : RunnerState) : Type 0 where
   pub slots : HasSlots C c.block c.slots
   pub frames : AreFrames C c.frames
   pub turns : c.turns ≤ 999_999
   pub depth : length c.frames ≤ 256
 
 -- a runner that halted at an operation of this code
-pub record Waits (C : CodeView) (r : Runner) : Type 0 where
-  pub stands : Stands C (state_view r)
+pub record RunnerWaits (C : CodeView) (r : Runner) : Type 0 where
+  pub stands : RunnerStands C (state_view r)
   pub answer : waiting_slot r < length (state_view r).slots
 
 -- what a runner halted as
@@ -122,8 +122,8 @@ Passed m false (Stop.Fault f p) r = m ≡ faults f p (state_view r).turns
 Passed m false Stop.OutOfMemory r = Unit {0}
 
 -- a runner with these parts goes on
-abbrev pub goes_at : ℕ → List Tree → List Frame → ℕ → Move
-goes_at block slots frames turns = goes (record { block = block; slots = slots; frames = frames; turns = turns })
+abbrev pub runner_goes : ℕ → List Tree → List Frame → ℕ → Move
+runner_goes block slots frames turns = goes (record { block = block; slots = slots; frames = frames; turns = turns })
 
 -- an operation halts the runner, and a return where no call waits
 abbrev pub halts_at : Exit → List Frame → Bool
@@ -137,14 +137,14 @@ halts_at (Return a) (f ∷ fs) = false
 halts_at (Cut h a n answer next p) fs = true
 
 -- from a state a runner came to this halt
-abbrev pub HaltsAs : CodeView → State → Halt → Runner → Type 0
+abbrev pub HaltsAs : CodeView → RunnerState → Halt → Runner → Type 0
 HaltsAs C c h r = (m : Move) × ComesTo C c m × HaltedAs m h r
 
 -- a runner at an operation waits there
-abbrev pub WaitsAt : CodeView → Halt → Runner → Type 0
-WaitsAt C (halt.Cut w) r = Waits C r
-WaitsAt C (halt.Ended v) r = Unit {0}
-WaitsAt C (halt.Faulted f p) r = Unit {0}
+abbrev pub RunnerWaitsAt : CodeView → Halt → Runner → Type 0
+RunnerWaitsAt C (halt.Cut w) r = RunnerWaits C r
+RunnerWaitsAt C (halt.Ended v) r = Unit {0}
+RunnerWaitsAt C (halt.Faulted f p) r = Unit {0}
 
 -- the frames have the slot that the value of a call comes into
 abbrev pub TakesValue : List Frame → Type 0
@@ -153,24 +153,24 @@ TakesValue (f ∷ fs) = f.answer < length f.slots
 
 -- an entry point whose text has slots for so many values
 abbrev pub HasRoom : CodeView → EntryPoint → ℕ → Type 0
-HasRoom C e count = (e.block < size C) × (count ≤ (block_at C e.block).width)
+HasRoom C e count = (e.block < block_count C) × (count ≤ (block_at C e.block).width)
 
 -- the exit's slots are there, and what it applies takes so many values
-abbrev pub FitsExit : CodeView → Exit → State → Type 0
+abbrev pub FitsExit : CodeView → Exit → RunnerState → Type 0
 FitsExit C (Jump next p) c = Unit {0}
 FitsExit C (Branch a yes_to no_to) c = a < length c.slots
-FitsExit C (Test b to left right yes_to no_to p) c = IsTrue (admits b 2) × (left < length c.slots) × (right < length c.slots)
-FitsExit C (TestInt b to left z yes_to no_to p) c = IsTrue (admits b 2) × (left < length c.slots)
+FitsExit C (Test b to left right yes_to no_to p) c = IsTrue (admits_arguments b 2) × (left < length c.slots) × (right < length c.slots)
+FitsExit C (TestInt b to left z yes_to no_to p) c = IsTrue (admits_arguments b 2) × (left < length c.slots)
 FitsExit C (Call f a n answer next p) c = IsTrue (are_below (length c.slots) (slots_from a n)) × HasRoom C (function_at C f) n
 FitsExit C (Return a) c = (a < length c.slots) × TakesValue c.frames
 FitsExit C (Cut h a n answer next p) c = IsTrue (are_below (length c.slots) (slots_from a n))
 
 -- the exit fits whatever the slots hold, as long as they are so many
-abbrev pub FitsAnyway : CodeView → Exit → State → Type 0
+abbrev pub FitsAnyway : CodeView → Exit → RunnerState → Type 0
 FitsAnyway C x c = (s : List Tree) → length s ≡ length c.slots → FitsExit C x (record c { slots = s })
 
 -- what is asked of an exit that the runner halts at
-abbrev pub FitsHalt : Exit → State → Type 0
+abbrev pub FitsHalt : Exit → RunnerState → Type 0
 FitsHalt (Jump next p) c = Unit {0}
 FitsHalt (Branch a yes_to no_to) c = Unit {0}
 FitsHalt (Test b to left right yes_to no_to p) c = Unit {0}

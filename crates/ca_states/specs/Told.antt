@@ -11,8 +11,8 @@ said None block other = other
 said (Some m) block other = cond (m.block == block) m.known other
 
 -- the slot is known, where these are the block's entry slots
-abbrev pub told : Notes → Slots → ℕ → Bool
-told n s k = said (slice_get (list n.marks) k) n.block (has_slot s k)
+abbrev pub slot_told : Notes → Slots → ℕ → Bool
+slot_told n s k = said (slice_get (list n.marks) k) n.block (has_slot s k)
 
 -- each mark was made in a block of a lower number
 abbrev pub IsBefore : Notes → ℕ → Type 0

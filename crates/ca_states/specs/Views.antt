@@ -7,12 +7,12 @@ use Rattle.ca_states.specs.declared.touch.Numbers.{Numbers}
 use Rattle.ca_states.specs.declared.touch.Numbers.TheVariants as few
 use Rattle.ca_states.specs.Machine.{slots_from}
 
-abbrev pub numbers : Numbers → List ℕ
-numbers few.None = []
-numbers (few.One a) = a ∷ []
-numbers (few.Two a b) = a ∷ b ∷ []
-numbers (few.Three a b c) = a ∷ b ∷ c ∷ []
-numbers (few.Range from count) = slots_from from count
+abbrev pub slot_numbers : Numbers → List ℕ
+slot_numbers few.None = []
+slot_numbers (few.One a) = a ∷ []
+slot_numbers (few.Two a b) = a ∷ b ∷ []
+slot_numbers (few.Three a b c) = a ∷ b ∷ c ∷ []
+slot_numbers (few.Range from count) = slots_from from count
 
 abbrev pub texts_view : Texts → CodeView
 texts_view t = record { blocks = map block_view (list t.blocks); main = t.main; identity = t.identity; bodies = list t.bodies; functions = list t.functions; width = t.width }

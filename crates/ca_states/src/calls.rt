@@ -29,7 +29,7 @@ impl Calls {
     ghost use Rattle.ca_value.specs.View.{views};
     ghost use Rattle.ca_states.specs.Machine.{begun, read, reads, returned, slots_from, taken_all};
     ghost use Rattle.ca_states.specs.Valid.{are_below};
-    ghost use Rattle.ca_states.specs.Standing.{calls_view, frame_view, goes_at, halts_at, TakesValue};
+    ghost use Rattle.ca_states.specs.Standing.{calls_view, frame_view, runner_goes, halts_at, TakesValue};
     ghost use Rattle.ca_states.specs.declared.code.Exit.TheVariants.{Return};
 
     /// None.
@@ -108,7 +108,7 @@ impl Calls {
         requires slot { slot < length slots.old.items }
         requires takes { TakesValue (calls_view self.old) }
         requires waits { halts_at (Return slot) (calls_view self.old) ≡ false }
-        ensures { (turns : ℕ) → returned (read (views slots.old.items) slot) (calls_view self.old) turns ≡ goes_at result (views slots.new.items) (calls_view self.new) turns }
+        ensures { (turns : ℕ) → returned (read (views slots.old.items) slot) (calls_view self.old) turns ≡ runner_goes result (views slots.new.items) (calls_view self.new) turns }
     {
         self.depth -= 1;
         let frame = &mut self.frames[self.depth];

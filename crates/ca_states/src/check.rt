@@ -4,9 +4,9 @@ ghost use Rattle.ca_value.specs.Seq.{list};
 ghost use Rattle.ca_states.specs.Code.{Slots, has_slot, slots_view, instruction, block_at, block_view};
 ghost use Rattle.ca_states.specs.Machine.{slots_from};
 ghost use Rattle.ca_states.specs.Touched.{read_by, read_at, emptied_at, answered_at, targets};
-ghost use Rattle.ca_states.specs.Valid.{each, are_below, after, known_after, reads_known, past, are_entry_slots_known, targets_known, are_just, begins_well, is_instruction_in_range, is_in_range, knows_slots, is_valid, is_valid_block, are_valid_blocks};
+ghost use Rattle.ca_states.specs.Valid.{each, are_below, after_instruction, known_after, reads_known, known_past, are_entry_slots_known, targets_known, are_just, begins_well, is_instruction_in_range, is_in_range, knows_slots, is_valid, is_valid_block, are_valid_blocks};
 ghost use Rattle.ca_states.specs.Views.{texts_view};
-ghost use Rattle.ca_states.specs.Told.{told, IsBefore};
+ghost use Rattle.ca_states.specs.Told.{slot_told, IsBefore};
 
 use crate::code::{Block, EntryPoint, Exit, Instr, SlotSet};
 use crate::notes::Notes;
@@ -17,8 +17,8 @@ impl Notes {
     pub fn pass(&mut self, entry: &SlotSet, width: u64, instr: &Instr) -> bool
         requires wide { width ≤ length (list self.old.marks) }
         requires range { IsTrue (is_instruction_in_range width (instruction instr.now)) }
-        ensures reads { result ≡ each (told self.old (slots_view entry.now)) (read_by (instruction instr.now)) }
-        ensures told { (s : Slots) (k : ℕ) → told self.new s k ≡ after (instruction instr.now) (told self.old s) k }
+        ensures reads { result ≡ each (slot_told self.old (slots_view entry.now)) (read_by (instruction instr.now)) }
+        ensures told { (s : Slots) (k : ℕ) → slot_told self.new s k ≡ after_instruction (instruction instr.now) (slot_told self.old s) k }
         ensures same { length (list self.new.marks) ≡ length (list self.old.marks) }
         ensures block { self.new.block ≡ self.old.block }
         ensures before { (n : ℕ) → self.old.block < n → IsBefore self.old n → IsBefore self.new n }
@@ -33,8 +33,8 @@ impl Notes {
     pub fn pass_all(&mut self, entry: &SlotSet, width: u64, instrs: &[Instr]) -> bool
         requires wide { width ≤ length (list self.old.marks) }
         requires range { IsTrue (each (is_instruction_in_range width) (map instruction instrs.now)) }
-        ensures reads { result ≡ reads_known (told self.old (slots_view entry.now)) (map instruction instrs.now) }
-        ensures told { OnTrue result ((k : ℕ) → told self.new (slots_view entry.now) k ≡ known_after (told self.old (slots_view entry.now)) (map instruction instrs.now) k) }
+        ensures reads { result ≡ reads_known (slot_told self.old (slots_view entry.now)) (map instruction instrs.now) }
+        ensures told { OnTrue result ((k : ℕ) → slot_told self.new (slots_view entry.now) k ≡ known_after (slot_told self.old (slots_view entry.now)) (map instruction instrs.now) k) }
         ensures same { length (list self.new.marks) ≡ length (list self.old.marks) }
         ensures block { self.new.block ≡ self.old.block }
         ensures before { (n : ℕ) → self.old.block < n → IsBefore self.old n → IsBefore self.new n }
@@ -52,7 +52,7 @@ impl Notes {
         requires wide { width ≤ length (list self.old.marks) }
         requires empties { IsTrue (are_below width (emptied_at exit.now)) }
         requires answers { IsTrue (are_below width (answered_at exit.now)) }
-        ensures told { (s : Slots) (k : ℕ) → told self.new s k ≡ past exit.now (told self.old s) k }
+        ensures told { (s : Slots) (k : ℕ) → slot_told self.new s k ≡ known_past exit.now (slot_told self.old s) k }
         ensures same { length (list self.new.marks) ≡ length (list self.old.marks) }
         ensures block { self.new.block ≡ self.old.block }
         ensures before { (n : ℕ) → self.old.block < n → IsBefore self.old n → IsBefore self.new n }
@@ -64,7 +64,7 @@ impl Notes {
     // Whether all slots of the other set are known, where `entry` are the block's entry slots.
     #[tactic(auto, using(crate::proofs::RowLaws::each_up, crate::proofs::RowLaws::each_up_end))]
     fn are_entry_slots_known(&self, entry: &SlotSet, others: &SlotSet) -> bool
-        ensures { result ≡ are_entry_slots_known (told self.now (slots_view entry.now)) (slots_view others.now) }
+        ensures { result ≡ are_entry_slots_known (slot_told self.now (slots_view entry.now)) (slots_view others.now) }
     {
         for slot in 0..others.below {
             if others.has(slot) && !self.is_known(entry, slot) {
@@ -96,7 +96,7 @@ impl SlotSet {
 impl Texts {
     // Whether the entry slots of a block are known.
     fn is_target_known(&self, notes: &Notes, entry: &SlotSet, number: u64) -> bool
-        ensures { result ≡ are_entry_slots_known (told notes.now (slots_view entry.now)) (block_at (texts_view self.now) number).entry }
+        ensures { result ≡ are_entry_slots_known (slot_told notes.now (slots_view entry.now)) (block_at (texts_view self.now) number).entry }
     {
         match self.blocks.get(number) {
             Some(block) => notes.are_entry_slots_known(entry, &block.entry),
@@ -106,7 +106,7 @@ impl Texts {
 
     // Whether the entry slots of each target are known.
     fn are_targets_known(&self, notes: &Notes, entry: &SlotSet, exit: &Exit) -> bool
-        ensures { result ≡ each (λ n. are_entry_slots_known (told notes.now (slots_view entry.now)) (block_at (texts_view self.now) n).entry) (targets exit.now) }
+        ensures { result ≡ each (λ n. are_entry_slots_known (slot_told notes.now (slots_view entry.now)) (block_at (texts_view self.now) n).entry) (targets exit.now) }
     {
         match exit {
             Exit::Jump { next, .. } => self.is_target_known(notes, entry, *next),
@@ -153,7 +153,7 @@ impl Texts {
     fn knows_slots(&self, notes: &mut Notes, block: &Block) -> bool
         requires wide { self.now.width ≤ length (list notes.old.marks) }
         requires range { IsTrue (is_in_range (texts_view self.now) (block_view block.now)) }
-        requires told { (k : ℕ) → told notes.old (slots_view block.now.entry) k ≡ has_slot (slots_view block.now.entry) k }
+        requires told { (k : ℕ) → slot_told notes.old (slots_view block.now.entry) k ≡ has_slot (slots_view block.now.entry) k }
         ensures knows { result ≡ knows_slots (texts_view self.now) (block_view block.now) }
         ensures same { length (list notes.new.marks) ≡ length (list notes.old.marks) }
         ensures before { (n : ℕ) → notes.old.block < n → IsBefore notes.old n → IsBefore notes.new n }

@@ -7,7 +7,7 @@ ghost use Rattle.ca_term.specs.Asking.{asked};
 ghost use Rattle.ca_term.specs.declared.head.AltsOptions.TheVariants.{None as NoOptions};
 ghost use Rattle.ca_term.specs.declared.head.Head.TheVariants.{Take, Put, Alts, Make};
 ghost use Rattle.ca_term.specs.declared.head.MakeKind.TheVariants.{Timeout};
-ghost use Rattle.ca_states.specs.Machine.{read, reads, slots_from, taken, taken_all};
+ghost use Rattle.ca_states.specs.Machine.{read, reads, slots_from, slot_taken, taken_all};
 ghost use Rattle.ca_states.specs.Valid.{are_below};
 ghost use Rattle.ca_states.specs.Standing.{HoldsAsked, is_bare_halt};
 ghost use Rattle.ca_states.specs.declared.runner.Halt.TheVariants.{Cut};
@@ -43,7 +43,7 @@ fn cut_take(slots: &mut [Value], from: u64, place: Place, halt: &mut Halt)
     requires slot { from < length slots.old }
     requires bare { is_bare_halt halt.old ≡ true }
     ensures cut { HoldsAsked halt.new (asked Take (trees_of (read (views slots.old) from ∷ [])) place) place }
-    ensures taken { views slots.new ≡ taken (views slots.old) from }
+    ensures taken { views slots.new ≡ slot_taken (views slots.old) from }
     ensures same { length slots.new ≡ length slots.old }
 {
     let channel = take_at(slots, from);
@@ -57,7 +57,7 @@ fn cut_put(slots: &mut [Value], from: u64, place: Place, halt: &mut Halt) -> boo
     requires slot { suc from < length slots.old }
     requires bare { is_bare_halt halt.old ≡ true }
     ensures cut { OnTrue result (HoldsAsked halt.new (asked Put (trees_of (read (views slots.old) from ∷ read (views slots.old) (suc from) ∷ [])) place) place) }
-    ensures taken { OnTrue result (views slots.new ≡ taken (taken (views slots.old) from) (suc from)) }
+    ensures taken { OnTrue result (views slots.new ≡ slot_taken (slot_taken (views slots.old) from) (suc from)) }
     ensures left { OnFalse result (slots.new ≡ slots.old) }
     ensures stays { OnFalse result (halt.new ≡ halt.old) }
     ensures same { length slots.new ≡ length slots.old }
@@ -79,7 +79,7 @@ fn cut_alts(slots: &mut [Value], from: u64, place: Place, halt: &mut Halt) -> bo
     requires slot { from < length slots.old }
     requires bare { is_bare_halt halt.old ≡ true }
     ensures cut { OnTrue result (HoldsAsked halt.new (asked (Alts NoOptions) (trees_of (read (views slots.old) from ∷ [])) place) place) }
-    ensures taken { OnTrue result (views slots.new ≡ taken (views slots.old) from) }
+    ensures taken { OnTrue result (views slots.new ≡ slot_taken (views slots.old) from) }
     ensures left { OnFalse result (slots.new ≡ slots.old) }
     ensures stays { OnFalse result (halt.new ≡ halt.old) }
     ensures same { length slots.new ≡ length slots.old }
@@ -107,7 +107,7 @@ fn cut_timeout(slots: &mut [Value], from: u64, place: Place, halt: &mut Halt) ->
     requires slot { from < length slots.old }
     requires bare { is_bare_halt halt.old ≡ true }
     ensures cut { OnTrue result (HoldsAsked halt.new (asked (Make Timeout) (trees_of (read (views slots.old) from ∷ [])) place) place) }
-    ensures taken { OnTrue result (views slots.new ≡ taken (views slots.old) from) }
+    ensures taken { OnTrue result (views slots.new ≡ slot_taken (views slots.old) from) }
     ensures left { OnFalse result (slots.new ≡ slots.old) }
     ensures stays { OnFalse result (halt.new ≡ halt.old) }
     ensures same { length slots.new ≡ length slots.old }

@@ -2,7 +2,7 @@
 ghost use Rattle.std.specs.Prelude.{◌≡◌, ◌<◌, ◌≤◌, length, IfOk};
 ghost use Rattle.ca_value.specs.Seq.{list};
 ghost use Rattle.ca_value.specs.View.{views};
-ghost use Rattle.ca_states.specs.Code.{size, block_at, block_view, function_at, body_at, code_view};
+ghost use Rattle.ca_states.specs.Code.{block_count, block_at, block_view, function_at, body_entry, code_view};
 ghost use Rattle.ca_states.specs.Machine.{begun};
 ghost use Rattle.ca_states.specs.Standing.{entry_at};
 
@@ -50,7 +50,7 @@ pub(crate) fn entry_point(code: &Code, start: Start) -> EntryPoint
 /// The block of that number.
 #[tactic(auto, using(crate::proofs::StandingLaws::block_view_at))]
 pub(crate) fn block_at(code: &Code, number: u64) -> &Block
-    requires { number < size (code_view code.now) }
+    requires { number < block_count (code_view code.now) }
     ensures { block_view result.now ≡ block_at (code_view code.now) number }
 {
     &code.blocks.as_slice()[number as usize]

@@ -4,10 +4,10 @@ ghost use Rattle.std.specs.Bool.{OnTrue, OnFalse};
 ghost use Rattle.ca_value.specs.View.{view, views};
 ghost use Rattle.ca_value.specs.Outcome.{Outcome, Gives};
 ghost use Rattle.ca_value.specs.Tree.{int};
-ghost use Rattle.ca_value.specs.Builtins.{admits};
+ghost use Rattle.ca_value.specs.Builtins.{admits_arguments};
 ghost use Rattle.ca_value.specs.declared.builtin.Builtin.TheVariants.{Str, Vector};
 ghost use Rattle.ca_states.specs.Code.{one, pushing, putting, many};
-ghost use Rattle.ca_states.specs.Machine.{read, applied, answered, effect, done, slots_from};
+ghost use Rattle.ca_states.specs.Machine.{read, builtin_applied, slot_answered, effect, done, slots_from};
 ghost use Rattle.ca_states.specs.Valid.{are_below};
 ghost use Rattle.ca_states.specs.Operands.{operand_value, IsThere};
 ghost use Rattle.ca_states.specs.Runs.{StopsAt};
@@ -34,8 +34,8 @@ fn settle(
     stop: &mut Stop,
 ) -> bool
     requires { to < length slots.old }
-    ensures ok { (o : Outcome) → Gives outcome o → OnTrue result (answered (views slots.old) to place o ≡ done (views slots.new)) }
-    ensures stop { (o : Outcome) → Gives outcome o → OnFalse result (StopsAt stop.new (answered (views slots.old) to place o)) }
+    ensures ok { (o : Outcome) → Gives outcome o → OnTrue result (slot_answered (views slots.old) to place o ≡ done (views slots.new)) }
+    ensures stop { (o : Outcome) → Gives outcome o → OnFalse result (StopsAt stop.new (slot_answered (views slots.old) to place o)) }
     ensures same { length slots.new ≡ length slots.old }
 {
     match outcome {
@@ -58,7 +58,7 @@ fn settle(
 #[inline(never)]
 #[tactic(auto, using(crate::proofs::TextLaws::str_integer))]
 fn text_of(alloc: Global, n: i64) -> Result<Value, OutOfMemory>
-    ensures { IfOk result (λ v. applied Str (int n ∷ []) ≡ Ok (view v)) }
+    ensures { IfOk result (λ v. builtin_applied Str (int n ∷ []) ≡ Ok (view v)) }
 {
     let mut digits = Buffer::new();
     let text = Text::from_bytes(alloc, digits.format(n).as_bytes())?;
@@ -68,8 +68,8 @@ fn text_of(alloc: Global, n: i64) -> Result<Value, OutOfMemory>
 // A builtin of one value.
 #[tactic(auto, using(crate::proofs::SlotLaws::gives_by))]
 fn apply_to_one(alloc: Global, builtin: Builtin, operand: &Value) -> Result<Value, ApplyError>
-    requires { IsTrue (admits builtin 1) }
-    ensures { Gives result (applied builtin (view operand.now ∷ [])) }
+    requires { IsTrue (admits_arguments builtin 1) }
+    ensures { Gives result (builtin_applied builtin (view operand.now ∷ [])) }
 {
     match (builtin, operand) {
         (Builtin::Str, Value::Int(n)) => match text_of(alloc, *n) {
@@ -91,7 +91,7 @@ pub(crate) fn run_one(
     place: Place,
     stop: &mut Stop,
 ) -> bool
-    requires counted { IsTrue (admits builtin 1) }
+    requires counted { IsTrue (admits_arguments builtin 1) }
     requires to { to < length slots.old }
     requires operand { operand < length slots.old }
     ensures ok { OnTrue result (effect (one builtin to operand place) (views slots.old) ≡ done (views slots.new)) }
@@ -105,7 +105,7 @@ pub(crate) fn run_one(
 // The vector of two plain values; None leaves others to the builtin.
 #[tactic(auto, using(crate::proofs::SlotLaws::pair_of_plain))]
 fn pair_of(alloc: Global, left: &Value, right: &Value) -> Result<Option<Value>, OutOfMemory>
-    ensures { IfOk result (λ o. IfSome o (λ v. applied Vector (view left.now ∷ view right.now ∷ []) ≡ Ok (view v))) }
+    ensures { IfOk result (λ o. IfSome o (λ v. builtin_applied Vector (view left.now ∷ view right.now ∷ []) ≡ Ok (view v))) }
 {
     let Some(first) = plain_of(left) else {
         return Ok(None);
@@ -128,8 +128,8 @@ fn apply_to_both(
     left: &Value,
     right: &Value,
 ) -> Result<Value, ApplyError>
-    requires { IsTrue (admits builtin 2) }
-    ensures { Gives result (applied builtin (view left.now ∷ view right.now ∷ [])) }
+    requires { IsTrue (admits_arguments builtin 2) }
+    ensures { Gives result (builtin_applied builtin (view left.now ∷ view right.now ∷ [])) }
 {
     if let Builtin::Vector = builtin {
         match pair_of(alloc, left, right) {
@@ -149,10 +149,10 @@ pub(crate) fn apply_to_two(
     left: u64,
     right: Operand,
 ) -> Result<Value, ApplyError>
-    requires counted { IsTrue (admits builtin 2) }
+    requires counted { IsTrue (admits_arguments builtin 2) }
     requires left { left < length slots.now }
     requires right { IsThere right (length slots.now) }
-    ensures { Gives result (applied builtin (read (views slots.now) left ∷ operand_value right (views slots.now) ∷ [])) }
+    ensures { Gives result (builtin_applied builtin (read (views slots.now) left ∷ operand_value right (views slots.now) ∷ [])) }
 {
     let left = value_at(slots, left);
     match right {
@@ -173,12 +173,12 @@ pub(crate) fn run_two(
     place: Place,
     stop: &mut Stop,
 ) -> bool
-    requires counted { IsTrue (admits builtin 2) }
+    requires counted { IsTrue (admits_arguments builtin 2) }
     requires to { to < length slots.old }
     requires left { left < length slots.old }
     requires right { IsThere right (length slots.old) }
-    ensures ok { OnTrue result (answered (views slots.old) to place (applied builtin (read (views slots.old) left ∷ operand_value right (views slots.old) ∷ [])) ≡ done (views slots.new)) }
-    ensures stop { OnFalse result (StopsAt stop.new (answered (views slots.old) to place (applied builtin (read (views slots.old) left ∷ operand_value right (views slots.old) ∷ [])))) }
+    ensures ok { OnTrue result (slot_answered (views slots.old) to place (builtin_applied builtin (read (views slots.old) left ∷ operand_value right (views slots.old) ∷ [])) ≡ done (views slots.new)) }
+    ensures stop { OnFalse result (StopsAt stop.new (slot_answered (views slots.old) to place (builtin_applied builtin (read (views slots.old) left ∷ operand_value right (views slots.old) ∷ [])))) }
     ensures same { length slots.new ≡ length slots.old }
 {
     let outcome = apply_to_two(alloc, slots, builtin, left, right);
@@ -261,7 +261,7 @@ pub(crate) fn run_many(
     place: Place,
     stop: &mut Stop,
 ) -> bool
-    requires counted { IsTrue (admits builtin count) }
+    requires counted { IsTrue (admits_arguments builtin count) }
     requires to { to < length slots.old }
     requires row { IsTrue (are_below (length slots.old) (slots_from from count)) }
     ensures ok { OnTrue result (effect (many builtin to from count place) (views slots.old) ≡ done (views slots.new)) }

@@ -3,14 +3,14 @@ ghost use Rattle.std.specs.Prelude.{◌≡◌, ◌<◌, ◌≤◌, suc, ◌∷�
 ghost use Rattle.std.specs.Bool.{OnTrue, OnFalse};
 ghost use Rattle.ca_value.specs.Seq.{list};
 ghost use Rattle.ca_value.specs.View.{view, views};
-ghost use Rattle.ca_value.specs.Builtins.{admits};
+ghost use Rattle.ca_value.specs.Builtins.{admits_arguments};
 ghost use Rattle.ca_value.specs.Outcome.{Outcome};
 ghost use Rattle.ca_value.specs.Tree.{int};
 ghost use Rattle.ca_term.specs.Operands.{truth};
 ghost use Rattle.ca_term.specs.declared.fault.Fault.TheVariants.{Spun};
 ghost use Rattle.ca_term.specs.declared.place.Place.{Place as PurePlace};
 ghost use Rattle.ca_states.specs.Code.{code_view, CodeView};
-ghost use Rattle.ca_states.specs.Machine.{applied, at_block, jumped, leaves, read, tested};
+ghost use Rattle.ca_states.specs.Machine.{builtin_applied, at_block, jumped, leaves, read, test_answered};
 ghost use Rattle.ca_states.specs.Operands.{operand_value, IsThere};
 ghost use Rattle.ca_states.specs.Standing.{calls_view, state_view, halts_at, FitsExit, Passed};
 
@@ -94,10 +94,10 @@ impl Runner {
         place: Place,
         stop: &mut Stop,
     ) -> bool
-        requires counted { IsTrue (admits builtin 2) }
+        requires counted { IsTrue (admits_arguments builtin 2) }
         requires left { left < length self.old.slots.items }
         requires right { IsThere right (length self.old.slots.items) }
-        ensures { let s = views self.old.slots.items in Passed (tested place (state_view self.old) yes no (applied builtin (read s left ∷ operand_value right s ∷ []))) result stop.new self.new }
+        ensures { let s = views self.old.slots.items in Passed (test_answered place (state_view self.old) yes no (builtin_applied builtin (read s left ∷ operand_value right s ∷ []))) result stop.new self.new }
     {
         let Some(truth) = truth_in_place(self.slots.as_slice(), builtin, left, right) else {
             return self.test_values(alloc, builtin, left, right, yes, no, place, stop);
@@ -119,10 +119,10 @@ impl Runner {
         place: Place,
         stop: &mut Stop,
     ) -> bool
-        requires counted { IsTrue (admits builtin 2) }
+        requires counted { IsTrue (admits_arguments builtin 2) }
         requires left { left < length self.old.slots.items }
         requires right { IsThere right (length self.old.slots.items) }
-        ensures { let s = views self.old.slots.items in Passed (tested place (state_view self.old) yes no (applied builtin (read s left ∷ operand_value right s ∷ []))) result stop.new self.new }
+        ensures { let s = views self.old.slots.items in Passed (test_answered place (state_view self.old) yes no (builtin_applied builtin (read s left ∷ operand_value right s ∷ []))) result stop.new self.new }
     {
         match apply_to_two(alloc, self.slots.as_slice(), builtin, left, right) {
             Ok(value) => {

@@ -1,10 +1,10 @@
 ghost use Rattle.std.specs.Prelude.{◌≡◌, ℕ, ◌+◌, ◌<◌, length, IsTrue};
 ghost use Rattle.ca_value.specs.Seq.{list};
-ghost use Rattle.ca_states.specs.Code.{Slots, has_slot, slots_view, is_among};
+ghost use Rattle.ca_states.specs.Code.{Slots, has_slot, slots_view, is_slot_among};
 ghost use Rattle.ca_states.specs.Machine.{slots_from};
-ghost use Rattle.ca_states.specs.Valid.{each, are_below, noted, noted_all};
-ghost use Rattle.ca_states.specs.Views.{numbers};
-ghost use Rattle.ca_states.specs.Told.{told, IsBefore};
+ghost use Rattle.ca_states.specs.Valid.{each, are_below, slot_noted, noted_all};
+ghost use Rattle.ca_states.specs.Views.{slot_numbers};
+ghost use Rattle.ca_states.specs.Told.{slot_told, IsBefore};
 
 use crate::code::{Mark, SlotSet};
 use crate::touch::Numbers;
@@ -21,7 +21,7 @@ impl SlotSet {
 
 // Whether the slot is one of the holes.
 fn is_hole(holes: &[u64], slot: u64) -> bool
-    ensures { result ≡ is_among slot holes.now }
+    ensures { result ≡ is_slot_among slot holes.now }
 {
     for hole in holes {
         if slot == *hole {
@@ -62,7 +62,7 @@ impl Notes {
         requires { IsBefore self.old block }
         ensures same { length (list self.new.marks) ≡ length (list self.old.marks) }
         ensures block { self.new.block ≡ block }
-        ensures told { (s : Slots) (k : ℕ) → told self.new s k ≡ has_slot s k }
+        ensures told { (s : Slots) (k : ℕ) → slot_told self.new s k ≡ has_slot s k }
         ensures before { IsBefore self.new (block + 1) }
     {
         self.block = block;
@@ -70,7 +70,7 @@ impl Notes {
 
     /// Whether a slot is known, where these are the entry slots.
     pub fn is_known(&self, entry: &SlotSet, slot: u64) -> bool
-        ensures { result ≡ told self.now (slots_view entry.now) slot }
+        ensures { result ≡ slot_told self.now (slots_view entry.now) slot }
     {
         match self.marks.get(slot) {
             Some(mark) => {
@@ -86,8 +86,8 @@ impl Notes {
 
     /// Whether all of these slots are known.
     pub fn are_known(&self, entry: &SlotSet, slots: Numbers) -> bool
-        requires { IsTrue (are_below (length (list self.now.marks)) (numbers slots)) }
-        ensures { result ≡ each (told self.now (slots_view entry.now)) (numbers slots) }
+        requires { IsTrue (are_below (length (list self.now.marks)) (slot_numbers slots)) }
+        ensures { result ≡ each (slot_told self.now (slots_view entry.now)) (slot_numbers slots) }
     {
         match slots {
             Numbers::None => true,
@@ -104,7 +104,7 @@ impl Notes {
     #[tactic(auto, using(crate::proofs::RowLaws::each_range, crate::proofs::RowLaws::each_range_start, crate::proofs::RowLaws::each_range_end, crate::proofs::RowLaws::row_within))]
     fn is_range_known(&self, entry: &SlotSet, from: u64, count: u64) -> bool
         requires { IsTrue (are_below (length (list self.now.marks)) (slots_from from count)) }
-        ensures { result ≡ each (told self.now (slots_view entry.now)) (slots_from from count) }
+        ensures { result ≡ each (slot_told self.now (slots_view entry.now)) (slots_from from count) }
     {
         // Each of the slots is below it, so its number fits.
         let _width = self.marks.len();
@@ -122,7 +122,7 @@ impl Notes {
         requires { slot < length (list self.old.marks) }
         ensures same { length (list self.new.marks) ≡ length (list self.old.marks) }
         ensures block { self.new.block ≡ self.old.block }
-        ensures told { (s : Slots) (k : ℕ) → told self.new s k ≡ noted known slot (told self.old s) k }
+        ensures told { (s : Slots) (k : ℕ) → slot_told self.new s k ≡ slot_noted known slot (slot_told self.old s) k }
         ensures before { (n : ℕ) → self.old.block < n → IsBefore self.old n → IsBefore self.new n }
     {
         let block = self.block;
@@ -131,10 +131,10 @@ impl Notes {
 
     /// All of these slots are known from here on, or unknown.
     pub fn note_all(&mut self, known: bool, slots: Numbers)
-        requires { IsTrue (are_below (length (list self.old.marks)) (numbers slots)) }
+        requires { IsTrue (are_below (length (list self.old.marks)) (slot_numbers slots)) }
         ensures same { length (list self.new.marks) ≡ length (list self.old.marks) }
         ensures block { self.new.block ≡ self.old.block }
-        ensures told { (s : Slots) (k : ℕ) → told self.new s k ≡ noted_all known (numbers slots) (told self.old s) k }
+        ensures told { (s : Slots) (k : ℕ) → slot_told self.new s k ≡ noted_all known (slot_numbers slots) (slot_told self.old s) k }
         ensures before { (n : ℕ) → self.old.block < n → IsBefore self.old n → IsBefore self.new n }
     {
         match slots {
@@ -159,7 +159,7 @@ impl Notes {
         requires { IsTrue (are_below (length (list self.old.marks)) (slots_from from count)) }
         ensures same { length (list self.new.marks) ≡ length (list self.old.marks) }
         ensures block { self.new.block ≡ self.old.block }
-        ensures told { (s : Slots) (k : ℕ) → told self.new s k ≡ noted_all known (slots_from from count) (told self.old s) k }
+        ensures told { (s : Slots) (k : ℕ) → slot_told self.new s k ≡ noted_all known (slots_from from count) (slot_told self.old s) k }
         ensures before { (n : ℕ) → self.old.block < n → IsBefore self.old n → IsBefore self.new n }
     {
         // Each of the slots is below it, so its number fits.

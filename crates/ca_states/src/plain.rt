@@ -10,7 +10,7 @@ ghost use Rattle.ca_value.specs.Vectors.{item_at};
 ghost use Rattle.ca_value.specs.declared.builtin.Builtin.TheVariants.{Get, IsNil, Nth};
 ghost use Rattle.ca_term.specs.declared.place.Place.{Place as PurePlace};
 ghost use Rattle.ca_states.specs.Code.{constant, copying, many};
-ghost use Rattle.ca_states.specs.Machine.{is_plain, read, applied, answered, done, effect, slots_from};
+ghost use Rattle.ca_states.specs.Machine.{is_plain_value, read, builtin_applied, slot_answered, done, effect, slots_from};
 ghost use Rattle.ca_states.specs.Operands.{operand_value, IsThere};
 ghost use Rattle.ca_states.specs.Valid.{are_below};
 
@@ -81,7 +81,7 @@ pub(crate) fn copy_in_place(slots: &mut [Value], to: u64, from: u64) -> bool
 pub(crate) fn one_in_place(slots: &mut [Value], builtin: Builtin, to: u64, operand: u64) -> bool
     requires to { to < length slots.old }
     requires operand { operand < length slots.old }
-    ensures done { OnTrue result ((p : PurePlace) → answered (views slots.old) to p (applied builtin (read (views slots.old) operand ∷ [])) ≡ done (views slots.new)) }
+    ensures done { OnTrue result ((p : PurePlace) → slot_answered (views slots.old) to p (builtin_applied builtin (read (views slots.old) operand ∷ [])) ≡ done (views slots.new)) }
     ensures left { OnFalse result (slots.new ≡ slots.old) }
     ensures same { length slots.new ≡ length slots.old }
 {
@@ -100,7 +100,7 @@ pub(crate) fn one_in_place(slots: &mut [Value], builtin: Builtin, to: u64, opera
 #[inline(always)]
 fn plain_within(items: &[Value], place: i64) -> Option<Value>
     ensures at { IfSome result (λ v. item_at (views items.now) place ≡ Some (view v)) }
-    ensures plain { IfSome result (λ v. is_plain (view v) ≡ true) }
+    ensures plain { IfSome result (λ v. is_plain_value (view v) ≡ true) }
 {
     if place < 0 {
         return None;
@@ -112,7 +112,7 @@ fn plain_within(items: &[Value], place: i64) -> Option<Value>
 #[inline(always)]
 #[tactic(auto, using(crate::proofs::SlotLaws::nth_plain))]
 fn nth_plain(collection: &Value, place: i64) -> Option<Value>
-    ensures { IfSome result (λ v. applied Nth (view collection.now ∷ int place ∷ []) ≡ Ok (view v)) }
+    ensures { IfSome result (λ v. builtin_applied Nth (view collection.now ∷ int place ∷ []) ≡ Ok (view v)) }
 {
     match collection {
         Value::Vector(items) => plain_within(items.as_slice(), place),
@@ -125,7 +125,7 @@ fn nth_plain(collection: &Value, place: i64) -> Option<Value>
 fn nth_in_place(slots: &mut [Value], to: u64, left: u64, place: i64) -> bool
     requires to { to < length slots.old }
     requires left { left < length slots.old }
-    ensures done { OnTrue result ((p : PurePlace) → answered (views slots.old) to p (applied Nth (read (views slots.old) left ∷ int place ∷ [])) ≡ done (views slots.new)) }
+    ensures done { OnTrue result ((p : PurePlace) → slot_answered (views slots.old) to p (builtin_applied Nth (read (views slots.old) left ∷ int place ∷ [])) ≡ done (views slots.new)) }
     ensures left { OnFalse result (slots.new ≡ slots.old) }
     ensures same { length slots.new ≡ length slots.old }
 {
@@ -148,7 +148,7 @@ pub(crate) fn two_in_place(
     requires to { to < length slots.old }
     requires left { left < length slots.old }
     requires right { IsThere right (length slots.old) }
-    ensures done { let s = views slots.old in OnTrue result ((p : PurePlace) → answered s to p (applied builtin (read s left ∷ operand_value right s ∷ [])) ≡ done (views slots.new)) }
+    ensures done { let s = views slots.old in OnTrue result ((p : PurePlace) → slot_answered s to p (builtin_applied builtin (read s left ∷ operand_value right s ∷ [])) ≡ done (views slots.new)) }
     ensures left { OnFalse result (slots.new ≡ slots.old) }
     ensures same { length slots.new ≡ length slots.old }
 {
@@ -212,7 +212,7 @@ fn integer_in(value: &Value) -> Option<i64>
 // `get` of a map under an integer key, where that is an integer; so with any default.
 #[inline(always)]
 fn get_integer(collection: &Value, key: i64) -> Option<i64>
-    ensures { IfSome result (λ n. (d : Tree) → applied Get (view collection.now ∷ int key ∷ d ∷ []) ≡ Ok (int n)) }
+    ensures { IfSome result (λ n. (d : Tree) → builtin_applied Get (view collection.now ∷ int key ∷ d ∷ []) ≡ Ok (int n)) }
 {
     match collection {
         Value::Map(pairs) => integer_of_key(pairs.as_slice(), key),
@@ -277,7 +277,7 @@ pub(crate) fn truth_in_place(
 ) -> Option<bool>
     requires left { left < length slots.now }
     requires right { IsThere right (length slots.now) }
-    ensures { IfSome result (λ t. applied builtin (read (views slots.now) left ∷ operand_value right (views slots.now) ∷ []) ≡ Ok (bool t)) }
+    ensures { IfSome result (λ t. builtin_applied builtin (read (views slots.now) left ∷ operand_value right (views slots.now) ∷ []) ≡ Ok (bool t)) }
 {
     truth_of_two(builtin, int_at(slots, left)?, int_of(slots, right)?)
 }

@@ -3,7 +3,7 @@ ghost use Rattle.ca_states.specs.Code.{instruction, block_view};
 ghost use Rattle.ca_states.specs.Machine.{slots_from};
 ghost use Rattle.ca_states.specs.Touched.{targets};
 ghost use Rattle.ca_states.specs.Valid.{each, are_below, takes, is_counted, is_applied, is_task, is_operation, is_counted_exit, is_target, is_instruction_in_range, is_exit_in_range, is_in_range, leads_forward};
-ghost use Rattle.ca_states.specs.Views.{numbers, texts_view};
+ghost use Rattle.ca_states.specs.Views.{slot_numbers, texts_view};
 
 use crate::code::{Block, EntryPoint, Exit, Instr};
 use crate::touch::Numbers;
@@ -23,7 +23,7 @@ pub struct Texts {
 impl Numbers {
     /// Whether each of them is below the width.
     pub fn are_below(&self, width: u64) -> bool
-        ensures { result ≡ are_below width (numbers self.now) }
+        ensures { result ≡ are_below width (slot_numbers self.now) }
     {
         match self {
             Numbers::None => true,

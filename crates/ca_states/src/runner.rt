@@ -3,11 +3,11 @@ ghost use Rattle.std.specs.Prelude.{◌≡◌, ◌<◌, ◌≤◌, true, length,
 ghost use Rattle.ca_value.specs.Seq.{list};
 ghost use Rattle.ca_value.specs.View.{view, views};
 ghost use Rattle.ca_states.specs.Code.{code_view, CodeView};
-ghost use Rattle.ca_states.specs.Machine.{started, calling, resumed};
+ghost use Rattle.ca_states.specs.Machine.{runner_started, calling, resumed};
 ghost use Rattle.ca_states.specs.Valid.{is_valid};
 ghost use Rattle.ca_states.specs.ValidCode.{valid_code};
 ghost use Rattle.ca_states.specs.declared.runner.Start.TheVariants.{Function};
-ghost use Rattle.ca_states.specs.Standing.{state_view, waiting_slot, entry_at, is_start, IsStart, Stands, HaltsAs, WaitsAt, is_bare_halt};
+ghost use Rattle.ca_states.specs.Standing.{state_view, waiting_slot, entry_at, is_start, IsStart, RunnerStands, HaltsAs, RunnerWaitsAt, is_bare_halt};
 
 use crate::calls::{Calls, Frame};
 use crate::code::Code;
@@ -73,8 +73,8 @@ impl Runner {
         values: Items,
     ) -> Result<Runner, OutOfMemory>
         requires { IsStart (valid_code code.now) start (length (list values)) }
-        ensures started { IfOk result (λ r. state_view r ≡ started (valid_code code.now) (entry_at (valid_code code.now) start) (views (list values))) }
-        ensures stands { IfOk result (λ r. Stands (valid_code code.now) (state_view r)) }
+        ensures started { IfOk result (λ r. state_view r ≡ runner_started (valid_code code.now) (entry_at (valid_code code.now) start) (views (list values))) }
+        ensures stands { IfOk result (λ r. RunnerStands (valid_code code.now) (state_view r)) }
     {
         let code = code.code();
         let entry = entry_point(code, start);
@@ -98,7 +98,7 @@ impl Runner {
     ) -> Result<Runner, OutOfMemory>
         requires { IsStart (valid_code code.now) (Function function) (length (list values)) }
         ensures calling { IfOk result (λ r. state_view r ≡ calling (valid_code code.now) function (views (list values))) }
-        ensures stands { IfOk result (λ r. Stands (valid_code code.now) (state_view r)) }
+        ensures stands { IfOk result (λ r. RunnerStands (valid_code code.now) (state_view r)) }
     {
         let mut runner = Runner::start(alloc, code, Start::Function(function), values)?;
         let code = code.code();
@@ -117,9 +117,9 @@ impl Runner {
 
     /// Goes on to the next operation, the end or a fault. After `OutOfMemory` the runner is only dropped.
     pub fn run(&mut self, alloc: Global, code: &ValidCode) -> Result<Halt, OutOfMemory>
-        requires { Stands (valid_code code.now) (state_view self.old) }
+        requires { RunnerStands (valid_code code.now) (state_view self.old) }
         ensures halts { IfOk result (λ h. HaltsAs (valid_code code.now) (state_view self.old) h self.new) }
-        ensures waits { IfOk result (λ h. WaitsAt (valid_code code.now) h self.new) }
+        ensures waits { IfOk result (λ h. RunnerWaitsAt (valid_code code.now) h self.new) }
     {
         let mut halt = Halt::none();
         self.run_to(alloc, code, &mut halt)?;
@@ -134,9 +134,9 @@ impl Runner {
         code: &ValidCode,
         halt: &mut Halt,
     ) -> Result<(), OutOfMemory>
-        requires { Stands (valid_code code.now) (state_view self.old) }
+        requires { RunnerStands (valid_code code.now) (state_view self.old) }
         ensures halts { OnOk result (HaltsAs (valid_code code.now) (state_view self.old) halt.new self.new) }
-        ensures waits { OnOk result (WaitsAt (valid_code code.now) halt.new self.new) }
+        ensures waits { OnOk result (RunnerWaitsAt (valid_code code.now) halt.new self.new) }
     {
         let code = code.code();
         halt.clear();
@@ -147,10 +147,10 @@ impl Runner {
     #[inline(always)]
     fn go_on(&mut self, alloc: Global, code: &Code, halt: &mut Halt) -> Result<(), OutOfMemory>
         requires valid { is_valid (code_view code.now) ≡ true }
-        requires stands { Stands (code_view code.now) (state_view self.old) }
+        requires stands { RunnerStands (code_view code.now) (state_view self.old) }
         requires bare { is_bare_halt halt.old ≡ true }
         ensures halts { OnOk result (HaltsAs (code_view code.now) (state_view self.old) halt.new self.new) }
-        ensures waits { OnOk result (WaitsAt (code_view code.now) halt.new self.new) }
+        ensures waits { OnOk result (RunnerWaitsAt (code_view code.now) halt.new self.new) }
     {
         let mut stop = Stop::OutOfMemory;
         loop {
@@ -172,7 +172,7 @@ impl Runner {
     pub fn answer(&mut self, answer: Value)
         requires { waiting_slot self.old < length (state_view self.old).slots }
         ensures resumed { state_view self.new ≡ resumed (view answer) (waiting_slot self.old) (state_view self.old) }
-        ensures stands { (C : CodeView) → Stands C (state_view self.old) → Stands C (state_view self.new) }
+        ensures stands { (C : CodeView) → RunnerStands C (state_view self.old) → RunnerStands C (state_view self.new) }
     {
         set_at(self.slots.as_mut_slice(), self.answer, answer);
         self.turns = 0;

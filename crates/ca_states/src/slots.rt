@@ -6,7 +6,7 @@ ghost use Rattle.std.specs.Prelude.{◌≡◌, ◌<◌, true, false, length, IfO
 ghost use Rattle.ca_value.specs.Seq.{list};
 ghost use Rattle.ca_value.specs.Tree.{int};
 ghost use Rattle.ca_value.specs.View.{view, views};
-ghost use Rattle.ca_states.specs.Machine.{begun, is_plain, read, write, reads, taken, taken_all, slots_from};
+ghost use Rattle.ca_states.specs.Machine.{begun, is_plain_value, read, slot_written, reads, slot_taken, taken_all, slots_from};
 ghost use Rattle.ca_states.specs.Operands.{operand_value, IsThere};
 ghost use Rattle.ca_states.specs.Standing.{is_bare};
 ghost use Rattle.ca_states.specs.Valid.{are_below};
@@ -73,8 +73,8 @@ pub(crate) fn is_bare(value: &Value) -> bool
 #[inline(always)]
 pub(crate) fn plain_of(value: &Value) -> Option<Value>
     ensures same { IfSome result (λ v. view value.now ≡ view v) }
-    ensures plain { IfSome result (λ v. is_plain (view v) ≡ true) }
-    ensures other { IfNone result (is_plain (view value.now) ≡ false) }
+    ensures plain { IfSome result (λ v. is_plain_value (view v) ≡ true) }
+    ensures other { IfNone result (is_plain_value (view value.now) ≡ false) }
 {
     match value {
         Value::Nil => Some(Value::Nil),
@@ -89,8 +89,8 @@ pub(crate) fn plain_of(value: &Value) -> Option<Value>
 pub(crate) fn plain_at(slots: &[Value], slot: u64) -> Option<Value>
     requires { slot < length slots.now }
     ensures same { IfSome result (λ v. read (views slots.now) slot ≡ view v) }
-    ensures plain { IfSome result (λ v. is_plain (view v) ≡ true) }
-    ensures other { IfNone result (is_plain (read (views slots.now) slot) ≡ false) }
+    ensures plain { IfSome result (λ v. is_plain_value (view v) ≡ true) }
+    ensures other { IfNone result (is_plain_value (read (views slots.now) slot) ≡ false) }
 {
     plain_of(value_at(slots, slot))
 }
@@ -100,7 +100,7 @@ pub(crate) fn plain_at(slots: &[Value], slot: u64) -> Option<Value>
 #[tactic(auto, using(crate::proofs::SlotLaws::write_view))]
 pub(crate) fn set_at(slots: &mut [Value], slot: u64, value: Value)
     requires { slot < length slots.old }
-    ensures written { views slots.new ≡ write (views slots.old) slot (view value) }
+    ensures written { views slots.new ≡ slot_written (views slots.old) slot (view value) }
     ensures same { length slots.new ≡ length slots.old }
 {
     if is_bare(value_at(slots, slot)) {
@@ -115,7 +115,7 @@ pub(crate) fn set_at(slots: &mut [Value], slot: u64, value: Value)
 #[tactic(auto, using(crate::proofs::SlotLaws::write_view))]
 fn put_at(slots: &mut [Value], slot: u64, value: Value)
     requires { slot < length slots.old }
-    ensures written { views slots.new ≡ write (views slots.old) slot (view value) }
+    ensures written { views slots.new ≡ slot_written (views slots.old) slot (view value) }
     ensures same { length slots.new ≡ length slots.old }
 {
     slots[slot as usize] = value;
@@ -127,7 +127,7 @@ fn put_at(slots: &mut [Value], slot: u64, value: Value)
 pub(crate) fn take_at(slots: &mut [Value], slot: u64) -> Value
     requires { slot < length slots.old }
     ensures value { view result ≡ read (views slots.old) slot }
-    ensures taken { views slots.new ≡ taken (views slots.old) slot }
+    ensures taken { views slots.new ≡ slot_taken (views slots.old) slot }
     ensures same { length slots.new ≡ length slots.old }
 {
     if let Some(plain) = plain_at(slots, slot) {
@@ -141,7 +141,7 @@ pub(crate) fn take_at(slots: &mut [Value], slot: u64) -> Value
 #[tactic(auto, using(crate::proofs::SlotLaws::taken_plain, crate::proofs::SlotLaws::nil_left))]
 pub(crate) fn clear_at(slots: &mut [Value], slot: u64)
     requires { slot < length slots.old }
-    ensures taken { views slots.new ≡ taken (views slots.old) slot }
+    ensures taken { views slots.new ≡ slot_taken (views slots.old) slot }
     ensures same { length slots.new ≡ length slots.old }
 {
     match plain_at(slots, slot) {
@@ -156,7 +156,7 @@ pub(crate) fn clear_at(slots: &mut [Value], slot: u64)
 pub(crate) fn move_at(slots: &mut [Value], to: u64, from: u64)
     requires to { to < length slots.old }
     requires from { from < length slots.old }
-    ensures moved { views slots.new ≡ write (taken (views slots.old) from) to (read (views slots.old) from) }
+    ensures moved { views slots.new ≡ slot_written (slot_taken (views slots.old) from) to (read (views slots.old) from) }
     ensures same { length slots.new ≡ length slots.old }
 {
     if let Some(plain) = plain_at(slots, from) {
@@ -170,7 +170,7 @@ pub(crate) fn move_at(slots: &mut [Value], to: u64, from: u64)
 fn move_value(slots: &mut [Value], to: u64, from: u64)
     requires to { to < length slots.old }
     requires from { from < length slots.old }
-    ensures moved { views slots.new ≡ write (taken (views slots.old) from) to (read (views slots.old) from) }
+    ensures moved { views slots.new ≡ slot_written (slot_taken (views slots.old) from) to (read (views slots.old) from) }
     ensures same { length slots.new ≡ length slots.old }
 {
     let value = take_at(slots, from);

@@ -4,7 +4,7 @@ ghost use Rattle.std.specs.Bool.{OnTrue, OnFalse};
 ghost use Rattle.ca_value.specs.Seq.{list};
 ghost use Rattle.ca_value.specs.View.{view, views};
 ghost use Rattle.ca_states.specs.Code.{instruction};
-ghost use Rattle.ca_states.specs.Machine.{done, effect, read, write};
+ghost use Rattle.ca_states.specs.Machine.{done, effect, read, slot_written};
 ghost use Rattle.ca_states.specs.Valid.{each, is_instruction_in_range};
 ghost use Rattle.ca_states.specs.Runs.{StopsAt, effects};
 
@@ -22,8 +22,8 @@ use std::alloc::Global;
 #[inline(never)]
 fn run_const(alloc: Global, slots: &mut [Value], to: u64, value: &Value, stop: &mut Stop) -> bool
     requires { to < length slots.old }
-    ensures ok { OnTrue result (done (write (views slots.old) to (view value.now)) ≡ done (views slots.new)) }
-    ensures stop { OnFalse result (StopsAt stop.new (done (write (views slots.old) to (view value.now)))) }
+    ensures ok { OnTrue result (done (slot_written (views slots.old) to (view value.now)) ≡ done (views slots.new)) }
+    ensures stop { OnFalse result (StopsAt stop.new (done (slot_written (views slots.old) to (view value.now)))) }
     ensures same { length slots.new ≡ length slots.old }
 {
     match value.copy(alloc) {
@@ -43,8 +43,8 @@ fn run_const(alloc: Global, slots: &mut [Value], to: u64, value: &Value, stop: &
 fn run_copy(alloc: Global, slots: &mut [Value], to: u64, from: u64, stop: &mut Stop) -> bool
     requires to { to < length slots.old }
     requires from { from < length slots.old }
-    ensures ok { OnTrue result (done (write (views slots.old) to (read (views slots.old) from)) ≡ done (views slots.new)) }
-    ensures stop { OnFalse result (StopsAt stop.new (done (write (views slots.old) to (read (views slots.old) from)))) }
+    ensures ok { OnTrue result (done (slot_written (views slots.old) to (read (views slots.old) from)) ≡ done (views slots.new)) }
+    ensures stop { OnFalse result (StopsAt stop.new (done (slot_written (views slots.old) to (read (views slots.old) from)))) }
     ensures same { length slots.new ≡ length slots.old }
 {
     match value_at(slots, from).copy(alloc) {

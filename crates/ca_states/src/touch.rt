@@ -1,7 +1,7 @@
 ghost use Rattle.std.specs.Prelude.{◌≡◌};
 ghost use Rattle.ca_states.specs.Code.{instruction};
 ghost use Rattle.ca_states.specs.Touched.{read_by, emptied_by, written_by, read_at, emptied_at, answered_at};
-ghost use Rattle.ca_states.specs.Views.{numbers};
+ghost use Rattle.ca_states.specs.Views.{slot_numbers};
 
 use crate::code::{Exit, Instr};
 
@@ -19,7 +19,7 @@ pub enum Numbers {
 impl Instr {
     /// The slots that it reads.
     pub fn reads(&self) -> Numbers
-        ensures { numbers result ≡ read_by (instruction self.now) }
+        ensures { slot_numbers result ≡ read_by (instruction self.now) }
     {
         match self {
             Instr::Const { to: _, value: _ } => Numbers::None,
@@ -49,7 +49,7 @@ impl Instr {
 
     /// The slots that it takes values out of.
     pub fn empties(&self) -> Numbers
-        ensures { numbers result ≡ emptied_by (instruction self.now) }
+        ensures { slot_numbers result ≡ emptied_by (instruction self.now) }
     {
         match self {
             Instr::Move { to: _, from } => Numbers::One(*from),
@@ -66,7 +66,7 @@ impl Instr {
 
     /// The slot that it writes, if any.
     pub fn writes(&self) -> Numbers
-        ensures { numbers result ≡ written_by (instruction self.now) }
+        ensures { slot_numbers result ≡ written_by (instruction self.now) }
     {
         match self {
             Instr::Const { to, .. } => Numbers::One(*to),
@@ -86,7 +86,7 @@ impl Instr {
 impl Exit {
     /// The slots that it reads.
     pub fn reads(&self) -> Numbers
-        ensures { numbers result ≡ read_at self.now }
+        ensures { slot_numbers result ≡ read_at self.now }
     {
         match self {
             Exit::Jump { .. } => Numbers::None,
@@ -107,7 +107,7 @@ impl Exit {
 
     /// The slots that it takes values out of, or that are unknown behind it for another reason: a test's.
     pub fn empties(&self) -> Numbers
-        ensures { numbers result ≡ emptied_at self.now }
+        ensures { slot_numbers result ≡ emptied_at self.now }
     {
         match self {
             Exit::Test { to, .. } => Numbers::One(*to),
@@ -126,7 +126,7 @@ impl Exit {
 
     /// The slot that the value of its call or the answer to its operation comes into.
     pub fn answers(&self) -> Numbers
-        ensures { numbers result ≡ answered_at self.now }
+        ensures { slot_numbers result ≡ answered_at self.now }
     {
         match self {
             Exit::Call { answer, .. } => Numbers::One(*answer),

@@ -10,9 +10,9 @@ use Rattle.ca_meaning.specs.Asks.{to, stop, fail}
 use Rattle.ca_meaning.specs.PipelineTable.{job_takes, job_works, job_replies, worked_by}
 use Rattle.ca_meaning.specs.PubTable.{pub_takes, pub_sorts, pub_finds, pub_puts, pub_reads_last, pub_closes}
 use Rattle.ca_meaning.specs.System.{SystemBody, a_mult, a_delivery, a_mix, a_pub, a_pipe, a_merge, an_onto, a_feed, a_job, a_collect, SystemRest, new_system, system_fill}
-use Rattle.ca_system.specs.Applications.{IsApplied, applied, function_of, pending, sorting, working, ApplicationView, ComesTo}
+use Rattle.ca_system.specs.Applications.{FunctionApplied, function_applied, function_of, pending_application, sorting, working, ApplicationView, ApplicationComesTo}
 
-pub rested : (P : ProgramView) (b c : SystemBody) → IsApplied P (pending b) b c → SystemRest P b c
+pub rested : (P : ProgramView) (b c : SystemBody) → FunctionApplied P (pending_application b) b c → SystemRest P b c
 rested P (a_mult t p x) c e = e
 rested P (a_delivery t p x) c e = e
 rested P (a_mix t p x) c e = e
@@ -36,19 +36,19 @@ rested P (a_job j w (fail f)) c e = e
 rested P (a_collect t p x) c e = e
 
 -- where it applies none
-pub still : (P : ProgramView) (b : SystemBody) → pending b ≡ None → SystemRest P b b
-still P b e = rested P b b (subst (λ o. IsApplied P o b b) (sym e) refl)
+pub still : (P : ProgramView) (b : SystemBody) → pending_application b ≡ None → SystemRest P b b
+still P b e = rested P b b (subst (λ o. FunctionApplied P o b b) (sym e) refl)
 
 -- where it has what its function came to
-pub came : (P : ProgramView) (b c : SystemBody) (a : ApplicationView) (r : Returned) → pending b ≡ Some a → ComesTo P a r → c ≡ applied r b → SystemRest P b c
-came P b c a r e h is = rested P b c (subst (λ o. IsApplied P o b c) (sym e) (r, h, is))
+pub came : (P : ProgramView) (b c : SystemBody) (a : ApplicationView) (r : Returned) → pending_application b ≡ Some a → ApplicationComesTo P a r → c ≡ function_applied r b → SystemRest P b c
+came P b c a r e h is = rested P b c (subst (λ o. FunctionApplied P o b c) (sym e) (r, h, is))
 
 worked_once : (q : ℕ) (o : Outputs) → working (worked_by q o) ≡ None
 worked_once q (outputs ys) = refl
 worked_once q (no_outputs f) = refl
 
 -- then it applies no function
-pub applied_once : (r : Returned) (b : SystemBody) → pending (applied r b) ≡ None
+pub applied_once : (r : Returned) (b : SystemBody) → pending_application (function_applied r b) ≡ None
 applied_once r (a_mult t p x) = refl
 applied_once r (a_delivery t p x) = refl
 applied_once r (a_mix t p x) = refl
@@ -73,7 +73,7 @@ applied_once r (a_job j w (fail f)) = refl
 applied_once r (a_collect t p x) = refl
 
 -- and a new task applies none
-pub new_applies_none : (task : SystemTask) (vs : Trees) (p : Place) → pending (new_system task vs p) ≡ None
+pub new_applies_none : (task : SystemTask) (vs : Trees) (p : Place) → pending_application (new_system task vs p) ≡ None
 new_applies_none SystemTask.Mult vs p = refl
 new_applies_none SystemTask.Deliver vs p = refl
 new_applies_none SystemTask.Mix vs p = refl
@@ -86,7 +86,7 @@ new_applies_none (SystemTask.Job x f) vs p = refl
 new_applies_none SystemTask.Collect vs p = refl
 
 -- its function stays
-pub function_kept : (r : Returned) (b : SystemBody) → function_of (applied r b) ≡ function_of b
+pub function_kept : (r : Returned) (b : SystemBody) → function_of (function_applied r b) ≡ function_of b
 function_kept r (a_mult t p x) = refl
 function_kept r (a_delivery t p x) = refl
 function_kept r (a_mix t p x) = refl
@@ -111,7 +111,7 @@ function_filled v (a_job j w x) = refl
 function_filled v (a_collect t p x) = refl
 
 -- which it applies to each value
-pub function_pending : (b : SystemBody) (a : ApplicationView) → pending b ≡ Some a → function_of b ≡ Some a.function
+pub function_pending : (b : SystemBody) (a : ApplicationView) → pending_application b ≡ Some a → function_of b ≡ Some a.function
 function_pending (a_mult t p x) a e = absurd (let k : None ≡ Some a = e in cc)
 function_pending (a_delivery t p x) a e = absurd (let k : None ≡ Some a = e in cc)
 function_pending (a_mix t p x) a e = absurd (let k : None ≡ Some a = e in cc)

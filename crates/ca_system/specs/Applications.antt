@@ -29,33 +29,33 @@ working (to (job_works v r)) = Some v
 working x = None
 
 -- the function that it is about to apply, if any
-abbrev pub pending : SystemBody → Option ApplicationView
-pending (a_pub t p x) = option_map (λ v. record { function = t.topic; keyword = t.keyword; place = p; value = v }) (sorting x)
-pending (a_job j w x) = option_map (λ v. record { function = w.function; keyword = w.keyword; place = w.place; value = v }) (working x)
-pending b = None
+abbrev pub pending_application : SystemBody → Option ApplicationView
+pending_application (a_pub t p x) = option_map (λ v. record { function = t.topic; keyword = t.keyword; place = p; value = v }) (sorting x)
+pending_application (a_job j w x) = option_map (λ v. record { function = w.function; keyword = w.keyword; place = w.place; value = v }) (working x)
+pending_application b = None
 
-abbrev pub topic_made : Returned → Next PubState → Next PubState
-topic_made r (to (pub_sorts v)) = sorted_by v r
-topic_made r x = x
+abbrev pub topic_returned : Returned → Next PubState → Next PubState
+topic_returned r (to (pub_sorts v)) = sorted_by v r
+topic_returned r x = x
 
 abbrev pub work_done : Work → Returned → Next JobState → Next JobState
 work_done w r (to (job_works v p)) = worked_by p (outputs_by w.transform v r)
 work_done w r x = x
 
 -- the body once that function came to r
-abbrev pub applied : Returned → SystemBody → SystemBody
-applied r (a_pub t p x) = a_pub t p (topic_made r x)
-applied r (a_job j w x) = a_job j w (work_done w r x)
-applied r b = b
+abbrev pub function_applied : Returned → SystemBody → SystemBody
+function_applied r (a_pub t p x) = a_pub t p (topic_returned r x)
+function_applied r (a_job j w x) = a_job j w (work_done w r x)
+function_applied r b = b
 
 -- the application comes to r
-abbrev pub ComesTo : ProgramView → ApplicationView → Returned → Type 0
-ComesTo program a r = Applied program a.function a.keyword a.place a.value r
+abbrev pub ApplicationComesTo : ProgramView → ApplicationView → Returned → Type 0
+ApplicationComesTo program a r = Applied program a.function a.keyword a.place a.value r
 
 -- c is b with what its function came to; where it applies none, c is b
-abbrev pub IsApplied : ProgramView → Option ApplicationView → SystemBody → SystemBody → Type 0
-IsApplied program None b c = c ≡ b
-IsApplied program (Some a) b c = (r : Returned) × ComesTo program a r × (c ≡ applied r b)
+abbrev pub FunctionApplied : ProgramView → Option ApplicationView → SystemBody → SystemBody → Type 0
+FunctionApplied program None b c = c ≡ b
+FunctionApplied program (Some a) b c = (r : Returned) × ApplicationComesTo program a r × (c ≡ function_applied r b)
 
 -- the function that the task applies to each value, if it applies one
 abbrev pub function_of : SystemBody → Option PlainFunction

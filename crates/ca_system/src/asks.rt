@@ -5,7 +5,7 @@ ghost use Rattle.ca_value.specs.Tree.{item, trees_of};
 ghost use Rattle.ca_value.specs.View.{view, trees, vector_trees};
 ghost use Rattle.ca_term.specs.Operation.{op_view, what_view};
 ghost use Rattle.ca_meaning.specs.Body.{asking};
-ghost use Rattle.ca_meaning.specs.Asks.{takes, puts, chooses, makes, closes, registers, spawns, too_large_here, one_of, two_of};
+ghost use Rattle.ca_meaning.specs.Asks.{ask_to_take, ask_to_put, ask_to_choose, ask_to_make, ask_to_close, ask_to_register, ask_to_spawn, too_large_here, one_of, two_of};
 ghost use Rattle.ca_system.specs.Stands.{stand_at};
 
 use crate::stand::Stand;
@@ -33,14 +33,14 @@ pub fn asks(op: Op, place: Place) -> Stand
 
 /// It takes from the channel.
 pub fn takes(channel: PortId, place: Place) -> Stand
-    ensures { stand_at result ≡ takes channel.n place }
+    ensures { stand_at result ≡ ask_to_take channel.n place }
 {
     asks(Op::Take(Value::Port(channel)), place)
 }
 
 /// It puts the value on the channel; a value beyond the limits is its fault.
 pub fn puts(channel: PortId, value: Value, place: Place) -> Stand
-    ensures { stand_at result ≡ puts channel.n (view value) place }
+    ensures { stand_at result ≡ ask_to_put channel.n (view value) place }
 {
     match size_fault(&value) {
         Some(fault) => Stand::Faulted(fault, place),
@@ -63,7 +63,7 @@ fn size_fault(value: &Value) -> Option<Fault>
 
 /// It does one operation of these channels, as a script's `alts!` with no options.
 pub fn chooses(alloc: Global, channels: &Vector, place: Place) -> Result<Stand, OutOfMemory>
-    ensures { IfOk result (λ s. stand_at s ≡ chooses (trees_of (vector_trees channels.now)) place) }
+    ensures { IfOk result (λ s. stand_at s ≡ ask_to_choose (trees_of (vector_trees channels.now)) place) }
 {
     let operands = [Value::Vector(channels.copy()?)];
     match ask(alloc, Head::Alts(AltsOptions::None), &operands, place)? {
@@ -74,28 +74,28 @@ pub fn chooses(alloc: Global, channels: &Vector, place: Place) -> Result<Stand, 
 
 /// It makes a channel.
 pub fn makes(what: What, place: Place) -> Stand
-    ensures { stand_at result ≡ makes (what_view what) place }
+    ensures { stand_at result ≡ ask_to_make (what_view what) place }
 {
     asks(Op::Make(what), place)
 }
 
 /// It closes the channel.
 pub fn closes(channel: PortId, place: Place) -> Stand
-    ensures { stand_at result ≡ closes channel.n place }
+    ensures { stand_at result ≡ ask_to_close channel.n place }
 {
     asks(Op::Close(Value::Port(channel)), place)
 }
 
 /// It does the operation of a registry on the values.
 pub fn registers(name: RegisterName, values: Items, place: Place) -> Stand
-    ensures { stand_at result ≡ registers name (trees (list values)) place }
+    ensures { stand_at result ≡ ask_to_register name (trees (list values)) place }
 {
     asks(Op::Register(name, values), place)
 }
 
 /// It starts a system task of the kind with the values.
 pub fn spawns(kind: SystemTask, values: Items, place: Place) -> Stand
-    ensures { stand_at result ≡ spawns kind (trees (list values)) place }
+    ensures { stand_at result ≡ ask_to_spawn kind (trees (list values)) place }
 {
     let seed = SystemSeed {
         kind,

@@ -6,7 +6,7 @@ ghost use Rattle.ca_term.specs.declared.fault.Fault.{Fault};
 ghost use Rattle.ca_term.specs.declared.place.Place.{Place};
 ghost use Rattle.ca_meaning.specs.Body.{ended, faulted};
 ghost use Rattle.ca_meaning.specs.System.{SystemBody, system_at, system_fill};
-ghost use Rattle.ca_system.specs.Applications.{pending};
+ghost use Rattle.ca_system.specs.Applications.{pending_application};
 ghost use Rattle.ca_system.specs.Stands.{running_body, stand_at};
 ghost use Rattle.ca_system.specs.declared.stand.Next.{Next};
 ghost use Rattle.ca_system.specs.declared.stand.Next.TheVariants.{To, Stop, Fail};
@@ -28,7 +28,7 @@ pub trait Kind: Drop {
 
     /// What the state asks for, where it applies no function.
     fn ask(&self, alloc: Global, place: Place, state: &Self::State) -> Result<Stand, OutOfMemory>
-        requires { pending (body self.now place (To state.now)) ≡ None }
+        requires { pending_application (body self.now place (To state.now)) ≡ None }
         ensures { IfOk result (λ s. stand_at s ≡ system_at (body self.now place (To state.now))) };
 
     /// What follows on the answer. After `OutOfMemory` the task is only dropped.
@@ -71,7 +71,7 @@ impl<K: Kind> Running<K> {
 
     /// Where it stands, where it applies no function.
     pub fn stand(&self, alloc: Global) -> Result<Stand, OutOfMemory>
-        requires { pending (running_body K.body self.now) ≡ None }
+        requires { pending_application (running_body K.body self.now) ≡ None }
         ensures { IfOk result (λ s. stand_at s ≡ system_at (running_body K.body self.now)) }
     {
         match &self.state {

@@ -3,7 +3,7 @@ ghost use Rattle.std.specs.Prelude.{◌≡◌, None, option_map, IfOk, OnOk};
 ghost use Rattle.ca_value.specs.Seq.{list};
 ghost use Rattle.ca_value.specs.View.{view, trees};
 ghost use Rattle.ca_meaning.specs.System.{new_system, system_at, system_fill};
-ghost use Rattle.ca_system.specs.Applications.{applied, pending};
+ghost use Rattle.ca_system.specs.Applications.{function_applied, pending_application};
 ghost use Rattle.ca_system.specs.Applied.{application_view, returned_view};
 ghost use Rattle.ca_system.specs.Stands.{stand_at};
 ghost use Rattle.ca_system_tasks.specs.Tables.{table_body};
@@ -65,7 +65,7 @@ impl SystemTable {
 
     /// Where it stands, where it applies no function: at an operation, with its values, at its end, or by a fault.
     pub fn stand(&self, alloc: Global) -> Result<Stand, OutOfMemory>
-        requires { pending (table_body self.now) ≡ None }
+        requires { pending_application (table_body self.now) ≡ None }
         ensures { IfOk result (λ s. stand_at s ≡ system_at (table_body self.now)) }
     {
         match self {
@@ -102,7 +102,7 @@ impl SystemTable {
 
     /// The plain function that it is about to apply, with its value; None where it applies none. It takes no memory.
     pub fn pending(&self) -> Option<Application<'_>>
-        ensures { option_map application_view result ≡ pending (table_body self.now) }
+        ensures { option_map application_view result ≡ pending_application (table_body self.now) }
     {
         match self {
             SystemTable::Pub(table) => pending_topic(table),
@@ -116,7 +116,7 @@ impl SystemTable {
     /// Goes on with what that function came to; where it applies none it stays. Then it applies none. After `OutOfMemory`
     /// it is only dropped.
     pub fn applied(&mut self, alloc: Global, returned: Returned) -> Result<(), OutOfMemory>
-        ensures { OnOk result (table_body self.new ≡ applied (returned_view returned) (table_body self.old)) }
+        ensures { OnOk result (table_body self.new ≡ function_applied (returned_view returned) (table_body self.old)) }
     {
         match self {
             SystemTable::Pub(table) => topic_made(table, returned),

@@ -23,7 +23,7 @@ use Rattle.ca_commit.specs.declared.held.Held.{Held}
 use Rattle.ca_commit.specs.declared.held.HeldBank.{HeldBank}
 use Rattle.ca_commit.specs.declared.task.Task.{Task}
 use Rattle.ca_table.specs.Bearing.{parts_held}
-use Rattle.ca_table.specs.Committing.{IsDone, IsDue}
+use Rattle.ca_table.specs.Committing.{IsDone, IsPlanDue}
 
 pub is_there : {X : Type 0} (o : Option X) → is_some o ≡ true → (x : X) × (o ≡ Some x)
 is_there None e = absurd (let z : false ≡ true = e in cc)
@@ -161,7 +161,7 @@ lane_goes w l l2 = record { was = own w (Some l); is = own w (Some l2); others =
 
 module _ {A : Type 0} (place : A → At) (advances : ProgramView → A → A → Type 0) (gives : A → Tree → A → Type 0) (starts : ProgramView → SeedView → A → Type 0)
     (w n : ℕ) (q : Planned) (lane lane2 : LaneView (TaskAgent A)) (timers timers2 : Option TimersPart) (held held2 : Held A) (task : Task A) (spawned running : Option (Task A)) where
-  pub applied : IsDue place advances gives starts w n q lane held task spawned → IsDone place advances gives starts q lane lane2 held held2 task spawned running → TimesTo held.new_port held.moment q timers timers2
+  pub applied : IsPlanDue place advances gives starts w n q lane held task spawned → IsDone place advances gives starts q lane lane2 held held2 task spawned running → TimesTo held.new_port held.moment q timers timers2
       → IsApplied place advances gives starts w n task.number (number_of spawned) held.new_port held.new_wait held.moment q (parts_held w (Some lane) timers held) (parts_held w (Some lane2) timers2 held2)
   applied due did times = record {
     op = due.plan_for.0.op;

@@ -15,10 +15,10 @@ use Rattle.ca_commit.specs.Moving.{Moves}
 use Rattle.ca_commit.specs.Touched as said
 use Rattle.ca_table.specs.Beside.{beside_lane, settled_beside}
 use Rattle.ca_table.specs.Carriers.{HasCode, IsCarrying, IsMoved, is_now, was}
-use Rattle.ca_table.specs.Carrying.{AreSorted, Carries, Each, at_places, each_by, lane_place}
+use Rattle.ca_table.specs.Carrying.{AreSorted, Carries, EachCarried, at_places, each_by, lane_place}
 use Rattle.ca_table.specs.Covering.{Covers}
 use Rattle.ca_table.specs.Draws.{drawn_code, drawn_moves, drawn_touches, drawn_view}
-use Rattle.ca_table.specs.Grips.{Grips, HasAll, is_among, settle, settled, settled_one, values}
+use Rattle.ca_table.specs.Grips.{Grips, HasAll, is_place_among, settle, settled_contents, settled_one, values}
 use Rattle.ca_table.specs.OneCode.{AllCoded, advances_over, gives_over, starts_over}
 use Rattle.ca_table.specs.Parts.{part_seen}
 use Rattle.ca_table.specs.Seen.{PartSeen, content_of}
@@ -41,7 +41,7 @@ module _ {P C : Type 0} (content : P → C) (d : said.Drawn) (h : Carries (P × 
   rest_is : (j : ℕ) → rest j ≡ cond (eqb d.worker j) None (all j)
   rest_is j = ap (λ (f : ℕ → Option (P × C)). f j) (placed d.workers d.worker lt lane_place tt None h)
 
-  same_there : (i : ℕ) → is_among i (said.touches d) ≡ true → all i ≡ rest i
+  same_there : (i : ℕ) → is_place_among i (said.touches d) ≡ true → all i ≡ rest i
   same_there i e = by (eqb d.worker i) (sym (ap is_some (rest_is i)) ∙ sym (covered d (beside_lane h) lt c i) ∙ e) ∙ sym (rest_is i) where
     by : (b : Bool) → is_some (cond b None (all i)) ≡ true → all i ≡ cond b None (all i)
     by true s = absurd (let z : false ≡ true = s in cc)
@@ -57,7 +57,7 @@ module _ {P C : Type 0} (content : P → C) (d : said.Drawn) (h : Carries (P × 
 
   -- once all but the lane is settled
   pub settles_rest : settle content (said.touches d) all ≡ at_places d.workers d.worker (settled_beside content h)
-  settles_rest = λ t j. (by j (eqb d.worker j) refl (is_among j (said.touches d)) (covered d (beside_lane h) lt c j ∙ ap is_some (rest_is j)) ∙ ap (λ o. cond (eqb d.worker j) h.lane (settled_one content o)) (sym (rest_is j)) ∙ sym (settled_is j)) t where
+  settles_rest = λ t j. (by j (eqb d.worker j) refl (is_place_among j (said.touches d)) (covered d (beside_lane h) lt c j ∙ ap is_some (rest_is j)) ∙ ap (λ o. cond (eqb d.worker j) h.lane (settled_one content o)) (sym (rest_is j)) ∙ sym (settled_is j)) t where
     outside : (o : Option (P × C)) (s : Bool) → s ≡ is_some o → cond s (settled_one content o) o ≡ settled_one content o
     outside None true e = refl
     outside None false e = refl
@@ -85,7 +85,7 @@ module _ {A C : Type 0} (over : CodeView → A → Type 0) (place : A → At) (a
   gripped = subst (λ (k : ℕ). Grips w.hand (at_places k d.worker h)) (sym m.of) (subst (λ (k : ℕ). Grips w.hand (at_places n k h)) (sym m.by) s.grips)
 
   abbrev before : List (PartSeen A)
-  before = settled at (drawn_touches d)
+  before = settled_contents at (drawn_touches d)
 
   abbrev after : List (PartSeen A)
   after = map seen (values at (drawn_touches d))
@@ -101,7 +101,7 @@ module _ {A C : Type 0} (over : CodeView → A → Type 0) (place : A → At) (a
   sorted_rest = sorted_without was lane_place h tt s.sorted
 
   -- it may draw the event
-  pub may_draw_aside : (g : ℕ → Option (Part A C × PartSeen A)) × Grips w.hand g × HasAll g (drawn_touches d) × drawn_moves over place advances gives starts d (settled g (drawn_touches d)) (map seen (values g (drawn_touches d)))
+  pub may_draw_aside : (g : ℕ → Option (Part A C × PartSeen A)) × Grips w.hand g × HasAll g (drawn_touches d) × drawn_moves over place advances gives starts d (settled_contents g (drawn_touches d)) (map seen (values g (drawn_touches d)))
   may_draw_aside = let K = valid_code code in
       let r = moved place (advances_over over K advances) (gives_over over K gives) (starts_over over K starts) content_of seen (drawn_view d) (beside_lane h) below m.covers sorted_rest m.alike m.moves at (same_touched seen (drawn_view d) h below m.covers) in
       (at, gripped, r.0, subst MovedOver (sym of_code) ((have_settled K at (drawn_touches d) has_code, have_values least faults readings K at (drawn_touches d) has_code), r.1))
@@ -109,7 +109,7 @@ module _ {A C : Type 0} (over : CodeView → A → Type 0) (place : A → At) (a
   sorted_after : AreSorted was (each_by (settled_one seen) (beside_lane h))
   sorted_after = sorted_settled content_of seen (beside_lane h) (sorted_alike was (is_now seen) (beside_lane h) sorted_rest (each_weaker (λ x. Alike d.workers (was x) (is_now seen x)) (λ x. kind_of_part (is_now seen x).held ≡ kind_of_part (was x).held) (λ x a. a.2) (beside_lane h) m.alike))
 
-  coded_after : Each (HasCode (valid_code code)) (each_by (settled_one seen) (beside_lane h))
+  coded_after : EachCarried (HasCode (valid_code code)) (each_by (settled_one seen) (beside_lane h))
   coded_after = each_settled seen (HasCode (valid_code code)) (λ x c. (c.0, c.0)) (beside_lane h) (each_without (HasCode (valid_code code)) lane_place h s.coded)
 
   -- once it drew it, all that it carries beside the lane is settled

@@ -1,7 +1,7 @@
 -- What is carried before and after an event, kind by kind, from what its parts were and are.
 use Rattle.std.proofs.Common.{◌≡◌, ◌∙◌, ℕ, List, refl, sym, ap, cond, Option, Some, None, eqb, eq-eqb, ne_eqb}
 use Rattle.std.specs.Prelude.{option_map}
-use Rattle.ca_commit.specs.Contents.{BankView, Content, Held, LaneView, Parked, TimersPart}
+use Rattle.ca_commit.specs.Contents.{BankView, Content, PartContents, LaneView, Parked, TimersPart}
 use Rattle.ca_commit.specs.Gathered.{bank_of, channels_of, lane_of, ready_of, registries_of, shard_of, sorted, timers_of}
 use Rattle.ca_commit.specs.Moves.{Becomes, Stays}
 use Rattle.ca_table.specs.Carrying.{Carries, carried}
@@ -30,7 +30,7 @@ module _ {A X : Type 0} (f g : X → Content A) (w : ℕ) (h : Carries X) where
   abbrev Same : X → Type 0
   Same x = (g x).held ≡ (f x).held
 
-  same_sorted : {Y : Type 0} (as_kind : Held A → Option Y) (o : Option X) → ((x : X) → o ≡ Some x → Same x) → sorted as_kind (option_map g o) ≡ sorted as_kind (option_map f o)
+  same_sorted : {Y : Type 0} (as_kind : PartContents A → Option Y) (o : Option X) → ((x : X) → o ≡ Some x → Same x) → sorted as_kind (option_map g o) ≡ sorted as_kind (option_map f o)
   same_sorted as_kind None s = refl
   same_sorted as_kind (Some x) s = ap as_kind (s x refl)
 

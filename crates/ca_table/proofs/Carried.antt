@@ -6,7 +6,7 @@ use mathlib.Core.Logic.{dite}
 use native.Mathlib.Decide.{ℕ_discrete}
 use Rattle.ca_commit.specs.Contents.{Content}
 use Rattle.ca_commit.specs.Gathered.{Kind, bank_kind, kind_of_part, lane_kind, ready_kind, shard_kind, timers_kind}
-use Rattle.ca_table.specs.Carrying.{AreSorted, Carries, Each, IsPlace, Place, at_places, bank_place, each_by, kind_there, lane_place, nothing_carried, number_at, part_at, ready_place, shard_place, timers_place, with_at}
+use Rattle.ca_table.specs.Carrying.{AreSorted, Carries, EachCarried, IsPlace, Place, at_places, bank_place, each_by, kind_there, lane_place, nothing_carried, number_at, part_at, ready_place, shard_place, timers_place, with_at}
 use Rattle.ca_table.specs.Grips.{settled_one}
 use Rattle.ca_table.proofs.Carrying.{at_bank, at_lane, at_ready, at_shard, at_timers, below_n}
 
@@ -111,24 +111,24 @@ module _ {X : Type 0} where
     of_none : (y : X) → None ≡ Some y → P y
     of_none y e = absurd (let k : None ≡ Some y = e in cc)
 
-    pub each_nothing : Each P nothing_carried
+    pub each_nothing : EachCarried P nothing_carried
     each_nothing = record { lane = of_none; banks = λ i. of_none; shards = λ i. of_none; timers = of_none; ready = λ r. of_none }
 
-    each_change : (z : Place) (o : Option X) (h : Carries X) → ((x : X) → o ≡ Some x → P x) → Each P h → Each P (with_at z o h)
+    each_change : (z : Place) (o : Option X) (h : Carries X) → ((x : X) → o ≡ Some x → P x) → EachCarried P h → EachCarried P (with_at z o h)
     each_change lane_place o h p s = record { lane = p; banks = s.banks; shards = s.shards; timers = s.timers; ready = s.ready }
     each_change (bank_place i) o h p s = record { lane = s.lane; banks = λ j y. in_cond (eqb i j) o (h.banks j) y (p y) (s.banks j y); shards = s.shards; timers = s.timers; ready = s.ready }
     each_change (shard_place i) o h p s = record { lane = s.lane; banks = s.banks; shards = λ j y. in_cond (eqb i j) o (h.shards j) y (p y) (s.shards j y); timers = s.timers; ready = s.ready }
     each_change timers_place o h p s = record { lane = s.lane; banks = s.banks; shards = s.shards; timers = p; ready = s.ready }
     each_change (ready_place r) o h p s = record { lane = s.lane; banks = s.banks; shards = s.shards; timers = s.timers; ready = λ j y. in_cond (eqb r j) o (h.ready j) y (p y) (s.ready j y) }
 
-    pub each_with : (z : Place) (x : X) (h : Carries X) → P x → Each P h → Each P (with_at z (Some x) h)
+    pub each_with : (z : Place) (x : X) (h : Carries X) → P x → EachCarried P h → EachCarried P (with_at z (Some x) h)
     each_with z x h p s = each_change z (Some x) h (of_one x p) s
 
-    pub each_without : (z : Place) (h : Carries X) → Each P h → Each P (with_at z None h)
+    pub each_without : (z : Place) (h : Carries X) → EachCarried P h → EachCarried P (with_at z None h)
     each_without z h s = each_change z None h of_none s
 
     -- what is carried there has it
-    pub each_there : (z : Place) (h : Carries X) (x : X) → Each P h → part_at z h ≡ Some x → P x
+    pub each_there : (z : Place) (h : Carries X) (x : X) → EachCarried P h → part_at z h ≡ Some x → P x
     each_there lane_place h x s e = s.lane x e
     each_there (bank_place i) h x s e = s.banks i x e
     each_there (shard_place i) h x s e = s.shards i x e
@@ -139,7 +139,7 @@ module _ {X : Type 0} where
     in_lane true o x h e = h e
     in_lane false o x h e = absurd (let k : None ≡ Some x = e in cc)
 
-    pub each_at : (n w : ℕ) (h : Carries X) → Each P h → (j : ℕ) (x : X) → at_places n w h j ≡ Some x → P x
+    pub each_at : (n w : ℕ) (h : Carries X) → EachCarried P h → (j : ℕ) (x : X) → at_places n w h j ≡ Some x → P x
     each_at n w h s = everywhere n (λ (j : ℕ). (x : X) → at_places n w h j ≡ Some x → P x)
         (λ j lt x e. in_lane (eqb w j) h.lane x (s.lane x) (sym (below_n n w h j lt) ∙ e))
         (λ i lt x e. s.banks i x (sym (at_bank n w h i lt) ∙ e))
@@ -148,7 +148,7 @@ module _ {X : Type 0} where
         (λ r x e. s.ready r x (sym (at_ready n w h r) ∙ e))
 
 module _ {X : Type 0} (P Q : X → Type 0) (f : (x : X) → P x → Q x) where
-  pub each_weaker : (h : Carries X) → Each P h → Each Q h
+  pub each_weaker : (h : Carries X) → EachCarried P h → EachCarried Q h
   each_weaker h s = record { lane = λ x e. f x (s.lane x e); banks = λ i x e. f x (s.banks i x e); shards = λ i x e. f x (s.shards i x e); timers = λ x e. f x (s.timers x e); ready = λ r x e. f x (s.ready r x e) }
 
 module _ {X Y : Type 0} (f : Option X → Option Y) where
@@ -228,7 +228,7 @@ module _ {A X : Type 0} (f : X → Content A) where
   sorted_at (ready_place r) h x s e = s.ready r x e
 
   -- what is of the same kinds is sorted too
-  pub sorted_alike : (g : X → Content A) (h : Carries X) → AreSorted f h → Each (λ x. kind_of_part (g x).held ≡ kind_of_part (f x).held) h → AreSorted g h
+  pub sorted_alike : (g : X → Content A) (h : Carries X) → AreSorted f h → EachCarried (λ x. kind_of_part (g x).held ≡ kind_of_part (f x).held) h → AreSorted g h
   sorted_alike g h s a = record {
     lane = λ x e. a.lane x e ∙ s.lane x e;
     banks = λ i x e. a.banks i x e ∙ s.banks i x e;
@@ -245,7 +245,7 @@ module _ {P C : Type 0} (content : P → C) (R : P × C → Type 0) (keeps : (x 
   settled_has (Some x) h y e = subst R (some_same (x.0, content x.0) y e) (keeps x (h x refl))
 
   -- what has it keeps it once it is settled
-  pub each_settled : (h : Carries (P × C)) → Each R h → Each R (each_by (settled_one content) h)
+  pub each_settled : (h : Carries (P × C)) → EachCarried R h → EachCarried R (each_by (settled_one content) h)
   each_settled h s = record {
     lane = settled_has h.lane s.lane;
     banks = λ i. settled_has (h.banks i) (s.banks i);

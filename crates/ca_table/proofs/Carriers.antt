@@ -14,18 +14,18 @@ use Rattle.ca_states.specs.ValidCode.{valid_code}
 use Rattle.ca_states.specs.declared.valid_code.ValidCode.{ValidCode}
 use Rattle.ca_turns.specs.Hands.{Held, IsHolding, IsNone, TableId}
 use Rattle.ca_turns.specs.Places.{AllIn}
-use Rattle.ca_turns.specs.Views.{stands}
+use Rattle.ca_turns.specs.Views.{hands_stood_for}
 use Rattle.ca_commit.specs.Gathered.{Alike, Kind, bank_kind, kind_at, kind_of_part, lane_kind, ready_kind, shard_kind, timers_kind}
 use Rattle.ca_commit.specs.Moving.{Moves}
 use Rattle.ca_commit.specs.Touched as said
 use Rattle.ca_table.specs.Carriers.{HasCode, IsCarrying, IsMoved, LaneBox, is_now, just_lane, was}
-use Rattle.ca_table.specs.Carrying.{AreSorted, Carries, Each, IsPlace, Place, at_places, bank_place, each_by, kind_there, lane_place, nothing_carried, number_at, part_at, ready_place, shard_place, timers_place, with_at}
-use Rattle.ca_table.specs.Covering.{plain}
+use Rattle.ca_table.specs.Carrying.{AreSorted, Carries, EachCarried, IsPlace, Place, at_places, bank_place, each_by, kind_there, lane_place, nothing_carried, number_at, part_at, ready_place, shard_place, timers_place, with_at}
+use Rattle.ca_table.specs.Covering.{plain_drawn}
 use Rattle.ca_table.specs.Draws.{drawn_allows, drawn_code, drawn_moves, drawn_touches, drawn_view}
-use Rattle.ca_table.specs.Grips.{Grips, HasAll, SameTurns, add_settled, add_value, nothing, settle, settled, settled_one, values}
+use Rattle.ca_table.specs.Grips.{Grips, HasAll, SameTurns, add_settled, add_value, no_grip, settle, settled_contents, settled_one, values}
 use Rattle.ca_table.specs.LoneHands.{left_now}
 use Rattle.ca_table.specs.OneCode.{AllCoded, HaveCode, advances_over, gives_over, starts_over}
-use Rattle.ca_table.specs.Parts.{away, contents_seen, part_of, part_seen}
+use Rattle.ca_table.specs.Parts.{part_away, contents_seen, part_of, part_seen}
 use Rattle.ca_table.specs.Seen.{PartSeen, content_of, held_of}
 use Rattle.ca_table.specs.Workers.{IsOne, IsSeated, KeepsLeft, part_of_lane}
 use Rattle.ca_table.specs.declared.drawn.Drawn.{Drawn}
@@ -81,12 +81,12 @@ module _ {A C : Type 0} (over : CodeView → A → Type 0) (stands_as : ProgramV
 
     -- it holds one more part, which was moved out
     pub held_more : (least faults : C → ℕ) (readings : C → Option (List ℕ)) (x : Contents A C) (h : Carry) → kind_of_part (held_of (contents_seen least faults readings x)) ≡ kind_at w.workers at
-        → ((g : ℕ → Option (Part A C × PartSeen A)) → Grips w.hand g → Grips hand (update eqb g at (Some (away w.workers code, part_seen least faults readings (part_of w.workers code x))))) → Has w h → Has (with_hand w hand) (with_at z (Some (away n code, part_seen least faults readings (part_of n code x))) h)
+        → ((g : ℕ → Option (Part A C × PartSeen A)) → Grips w.hand g → Grips hand (update eqb g at (Some (part_away w.workers code, part_seen least faults readings (part_of w.workers code x))))) → Has w h → Has (with_hand w hand) (with_at z (Some (part_away n code, part_seen least faults readings (part_of n code x))) h)
     held_more least faults readings x h kind more s = record {
       one = same_one over stands_as program (valid_code code) id n w hand same keeps s.one;
-      grips = at_one (Some (away n code, part_seen least faults readings (part_of n code x))) h s.one (subst (λ (k : ℕ). Grips hand (update eqb (at_places n w.number h) at (Some (away k code, part_seen least faults readings (part_of k code x))))) s.one.of (more (at_places n w.number h) s.grips));
-      sorted = sorted_with was z (away n code, part_seen least faults readings (part_of n code x)) h is (kind ∙ ap (λ (k : ℕ). kind_at k at) s.one.of ∙ ap (kind_at n) e ∙ kind_placed n w.number s.one.below z is) s.sorted;
-      coded = each_with Coded z (away n code, part_seen least faults readings (part_of n code x)) h (refl, refl) s.coded;
+      grips = at_one (Some (part_away n code, part_seen least faults readings (part_of n code x))) h s.one (subst (λ (k : ℕ). Grips hand (update eqb (at_places n w.number h) at (Some (part_away k code, part_seen least faults readings (part_of k code x))))) s.one.of (more (at_places n w.number h) s.grips));
+      sorted = sorted_with was z (part_away n code, part_seen least faults readings (part_of n code x)) h is (kind ∙ ap (λ (k : ℕ). kind_at k at) s.one.of ∙ ap (kind_at n) e ∙ kind_placed n w.number s.one.below z is) s.sorted;
+      coded = each_with Coded z (part_away n code, part_seen least faults readings (part_of n code x)) h (refl, refl) s.coded;
     }
 
     pub there : (o : Option (Part A C × PartSeen A)) (h : Carry) → Has w (with_at z o h) → at_places n w.number (with_at z o h) at ≡ o
@@ -99,7 +99,7 @@ module _ {A C : Type 0} (over : CodeView → A → Type 0) (stands_as : ProgramV
       one = same_one over stands_as program (valid_code code) id n w hand same keeps s.one;
       grips = subst (λ (k : Carry). Grips hand (at_places n w.number k)) (with_twice z (Some (y, c)) other h) (at_one other (with_at z (Some (y, c)) h) s.one (puts (at_places n w.number (with_at z (Some (y, c)) h)) y c (there (Some (y, c)) h s) s.grips));
       sorted = subst (λ (k : Carry). AreSorted was k) (with_twice z (Some (y, c)) other h) (sorted_with was z (part_of w.workers code x, c) (with_at z (Some (y, c)) h) is (sorted_at was z (with_at z (Some (y, c)) h) (y, c) s.sorted (part_here z (Some (y, c)) h)) s.sorted);
-      coded = subst (λ (k : Carry). Each Coded k) (with_twice z (Some (y, c)) other h) (each_with Coded z (part_of w.workers code x, c) (with_at z (Some (y, c)) h) (refl, (each_there Coded z (with_at z (Some (y, c)) h) (y, c) s.coded (part_here z (Some (y, c)) h)).1) s.coded);
+      coded = subst (λ (k : Carry). EachCarried Coded k) (with_twice z (Some (y, c)) other h) (each_with Coded z (part_of w.workers code x, c) (with_at z (Some (y, c)) h) (refl, (each_there Coded z (with_at z (Some (y, c)) h) (y, c) s.coded (part_here z (Some (y, c)) h)).1) s.coded);
     }) where
       other : Option (Part A C × PartSeen A)
       other = Some (part_of w.workers code x, c)
@@ -110,7 +110,7 @@ module _ {A C : Type 0} (over : CodeView → A → Type 0) (stands_as : ProgramV
       one = same_one over stands_as program (valid_code code) id n w hand same keeps s.one;
       grips = subst (λ (k : Carry). Grips hand (at_places n w.number k)) without (at_one None (with_at z o h) s.one (gives (at_places n w.number (with_at z o h)) s.grips));
       sorted = subst (λ (k : Carry). AreSorted was k) without (sorted_without was z (with_at z o h) is s.sorted);
-      coded = subst (λ (k : Carry). Each Coded k) without (each_without Coded z (with_at z o h) s.coded);
+      coded = subst (λ (k : Carry). EachCarried Coded k) without (each_without Coded z (with_at z o h) s.coded);
     } where
       without : with_at z None (with_at z o h) ≡ h
       without = with_twice z o None h ∙ with_none z h none
@@ -127,13 +127,13 @@ module _ {A C : Type 0} (over : CodeView → A → Type 0) (stands_as : ProgramV
     is_held = (x.0, in_hand.0)
 
     -- and its settled content is what the turns of an only worker left
-    pub in_left : stands w.hand.view ≡ w.hand.view.hands → get_elem? (left_now drawn_touches w.hand.view) at ≡ core.some x.1
+    pub in_left : hands_stood_for w.hand.view ≡ w.hand.view.hands → get_elem? (left_now drawn_touches w.hand.view) at ≡ core.some x.1
     in_left alone = (s.one.left alone).held at x.1 in_hand.1
 
-pub have_settled : {A C : Type 0} (code : CodeView) (g : ℕ → Option (Part A C × PartSeen A)) (is : List ℕ) → ((i : ℕ) (x : Part A C × PartSeen A) → g i ≡ Some x → HasCode code x) → HaveCode code (settled g is)
+pub have_settled : {A C : Type 0} (code : CodeView) (g : ℕ → Option (Part A C × PartSeen A)) (is : List ℕ) → ((i : ℕ) (x : Part A C × PartSeen A) → g i ≡ Some x → HasCode code x) → HaveCode code (settled_contents g is)
 have_settled code g [] h = tt
 have_settled {A} {C} code g (i ∷ is) h = by (g i) (h i) (have_settled code g is h) where
-  by : (o : Option (Part A C × PartSeen A)) → ((x : Part A C × PartSeen A) → o ≡ Some x → HasCode code x) → HaveCode code (settled g is) → HaveCode code (add_settled o (settled g is))
+  by : (o : Option (Part A C × PartSeen A)) → ((x : Part A C × PartSeen A) → o ≡ Some x → HasCode code x) → HaveCode code (settled_contents g is) → HaveCode code (add_settled o (settled_contents g is))
   by None a r = r
   by (Some x) a r = ((a x refl).1, r)
 
@@ -160,7 +160,7 @@ module _ {A C : Type 0} (over : CodeView → A → Type 0) (place : A → At) (a
   gripped = subst (λ (k : ℕ). Grips w.hand (at_places k d.worker h)) (sym m.of) (subst (λ (k : ℕ). Grips w.hand (at_places n k h)) (sym m.by) s.grips)
 
   abbrev before : List (PartSeen A)
-  before = settled at (drawn_touches d)
+  before = settled_contents at (drawn_touches d)
 
   abbrev after : List (PartSeen A)
   after = map seen (values at (drawn_touches d))
@@ -173,7 +173,7 @@ module _ {A C : Type 0} (over : CodeView → A → Type 0) (place : A → At) (a
   has_code = each_at (HasCode (valid_code code)) d.workers d.worker h s.coded
 
   -- it may draw the event
-  pub may_draw : (g : ℕ → Option (Part A C × PartSeen A)) × Grips w.hand g × HasAll g (drawn_touches d) × drawn_moves over place advances gives starts d (settled g (drawn_touches d)) (map seen (values g (drawn_touches d)))
+  pub may_draw : (g : ℕ → Option (Part A C × PartSeen A)) × Grips w.hand g × HasAll g (drawn_touches d) × drawn_moves over place advances gives starts d (settled_contents g (drawn_touches d)) (map seen (values g (drawn_touches d)))
   may_draw = let K = valid_code code in
       let r = moved place (advances_over over K advances) (gives_over over K gives) (starts_over over K starts) content_of seen (drawn_view d) h below m.covers s.sorted m.alike m.moves at (same_all at (drawn_touches d)) in
       (at, gripped, r.0, subst MovedOver (sym of_code) ((have_settled K at (drawn_touches d) has_code, have_values least faults readings K at (drawn_touches d) has_code), r.1))
@@ -193,8 +193,8 @@ module _ {A C : Type 0} (over : CodeView → A → Type 0) (place : A → At) (a
 
 -- what is drawn as the same worker
 pub moved_as : {A C : Type 0} (over : CodeView → A → Type 0) (place : A → At) (advances : ProgramView → A → A → Type 0) (gives : A → Tree → A → Type 0) (starts : ProgramView → SeedView → A → Type 0) (seen : Part A C → PartSeen A) (code : ValidCode) (n w v m k : ℕ) (what : said.Turn) (d : said.Drawn) (h : Carries (Part A C × PartSeen A))
-    → v ≡ w → k ≡ m → d ≡ plain v k what → IsMoved over place advances gives starts seen code n w (plain w m what) h → IsMoved over place advances gives starts seen code n v d h
-moved_as {A} {C} over place advances gives starts seen code n w v m k what d h a b e moved = subst (λ (d : said.Drawn). IsMoved over place advances gives starts seen code n v d h) (sym e) (subst (λ (k : ℕ). IsMoved over place advances gives starts seen code n v (plain v k what) h) (sym b) (subst (λ (v : ℕ). IsMoved over place advances gives starts seen code n v (plain v m what) h) (sym a) moved))
+    → v ≡ w → k ≡ m → d ≡ plain_drawn v k what → IsMoved over place advances gives starts seen code n w (plain_drawn w m what) h → IsMoved over place advances gives starts seen code n v d h
+moved_as {A} {C} over place advances gives starts seen code n w v m k what d h a b e moved = subst (λ (d : said.Drawn). IsMoved over place advances gives starts seen code n v d h) (sym e) (subst (λ (k : ℕ). IsMoved over place advances gives starts seen code n v (plain_drawn v k what) h) (sym b) (subst (λ (v : ℕ). IsMoved over place advances gives starts seen code n v (plain_drawn v m what) h) (sym a) moved))
 
 both : {X : Type 0} (b : Bool) (o : Option X) → cond b o o ≡ o
 both true o = refl
@@ -207,7 +207,7 @@ module _ {A C : Type 0} (n w : ℕ) where
   none_at : (j : ℕ) → at_places n w Empty j ≡ None
   none_at = everywhere n (λ (j : ℕ). at_places n w Empty j ≡ None) (λ j lt. below_n n w Empty j lt ∙ both (eqb w j) None) (λ i lt. at_bank n w Empty i lt) (λ i lt. at_shard n w Empty i lt) (at_timers n w Empty) (λ r. at_ready n w Empty r)
 
-  only_lane : w < n → (o : Option (Part A C × PartSeen A)) → at_places n w (with_at lane_place o nothing_carried) ≡ update eqb nothing w o
+  only_lane : w < n → (o : Option (Part A C × PartSeen A)) → at_places n w (with_at lane_place o nothing_carried) ≡ update eqb no_grip w o
   only_lane lt o = placed n w lt lane_place tt o nothing_carried ∙ ap (λ (f : ℕ → Option (Part A C × PartSeen A)). update eqb f w o) (λ t j. none_at j t)
 
 module _ {A C : Type 0} (over : CodeView → A → Type 0) (stands_as : ProgramView → A → TaskBody → Type 0) (program : ProgramView) (code : ValidCode) (id : TableId) (n : ℕ) (w : Worker A C) (lane : Lane A) where
@@ -215,30 +215,30 @@ module _ {A C : Type 0} (over : CodeView → A → Type 0) (stands_as : ProgramV
   pub seated_carries : IsSeated over stands_as program code id n w lane → IsCarrying over stands_as program code id n w (just_lane n code lane)
   seated_carries s = record {
     one = s.one;
-    grips = subst (λ (g : ℕ → Option (Part A C × PartSeen A)). Grips w.hand g) (sym (only_lane n w.number s.one.below (Some (away n code, part_of_lane n code lane)))) s.grips;
-    sorted = sorted_with was lane_place (away n code, part_of_lane n code lane) nothing_carried tt refl (sorted_nothing was);
-    coded = each_with (HasCode (valid_code code)) lane_place (away n code, part_of_lane n code lane) nothing_carried (refl, refl) (each_nothing (HasCode (valid_code code)));
+    grips = subst (λ (g : ℕ → Option (Part A C × PartSeen A)). Grips w.hand g) (sym (only_lane n w.number s.one.below (Some (part_away n code, part_of_lane n code lane)))) s.grips;
+    sorted = sorted_with was lane_place (part_away n code, part_of_lane n code lane) nothing_carried tt refl (sorted_nothing was);
+    coded = each_with (HasCode (valid_code code)) lane_place (part_away n code, part_of_lane n code lane) nothing_carried (refl, refl) (each_nothing (HasCode (valid_code code)));
   }
 
   pub carries_seated : program_view lane.program.value ≡ program → IsCarrying over stands_as program code id n w (just_lane n code lane) → IsSeated over stands_as program code id n w lane
   carries_seated e s = record {
     one = s.one;
     lane_is = e;
-    grips = subst (λ (g : ℕ → Option (Part A C × PartSeen A)). Grips w.hand g) (only_lane n w.number s.one.below (Some (away n code, part_of_lane n code lane))) s.grips;
+    grips = subst (λ (g : ℕ → Option (Part A C × PartSeen A)). Grips w.hand g) (only_lane n w.number s.one.below (Some (part_away n code, part_of_lane n code lane))) s.grips;
   }
 
   -- a worker that carries its lane alone holds nothing else
   pub holds_lane : IsCarrying over stands_as program code id n w (just_lane n code lane) → (i : ℕ) → IsHolding w.hand i → i ≡ w.number
   holds_lane s i holds = by (eqb w.number i) refl where
     part : Part A C × PartSeen A
-    part = (away n code, part_of_lane n code lane)
+    part = (part_away n code, part_of_lane n code lane)
 
-    grips : Grips w.hand (update eqb nothing w.number (Some part))
+    grips : Grips w.hand (update eqb no_grip w.number (Some part))
     grips = subst (λ (g : ℕ → Option (Part A C × PartSeen A)). Grips w.hand g) (only_lane n w.number s.one.below (Some part)) s.grips
 
     by : (b : Bool) → eqb w.number i ≡ b → i ≡ w.number
     by true e = sym (eqb-true w.number i e)
-    by false e = absurd (held_is w.hand (update eqb nothing w.number (Some part)) i grips holds (ap (λ b. cond b (Some part) None) e))
+    by false e = absurd (held_is w.hand (update eqb no_grip w.number (Some part)) i grips holds (ap (λ b. cond b (Some part) None) e))
 
   -- and one that sits nothing above it
   pub lane_alone : IsSeated over stands_as program code id n w lane → (i : ℕ) → IsHolding w.hand i → i < n

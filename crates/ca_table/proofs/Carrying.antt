@@ -2,7 +2,7 @@
 use Rattle.std.proofs.Common.{◌≡◌, ◌∙◌, ⊎_elim, ℕ, ◌+◌, ◌-◌, ◌<◌, ◌≤◌, refl, sym, ap, subst, arith, Bool, true, false, cond, Option, Some, None, eqb, ne_eqb, eq-eqb}
 use Rattle.std.specs.Prelude.{nat_lt, option_map}
 use Rattle.std.proofs.lemmas.Bool.{cases_lt, le-ltb, lt-ltb}
-use Rattle.ca_commit.specs.Contents.{Content, Held, a_bank, a_lane, a_ready, a_shard, away, the_timers}
+use Rattle.ca_commit.specs.Contents.{Content, PartContents, a_bank, a_lane, a_ready, a_shard, away, the_timers}
 use Rattle.ca_commit.specs.Gathered.{Kind, bank_kind, bank_of, channels_of, kind_of_part, lane_kind, lane_of, parts_of, ready_kind, ready_of, registries_of, shard_kind, shard_of, sorted, timers_kind, timers_of}
 use Rattle.ca_table.specs.Carrying.{AreSorted, Carries, IsKind, at_places, carried}
 
@@ -40,7 +40,7 @@ module _ {X : Type 0} (n w : ℕ) (h : Carries X) where
 module _ {A X : Type 0} (f : X → Content A) where
   lane_by : (c : Content A) (k : Kind) → kind_of_part c.held ≡ k → (k ≡ lane_kind → ⊥) → lane_of c.held ≡ None
   lane_by c k e ne = by c.held (λ l. ne (sym e ∙ l)) where
-    by : (x : Held A) → (kind_of_part x ≡ lane_kind → ⊥) → lane_of x ≡ None
+    by : (x : PartContents A) → (kind_of_part x ≡ lane_kind → ⊥) → lane_of x ≡ None
     by (a_lane l) other = absurd (other refl)
     by (a_bank b) other = refl
     by (a_shard s) other = refl
@@ -50,7 +50,7 @@ module _ {A X : Type 0} (f : X → Content A) where
 
   bank_by : (c : Content A) (k : Kind) → kind_of_part c.held ≡ k → (k ≡ bank_kind → ⊥) → bank_of c.held ≡ None
   bank_by c k e ne = by c.held (λ l. ne (sym e ∙ l)) where
-    by : (x : Held A) → (kind_of_part x ≡ bank_kind → ⊥) → bank_of x ≡ None
+    by : (x : PartContents A) → (kind_of_part x ≡ bank_kind → ⊥) → bank_of x ≡ None
     by (a_bank b) other = absurd (other refl)
     by (a_lane l) other = refl
     by (a_shard s) other = refl
@@ -60,7 +60,7 @@ module _ {A X : Type 0} (f : X → Content A) where
 
   shard_by : (c : Content A) (k : Kind) → kind_of_part c.held ≡ k → (k ≡ shard_kind → ⊥) → shard_of c.held ≡ None
   shard_by c k e ne = by c.held (λ l. ne (sym e ∙ l)) where
-    by : (x : Held A) → (kind_of_part x ≡ shard_kind → ⊥) → shard_of x ≡ None
+    by : (x : PartContents A) → (kind_of_part x ≡ shard_kind → ⊥) → shard_of x ≡ None
     by (a_shard s) other = absurd (other refl)
     by (a_lane l) other = refl
     by (a_bank b) other = refl

@@ -19,7 +19,7 @@ use Rattle.ca_commit.specs.Touched as said
 use Rattle.ca_commit.proofs.Laid.{IsPart, laid_parts}
 use Rattle.ca_commit.proofs.Landing.{timers_as_before}
 use Rattle.ca_commit.proofs.Seats.{some_same}
-use Rattle.ca_table.specs.Moments.{ClockWent, NeverFall, StandIn, WentOn, moment_told, moments_told, turn_asked}
+use Rattle.ca_table.specs.Moments.{ClockWent, NeverFall, StandIn, ToldWentOn, moment_told, moments_told, turn_asked}
 use Rattle.ca_table.specs.Worked.{fails_clock}
 use Rattle.ca_table.proofs.Having.{either_true}
 use Rattle.ca_table.proofs.Moments.{fall_after, rises, went_after}
@@ -27,7 +27,7 @@ use Rattle.ca_table.proofs.Moments.{fall_after, rises, went_after}
 -- from the first timers to the second the clock gave these answers, and it failed where that is said
 pub record Went (c c2 : TimersPart) (answers : List ℕ) (failed : Bool) : Type 0 where
   pub rise : NeverFall c.least answers c2.least
-  pub told : WentOn answers c.readings c2.readings
+  pub told : ToldWentOn answers c.readings c2.readings
   pub faults : c.faults ≤ c2.faults
   pub rose : failed ≡ true → Rose c.faults c2.faults
 
@@ -48,15 +48,15 @@ clock_went c c2 journal answers a b so among w = record {
   rose = λ e. w.rose (so e);
 }
 
-pub told_none : (o : Option (List ℕ)) → WentOn [] o o
+pub told_none : (o : Option (List ℕ)) → ToldWentOn [] o o
 told_none None = tt
 told_none (Some told) = ap Some (sym (append-nil told))
 
-told_still : (o p : Option (List ℕ)) → StayTold o p → WentOn [] o p
+told_still : (o p : Option (List ℕ)) → StayTold o p → ToldWentOn [] o p
 told_still None p e = tt
 told_still (Some told) p e = e ∙ ap Some (sym (append-nil told))
 
-told_one : (m : ℕ) (o p : Option (List ℕ)) → GoOnBy m o p → WentOn (m ∷ []) o p
+told_one : (m : ℕ) (o p : Option (List ℕ)) → GoOnBy m o p → ToldWentOn (m ∷ []) o p
 told_one m None p e = tt
 told_one m (Some told) p e = e
 
@@ -64,7 +64,7 @@ told_one m (Some told) p e = e
 pub went_still : (c c2 : TimersPart) → c2.least ≡ c.least → c2.readings ≡ c.readings → c2.faults ≡ c.faults → Went c c2 [] false
 went_still c c2 l r f = record {
   rise = omega (arith, l);
-  told = subst (WentOn [] c.readings) (sym r) (told_none c.readings);
+  told = subst (ToldWentOn [] c.readings) (sym r) (told_none c.readings);
   faults = omega (arith, f);
   rose = λ e. absurd (let z : false ≡ true = e in cc);
 }

@@ -13,8 +13,8 @@ use Rattle.ca_meaning.specs.Task.{TaskBody}
 use Rattle.ca_states.specs.Code.{CodeView}
 use Rattle.ca_agent.specs.Agents.{Advanced, Answered, Started}
 use Rattle.ca_turns.specs.declared.rule.Turn.{Turn}
-use Rattle.ca_turns.specs.History.{Goes, Run}
-use Rattle.ca_turns.specs.Places.{Reads, write}
+use Rattle.ca_turns.specs.History.{TurnGoes, Run}
+use Rattle.ca_turns.specs.Places.{ReadsPlaces, write}
 use Rattle.ca_commit.specs.Agents.{TaskAgent, advances_of, place_of}
 use Rattle.ca_commit.specs.Contents.{Content, Parts, TimersPart, at_key, home}
 use Rattle.ca_commit.specs.Gathered.{gather, pick, parts_of}
@@ -23,7 +23,7 @@ use Rattle.ca_commit.specs.Moving.{Moves, MovesShown, MovesTurn}
 use Rattle.ca_commit.specs.Touched as said
 use Rattle.ca_table.specs.Draws.{drawn_code, drawn_moves, drawn_touches, drawn_view}
 use Rattle.ca_table.specs.OneCode.{HaveCode, advances_over, gives_over, stands_over, starts_over}
-use Rattle.ca_table.specs.Opening.{empty_bank, empty_shard, idle_lane, main_ready, none_ready, opening_list, part_of}
+use Rattle.ca_table.specs.Opening.{empty_bank, empty_shard, idle_lane, main_ready, none_ready, opening_list, seen_part}
 use Rattle.ca_table.specs.Seen.{PartSeen, content_of, seen_timers}
 use Rattle.ca_table.specs.declared.drawn.Drawn.{Drawn}
 
@@ -120,7 +120,7 @@ module _ {A : Type 0} (code : CodeView) where
       (have_more (replicate 16 (empty_bank n code)) after_banks (have_all 16 (empty_bank n code) refl)
       (have_more (replicate 16 (empty_shard n code)) after_shards (have_all 16 (empty_shard n code) refl) last)) where
         after_shards : List (PartSeen A)
-        after_shards = part_of n code (seen_timers clock) ∷ (main_ready n code main ∷ replicate (n - 1) (none_ready n code))
+        after_shards = seen_part n code (seen_timers clock) ∷ (main_ready n code main ∷ replicate (n - 1) (none_ready n code))
 
         after_banks : List (PartSeen A)
         after_banks = replicate 16 (empty_shard n code) ++ after_shards
@@ -148,7 +148,7 @@ module _ {A : Type 0} (code : CodeView) where
   have_written ps (i ∷ is) (c ∷ cs) h k = have_written (set ps i c) is cs (have_set ps i c h k.0) k.1
 
   -- what is found there has the code, so one that all of it has is that
-  same_code : (now : List (PartSeen A)) (is : List ℕ) (cs : List (PartSeen A)) (other : CodeView) → is ≢ [] → Reads now is cs → HaveCode code now → HaveCode other cs → other ≡ code
+  same_code : (now : List (PartSeen A)) (is : List ℕ) (cs : List (PartSeen A)) (other : CodeView) → is ≢ [] → ReadsPlaces now is cs → HaveCode code now → HaveCode other cs → other ≡ code
   same_code now [] cs other ne r h k = absurd (ne refl)
   same_code now (i ∷ is) [] other ne r h k = absurd r
   same_code now (i ∷ is) (c ∷ cs) other ne r h k = sym k.0 ∙ code_at now i c h r.0
@@ -162,11 +162,11 @@ module _ {A : Type 0} (over : CodeView → A → Type 0) (place : A → At) (adv
   abbrev IsDrawnOver : Turn (PartSeen A) Drawn → Type 0
   IsDrawnOver t = drawn_code t.event ≡ code
 
-  pub drawn_has : (now : List (PartSeen A)) (t : Turn (PartSeen A) Drawn) → HaveCode code now → Goes drawn_touches moves now t → drawn_code t.event ≡ code
+  pub drawn_has : (now : List (PartSeen A)) (t : Turn (PartSeen A) Drawn) → HaveCode code now → TurnGoes drawn_touches moves now t → drawn_code t.event ≡ code
   drawn_has now t h g = let d = t.event in let K = drawn_code d in
       same_code code now (drawn_touches d) t.before K (touches_some place (advances_over over K advances) (gives_over over K gives) (starts_over over K starts) (drawn_view d) (map content_of t.before) (map content_of t.after) g.1.1) g.0 h g.1.0.0
 
-  pub leaves_code : (now : List (PartSeen A)) (t : Turn (PartSeen A) Drawn) → HaveCode code now → Goes drawn_touches moves now t → HaveCode code (write now (drawn_touches t.event) t.after)
+  pub leaves_code : (now : List (PartSeen A)) (t : Turn (PartSeen A) Drawn) → HaveCode code now → TurnGoes drawn_touches moves now t → HaveCode code (write now (drawn_touches t.event) t.after)
   leaves_code now t h g = have_written code now (drawn_touches t.event) t.after h (subst (λ K. HaveCode K t.after) (drawn_has now t h g) g.1.0.1)
 
   -- all parts of a history

@@ -22,7 +22,7 @@ use Rattle.ca_table.specs.OneCode.{advances_over, gives_over, starts_over}
 use Rattle.ca_table.specs.Bearing.{Bears}
 use Rattle.ca_table.specs.Carriers.{IsMoved, is_now, was}
 use Rattle.ca_table.specs.Carrying.{Carries, carried}
-use Rattle.ca_table.specs.Committing.{IsDone, IsDue}
+use Rattle.ca_table.specs.Committing.{IsDone, IsPlanDue}
 use Rattle.ca_table.specs.Covering.{Covers}
 use Rattle.ca_table.specs.DrawnEvents.{IsTurned}
 use Rattle.ca_table.specs.Needing.{Brings, drawn_with, needs_ready, needs_timers, own_if}
@@ -35,7 +35,7 @@ use Rattle.ca_table.proofs.PlanCovered.{plan_covers, plan_turns}
 
 module _ {A X : Type 0} (place : A → At) (advances : ProgramView → A → A → Type 0) (gives : A → Tree → A → Type 0) (starts : ProgramView → SeedView → A → Type 0) (f g : X → Content (TaskAgent A))
     (w n : ℕ) (q : Planned) (lane lane2 : LaneView (TaskAgent A)) (timers timers2 : Option TimersPart) (held held2 : Held A) (task : Task A) (spawned running : Option (Task A)) (h : Carries X)
-    (was : Bears f w h (Some lane) timers held) (is : Bears g w h (Some lane2) timers2 held2) (due : IsDue place advances gives starts w n q lane held task spawned) (did : IsDone place advances gives starts q lane lane2 held held2 task spawned running) (times : TimesTo held.new_port held.moment q timers timers2)
+    (was : Bears f w h (Some lane) timers held) (is : Bears g w h (Some lane2) timers2 held2) (due : IsPlanDue place advances gives starts w n q lane held task spawned) (did : IsDone place advances gives starts q lane lane2 held held2 task spawned running) (times : TimesTo held.new_port held.moment q timers timers2)
     (e : EventView) (event : e ≡ event_of (channels_held held.banks) (registries_held held.banks) task.number (number_of spawned) held.new_port held.new_wait held.moment q) where
   abbrev Applied : Parts (TaskAgent A) → Parts (TaskAgent A) → Type 0
   Applied = IsApplied place advances gives starts w n task.number (number_of spawned) held.new_port held.new_wait held.moment q
@@ -60,7 +60,7 @@ module _ {A X : Type 0} (place : A → At) (advances : ProgramView → A → A �
 -- so it draws the event
 pub commit_moved : {A C : Type 0} (over_code : CodeView → A → Type 0) (place : A → At) (advances : ProgramView → A → A → Type 0) (gives : A → Tree → A → Type 0) (starts : ProgramView → SeedView → A → Type 0) (seen : Part A C → PartSeen A) (code : ValidCode)
     (w n : ℕ) (q : Planned) (lane lane2 : LaneView (TaskAgent A)) (timers timers2 : Option TimersPart) (held held2 : Held A) (task : Task A) (spawned running : Option (Task A)) (h : Carries (Part A C × PartSeen A))
-    → IsTurned seen w n h (Some lane) (Some lane2) timers timers2 held held2 → IsDue place (advances_over over_code (valid_code code) advances) (gives_over over_code (valid_code code) gives) (starts_over over_code (valid_code code) starts) w n q lane held task spawned → IsDone place (advances_over over_code (valid_code code) advances) (gives_over over_code (valid_code code) gives) (starts_over over_code (valid_code code) starts) q lane lane2 held held2 task spawned running → TimesTo held.new_port held.moment q timers timers2
+    → IsTurned seen w n h (Some lane) (Some lane2) timers timers2 held held2 → IsPlanDue place (advances_over over_code (valid_code code) advances) (gives_over over_code (valid_code code) gives) (starts_over over_code (valid_code code) starts) w n q lane held task spawned → IsDone place (advances_over over_code (valid_code code) advances) (gives_over over_code (valid_code code) gives) (starts_over over_code (valid_code code) starts) q lane lane2 held held2 task spawned running → TimesTo held.new_port held.moment q timers timers2
     → (e : EventView) → e ≡ event_of (channels_held held.banks) (registries_held held.banks) task.number (number_of spawned) held.new_port held.new_wait held.moment q
     → (ports looked : List ℕ) → Brings ports looked (needs_timers q) (own_if (needs_ready q) w) h → IsMoved over_code place advances gives starts seen code n w (drawn_with w n (shown e) ports looked) h
 commit_moved over_code place advances gives starts seen code w n q lane lane2 timers timers2 held held2 task spawned running h t due did times e event ports looked brings =

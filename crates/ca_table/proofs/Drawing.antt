@@ -7,7 +7,7 @@ use Rattle.ca_meaning.specs.Cost.{cost}
 use Rattle.ca_meaning.specs.Ends.{but_last}
 use Rattle.ca_journal.specs.Merge.{Numbered, entries, events_of}
 use Rattle.ca_turns.specs.Hands.{Held}
-use Rattle.ca_turns.specs.Views.{turn}
+use Rattle.ca_turns.specs.Views.{new_turn}
 use Rattle.ca_turns.specs.declared.rule.Turn.{Turn}
 use Rattle.ca_commit.specs.Moving.{visible}
 use Rattle.ca_table.specs.Draws.{turn_view}
@@ -16,7 +16,7 @@ use Rattle.ca_table.specs.Grips.{SameHand, SameTurns}
 use Rattle.ca_table.specs.LoneHands.{DrewTurn}
 use Rattle.ca_table.specs.Running.{shown_by}
 use Rattle.ca_table.specs.Seen.{PartSeen}
-use Rattle.ca_table.specs.Worked.{AnswersFor, Drew, HasWorked, gives_up, has, has_drawn, leaves, spent}
+use Rattle.ca_table.specs.Worked.{AnswersFor, Drew, HasWorked, gives_up, some_turn, has_drawn, finds_run_end, spent}
 use Rattle.ca_table.specs.Workers.{SameWorker, noted}
 use Rattle.ca_table.specs.declared.answer.WorkEnd.{WorkEnd}
 use Rattle.ca_table.specs.declared.answer.WorkEnd.TheVariants.{Over, Spent}
@@ -73,8 +73,8 @@ module _ {A C : Type 0} where
   }
 
   -- one turn, of which is known what it is, and nothing before or after it
-  pub turn_drawn : (o n : Held (Part A C) (PartSeen A) Drawn) (what : said.Turn) (k : ℕ) (d : Drawn) (before after : List (PartSeen A)) → SameHand o n → n.view.turns ≡ o.view.turns ++ turn k d before after ∷ [] → turn_view d.what ≡ what → DrewTurn what o.view n.view
-  turn_drawn o n what k d before after same turns is = record { turn = turn k d before after; is = is; after = record { opening = same.opening; turns = turns } }
+  pub turn_drawn : (o n : Held (Part A C) (PartSeen A) Drawn) (what : said.Turn) (k : ℕ) (d : Drawn) (before after : List (PartSeen A)) → SameHand o n → n.view.turns ≡ o.view.turns ++ new_turn k d before after ∷ [] → turn_view d.what ≡ what → DrewTurn what o.view n.view
+  turn_drawn o n what k d before after same turns is = record { turn = new_turn k d before after; is = is; after = record { opening = same.opening; turns = turns } }
 
   pub turn_later : (o m n : Held (Part A C) (PartSeen A) Drawn) (what : said.Turn) → SameTurns o m → DrewTurn what m.view n.view → DrewTurn what o.view n.view
   turn_later o m n what same d = record { turn = d.turn; is = d.is; after = record { opening = d.after.opening ∙ same.same.opening; turns = d.after.turns ∙ ap (λ ts. ts ++ d.turn ∷ []) same.turns } }
@@ -87,29 +87,29 @@ module _ {A C : Type 0} where
   drew_held w h turns = drew_none {o = w} {n = with_hand w h} (record { number = refl; workers = refl; program = refl; code = refl }) turns
 
   -- one turn
-  pub drew_one : {o n : Worker A C} (k : ℕ) (d : Drawn) (before after : List (PartSeen A)) → SameWorker o n → SameHand o.hand n.hand → n.hand.view.turns ≡ o.hand.view.turns ++ turn k d before after ∷ [] → gives_up (turn_view d.what) ≡ false
-      → Drew (cost (visible (turn_view d.what))) (leaves (turn_view d.what)) o n
+  pub drew_one : {o n : Worker A C} (k : ℕ) (d : Drawn) (before after : List (PartSeen A)) → SameWorker o n → SameHand o.hand n.hand → n.hand.view.turns ≡ o.hand.view.turns ++ new_turn k d before after ∷ [] → gives_up (turn_view d.what) ≡ false
+      → Drew (cost (visible (turn_view d.what))) (finds_run_end (turn_view d.what)) o n
   drew_one k d before after same hand turns kept = record {
     same = same;
     hand = hand;
-    more = turn k d before after ∷ [];
+    more = new_turn k d before after ∷ [];
     turns = turns;
     costs = ap cost (append-nil (visible (turn_view d.what)));
     few = ap but_last (append-nil (visible (turn_view d.what))) ∙ few_visible (turn_view d.what);
     going = ap (λ b. b || false) kept;
-    finds = one_finds (turn k d before after);
+    finds = one_finds (new_turn k d before after);
   }
 
   -- one turn, of which is known what it is
-  pub drew_what : {o n : Worker A C} (k : ℕ) (d : Drawn) (before after : List (PartSeen A)) (what : Turned) → SameWorker o n → SameHand o.hand n.hand → n.hand.view.turns ≡ o.hand.view.turns ++ turn k d before after ∷ [] → d.what ≡ what → gives_up (turn_view what) ≡ false
-      → Drew (cost (visible (turn_view what))) (leaves (turn_view what)) o n
-  drew_what {o} {n} k d before after what same hand turns is kept = subst (λ (t : Turned). Drew (cost (visible (turn_view t))) (leaves (turn_view t)) o n) is
+  pub drew_what : {o n : Worker A C} (k : ℕ) (d : Drawn) (before after : List (PartSeen A)) (what : Turned) → SameWorker o n → SameHand o.hand n.hand → n.hand.view.turns ≡ o.hand.view.turns ++ new_turn k d before after ∷ [] → d.what ≡ what → gives_up (turn_view what) ≡ false
+      → Drew (cost (visible (turn_view what))) (finds_run_end (turn_view what)) o n
+  drew_what {o} {n} k d before after what same hand turns is kept = subst (λ (t : Turned). Drew (cost (visible (turn_view t))) (finds_run_end (turn_view t)) o n) is
       (drew_one {o = o} {n = n} k d before after same hand turns (ap (λ (t : Turned). gives_up (turn_view t)) is ∙ kept))
 
   -- one that no journal shows
-  pub drew_hidden : {o n : Worker A C} (k : ℕ) (d : Drawn) (before after : List (PartSeen A)) (what : Turned) → SameWorker o n → SameHand o.hand n.hand → n.hand.view.turns ≡ o.hand.view.turns ++ turn k d before after ∷ [] → d.what ≡ what → visible (turn_view what) ≡ [] → gives_up (turn_view what) ≡ false
-      → Drew 0 (leaves (turn_view what)) o n
-  drew_hidden {o} {n} k d before after what same hand turns is hidden kept = subst (λ (es : List EventView). Drew (cost es) (leaves (turn_view what)) o n) hidden (drew_what {o = o} {n = n} k d before after what same hand turns is kept)
+  pub drew_hidden : {o n : Worker A C} (k : ℕ) (d : Drawn) (before after : List (PartSeen A)) (what : Turned) → SameWorker o n → SameHand o.hand n.hand → n.hand.view.turns ≡ o.hand.view.turns ++ new_turn k d before after ∷ [] → d.what ≡ what → visible (turn_view what) ≡ [] → gives_up (turn_view what) ≡ false
+      → Drew 0 (finds_run_end (turn_view what)) o n
+  drew_hidden {o} {n} k d before after what same hand turns is hidden kept = subst (λ (es : List EventView). Drew (cost es) (finds_run_end (turn_view what)) o n) hidden (drew_what {o = o} {n = n} k d before after what same hand turns is kept)
 
   -- what two calls drew, of which the first drew no event of the journal and found no end
   pub drew_both : {a : ℕ} {x : Bool} {o m n : Worker A C} → Drew 0 false o m → Drew a x m n → Drew a x o n
@@ -168,11 +168,11 @@ module _ {A C : Type 0} where
 
   -- a call that comes to an end doesn't give the run up
   pub goes_on : {allowance : ℕ} {o n : Worker A C} (e : WorkEnd) → HasWorked allowance (Ok e) o n → has_drawn gives_up o ≡ false → has_drawn gives_up n ≡ false
-  goes_on {allowance} {o} {n} e h none = ap (has gives_up) h.drew ∙ has_append gives_up o.hand.view.turns h.more ∙ ap₂ (λ i j. i || j) none (kept e h.answers) where
-    kept : (e : WorkEnd) → AnswersFor allowance (Ok e) h.more → has gives_up h.more ≡ false
+  goes_on {allowance} {o} {n} e h none = ap (some_turn gives_up) h.drew ∙ has_append gives_up o.hand.view.turns h.more ∙ ap₂ (λ i j. i || j) none (kept e h.answers) where
+    kept : (e : WorkEnd) → AnswersFor allowance (Ok e) h.more → some_turn gives_up h.more ≡ false
     kept Spent a = a.0
     kept Over a = a.0
 
   -- it found the run's end
-  pub found_end : {allowance : ℕ} {o n : Worker A C} → HasWorked allowance (Ok Over) o n → has_drawn leaves n ≡ true
-  found_end {allowance} {o} {n} h = ap (has leaves) h.drew ∙ has_append leaves o.hand.view.turns h.more ∙ second_true (has leaves o.hand.view.turns) (has leaves h.more) (finds_leaves h.more h.answers.2)
+  pub found_end : {allowance : ℕ} {o n : Worker A C} → HasWorked allowance (Ok Over) o n → has_drawn finds_run_end n ≡ true
+  found_end {allowance} {o} {n} h = ap (some_turn finds_run_end) h.drew ∙ has_append finds_run_end o.hand.view.turns h.more ∙ second_true (some_turn finds_run_end o.hand.view.turns) (some_turn finds_run_end h.more) (finds_leaves h.more h.answers.2)

@@ -11,10 +11,10 @@ use Rattle.ca_turns.specs.Places.{total}
 use Rattle.ca_turns.proofs.Lists.{no_part}
 use Rattle.ca_commit.specs.Opening.{unasked}
 use Rattle.ca_commit.specs.Contents.{TimersPart}
-use Rattle.ca_table.specs.Opening.{empty_bank, empty_shard, idle_lane, main_ready, none_ready, opening_list, part_of}
+use Rattle.ca_table.specs.Opening.{empty_bank, empty_shard, idle_lane, main_ready, none_ready, opening_list, seen_part}
 use Rattle.ca_table.specs.Running.{Knows}
 use Rattle.ca_table.specs.Seen.{PartSeen, seen_timers}
-use Rattle.ca_table.specs.Workers.{AllAbove, IsNew, IsReady, noted, part_count, stands_for}
+use Rattle.ca_table.specs.Workers.{AllAbove, IsNewWorker, IsReady, noted, part_count, stands_for}
 use Rattle.ca_table.specs.declared.worker.Worker.{Worker}
 
 long_rep : {X : Type 0} (k : ℕ) (x : X) (ys : List X) → length (replicate k x ++ ys) ≡ k + length ys
@@ -26,7 +26,7 @@ long_replicate zero x = refl
 long_replicate (suc k) x = ap suc (long_replicate k x)
 
 module _ {A C : Type 0} (over : CodeView → A → Type 0) (stands : ProgramView → A → TaskBody → Type 0) (texts : ProgramParts) (code : CodeView) (n : ℕ) (id : TableId) (cs : List (PartSeen A)) where
-  ready : (w : Worker A C) → id.slots ≡ part_count n → n ≤ 16 → Knows over stands (program_view texts) code n w.hand.view → IsNew (program_view texts) code n id cs n w → IsReady over stands (program_view texts) code id n w
+  ready : (w : Worker A C) → id.slots ≡ part_count n → n ≤ 16 → Knows over stands (program_view texts) code n w.hand.view → IsNewWorker (program_view texts) code n id cs n w → IsReady over stands (program_view texts) code id n w
   ready w slots few knows new = record {
     one = record {
       table = new.fresh.table;
@@ -47,16 +47,16 @@ module _ {A C : Type 0} (over : CodeView → A → Type 0) (stands : ProgramView
 
   -- new workers of a table with the opening parts are ready
   pub all_ready : (main : A) (body : TaskBody) (least faults : ℕ) (readings : Option (List ℕ)) → BodyRest (program_view texts) (script (new_body (program_view texts).main)) body → stands (program_view texts) main body → over code main → cs ≡ opening_list n code texts main (unasked least faults readings) → 0 < n → n ≤ 16 → id.slots ≡ part_count n
-      → (ws : List (Worker A C)) → All (IsNew (program_view texts) code n id cs n) ws → All (IsReady over stands (program_view texts) code id n) ws
+      → (ws : List (Worker A C)) → All (IsNewWorker (program_view texts) code n id cs n) ws → All (IsReady over stands (program_view texts) code id n) ws
   all_ready main body least faults readings opens st at_code is more few slots ws h k d lt = let new = h k d lt in
       ready (slice_index_or ws k d) slots few (record { texts = texts; is_program = refl; main = main; body = body; opens = opens; stands_for = st; is_over = at_code; least = least; faults = faults; readings = readings; opening = new.fresh.opening ∙ is; some = more }) new
 
 -- each of new workers stands for one hand
-pub one_each : {A C : Type 0} (program : ProgramView) (code : CodeView) (n : ℕ) (id : TableId) (cs : List (PartSeen A)) (hands : ℕ) (ws : List (Worker A C)) → All (IsNew program code n id cs hands) ws → total stands_for ws ≡ length ws
+pub one_each : {A C : Type 0} (program : ProgramView) (code : CodeView) (n : ℕ) (id : TableId) (cs : List (PartSeen A)) (hands : ℕ) (ws : List (Worker A C)) → All (IsNewWorker program code n id cs hands) ws → total stands_for ws ≡ length ws
 one_each program code n id cs hands [] h = refl
 one_each program code n id cs hands (w ∷ ws) h = let first = h 0 w (omega arith) in let a = first.fresh.stands_for_one in let b = one_each program code n id cs hands ws (λ k d lt. h (suc k) d (omega (arith, lt))) in omega (arith, a, b)
 
-pub for_one : {A C : Type 0} (program : ProgramView) (code : CodeView) (n : ℕ) (id : TableId) (cs : List (PartSeen A)) (hands : ℕ) (ws : List (Worker A C)) → All (IsNew program code n id cs hands) ws → All (λ w. stands_for w ≡ 1) ws
+pub for_one : {A C : Type 0} (program : ProgramView) (code : CodeView) (n : ℕ) (id : TableId) (cs : List (PartSeen A)) (hands : ℕ) (ws : List (Worker A C)) → All (IsNewWorker program code n id cs hands) ws → All (λ w. stands_for w ≡ 1) ws
 for_one program code n id cs hands ws h k d lt = (h k d lt).fresh.stands_for_one
 
 -- so many parts
@@ -68,7 +68,7 @@ long_list {A} code texts n main clock more =
     let d = long_replicate (n - 1) (none_ready {A = A} n code) in
     omega (arith, a, b, c, d, more) where
       after : List (PartSeen A)
-      after = part_of n code (seen_timers clock) ∷ (main_ready n code main ∷ replicate (n - 1) (none_ready n code))
+      after = seen_part n code (seen_timers clock) ∷ (main_ready n code main ∷ replicate (n - 1) (none_ready n code))
 
 -- of a list and one more
 pub all_before : {X : Type 0} (P : X → Type 0) (xs : List X) (x : X) → All P (xs ++ x ∷ []) → All P xs

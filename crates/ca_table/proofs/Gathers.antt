@@ -15,7 +15,7 @@ use Rattle.ca_commit.specs.Touched as said
 use Rattle.ca_table.specs.Draws.{turn_view}
 use Rattle.ca_table.specs.Members.{Differ, In}
 use Rattle.ca_table.specs.Running.{shown_by}
-use Rattle.ca_table.specs.Workers.{AllAbove, noted, numbered}
+use Rattle.ca_table.specs.Workers.{AllAbove, noted, turn_entries}
 use Rattle.ca_table.specs.declared.drawn.Drawn.{Drawn}
 use Rattle.ca_table.proofs.Members.{in_either, in_first, in_second, same_total}
 use Rattle.ca_table.proofs.Ordering.{Climbs, in_order_is}
@@ -95,13 +95,13 @@ module _ {C : Type 0} where
   differ_from m (t ∷ ts) h = ((λ i. let a = at_least (suc m) ts t (next_from m t ts h) i in let b = first_number m t ts h in omega (arith, a, b)), differ_from (suc m) ts (next_from m t ts h))
 
   -- an entry is of one of the turns
-  noted_of : (ts : List (Turn C Drawn)) (z : Numbered) → In z (noted ts) → (t : Turn C Drawn) × In t ts × In z (numbered t)
+  noted_of : (ts : List (Turn C Drawn)) (z : Numbered) → In z (noted ts) → (t : Turn C Drawn) × In t ts × In z (turn_entries t)
   noted_of [] z h = absurd h
-  noted_of (t ∷ ts) z h = ⊎_elim (λ k. (t, inl refl, k)) (λ k. let r = noted_of ts z k in (r.0, inr r.1, r.2)) (in_either z (numbered t) (noted ts) h)
+  noted_of (t ∷ ts) z h = ⊎_elim (λ k. (t, inl refl, k)) (λ k. let r = noted_of ts z k in (r.0, inr r.1, r.2)) (in_either z (turn_entries t) (noted ts) h)
 
-  of_noted : (ts : List (Turn C Drawn)) (t : Turn C Drawn) (z : Numbered) → In t ts → In z (numbered t) → In z (noted ts)
+  of_noted : (ts : List (Turn C Drawn)) (t : Turn C Drawn) (z : Numbered) → In t ts → In z (turn_entries t) → In z (noted ts)
   of_noted [] t z i h = absurd i
-  of_noted (u ∷ ts) t z i h = ⊎_elim (λ e. in_first z (numbered u) (noted ts) (subst (λ (x : Turn C Drawn). In z (numbered x)) e h)) (λ k. in_second z (numbered u) (noted ts) (of_noted ts t z k h)) i
+  of_noted (u ∷ ts) t z i h = ⊎_elim (λ e. in_first z (turn_entries u) (noted ts) (subst (λ (x : Turn C Drawn). In z (turn_entries x)) e h)) (λ k. in_second z (turn_entries u) (noted ts) (of_noted ts t z k h)) i
 
   climbs_before : (t : Turn C Drawn) (es : List EventView) (zs : List Numbered) → AtMostOne es → ((z : Numbered) → In z zs → t.number < z.number) → Climbs zs → Climbs (with_number t.number es ++ zs)
   climbs_before t es zs few low c = ⊎_elim (λ e. subst (λ es. Climbs (with_number t.number es ++ zs)) (sym e) c) (λ e. subst (λ es. Climbs (with_number t.number es ++ zs)) (sym e.1) (low, c)) few
@@ -113,16 +113,16 @@ module _ {C : Type 0} where
     low z i = let r = noted_of ts z i in let a = at_least (suc m) ts r.0 (next_from m t ts h) r.1 in let b = number_of r.0.number (visible (turn_view r.0.event.what)) z r.2 in let c = first_number m t ts h in omega (arith, a, b, c)
 
   abbrev shows : Turn C Drawn → ℕ
-  shows t = length (numbered t)
+  shows t = length (turn_entries t)
 
   noted_long : (ts : List (Turn C Drawn)) → length (noted ts) ≡ total shows ts
   noted_long [] = refl
-  noted_long (t ∷ ts) = length-append (numbered t) (noted ts) ∙ ap (λ (n : ℕ). shows t + n) (noted_long ts)
+  noted_long (t ∷ ts) = length-append (turn_entries t) (noted ts) ∙ ap (λ (n : ℕ). shows t + n) (noted_long ts)
 
   -- the events of what a worker noted are those that its turns show
   pub shown_noted : (ts : List (Turn C Drawn)) → events_of (noted ts) ≡ shown_by ts
   shown_noted [] = refl
-  shown_noted (t ∷ ts) = events_append (numbered t) (noted ts) ∙ ap (λ l. l ++ events_of (noted ts)) (same_events t.number (visible (turn_view t.event.what))) ∙ ap (λ l. visible (turn_view t.event.what) ++ l) (shown_noted ts)
+  shown_noted (t ∷ ts) = events_append (turn_entries t) (noted ts) ∙ ap (λ l. l ++ events_of (noted ts)) (same_events t.number (visible (turn_view t.event.what))) ∙ ap (λ l. visible (turn_view t.event.what) ++ l) (shown_noted ts)
 
   -- the entries of all hands' turns, in order of number, are those of the history
   pub gathered : (v : View C Drawn) (log : List (Turn C Drawn)) → IsNumbered log → IsWhole v log → events_of (in_order (noted v.turns)) ≡ shown_by log
@@ -141,11 +141,11 @@ module _ {C : Type 0} where
 
   pub noted_append : (ts us : List (Turn C Drawn)) → noted (ts ++ us) ≡ noted ts ++ noted us
   noted_append [] us = refl
-  noted_append (t ∷ ts) us = ap (λ l. numbered t ++ l) (noted_append ts us) ∙ sym (append_assoc (numbered t) (noted ts) (noted us))
+  noted_append (t ∷ ts) us = ap (λ l. turn_entries t ++ l) (noted_append ts us) ∙ sym (append_assoc (turn_entries t) (noted ts) (noted us))
 
   noted_above : (m : ℕ) (ts : List (Turn C Drawn)) → AllAbove m ts → NoneLower m (noted ts)
   noted_above m [] h = tt
-  noted_above m (t ∷ ts) h = none_lower_append m (numbered t) (noted ts) (all_same t.number m (visible (turn_view t.event.what)) h.0) (none_lower_weaken m (t.number + 1) (noted ts) (let k = h.0 in omega (arith, k)) (noted_above (t.number + 1) ts h.1))
+  noted_above m (t ∷ ts) h = none_lower_append m (turn_entries t) (noted ts) (all_same t.number m (visible (turn_view t.event.what)) h.0) (none_lower_weaken m (t.number + 1) (noted ts) (let k = h.0 in omega (arith, k)) (noted_above (t.number + 1) ts h.1))
 
   -- what a worker noted ascends
   pub noted_ascends : (m : ℕ) (ts : List (Turn C Drawn)) → AllAbove m ts → Ascends (noted ts)

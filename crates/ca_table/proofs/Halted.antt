@@ -27,7 +27,7 @@ use Rattle.ca_commit.specs.declared.task.Task.{Task}
 use Rattle.ca_commit.proofs.Ends.{end_moves, fault_moves, refused_moves}
 use Rattle.ca_table.specs.Bearing.{Bears, parts_held}
 use Rattle.ca_table.specs.Carrying.{Carries}
-use Rattle.ca_table.specs.Covering.{Covers, names_of}
+use Rattle.ca_table.specs.Covering.{Covers, turn_names}
 use Rattle.ca_table.specs.Halting.{KeepAll, LeavesLane, result_ports}
 use Rattle.ca_table.specs.Needing.{Brings, drawn_with}
 use Rattle.ca_table.proofs.Applied.{is_there, lane_goes, registries_there}
@@ -36,10 +36,10 @@ use Rattle.ca_table.proofs.Needing.{BanksOf, covers_by}
 use Rattle.ca_table.proofs.PlanCovered.{no_stall}
 
 -- what the end of task t names
-abbrev end_names : ℕ → Option PortId → said.Named
+abbrev end_names : ℕ → Option PortId → said.NamedParts
 end_names t r = record { lane = true; ports = result_ports r; waits = []; timers = eqb t 0; ready = None }
 
-fault_names : (w t : ℕ) (f : Fault) (at : Place) (r : Option PortId) → names_of w (said.shown (over t (Faulted f at r))) ≡ end_names t r
+fault_names : (w t : ℕ) (f : Fault) (at : Place) (r : Option PortId) → turn_names w (said.shown (over t (Faulted f at r))) ≡ end_names t r
 fault_names w t f at None = refl
 fault_names w t f at (Some p) = refl
 

@@ -9,7 +9,7 @@ use Rattle.ca_table.specs.Draws.{turn_view}
 use Rattle.ca_table.specs.Members.{In}
 use Rattle.ca_table.specs.Running.{shown_by}
 use Rattle.ca_table.specs.Seen.{PartSeen}
-use Rattle.ca_table.specs.Worked.{AnyDrew, HasMainEnd, any_drew, ends_main, has, has_drawn, obeys_mark, stays_stuck}
+use Rattle.ca_table.specs.Worked.{AnyDrew, HasMainEnd, any_drew, ends_main, some_turn, has_drawn, obeys_mark, stays_stuck}
 use Rattle.ca_table.specs.Workers.{turns_of}
 use Rattle.ca_table.specs.declared.drawn.Drawn.{Drawn}
 use Rattle.ca_table.specs.declared.worker.Worker.{Worker}
@@ -48,24 +48,24 @@ false_unless true never = absurd (never refl)
 false_unless false never = refl
 
 module _ {C : Type 0} (such : said.Turn → Bool) where
-  pub has_append : (ts us : List (Turn C Drawn)) → has such (ts ++ us) ≡ (has such ts || has such us)
+  pub has_append : (ts us : List (Turn C Drawn)) → some_turn such (ts ++ us) ≡ (some_turn such ts || some_turn such us)
   has_append [] us = refl
-  has_append (t ∷ ts) us = ap (λ b. such (turn_view t.event.what) || b) (has_append ts us) ∙ sym (or_grouped (such (turn_view t.event.what)) (has such ts) (has such us))
+  has_append (t ∷ ts) us = ap (λ b. such (turn_view t.event.what) || b) (has_append ts us) ∙ sym (or_grouped (such (turn_view t.event.what)) (some_turn such ts) (some_turn such us))
 
-  has_one : (ts : List (Turn C Drawn)) → has such ts ≡ true → (t : Turn C Drawn) × In t ts × (such (turn_view t.event.what) ≡ true)
+  has_one : (ts : List (Turn C Drawn)) → some_turn such ts ≡ true → (t : Turn C Drawn) × In t ts × (such (turn_view t.event.what) ≡ true)
   has_one [] e = absurd (let z : false ≡ true = e in cc)
-  has_one (t ∷ ts) e = ⊎_elim (λ k. (t, inl refl, k)) (λ k. let r = has_one ts k in (r.0, inr r.1, r.2)) (either_true (such (turn_view t.event.what)) (has such ts) e)
+  has_one (t ∷ ts) e = ⊎_elim (λ k. (t, inl refl, k)) (λ k. let r = has_one ts k in (r.0, inr r.1, r.2)) (either_true (such (turn_view t.event.what)) (some_turn such ts) e)
 
-  one_has : (ts : List (Turn C Drawn)) (t : Turn C Drawn) → In t ts → such (turn_view t.event.what) ≡ true → has such ts ≡ true
+  one_has : (ts : List (Turn C Drawn)) (t : Turn C Drawn) → In t ts → such (turn_view t.event.what) ≡ true → some_turn such ts ≡ true
   one_has [] t i e = absurd i
-  one_has (u ∷ ts) t i e = ⊎_elim (λ is. first_true (such (turn_view u.event.what)) (has such ts) (subst (λ (x : Turn C Drawn). such (turn_view x.event.what) ≡ true) is e)) (λ k. second_true (such (turn_view u.event.what)) (has such ts) (one_has ts t k e)) i
+  one_has (u ∷ ts) t i e = ⊎_elim (λ is. first_true (such (turn_view u.event.what)) (some_turn such ts) (subst (λ (x : Turn C Drawn). such (turn_view x.event.what) ≡ true) is e)) (λ k. second_true (such (turn_view u.event.what)) (some_turn such ts) (one_has ts t k e)) i
 
   -- all turns of the one list stand in the other
-  pub has_within : (ts us : List (Turn C Drawn)) → ((t : Turn C Drawn) → In t ts → In t us) → has such ts ≡ true → has such us ≡ true
+  pub has_within : (ts us : List (Turn C Drawn)) → ((t : Turn C Drawn) → In t ts → In t us) → some_turn such ts ≡ true → some_turn such us ≡ true
   has_within ts us all e = let k = has_one ts e in one_has us k.0 (all k.0 k.1) k.2
 
-  pub none_within : (ts us : List (Turn C Drawn)) → ((t : Turn C Drawn) → In t ts → In t us) → has such us ≡ false → has such ts ≡ false
-  none_within ts us all e = false_unless (has such ts) (λ h. not_false (has such us) e (has_within ts us all h))
+  pub none_within : (ts us : List (Turn C Drawn)) → ((t : Turn C Drawn) → In t ts → In t us) → some_turn such us ≡ false → some_turn such ts ≡ false
+  none_within ts us all e = false_unless (some_turn such ts) (λ h. not_false (some_turn such us) e (has_within ts us all h))
 
 module _ {A C : Type 0} where
   -- one worker more
@@ -95,12 +95,12 @@ module _ {A C : Type 0} where
   by_drawn t (w ∷ ws) i = ⊎_elim (λ k. in_second t (turns_of ws) w.hand.view.turns k) (λ k. in_first t (turns_of ws) w.hand.view.turns (by_drawn t ws k)) i
 
 module _ {A C : Type 0} (such : said.Turn → Bool) where
-  has_turns : (ws : List (Worker A C)) → has such (turns_of ws) ≡ any_drew such ws
+  has_turns : (ws : List (Worker A C)) → some_turn such (turns_of ws) ≡ any_drew such ws
   has_turns [] = refl
   has_turns (w ∷ ws) = has_append such (turns_of ws) w.hand.view.turns ∙ ap (λ b. b || has_drawn such w) (has_turns ws) ∙ or_turned (any_drew such ws) (has_drawn such w)
 
-  pub of_all : {turns : List (Turn (PartSeen A) Drawn)} (ys : List (Worker A C)) (first : Worker A C) (xs : List (Worker A C)) → xs ≡ ys ++ first ∷ [] → turns ≡ first.hand.view.turns ++ turns_of ys → any_drew such xs ≡ has such turns
-  of_all ys first xs popped all = sym (ap (has such) (all_turns ys first xs popped all) ∙ has_turns xs)
+  pub of_all : {turns : List (Turn (PartSeen A) Drawn)} (ys : List (Worker A C)) (first : Worker A C) (xs : List (Worker A C)) → xs ≡ ys ++ first ∷ [] → turns ≡ first.hand.view.turns ++ turns_of ys → any_drew such xs ≡ some_turn such turns
+  of_all ys first xs popped all = sym (ap (some_turn such) (all_turns ys first xs popped all) ∙ has_turns xs)
 
 pub is_stall : (what : said.Turn) → stays_stuck what ≡ true → what ≡ said.stalls
 is_stall said.stalls e = refl
@@ -136,6 +136,6 @@ main_visible said.halts e = absurd (let z : false ≡ true = e in cc)
 main_visible said.stalls e = absurd (let z : false ≡ true = e in cc)
 
 -- the end of the main text is shown
-pub main_shown : {C : Type 0} (ts : List (Turn C Drawn)) → has ends_main ts ≡ true → HasMainEnd (shown_by ts)
+pub main_shown : {C : Type 0} (ts : List (Turn C Drawn)) → some_turn ends_main ts ≡ true → HasMainEnd (shown_by ts)
 main_shown [] e = absurd (let z : false ≡ true = e in cc)
-main_shown (t ∷ ts) e = let what = turn_view t.event.what in ⊎_elim (λ h. let k = main_visible what h in (k.0, in_first k.0 (visible what) (shown_by ts) k.1, k.2)) (λ h. let k = main_shown ts h in (k.0, in_second k.0 (visible what) (shown_by ts) k.1, k.2)) (either_true (ends_main what) (has ends_main ts) e)
+main_shown (t ∷ ts) e = let what = turn_view t.event.what in ⊎_elim (λ h. let k = main_visible what h in (k.0, in_first k.0 (visible what) (shown_by ts) k.1, k.2)) (λ h. let k = main_shown ts h in (k.0, in_second k.0 (visible what) (shown_by ts) k.1, k.2)) (either_true (ends_main what) (some_turn ends_main ts) e)

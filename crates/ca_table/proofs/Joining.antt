@@ -9,7 +9,7 @@ use Rattle.ca_journal.specs.Merge.{Ascends, EachAscends, Numbered, entries, join
 use Rattle.ca_journal.specs.declared.entries.Entries.{Entries}
 use Rattle.ca_turns.specs.Hands.{Held, TableId}
 use Rattle.ca_turns.specs.Places.{total}
-use Rattle.ca_turns.specs.Views.{both_views, stands}
+use Rattle.ca_turns.specs.Views.{both_views, hands_stood_for}
 use Rattle.ca_table.specs.Seen.{PartSeen}
 use Rattle.ca_table.specs.Workers.{IsJoined, IsReady, noted, stands_for}
 use Rattle.ca_table.specs.declared.drawn.Drawn.{Drawn}
@@ -50,7 +50,7 @@ module _ {A C : Type 0} (over : CodeView → A → Type 0) (stands_as : ProgramV
     nothing = λ i x e. j.nothing i x (sym (ap (λ l. get_elem? l i) parts) ∙ e);
     notes = joined_more lists w.entries ∙ ap₂ (λ (x y : List Numbered). x ++ y) j.notes r.one.notes ∙ sym (noted_append hand.view.turns w.hand.view.turns) ∙ sym (ap (λ v. noted v.turns) view);
     ascends = each_more lists w.entries j.ascends (ascend w r);
-    counted = ap stands view ∙ length-append hand.view.stands_for w.hand.view.stands_for ∙ ap (λ (k : ℕ). k + stands_for w) j.counted;
+    counted = ap hands_stood_for view ∙ length-append hand.view.stands_for w.hand.view.stands_for ∙ ap (λ (k : ℕ). k + stands_for w) j.counted;
   }
 
 -- nobody is left

@@ -10,8 +10,8 @@ use Rattle.ca_commit.specs.Listing.{listed}
 use Rattle.ca_commit.specs.Running.{or_was}
 use Rattle.ca_table.specs.Carrying.{Carries, IsPlace, kind_there, number_at, part_at, with_at}
 use Rattle.ca_table.specs.Grips.{Grips}
-use Rattle.ca_table.specs.Lifting.{Row, all_of, bank_row, contents_kind, first_of, kind_of_row, laid_back, lifted, place_in, shard_row, with_all}
-use Rattle.ca_table.specs.Parts.{away, contents_seen, part_of}
+use Rattle.ca_table.specs.Lifting.{PartRow, all_of, bank_row, contents_kind, first_part_number, kind_of_row, laid_back, lifted, row_place, shard_row, with_row}
+use Rattle.ca_table.specs.Parts.{part_away, contents_seen, part_of}
 use Rattle.ca_table.specs.Seen.{PartSeen, held_of}
 use Rattle.ca_table.specs.declared.part.Contents.{Contents}
 use Rattle.ca_table.specs.declared.part.Contents.TheVariants as V
@@ -19,15 +19,15 @@ use Rattle.ca_table.specs.declared.part.Part.{Part}
 use Rattle.ca_table.proofs.Carriers.{kind_placed}
 use Rattle.ca_table.proofs.Gripping.{fit, held_is}
 
-pub numbered_in : (row : Row) (n w i : ℕ) → first_of row n + i ≡ number_at n w (place_in row i)
+pub numbered_in : (row : PartRow) (n w i : ℕ) → first_part_number row n + i ≡ number_at n w (row_place row i)
 numbered_in bank_row n w i = refl
 numbered_in shard_row n w i = refl
 
-pub is_place : (row : Row) (i : ℕ) → i < 16 → IsPlace (place_in row i)
+pub is_place : (row : PartRow) (i : ℕ) → i < 16 → IsPlace (row_place row i)
 is_place bank_row i lt = lt
 is_place shard_row i lt = lt
 
-kind_in : (row : Row) (i : ℕ) → kind_there (place_in row i) ≡ kind_of_row row
+kind_in : (row : PartRow) (i : ℕ) → kind_there (row_place row i) ≡ kind_of_row row
 kind_in bank_row i = refl
 kind_in shard_row i = refl
 
@@ -40,29 +40,29 @@ kind_of_held least faults readings (V.Timers t) = refl
 kind_of_held least faults readings (V.Ready r) = refl
 kind_of_held least faults readings V.Away = refl
 
-pub kind_at_row : (row : Row) (n w i : ℕ) → w < n → i < 16 → kind_at n (first_of row n + i) ≡ kind_of_row row
-kind_at_row row n w i below lt = ap (kind_at n) (numbered_in row n w i) ∙ kind_placed n w below (place_in row i) (is_place row i lt) ∙ kind_in row i
+pub kind_at_row : (row : PartRow) (n w i : ℕ) → w < n → i < 16 → kind_at n (first_part_number row n + i) ≡ kind_of_row row
+kind_at_row row n w i below lt = ap (kind_at n) (numbered_in row n w i) ∙ kind_placed n w below (row_place row i) (is_place row i lt) ∙ kind_in row i
 
 module _ {X : Type 0} where
-  pub with_one : (row : Row) (i : ℕ) (o : Option X) (f : ℕ → Option X) (h : Carries X) → with_at (place_in row i) o (with_all row f h) ≡ with_all row (update eqb f i o) h
+  pub with_one : (row : PartRow) (i : ℕ) (o : Option X) (f : ℕ → Option X) (h : Carries X) → with_at (row_place row i) o (with_row row f h) ≡ with_row row (update eqb f i o) h
   with_one bank_row i o f h = refl
   with_one shard_row i o f h = refl
 
   -- one that is there already
-  pub with_own : (row : Row) (i : ℕ) (o : Option X) (f : ℕ → Option X) (h : Carries X) → f i ≡ o → with_at (place_in row i) o (with_all row f h) ≡ with_all row f h
-  with_own row i o f h e = with_one row i o f h ∙ ap (λ (g : ℕ → Option X). with_all row g h) (λ t j. by j (eqb i j) refl t) where
+  pub with_own : (row : PartRow) (i : ℕ) (o : Option X) (f : ℕ → Option X) (h : Carries X) → f i ≡ o → with_at (row_place row i) o (with_row row f h) ≡ with_row row f h
+  with_own row i o f h e = with_one row i o f h ∙ ap (λ (g : ℕ → Option X). with_row row g h) (λ t j. by j (eqb i j) refl t) where
     by : (j : ℕ) (b : Bool) → eqb i j ≡ b → cond b o (f j) ≡ f j
     by j true is = sym e ∙ ap f (eqb-true i j is)
     by j false is = refl
 
-  pub with_every : (row : Row) (f g : ℕ → Option X) (h : Carries X) → ((i : ℕ) → f i ≡ g i) → with_all row f h ≡ with_all row g h
-  with_every row f g h e = ap (λ (f : ℕ → Option X). with_all row f h) (λ t i. e i t)
+  pub with_every : (row : PartRow) (f g : ℕ → Option X) (h : Carries X) → ((i : ℕ) → f i ≡ g i) → with_row row f h ≡ with_row row g h
+  with_every row f g h e = ap (λ (f : ℕ → Option X). with_row row f h) (λ t i. e i t)
 
-  pub with_theirs : (row : Row) (h : Carries X) → with_all row (all_of row h) h ≡ h
+  pub with_theirs : (row : PartRow) (h : Carries X) → with_row row (all_of row h) h ≡ h
   with_theirs bank_row h = refl
   with_theirs shard_row h = refl
 
-  pub there_all : (row : Row) (i : ℕ) (f : ℕ → Option X) (h : Carries X) → part_at (place_in row i) (with_all row f h) ≡ f i
+  pub there_all : (row : PartRow) (i : ℕ) (f : ℕ → Option X) (h : Carries X) → part_at (row_place row i) (with_row row f h) ≡ f i
   there_all bank_row i f h = refl
   there_all shard_row i f h = refl
 
@@ -108,10 +108,10 @@ module _ {T : Type 0} (number : T → ℕ) where
 module _ {A C T : Type 0} (n : ℕ) (code : ValidCode) (as_contents : T → Contents A C) (number : T → ℕ) where
   -- one more part was moved out
   pub lifted_more : (seen : Part A C → PartSeen A) (xs : List T) (x : T) (i : ℕ) → number x ≡ i → listed number xs i ≡ None
-      → update eqb (lifted n code as_contents seen number xs) i (Some (away n code, seen (part_of n code (as_contents x)))) ≡ lifted n code as_contents seen number (xs ++ x ∷ [])
+      → update eqb (lifted n code as_contents seen number xs) i (Some (part_away n code, seen (part_of n code (as_contents x)))) ≡ lifted n code as_contents seen number (xs ++ x ∷ [])
   lifted_more seen xs x i e none = λ t j. by j (eqb i j) refl t where
     f : T → Part A C × PartSeen A
-    f y = (away n code, seen (part_of n code (as_contents y)))
+    f y = (part_away n code, seen (part_of n code (as_contents y)))
 
     by : (j : ℕ) (b : Bool) → eqb i j ≡ b → cond b (Some (f x)) (option_map f (listed number xs j)) ≡ option_map f (listed number (xs ++ x ∷ []) j)
     by j true is = let k : i ≡ j = eqb-true i j is in sym (ap (option_map f) (listed_last number xs x j (e ∙ k) (ap (listed number xs) (sym k) ∙ none)))
@@ -127,13 +127,13 @@ module _ {A C T : Type 0} (n : ℕ) (code : ValidCode) (as_contents : T → Cont
 
   -- where something was settled, something lies
   pub laid_there : (o : Option T) (c : PartSeen A) → (y : Part A C) × (laid_back n code as_contents o (Some c) ≡ Some (y, c))
-  laid_there None c = (away n code, refl)
+  laid_there None c = (part_away n code, refl)
   laid_there (Some x) c = (part_of n code (as_contents x), refl)
 
   -- what was moved out into a list is settled so
   pub lifted_was : (seen : Part A C → PartSeen A) (xs : List T) (i : ℕ) → laid_back n code as_contents None (option_map (λ x. seen (part_of n code (as_contents x))) (listed number xs i)) ≡ lifted n code as_contents seen number xs i
   lifted_was seen xs i = by (listed number xs i) where
-    by : (o : Option T) → laid_back n code as_contents None (option_map (λ x. seen (part_of n code (as_contents x))) o) ≡ option_map (λ x. (away n code, seen (part_of n code (as_contents x)))) o
+    by : (o : Option T) → laid_back n code as_contents None (option_map (λ x. seen (part_of n code (as_contents x))) o) ≡ option_map (λ x. (part_away n code, seen (part_of n code (as_contents x)))) o
     by None = refl
     by (Some x) = refl
 
@@ -176,6 +176,6 @@ module _ {X : Type 0} (now : ℕ → Option X) where
   gave_all k i none = ⊎_elim (λ lt. ap (λ b. cond b None (now i)) (lt-ltb i k lt)) (λ le. ap (λ b. cond b None (now i)) (le-ltb i k le) ∙ none i le) (cases_lt i k)
 
 -- it is one of the parts of a run
-pub in_run : (row : Row) (n w i a : ℕ) → a ≡ first_of row w → w ≡ n → i < 16 → a + i < n + 33 + n
+pub in_run : (row : PartRow) (n w i a : ℕ) → a ≡ first_part_number row w → w ≡ n → i < 16 → a + i < n + 33 + n
 in_run bank_row n w i a e f lt = omega (arith, e, f, lt)
 in_run shard_row n w i a e f lt = omega (arith, e, f, lt)

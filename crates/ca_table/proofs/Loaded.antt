@@ -12,7 +12,7 @@ use Rattle.ca_commit.specs.declared.held.Held.{Held}
 use Rattle.ca_commit.specs.declared.held.HeldBank.{HeldBank}
 use Rattle.ca_commit.specs.declared.held.HeldShard.{HeldShard}
 use Rattle.ca_commit.specs.declared.task.Ready.{Ready}
-use Rattle.ca_table.specs.Bearing.{IsMadeOf, ShowSame, bank_content, content, paired, ready_content, shard_content}
+use Rattle.ca_table.specs.Bearing.{IsMadeOf, ShowSame, bank_content, content, paired_parts, ready_content, shard_content}
 use Rattle.ca_table.specs.Carrying.{Carries}
 use Rattle.ca_table.specs.Parts.{bank_seen, shard_seen}
 use Rattle.ca_table.specs.Seen.{PartSeen, content_of, held_of, seen_bank, seen_shard}
@@ -64,7 +64,7 @@ module _ {Z S V : Type 0} (view : S → V) (show : Z → S) (whole : Z → V) (i
 module _ {A P Z : Type 0} (seen : P → PartSeen A) (as_part : Z → P) (whole : Z → Content (TaskAgent A)) (is : (z : Z) → content_of (seen (as_part z)) ≡ whole z) where
   -- a part as it is now, with what was settled of it, where it is there before and after or neither
   abbrev pub kept : Option Z → Option Z → Option (P × PartSeen A)
-  kept old new = paired (option_map as_part new) (option_map (λ z. seen (as_part z)) old)
+  kept old new = paired_parts (option_map as_part new) (option_map (λ z. seen (as_part z)) old)
 
   both_there : (o z : Option Z) → is_some z ≡ is_some o → is_some (option_map as_part z) ≡ is_some (option_map (λ z. seen (as_part z)) o)
   both_there None None e = refl

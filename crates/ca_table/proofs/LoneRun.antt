@@ -4,7 +4,7 @@ use Rattle.ca_term.specs.Event.{EventView}
 use Rattle.ca_journal.specs.Merge.{events_of, in_order}
 use Rattle.ca_turns.specs.Hands.{Held}
 use Rattle.ca_turns.specs.Steps.{Sees}
-use Rattle.ca_turns.specs.Views.{stands}
+use Rattle.ca_turns.specs.Views.{hands_stood_for}
 use Rattle.ca_turns.specs.declared.rule.Turn.{Turn}
 use Rattle.ca_table.specs.Draws.{drawn_touches}
 use Rattle.ca_table.specs.Seen.{PartSeen}
@@ -28,7 +28,7 @@ pub all_of_one : {X : Type 0} (P : X → Type 0) (xs ys : List X) (x : X) → xs
 all_of_one P xs ys x e one p = let none = none_before ys x (sym (ap length e) ∙ one) in subst (All P) (sym (e ∙ ap (λ l. l ++ x ∷ []) none)) (one_has P x (p none))
 
 module _ {A C : Type 0} (moves : Drawn → List (PartSeen A) → List (PartSeen A) → Type 0) (w : Worker A C) (journal : List EventView) (log : List (Turn (PartSeen A) Drawn)) (parts : List (PartSeen A)) where
-  ran_so : Sees drawn_touches moves w.hand.view log parts → stands w.hand.view ≡ w.hand.view.hands → AllAbove 0 w.hand.view.turns → journal ≡ events_of (in_order (noted w.hand.view.turns)) → RanAlone moves journal parts w
+  ran_so : Sees drawn_touches moves w.hand.view log parts → hands_stood_for w.hand.view ≡ w.hand.view.hands → AllAbove 0 w.hand.view.turns → journal ≡ events_of (in_order (noted w.hand.view.turns)) → RanAlone moves journal parts w
   ran_so sees alone up is = record {
     shown = is ∙ own_journal drawn_touches moves w.hand.view log parts sees alone up;
     run = own_run drawn_touches moves w.hand.view (log, parts, sees) alone up;
@@ -36,6 +36,6 @@ module _ {A C : Type 0} (moves : Drawn → List (PartSeen A) → List (PartSeen 
   }
 
   -- its hand closed the table
-  pub ran_alone : (hand : Held (Part A C) (PartSeen A) Drawn) → hand ≡ w.hand → Sees drawn_touches moves hand.view log parts → stands hand.view ≡ hand.view.hands → AllAbove 0 w.hand.view.turns → journal ≡ events_of (in_order (noted hand.view.turns)) → RanAlone moves journal parts w
-  ran_alone hand same sees alone up is = ran_so (subst (λ (h : Held (Part A C) (PartSeen A) Drawn). Sees drawn_touches moves h.view log parts) same sees) (subst (λ (h : Held (Part A C) (PartSeen A) Drawn). stands h.view ≡ h.view.hands) same alone) up
+  pub ran_alone : (hand : Held (Part A C) (PartSeen A) Drawn) → hand ≡ w.hand → Sees drawn_touches moves hand.view log parts → hands_stood_for hand.view ≡ hand.view.hands → AllAbove 0 w.hand.view.turns → journal ≡ events_of (in_order (noted hand.view.turns)) → RanAlone moves journal parts w
+  ran_alone hand same sees alone up is = ran_so (subst (λ (h : Held (Part A C) (PartSeen A) Drawn). Sees drawn_touches moves h.view log parts) same sees) (subst (λ (h : Held (Part A C) (PartSeen A) Drawn). hands_stood_for h.view ≡ h.view.hands) same alone) up
       (is ∙ ap (λ (h : Held (Part A C) (PartSeen A) Drawn). events_of (in_order (noted h.view.turns))) same)

@@ -13,8 +13,8 @@ use Rattle.ca_commit.specs.declared.held.Held.{Held}
 use Rattle.ca_commit.specs.declared.held.HeldBank.{HeldBank}
 use Rattle.ca_commit.specs.declared.held.HeldShard.{HeldShard}
 use Rattle.ca_commit.specs.declared.task.Ready.{Ready}
-use Rattle.ca_table.specs.Bearing.{Bears, IsMadeOf, bank_content, lane_content, paired, ready_content, shard_content, timers_content}
-use Rattle.ca_table.specs.Carrying.{Carries, Each}
+use Rattle.ca_table.specs.Bearing.{Bears, IsMadeOf, bank_content, lane_content, paired_parts, ready_content, shard_content, timers_content}
+use Rattle.ca_table.specs.Carrying.{Carries, EachCarried}
 
 pub some_same : {X : Type 0} (x y : X) → Some x ≡ Some y → x ≡ y
 some_same x y e = cc
@@ -73,12 +73,12 @@ module _ {A X Z : Type 0} (n : ℕ) (k : Kind) (content : Z → Content A) (is :
 
 module _ {X Y Z : Type 0} where
   -- what is told of either half of a pair, where both are there or neither
-  pub paired_first : (g : X → Z) (a : Option X) (b : Option Y) → is_some a ≡ is_some b → option_map (λ (x : X × Y). g x.0) (paired a b) ≡ option_map g a
+  pub paired_first : (g : X → Z) (a : Option X) (b : Option Y) → is_some a ≡ is_some b → option_map (λ (x : X × Y). g x.0) (paired_parts a b) ≡ option_map g a
   paired_first g None b e = refl
   paired_first g (Some x) None e = absurd (let z : true ≡ false = e in cc)
   paired_first g (Some x) (Some y) e = refl
 
-  pub paired_second : (f : Y → Z) (a : Option X) (b : Option Y) → is_some a ≡ is_some b → option_map (λ (x : X × Y). f x.1) (paired a b) ≡ option_map f b
+  pub paired_second : (f : Y → Z) (a : Option X) (b : Option Y) → is_some a ≡ is_some b → option_map (λ (x : X × Y). f x.1) (paired_parts a b) ≡ option_map f b
   paired_second f None None e = refl
   paired_second f None (Some y) e = absurd (let z : false ≡ true = e in cc)
   paired_second f (Some x) None e = absurd (let z : true ≡ false = e in cc)
@@ -90,7 +90,7 @@ module _ {A X : Type 0} (n w : ℕ) (f g : X → Content (TaskAgent A)) (h : Car
   ready_alike r false a b x there = absurd (let z : Some (f x) ≡ None = sym (ap (option_map f) there) ∙ a in cc)
 
   -- each part stays of its kind
-  pub all_alike : IsMadeOf n f w h lane timers held → IsMadeOf n g w h lane2 timers2 held2 → Each (λ x. Alike n (f x) (g x)) h
+  pub all_alike : IsMadeOf n f w h lane timers held → IsMadeOf n g w h lane2 timers2 held2 → EachCarried (λ x. Alike n (f x) (g x)) h
   all_alike a b = record {
     lane = alike_by n lane_kind (lane_content n) (λ z. (refl, refl)) f g h.lane lane lane2 a.lane_part b.lane_part;
     banks = λ i. alike_by n bank_kind (bank_content n) (λ z. (refl, refl)) f g (h.banks i) (listed number_of_bank (parts held.banks) i) (listed number_of_bank (parts held2.banks) i) (a.bank_parts i) (b.bank_parts i);

@@ -11,7 +11,7 @@ use Rattle.ca_commit.specs.Agents.{TaskAgent}
 use Rattle.ca_commit.specs.Contents.{Parts, TimersPart, unmarked}
 use Rattle.ca_commit.specs.Gathered.{Kind, away_kind, bank_kind, lane_kind, ready_kind, shard_kind, sorted, timers_kind, timers_of}
 use Rattle.ca_commit.specs.Moving.{MovesShown, MovesTurn}
-use Rattle.ca_commit.specs.Opening.{opened}
+use Rattle.ca_commit.specs.Opening.{part_opened}
 use Rattle.ca_commit.specs.Running.{or_was}
 use Rattle.ca_commit.specs.TaskMoves.{MakesTimed, MarksEnd}
 use Rattle.ca_commit.specs.Touched as said
@@ -76,7 +76,7 @@ unmarked_laid old None now within stays none c e = none c e
 unmarked_laid old (Some d) now within stays none c e = let k = stays c e in k.2 ∙ none k.0 (within k.0 k.1)
 
 -- as they are opened
-pub unmarked_opening : {A : Type 0} (n : ℕ) (program : ProgramView) (main : A) (clock : TimersPart) (i : ℕ) (b : Bool) (k : Kind) → clock.mark ≡ unmarked → Unmarked (sorted (timers_of {A = TaskAgent A}) (cond b (Some (record { workers = n; held = opened n program main clock i k })) None))
+pub unmarked_opening : {A : Type 0} (n : ℕ) (program : ProgramView) (main : A) (clock : TimersPart) (i : ℕ) (b : Bool) (k : Kind) → clock.mark ≡ unmarked → Unmarked (sorted (timers_of {A = TaskAgent A}) (cond b (Some (record { workers = n; held = part_opened n program main clock i k })) None))
 unmarked_opening n program main clock i false k m c e = absurd (let z : None ≡ Some c = e in cc)
 unmarked_opening n program main clock i true lane_kind m c e = absurd (let z : None ≡ Some c = e in cc)
 unmarked_opening n program main clock i true bank_kind m c e = absurd (let z : None ≡ Some c = e in cc)

@@ -4,7 +4,7 @@ use mathlib.Core.List.{append_assoc, append-nil}
 use Rattle.ca_term.specs.Event.{EventView}
 use Rattle.ca_commit.specs.Moving.{visible}
 use Rattle.ca_commit.specs.Touched as said
-use Rattle.ca_table.specs.Moments.{NeverFall, StandIn, WentOn, moment_told, moments_told, turn_asked}
+use Rattle.ca_table.specs.Moments.{NeverFall, StandIn, ToldWentOn, moment_told, moments_told, turn_asked}
 
 -- the first is no later than the last
 pub rises : (first last : ℕ) (ms : List ℕ) → NeverFall first ms last → first ≤ last
@@ -19,9 +19,9 @@ pub fall_after : (a b c : ℕ) (ms ns : List ℕ) → NeverFall a ms b → Never
 fall_after a b c [] ns f g = lower_first a b c ns f g
 fall_after a b c (m ∷ ms) ns f g = (f.0, fall_after m b c ms ns f.1 g)
 
-pub went_after : (ms ns : List ℕ) (o p q : Option (List ℕ)) → WentOn ms o p → WentOn ns p q → WentOn (ms ++ ns) o q
+pub went_after : (ms ns : List ℕ) (o p q : Option (List ℕ)) → ToldWentOn ms o p → ToldWentOn ns p q → ToldWentOn (ms ++ ns) o q
 went_after ms ns None p q f g = tt
-went_after ms ns (Some told) p q f g = subst (λ z. WentOn ns z q) f g ∙ ap Some (append_assoc told ms ns)
+went_after ms ns (Some told) p q f g = subst (λ z. ToldWentOn ns z q) f g ∙ ap Some (append_assoc told ms ns)
 
 stand_later : (ys us vs : List ℕ) → StandIn us vs → StandIn us (ys ++ vs)
 stand_later [] us vs h = h

@@ -12,23 +12,23 @@ use Rattle.ca_commit.specs.Contents.{Content, Parts}
 use Rattle.ca_commit.specs.Gathered.{Alike, AllAlike, gather, kind_of_part, parts_of, pick}
 use Rattle.ca_commit.specs.Moving.{Moves, MovesTurn}
 use Rattle.ca_commit.specs.Touched.{Drawn, touches}
-use Rattle.ca_table.specs.Carrying.{AreSorted, Carries, Each, at_places, carried, each_by}
+use Rattle.ca_table.specs.Carrying.{AreSorted, Carries, EachCarried, at_places, carried, each_by}
 use Rattle.ca_table.specs.Covering.{Covers}
-use Rattle.ca_table.specs.Grips.{Grips, HasAll, add_settled, add_value, is_among, settle, settled, settled_one, values}
+use Rattle.ca_table.specs.Grips.{Grips, HasAll, add_settled, add_value, is_place_among, settle, settled_contents, settled_one, values}
 use Rattle.ca_table.proofs.Carried.{at_each, each_at, each_weaker, sorted_alike}
 use Rattle.ca_table.proofs.Carrying.{parts_carried}
 use Rattle.ca_table.proofs.Covered.{covered}
 use Rattle.ca_table.proofs.Gripping.{among_at, held_is}
 
-among_later : (i j : ℕ) (is : List ℕ) → is_among j is ≡ true → is_among j (i ∷ is) ≡ true
+among_later : (i j : ℕ) (is : List ℕ) → is_place_among j is ≡ true → is_place_among j (i ∷ is) ≡ true
 among_later i j is e = by (eqb i j) where
-  by : (b : Bool) → cond b true (is_among j is) ≡ true
+  by : (b : Bool) → cond b true (is_place_among j is) ≡ true
   by true = refl
   by false = e
 
-pub all_among : (P : ℕ → Type 0) (is : List ℕ) → ((i : ℕ) → is_among i is ≡ true → P i) → AllIn P is
+pub all_among : (P : ℕ → Type 0) (is : List ℕ) → ((i : ℕ) → is_place_among i is ≡ true → P i) → AllIn P is
 all_among P [] h = tt
-all_among P (i ∷ is) h = (h i (ap (λ b. cond b true (is_among i is)) (eq-eqb i i refl)), all_among P is (λ j e. h j (among_later i j is e)))
+all_among P (i ∷ is) h = (h i (ap (λ b. cond b true (is_place_among i is)) (eq-eqb i i refl)), all_among P is (λ j e. h j (among_later i j is e)))
 
 there : {X : Type 0} (o : Option X) → is_some o ≡ true → (x : X) × (o ≡ Some x)
 there None e = absurd (let z : false ≡ true = e in cc)
@@ -48,7 +48,7 @@ module _ {Z Y : Type 0} (q : Z → Y) where
   same_looks g f [] e = refl
   same_looks g f (i ∷ is) e = ap (λ o. add_by o (looks g is)) e.0 ∙ ap (λ l. add_by (f i) l) (same_looks g f is e.1)
 
-  pick_one : (g : ℕ → Option Z) (i j : ℕ) (is : List ℕ) (x : Z) → g i ≡ Some x → (b : Bool) → eqb i j ≡ b → (is_among j is ≡ is_some (g j) → pick is (looks g is) j ≡ option_map q (g j)) → cond b true (is_among j is) ≡ is_some (g j) → cond b (Some (q x)) (pick is (looks g is) j) ≡ option_map q (g j)
+  pick_one : (g : ℕ → Option Z) (i j : ℕ) (is : List ℕ) (x : Z) → g i ≡ Some x → (b : Bool) → eqb i j ≡ b → (is_place_among j is ≡ is_some (g j) → pick is (looks g is) j ≡ option_map q (g j)) → cond b true (is_place_among j is) ≡ is_some (g j) → cond b (Some (q x)) (pick is (looks g is) j) ≡ option_map q (g j)
   pick_one g i j is x f true s more e = sym (ap (λ (k : ℕ). option_map q (g k)) (sym (eqb-true i j s)) ∙ ap (option_map q) f)
   pick_one g i j is x f false s more e = more e
 
@@ -56,7 +56,7 @@ module _ {Z Y : Type 0} (q : Z → Y) where
   none_here None e = refl
   none_here (Some x) e = absurd (let z : false ≡ true = e in cc)
 
-  pick_looks : (g : ℕ → Option Z) (is : List ℕ) → AllIn (λ i. (x : Z) × (g i ≡ Some x)) is → (j : ℕ) → is_among j is ≡ is_some (g j) → pick is (looks g is) j ≡ option_map q (g j)
+  pick_looks : (g : ℕ → Option Z) (is : List ℕ) → AllIn (λ i. (x : Z) × (g i ≡ Some x)) is → (j : ℕ) → is_place_among j is ≡ is_some (g j) → pick is (looks g is) j ≡ option_map q (g j)
   pick_looks g [] has j e = none_here (g j) e
   pick_looks g (i ∷ is) has j e = ap (λ o. pick (i ∷ is) (add_by o (looks g is)) j) has.0.1 ∙ pick_one g i j is has.0.0 has.0.1 (eqb i j) refl (pick_looks g is has.1 j) e
 
@@ -69,10 +69,10 @@ module _ {A Z : Type 0} (n : ℕ) (f1 f2 : Z → Content A) where
     by (Some x) a r = (a x refl, r)
 
 module _ {P C Y : Type 0} where
-  map_settled : (f : C → Y) (g : ℕ → Option (P × C)) (is : List ℕ) → map f (settled g is) ≡ looks (λ x. f x.1) g is
+  map_settled : (f : C → Y) (g : ℕ → Option (P × C)) (is : List ℕ) → map f (settled_contents g is) ≡ looks (λ x. f x.1) g is
   map_settled f g [] = refl
   map_settled f g (i ∷ is) = by (g i) (map_settled f g is) where
-    by : (o : Option (P × C)) → map f (settled g is) ≡ looks (λ x. f x.1) g is → map f (add_settled o (settled g is)) ≡ add_by (λ x. f x.1) o (looks (λ x. f x.1) g is)
+    by : (o : Option (P × C)) → map f (settled_contents g is) ≡ looks (λ x. f x.1) g is → map f (add_settled o (settled_contents g is)) ≡ add_by (λ x. f x.1) o (looks (λ x. f x.1) g is)
     by None e = e
     by (Some x) e = ap (λ l. f x.1 ∷ l) e
 
@@ -106,13 +106,13 @@ module _ {A P C : Type 0} (place : A → At) (advances : ProgramView → A → A
   after x = view (content x.0)
 
   -- the hand may have more than that
-  pub moved : AreSorted before h → Each (λ x. Alike d.workers (before x) (after x)) h → MovesTurn place advances gives starts d.worker d.workers d.what (carried before d.worker h) (carried after d.worker h)
-      → (g : ℕ → Option (P × C)) → AllIn (λ i. g i ≡ at_places d.workers d.worker h i) (touches d) → HasAll g (touches d) × Moves place advances gives starts d (map view (settled g (touches d))) (map view (map content (values g (touches d))))
+  pub moved : AreSorted before h → EachCarried (λ x. Alike d.workers (before x) (after x)) h → MovesTurn place advances gives starts d.worker d.workers d.what (carried before d.worker h) (carried after d.worker h)
+      → (g : ℕ → Option (P × C)) → AllIn (λ i. g i ≡ at_places d.workers d.worker h i) (touches d) → HasAll g (touches d) × Moves place advances gives starts d (map view (settled_contents g (touches d))) (map view (map content (values g (touches d))))
   moved s alike moves g same = (has_same g at (touches d) same (has_each d h lt c), subst (λ l. Moves place advances gives starts d l (map view (map content (values g (touches d))))) (sym first) (subst (λ l. Moves place advances gives starts d (looks before at (touches d)) l) (sym second) (lt, alike_looks d.workers before after at (touches d) (each_at (λ x. Alike d.workers (before x) (after x)) d.workers d.worker h alike), turn))) where
     at : ℕ → Option (P × C)
     at = at_places d.workers d.worker h
 
-    first : map view (settled g (touches d)) ≡ looks before at (touches d)
+    first : map view (settled_contents g (touches d)) ≡ looks before at (touches d)
     first = map_settled view g (touches d) ∙ same_looks before g at (touches d) same
 
     second : map view (map content (values g (touches d))) ≡ looks after at (touches d)
@@ -128,7 +128,7 @@ module _ {A P C : Type 0} (place : A → At) (advances : ProgramView → A → A
 module _ {P C : Type 0} (content : P → C) (d : Drawn) (h : Carries (P × C)) (lt : d.worker < d.workers) (c : Covers d h) where
   -- once all that is carried is settled
   pub settles : settle content (touches d) (at_places d.workers d.worker h) ≡ at_places d.workers d.worker (each_by (settled_one content) h)
-  settles = λ t j. (by (at_places d.workers d.worker h j) (is_among j (touches d)) (covered d h lt c j) ∙ sym (at_each (settled_one content) d.workers d.worker h refl j)) t where
+  settles = λ t j. (by (at_places d.workers d.worker h j) (is_place_among j (touches d)) (covered d h lt c j) ∙ sym (at_each (settled_one content) d.workers d.worker h refl j)) t where
     by : (o : Option (P × C)) (b : Bool) → b ≡ is_some o → cond b (settled_one content o) o ≡ settled_one content o
     by None true e = refl
     by None false e = refl

@@ -6,10 +6,10 @@ use Rattle.ca_commit.specs.Contents.{Content, Kept, LaneView, Parked, Parts, ali
 use Rattle.ca_commit.specs.Gathered.{bank_of, channels_of, lane_of, registries_of, shard_of, sorted}
 use Rattle.ca_commit.specs.Touched as said
 use Rattle.ca_table.specs.Carrying.{Carries, carried}
-use Rattle.ca_table.specs.Covering.{Covers, is_named, names_of}
+use Rattle.ca_table.specs.Covering.{Covers, is_named_one, turn_names}
 use Rattle.ca_table.specs.Needing.{Brings, drawn_with}
 
-homes_more : (b : ℕ → Bool) (i : ℕ) (ns more : List ℕ) → said.homes more i ≡ b i → said.AllIn (λ n. b (home n) ≡ true) ns → said.homes (ns ++ more) i ≡ b i
+homes_more : (b : ℕ → Bool) (i : ℕ) (ns more : List ℕ) → said.homes more i ≡ b i → said.AllHave (λ n. b (home n) ≡ true) ns → said.homes (ns ++ more) i ≡ b i
 homes_more b i [] more e h = e
 homes_more b i (n ∷ ns) more e h = by (eqb i (home n)) refl (homes_more b i ns more e h.1) where
   by : (c : Bool) → eqb i (home n) ≡ c → said.homes (ns ++ more) i ≡ b i → cond c true (said.homes (ns ++ more) i) ≡ b i
@@ -18,19 +18,19 @@ homes_more b i (n ∷ ns) more e h = by (eqb i (home n)) refl (homes_more b i ns
 
 module _ {X : Type 0} (h : Carries X) where
   abbrev pub BanksOf : List ℕ → Type 0
-  BanksOf = said.AllIn (λ p. is_some (h.banks (home p)) ≡ true)
+  BanksOf = said.AllHave (λ p. is_some (h.banks (home p)) ≡ true)
 
   abbrev pub ShardsOf : List ℕ → Type 0
-  ShardsOf = said.AllIn (λ v. is_some (h.shards (home v)) ≡ true)
+  ShardsOf = said.AllHave (λ v. is_some (h.shards (home v)) ≡ true)
 
-  pub covers_by : (w n : ℕ) (what : said.Turn) (ports looked : List ℕ) (x : said.Named) → what ≢ said.stalls → names_of w what ≡ x → x.lane ≡ is_some h.lane → Brings ports looked x.timers x.ready h → BanksOf x.ports → ShardsOf x.waits → Covers (drawn_with w n what ports looked) h
+  pub covers_by : (w n : ℕ) (what : said.Turn) (ports looked : List ℕ) (x : said.NamedParts) → what ≢ said.stalls → turn_names w what ≡ x → x.lane ≡ is_some h.lane → Brings ports looked x.timers x.ready h → BanksOf x.ports → ShardsOf x.waits → Covers (drawn_with w n what ports looked) h
   covers_by w n what ports looked x some is lane brings banks shards = record {
     some = some;
-    lane = ap (λ (y : said.Named). y.lane) is ∙ lane;
-    banks = λ i lt. ap (λ (y : said.Named). said.homes (y.ports ++ ports) i) is ∙ homes_more (λ j. is_some (h.banks j)) i x.ports ports (brings.banks i lt) banks;
-    shards = λ i lt. ap (λ (y : said.Named). said.homes (y.waits ++ looked) i) is ∙ homes_more (λ j. is_some (h.shards j)) i x.waits looked (brings.shards i lt) shards;
-    timers = ap (λ (y : said.Named). y.timers) is ∙ brings.timers;
-    ready = λ r. ap (λ (y : said.Named). is_named y.ready r) is ∙ brings.ready r;
+    lane = ap (λ (y : said.NamedParts). y.lane) is ∙ lane;
+    banks = λ i lt. ap (λ (y : said.NamedParts). said.homes (y.ports ++ ports) i) is ∙ homes_more (λ j. is_some (h.banks j)) i x.ports ports (brings.banks i lt) banks;
+    shards = λ i lt. ap (λ (y : said.NamedParts). said.homes (y.waits ++ looked) i) is ∙ homes_more (λ j. is_some (h.shards j)) i x.waits looked (brings.shards i lt) shards;
+    timers = ap (λ (y : said.NamedParts). y.timers) is ∙ brings.timers;
+    ready = λ r. ap (λ (y : said.NamedParts). is_named_one y.ready r) is ∙ brings.ready r;
   }
 
 module _ {A X : Type 0} (f : X → Content A) (w : ℕ) (h : Carries X) where

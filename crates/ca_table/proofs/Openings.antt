@@ -8,30 +8,30 @@ use Rattle.ca_term.specs.Program.{ProgramParts, program_view}
 use Rattle.ca_states.specs.Code.{CodeView}
 use Rattle.ca_meaning.specs.Registry.{Registry}
 use Rattle.ca_commit.specs.Agents.{TaskAgent}
-use Rattle.ca_commit.specs.Contents.{Content, Held, Kept, Parked, TimersPart, a_bank, a_ready, a_shard}
+use Rattle.ca_commit.specs.Contents.{Content, PartContents, Kept, Parked, TimersPart, a_bank, a_ready, a_shard}
 use Rattle.ca_commit.specs.Gathered.{Kind, bank_kind, kind_at, lane_kind, parts_of, ready_kind, shard_kind, sorted, timers_kind, timers_of}
-use Rattle.ca_commit.specs.Opening.{main_agent, opened, opening_parts}
-use Rattle.ca_table.specs.Opening.{empty_bank, empty_shard, idle_lane, main_ready, none_ready, opening_list, part_of}
-use Rattle.ca_table.specs.Running.{at, contents_at}
+use Rattle.ca_commit.specs.Opening.{main_agent, part_opened, opening_parts}
+use Rattle.ca_table.specs.Opening.{empty_bank, empty_shard, idle_lane, main_ready, none_ready, opening_list, seen_part}
+use Rattle.ca_table.specs.Running.{lying_at, contents_at}
 use Rattle.ca_table.specs.Seen.{PartSeen, content_of, seen_timers}
 
 module _ {X : Type 0} where
-  rep_in : (n i : ℕ) (x : X) (ys : List X) → i < n → at (replicate n x ++ ys) i ≡ Some x
+  rep_in : (n i : ℕ) (x : X) (ys : List X) → i < n → lying_at (replicate n x ++ ys) i ≡ Some x
   rep_in zero i x ys lt = absurd (omega (arith, lt))
   rep_in (suc n) zero x ys lt = refl
   rep_in (suc n) (suc i) x ys lt = rep_in n i x ys (omega (arith, lt))
 
-  rep_after : (n i j : ℕ) (x : X) (ys : List X) → i ≡ n + j → at (replicate n x ++ ys) i ≡ at ys j
-  rep_after zero i j x ys e = ap (at ys) (let k : i ≡ j = omega (arith, e) in k)
+  rep_after : (n i j : ℕ) (x : X) (ys : List X) → i ≡ n + j → lying_at (replicate n x ++ ys) i ≡ lying_at ys j
+  rep_after zero i j x ys e = ap (lying_at ys) (let k : i ≡ j = omega (arith, e) in k)
   rep_after (suc n) zero j x ys e = absurd (omega (arith, e))
   rep_after (suc n) (suc i) j x ys e = rep_after n i j x ys (let k : i ≡ n + j = omega (arith, e) in k)
 
-  rep_past : (n i : ℕ) (x : X) → n ≤ i → at (replicate n x) i ≡ None
+  rep_past : (n i : ℕ) (x : X) → n ≤ i → lying_at (replicate n x) i ≡ None
   rep_past zero i x le = refl
   rep_past (suc n) zero x le = absurd (omega (arith, le))
   rep_past (suc n) (suc i) x le = rep_past n i x (omega (arith, le))
 
-  rep_at : (n i : ℕ) (x : X) → i < n → at (replicate n x) i ≡ Some x
+  rep_at : (n i : ℕ) (x : X) → i < n → lying_at (replicate n x) i ≡ Some x
   rep_at zero i x lt = absurd (omega (arith, lt))
   rep_at (suc n) zero x lt = refl
   rep_at (suc n) (suc i) x lt = rep_at n i x (omega (arith, lt))
@@ -44,7 +44,7 @@ module _ {A : Type 0} (n : ℕ) (code : CodeView) (texts : ProgramParts) (main :
   lane = idle_lane n code texts
 
   abbrev after_shards : List (PartSeen A)
-  after_shards = part_of n code (seen_timers clock) ∷ (main_ready n code main ∷ replicate (n - 1) (none_ready n code))
+  after_shards = seen_part n code (seen_timers clock) ∷ (main_ready n code main ∷ replicate (n - 1) (none_ready n code))
 
   abbrev after_banks : List (PartSeen A)
   after_banks = replicate 16 (empty_shard n code) ++ after_shards
@@ -52,8 +52,8 @@ module _ {A : Type 0} (n : ℕ) (code : CodeView) (texts : ProgramParts) (main :
   abbrev after_lanes : List (PartSeen A)
   after_lanes = replicate 16 (empty_bank n code) ++ after_banks
 
-  abbrev opened_at : ℕ → Kind → Held (TaskAgent A)
-  opened_at i k = opened n (program_view texts) main clock i k
+  abbrev opened_at : ℕ → Kind → PartContents (TaskAgent A)
+  opened_at i k = part_opened n (program_view texts) main clock i k
 
   abbrev said : Bool → ℕ → Kind → Option (Content (TaskAgent A))
   said b i k = cond b (Some (record { workers = n; held = opened_at i k })) None
@@ -62,16 +62,16 @@ module _ {A : Type 0} (n : ℕ) (code : CodeView) (texts : ProgramParts) (main :
   view_of None = None
   view_of (Some p) = Some (content_of p)
 
-  same_view : (i : ℕ) → contents_at list i ≡ view_of (at list i)
-  same_view i = by (at list i) where
+  same_view : (i : ℕ) → contents_at list i ≡ view_of (lying_at list i)
+  same_view i = by (lying_at list i) where
     by : (o : Option (PartSeen A)) → option_map content_of o ≡ view_of o
     by None = refl
     by (Some p) = refl
 
-  abbrev no_ports : Held (TaskAgent A)
+  abbrev no_ports : PartContents (TaskAgent A)
   no_ports = a_bank (record { channels = λ p. None; registries = λ p. None })
 
-  abbrev no_waits : Held (TaskAgent A)
+  abbrev no_waits : PartContents (TaskAgent A)
   no_waits = a_shard (λ w. None)
 
   bank_said : content_of (empty_bank n code) ≡ record { workers = n; held = no_ports }
@@ -80,47 +80,47 @@ module _ {A : Type 0} (n : ℕ) (code : CodeView) (texts : ProgramParts) (main :
   shard_said : content_of (empty_shard n code) ≡ record { workers = n; held = no_waits }
   shard_said = λ i. record { workers = n; held = a_shard (λ w. map.get-empty {X = Parked (TaskAgent A)} nat_cmp w i) }
 
-  in_lanes : (i : ℕ) → i < n → view_of (at list i) ≡ said true i lane_kind
+  in_lanes : (i : ℕ) → i < n → view_of (lying_at list i) ≡ said true i lane_kind
   in_lanes i lt = ap view_of (rep_in n i lane after_lanes lt)
 
-  in_banks : (i j : ℕ) → i ≡ n + j → j < 16 → view_of (at list i) ≡ said true i bank_kind
+  in_banks : (i j : ℕ) → i ≡ n + j → j < 16 → view_of (lying_at list i) ≡ said true i bank_kind
   in_banks i j e lt = ap view_of (rep_after n i j lane after_lanes e ∙ rep_in 16 j (empty_bank n code) after_banks lt) ∙ ap Some bank_said
 
-  in_shards : (i j : ℕ) → i ≡ n + (16 + j) → j < 16 → view_of (at list i) ≡ said true i shard_kind
+  in_shards : (i j : ℕ) → i ≡ n + (16 + j) → j < 16 → view_of (lying_at list i) ≡ said true i shard_kind
   in_shards i j e lt = ap view_of (rep_after n i (16 + j) lane after_lanes e ∙ rep_after 16 (16 + j) j (empty_bank n code) after_banks refl ∙ rep_in 16 j (empty_shard n code) after_shards lt) ∙ ap Some shard_said
 
-  later : (i j : ℕ) → i ≡ n + (16 + (16 + j)) → at list i ≡ at after_shards j
+  later : (i j : ℕ) → i ≡ n + (16 + (16 + j)) → lying_at list i ≡ lying_at after_shards j
   later i j e = rep_after n i (16 + (16 + j)) lane after_lanes e ∙ rep_after 16 (16 + (16 + j)) (16 + j) (empty_bank n code) after_banks refl ∙ rep_after 16 (16 + j) j (empty_shard n code) after_shards refl
 
-  in_timers : (i : ℕ) → i ≡ n + 32 → view_of (at list i) ≡ said true i timers_kind
+  in_timers : (i : ℕ) → i ≡ n + 32 → view_of (lying_at list i) ≡ said true i timers_kind
   in_timers i e = ap view_of (later i 0 (let k : i ≡ n + (16 + (16 + 0)) = omega (arith, e) in k))
 
   -- the timers are as they were given
   pub opening_timers : (parts_of n (contents_at list)).timers ≡ Some clock
   opening_timers = ap (sorted timers_of) (same_view (n + 32) ∙ in_timers (n + 32) refl)
 
-  in_first : (i : ℕ) → i ≡ n + 33 → view_of (at list i) ≡ said true i ready_kind
+  in_first : (i : ℕ) → i ≡ n + 33 → view_of (lying_at list i) ≡ said true i ready_kind
   in_first i e = ap view_of (later i 1 (let k : i ≡ n + (16 + (16 + 1)) = omega (arith, e) in k)) ∙ ap (λ b. Some (record { workers = n; held = a_ready (cond b ((0, main_agent main) ∷ []) []) })) (sym (ap (λ (j : ℕ). eqb j (n + 33)) e ∙ eq-eqb (n + 33) (n + 33) refl))
 
-  beyond : (r : ℕ) → at after_shards (2 + r) ≡ at (replicate (n - 1) (none_ready n code)) r
-  beyond r = ap (at after_shards) (let e : 2 + r ≡ suc (suc r) = omega arith in e)
+  beyond : (r : ℕ) → lying_at after_shards (2 + r) ≡ lying_at (replicate (n - 1) (none_ready n code)) r
+  beyond r = ap (lying_at after_shards) (let e : 2 + r ≡ suc (suc r) = omega arith in e)
 
-  in_others : (i r : ℕ) → i ≡ n + (16 + (16 + (2 + r))) → r < n - 1 → view_of (at list i) ≡ said true i ready_kind
+  in_others : (i r : ℕ) → i ≡ n + (16 + (16 + (2 + r))) → r < n - 1 → view_of (lying_at list i) ≡ said true i ready_kind
   in_others i r e lt = ap view_of (later i (2 + r) e ∙ beyond r ∙ rep_at (n - 1) r (none_ready n code) lt) ∙ ap (λ b. Some (record { workers = n; held = a_ready (cond b ((0, main_agent main) ∷ []) []) })) (sym (other (eqb i (n + 33)) refl)) where
     other : (b : Bool) → eqb i (n + 33) ≡ b → eqb i (n + 33) ≡ false
     other false is = is
     other true is = absurd (let k = eqb-true i (n + 33) is in omega (arith, k, e))
 
-  past : (i r : ℕ) → i ≡ n + (16 + (16 + (2 + r))) → n - 1 ≤ r → view_of (at list i) ≡ None
+  past : (i r : ℕ) → i ≡ n + (16 + (16 + (2 + r))) → n - 1 ≤ r → view_of (lying_at list i) ≡ None
   past i r e le = ap view_of (later i (2 + r) e ∙ beyond r ∙ rep_past (n - 1) r (none_ready n code) le)
 
   abbrev kinds : Bool → Bool → Bool → Bool → Kind
   kinds a b c d = cond a lane_kind (cond b bank_kind (cond c shard_kind (cond d timers_kind ready_kind)))
 
   abbrev IsSaid : ℕ → Type 0
-  IsSaid i = view_of (at list i) ≡ opening_parts n (program_view texts) main clock i
+  IsSaid i = view_of (lying_at list i) ≡ opening_parts n (program_view texts) main clock i
 
-  within : (i : ℕ) (k : Kind) → i < n + 33 + n → kind_at n i ≡ k → view_of (at list i) ≡ said true i k → IsSaid i
+  within : (i : ℕ) (k : Kind) → i < n + 33 + n → kind_at n i ≡ k → view_of (lying_at list i) ≡ said true i k → IsSaid i
   within i k lt is h = h ∙ ap (said true i) (sym is) ∙ ap (λ b. said b i (kind_at n i)) (sym (lt-ltb i (n + 33 + n) lt))
 
   lanes : (i : ℕ) → i < n → IsSaid i

@@ -17,8 +17,8 @@ use Rattle.ca_commit.specs.Touched.{picks, stalls, yields}
 use Rattle.ca_commit.specs.declared.task.Ready.{Ready}
 use Rattle.ca_commit.specs.declared.task.Task.{Task}
 use Rattle.ca_table.specs.Carriers.{IsMoved, LaneBox, both_back, is_now, part_of_ready, was}
-use Rattle.ca_table.specs.Carrying.{Carries, Each, carried, each_by, lane_place, nothing_carried, ready_place, with_at}
-use Rattle.ca_table.specs.Covering.{plain}
+use Rattle.ca_table.specs.Carrying.{Carries, EachCarried, carried, each_by, lane_place, nothing_carried, ready_place, with_at}
+use Rattle.ca_table.specs.Covering.{plain_drawn}
 use Rattle.ca_table.specs.Grips.{settled_one}
 use Rattle.ca_table.specs.Parts.{counts_view, lane_seen, part_of, part_seen}
 use Rattle.ca_table.specs.Seen.{PartSeen, lane_of_seen}
@@ -62,7 +62,7 @@ module _ {A C : Type 0} (over : CodeView → A → Type 0) (place : A → At) (a
   abbrev now_in : Part A C × PartSeen A → Content (TaskAgent A)
   now_in = is_now seen
 
-  alike : Each (λ x. Alike n (was x) (now_in x)) back
+  alike : EachCarried (λ x. Alike n (was x) (now_in x)) back
   alike = each_with (λ x. Alike n (was x) (now_in x)) (ready_place at) part_ready (with_at lane_place (Some lane_part) nothing_carried) (refl, refl, refl)
       (each_with (λ x. Alike n (was x) (now_in x)) lane_place lane_part nothing_carried (refl, refl, refl) (each_nothing (λ x. Alike n (was x) (now_in x))))
 
@@ -83,7 +83,7 @@ module _ {A C : Type 0} (over : CodeView → A → Type 0) (place : A → At) (a
   same_lane : lane.value.program ≡ l.program → lane.value.counts ≡ l.counts → SameLane (lane_of_seen (lane_seen l)) (lane_of_seen (lane_seen lane.value))
   same_lane p k = (ap (λ p. program_view p.value) p, ap counts_view k)
 
-  pub picked : (t : Task A) → l.task ≡ None → lane.value.task ≡ Some t → lane.value.since ≡ 0 → lane.value.program ≡ l.program → lane.value.counts ≡ l.counts → q ≡ task_view t ∷ tasks_in ready → IsMoved over place advances gives starts seen code n w (plain w n (picks at)) back
+  pub picked : (t : Task A) → l.task ≡ None → lane.value.task ≡ Some t → lane.value.since ≡ 0 → lane.value.program ≡ l.program → lane.value.counts ≡ l.counts → q ≡ task_view t ∷ tasks_in ready → IsMoved over place advances gives starts seen code n w (plain_drawn w n (picks at)) back
   picked t free has since p k first = record {
     by = refl;
     of = refl;
@@ -104,7 +104,7 @@ module _ {A C : Type 0} (over : CodeView → A → Type 0) (place : A → At) (a
     };
   }
 
-  pub yielded : (t : Task A) → at ≡ w → l.task ≡ Some t → lane.value.task ≡ None → lane.value.program ≡ l.program → lane.value.counts ≡ l.counts → tasks_in ready ≡ q ++ task_view t ∷ [] → IsMoved over place advances gives starts seen code n w (plain w n yields) back
+  pub yielded : (t : Task A) → at ≡ w → l.task ≡ Some t → lane.value.task ≡ None → lane.value.program ≡ l.program → lane.value.counts ≡ l.counts → tasks_in ready ≡ q ++ task_view t ∷ [] → IsMoved over place advances gives starts seen code n w (plain_drawn w n yields) back
   yielded t own has free p k last = record {
     by = refl;
     of = refl;

@@ -7,7 +7,7 @@ use Rattle.ca_term.specs.Program.{ProgramView}
 use Rattle.ca_meaning.specs.Body.{At}
 use Rattle.ca_meaning.specs.Wait.{port_of}
 use Rattle.ca_commit.specs.Agents.{TaskAgent}
-use Rattle.ca_commit.specs.Applying.{Channels, IsEvent, Members, event_of}
+use Rattle.ca_commit.specs.Applying.{BankChannels, IsEvent, Members, event_of}
 use Rattle.ca_commit.specs.Contents.{Content, Parts, home}
 use Rattle.ca_commit.specs.Deciding.{PlanTells}
 use Rattle.ca_commit.specs.Entering.{registry_of}
@@ -20,7 +20,7 @@ use Rattle.ca_commit.specs.Touched as said
 use Rattle.ca_commit.proofs.PlanMoving.{plan_moves}
 use Rattle.ca_commit.proofs.PlanTold.{plan_tells}
 use Rattle.ca_table.specs.Carrying.{Carries, carried}
-use Rattle.ca_table.specs.Covering.{Covers, names_of}
+use Rattle.ca_table.specs.Covering.{Covers, turn_names}
 use Rattle.ca_table.specs.Needing.{Brings, drawn_with, needed, needs_ready, needs_timers, own_if, ports_needed, waits_needed}
 use Rattle.ca_table.proofs.Needing.{BanksOf, ShardsOf, bank_held, covers_by, in_bank, in_registries, in_shard, lane_held, shard_held}
 
@@ -28,7 +28,7 @@ pub no_stall : (e : EventView) → said.shown e ≢ said.stalls
 no_stall e s = cc
 
 -- what the event of a plan names is what the plan needs
-pub names_needed : (cs : Channels) (rs : Members) (w t u p v m : ℕ) (q : Planned) → IsEvent q → names_of w (said.shown (event_of cs rs t u p v m q)) ≡ needed w p v q
+pub names_needed : (cs : BankChannels) (rs : Members) (w t u p v m : ℕ) (q : Planned) → IsEvent q → turn_names w (said.shown (event_of cs rs t u p v m q)) ≡ needed w p v q
 names_needed cs rs w t u p v m (to_do k b alts) is = refl
 names_needed cs rs w t u p v m (to_meet k b alts wait o) is = refl
 names_needed cs rs w t u p v m (to_park bs) is = refl

@@ -15,8 +15,8 @@ use Rattle.ca_meaning.specs.Task.{TaskBody}
 use Rattle.ca_states.specs.Code.{CodeView}
 use Rattle.ca_agent.specs.Agents.{Advanced, Answered, Started}
 use Rattle.ca_turns.specs.declared.rule.Turn.{Turn}
-use Rattle.ca_turns.specs.History.{Goes, Run}
-use Rattle.ca_turns.specs.Places.{AllIn, IsDistinct, Reads, write}
+use Rattle.ca_turns.specs.History.{TurnGoes, Run}
+use Rattle.ca_turns.specs.Places.{AllIn, IsDistinct, ReadsPlaces, write}
 use Rattle.ca_turns.proofs.Callers.{set_else, set_here}
 use Rattle.ca_turns.proofs.Lists.{in_range}
 use Rattle.ca_turns.proofs.Runs.{all_in}
@@ -24,7 +24,7 @@ use Rattle.ca_commit.specs.Agents.{TaskAgent}
 use Rattle.ca_commit.specs.Contents.{Content}
 use Rattle.ca_commit.specs.Gathered.{pick}
 use Rattle.ca_commit.specs.Moving.{Moves, visible}
-use Rattle.ca_commit.specs.Running.{AreAt, RunStands, or_was, written}
+use Rattle.ca_commit.specs.Running.{AreAt, RunStands, or_was, contents_written}
 use Rattle.ca_commit.proofs.Locality.{locality}
 use Rattle.ca_table.specs.Draws.{drawn_apart, drawn_moves, drawn_touches, drawn_view, turn_view}
 use Rattle.ca_table.specs.OneCode.{HaveCode, advances_over, gives_over, stands_over, starts_over}
@@ -40,13 +40,13 @@ module _ {A : Type 0} where
   abbrev as_content : core.Option (PartSeen A) → Option (Content (TaskAgent A))
   as_content o = option_map content_of (as_option o)
 
-  pub reads_at : (now : List (PartSeen A)) (is : List ℕ) (cs : List (PartSeen A)) → Reads now is cs → AreAt (contents_at now) is (map content_of cs)
+  pub reads_at : (now : List (PartSeen A)) (is : List ℕ) (cs : List (PartSeen A)) → ReadsPlaces now is cs → AreAt (contents_at now) is (map content_of cs)
   reads_at now [] [] r = tt
   reads_at now [] (c ∷ cs) r = r
   reads_at now (i ∷ is) [] r = r
   reads_at now (i ∷ is) (c ∷ cs) r = (ap as_content r.0, reads_at now is cs r.1)
 
-  pub in_places : (now : List (PartSeen A)) (is : List ℕ) (cs : List (PartSeen A)) → Reads now is cs → AllIn (λ i. i < length now) is
+  pub in_places : (now : List (PartSeen A)) (is : List ℕ) (cs : List (PartSeen A)) → ReadsPlaces now is cs → AllIn (λ i. i < length now) is
   in_places now [] cs r = tt
   in_places now (i ∷ is) [] r = absurd r
   in_places now (i ∷ is) (c ∷ cs) r = (in_range now i c r.0, in_places now is cs r.1)
@@ -59,7 +59,7 @@ module _ {A : Type 0} where
     by true e rest = absurd (h.0 (sym (eqb-true j i e)))
     by false e rest = rest
 
-  pub written_at : (now : List (PartSeen A)) (is : List ℕ) (cs : List (PartSeen A)) → AllIn (λ i. i < length now) is → IsDistinct is → (k : ℕ) → contents_at (write now is cs) k ≡ written (contents_at now) is (map content_of cs) k
+  pub written_at : (now : List (PartSeen A)) (is : List ℕ) (cs : List (PartSeen A)) → AllIn (λ i. i < length now) is → IsDistinct is → (k : ℕ) → contents_at (write now is cs) k ≡ contents_written (contents_at now) is (map content_of cs) k
   written_at now [] cs r d k = refl
   written_at now (i ∷ is) [] r d k = refl
   written_at now (i ∷ is) (c ∷ cs) r d k = written_at (set now i c) is cs (all_in (λ j. j < length now) (λ j. j < length (set now i c)) (λ j lt. subst (λ (m : ℕ). j < m) (sym (length_set now i c)) lt) is r.1) d.1 k ∙ by (eqb i k) refl where
@@ -83,14 +83,14 @@ module _ {A : Type 0} (over : CodeView → A → Type 0) (place : A → At) (sta
   Stand = TableStands place (stands_over over code stands) program n
 
   -- a turn of the table is a step of the run
-  pub turn_leads : (now : List (PartSeen A)) (s : State) (t : Turn (PartSeen A) Drawn) → HaveCode code now → Stand now s → Goes drawn_touches moves now t
+  pub turn_leads : (now : List (PartSeen A)) (s : State) (t : Turn (PartSeen A) Drawn) → HaveCode code now → Stand now s → TurnGoes drawn_touches moves now t
       → (s2 : State) × Steps program s (visible (turn_view t.event.what)) s2 × Stand (write now (drawn_touches t.event) t.after) s2
   turn_leads now s t have run g =
       let z = locality place (stands_over over code stands) (advances_over over code advances) (gives_over over code gives) (starts_over over code starts)
       (advanced_over over code place stands advances advance_law) (answered_over over code place stands gives answer_law) (started_over over code place stands starts start_law)
       program n (drawn_view t.event) (contents_at now) (map content_of t.before) (map content_of t.after) s run (reads_at now (drawn_touches t.event) t.before g.0) moved in
       (z.0, z.1, subst (λ (f : ℕ → Option (Content (TaskAgent A))). RunStands place (stands_over over code stands) program n f z.0) (sym whole) z.2) where
-        whole : contents_at (write now (drawn_touches t.event) t.after) ≡ written (contents_at now) (drawn_touches t.event) (map content_of t.after)
+        whole : contents_at (write now (drawn_touches t.event) t.after) ≡ contents_written (contents_at now) (drawn_touches t.event) (map content_of t.after)
         whole = λ i k. written_at now (drawn_touches t.event) t.after (in_places now (drawn_touches t.event) t.before g.0) (drawn_apart t.event) k i
 
         moved : Moves place (advances_over over code advances) (gives_over over code gives) (starts_over over code starts) (drawn_view t.event) (map content_of t.before) (map content_of t.after)

@@ -8,7 +8,7 @@ use Rattle.ca_meaning.specs.Body.{At}
 use Rattle.ca_commit.specs.Agents.{place_of, wakes_of}
 use Rattle.ca_commit.specs.Contents.{whole}
 use Rattle.ca_commit.specs.Moving.{MovesTurn}
-use Rattle.ca_commit.specs.Settling.{settling}
+use Rattle.ca_commit.specs.Settling.{value_settled}
 use Rattle.ca_commit.specs.Showing.{channels_held}
 use Rattle.ca_commit.specs.Touched.{prunes, shown}
 use Rattle.ca_states.specs.Code.{CodeView}
@@ -37,7 +37,7 @@ module _ {A C : Type 0} (over_code : CodeView → A → Type 0) (place : A → A
         by = refl;
         of = refl;
         covers = subst (λ (e : EventView). Covers (drawn_with w n (shown e) ports looked) h) (sym is.event)
-            (settled_covers was (is_now seen) w n h away (place_of place) (wakes_of (gives_over over_code (valid_code code) gives)) wait o p side (settling side (whole (channels_held held.banks) p)) ports looked
+            (settled_covers was (is_now seen) w n h away (place_of place) (wakes_of (gives_over over_code (valid_code code) gives)) wait o p side (value_settled side (whole (channels_held held.banks) p)) ports looked
             (subst (λ (e : EventView). MovesTurn place (advances_over over_code (valid_code code) advances) (gives_over over_code (valid_code code) gives) (starts_over over_code (valid_code code) starts) w n (shown e) (carried was w h) (carried (is_now seen) w h)) is.event turns) brings);
         alike = all_alike n w was (is_now seen) h None None None None held held2 t.before t.after;
         moves = turns;

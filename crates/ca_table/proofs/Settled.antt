@@ -17,7 +17,7 @@ use Rattle.ca_commit.specs.Finding.{glance, serves, settle_at}
 use Rattle.ca_commit.specs.Listing.{changed_at}
 use Rattle.ca_commit.specs.Moves.{Stays}
 use Rattle.ca_commit.specs.Moving.{MovesTurn}
-use Rattle.ca_commit.specs.Settling.{IsSettled, settling}
+use Rattle.ca_commit.specs.Settling.{IsSettled, value_settled}
 use Rattle.ca_commit.specs.Showing.{channels_held, waits_held}
 use Rattle.ca_commit.specs.SilentMoves.{MovesPrune}
 use Rattle.ca_commit.specs.Touched as said
@@ -46,7 +46,7 @@ module _ {A : Type 0} (w : ℕ) (lane : Option (LaneView (TaskAgent A))) (timers
 
   module _ (place : A → At) (advances : ProgramView → A → A → Type 0) (gives : A → Tree → A → Type 0) (starts : ProgramView → SeedView → A → Type 0) (n p wait o : ℕ) (side : Side) (e : Event) where
     abbrev value : Tree
-    value = settling side (whole (channels_held held.banks) p)
+    value = value_settled side (whole (channels_held held.banks) p)
 
     -- what a channel served moves the parts
     pub settled_turns : settle_at (glance (waits_held held.shards)) (whole (channels_held held.banks) p) ≡ serves side wait o → is_some held.ready ≡ true → IsSettled place gives held held2 p side wait o e → MovesTurn place advances gives starts w n (said.shown (event_view e)) old new

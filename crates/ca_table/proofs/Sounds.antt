@@ -16,7 +16,7 @@ use Rattle.ca_agent.specs.Agents.{Advanced, Answered, Started}
 use Rattle.ca_turns.specs.Steps.{SeesOne}
 use Rattle.ca_turns.specs.declared.rule.View.{View}
 use Rattle.ca_commit.specs.Agents.{TaskAgent, stands_of}
-use Rattle.ca_commit.specs.Contents.{BankView, Content, Held, Parked, a_bank, a_ready, a_shard, at_key, home, owner, the_timers}
+use Rattle.ca_commit.specs.Contents.{BankView, Content, PartContents, Parked, a_bank, a_ready, a_shard, at_key, home, owner, the_timers}
 use Rattle.ca_commit.specs.Gathered.{Kind, bank_kind, bank_of, channels_of, kind_at, kind_of_part, lane_kind, lane_of, ready_kind, ready_of, registries_of, shard_kind, shard_of, sorted, timers_kind, timers_of}
 use Rattle.ca_commit.specs.Running.{RunStands}
 use Rattle.ca_commit.specs.Seated.{EachSeated, Seat}
@@ -72,7 +72,7 @@ module _ {A : Type 0} (over : CodeView → A → Type 0) (place : A → At) (sta
   queue_over seat r [] e = tt
   queue_over seat r (x ∷ q) e = (e.1.2.1.1, queue_over seat r q e.2)
 
-  of_kind : (x : Held (TaskAgent A)) → c.held ≡ x → kind_at n i ≡ kind_of_part x
+  of_kind : (x : PartContents (TaskAgent A)) → c.held ≡ x → kind_at n i ≡ kind_of_part x
   of_kind x e = sym kind ∙ ap kind_of_part e
 
   -- what all shards together have

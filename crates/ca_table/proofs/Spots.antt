@@ -22,7 +22,7 @@ use Rattle.ca_commit.specs.declared.held.HeldBank.{HeldBank}
 use Rattle.ca_commit.specs.declared.held.HeldShard.{HeldShard}
 use Rattle.ca_commit.specs.declared.task.Ready.{Ready}
 use Rattle.ca_table.specs.Carriers.{LaneBox, is_now, was}
-use Rattle.ca_table.specs.Carrying.{Carries, Each, bank_place, carried, lane_place, nothing_carried, ready_place, shard_place, with_at}
+use Rattle.ca_table.specs.Carrying.{Carries, EachCarried, bank_place, carried, lane_place, nothing_carried, ready_place, shard_place, with_at}
 use Rattle.ca_table.specs.Parts.{bank_seen, contents_seen, lane_seen, part_of, part_seen, shard_seen}
 use Rattle.ca_table.specs.Seen.{PartSeen, held_of, lane_of_seen}
 use Rattle.ca_table.specs.Sound.{IsSound}
@@ -73,18 +73,18 @@ module _ {A C : Type 0} (least faults : C → ℕ) (readings : C → Option (Lis
   abbrev KeepsKind : Part A C × PartSeen A → Type 0
   KeepsKind x = Alike n (was x) (is_now shows x)
 
-  pub bank_alike : (l : Lane A) (lane : LaneBox A) (k : ℕ) (b b2 : HeldBank) → Each KeepsKind (at_bank l lane k b b2)
+  pub bank_alike : (l : Lane A) (lane : LaneBox A) (k : ℕ) (b b2 : HeldBank) → EachCarried KeepsKind (at_bank l lane k b b2)
   bank_alike l lane k b b2 = each_with KeepsKind lane_place (part_of n code (V.Lane lane), part_of_lane n code l) (with_at (bank_place k) (Some (turned (V.Bank b) (V.Bank b2))) nothing_carried) (refl, refl, refl)
       (each_with KeepsKind (bank_place k) (turned (V.Bank b) (V.Bank b2)) nothing_carried (refl, refl, refl) (each_nothing KeepsKind))
 
-  pub shard_alike : (l : Lane A) (lane : LaneBox A) (k : ℕ) (b b2 : HeldBank) (j : ℕ) (s s2 : HeldShard A) → Each KeepsKind (at_shard l lane k b b2 j s s2)
+  pub shard_alike : (l : Lane A) (lane : LaneBox A) (k : ℕ) (b b2 : HeldBank) (j : ℕ) (s s2 : HeldShard A) → EachCarried KeepsKind (at_shard l lane k b b2 j s s2)
   shard_alike l lane k b b2 j s s2 =
       let beside : Carries (Part A C × PartSeen A) = with_at (shard_place j) (Some (turned (V.Shard s) (V.Shard s2))) nothing_carried in
       each_with KeepsKind lane_place (part_of n code (V.Lane lane), part_of_lane n code l) (with_at (bank_place k) (Some (turned (V.Bank b) (V.Bank b2))) beside) (refl, refl, refl)
       (each_with KeepsKind (bank_place k) (turned (V.Bank b) (V.Bank b2)) beside (refl, refl, refl)
       (each_with KeepsKind (shard_place j) (turned (V.Shard s) (V.Shard s2)) nothing_carried (refl, refl, refl) (each_nothing KeepsKind)))
 
-  pub ready_alike : (l : Lane A) (lane : LaneBox A) (k : ℕ) (b b2 : HeldBank) (j : ℕ) (s s2 : HeldShard A) (r : ℕ) (q q2 : Ready A) → Each KeepsKind (at_ready l lane k b b2 j s s2 r q q2)
+  pub ready_alike : (l : Lane A) (lane : LaneBox A) (k : ℕ) (b b2 : HeldBank) (j : ℕ) (s s2 : HeldShard A) (r : ℕ) (q q2 : Ready A) → EachCarried KeepsKind (at_ready l lane k b b2 j s s2 r q q2)
   ready_alike l lane k b b2 j s s2 r q q2 =
       let last : Carries (Part A C × PartSeen A) = with_at (ready_place r) (Some (turned (V.Ready q) (V.Ready q2))) nothing_carried in
       let beside : Carries (Part A C × PartSeen A) = with_at (shard_place j) (Some (turned (V.Shard s) (V.Shard s2))) last in

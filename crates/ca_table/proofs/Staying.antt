@@ -10,7 +10,7 @@ use Rattle.ca_meaning.specs.Body.{At}
 use Rattle.ca_meaning.specs.Channel.{channel_made}
 use Rattle.ca_meaning.specs.ChannelSteps.{other_side}
 use Rattle.ca_meaning.specs.Wait.{brought, port_of, side_of}
-use Rattle.ca_bank.specs.Kept.{closed, enqueued, pruned, unattended}
+use Rattle.ca_bank.specs.Kept.{closed_channel, enqueued, pruned, unattended}
 use Rattle.ca_commit.specs.Applying.{channels_by, waits_by}
 use Rattle.ca_commit.specs.Contents.{Kept, Parked, home, nobody, owner}
 use Rattle.ca_commit.specs.Listing.{changed_at, listed}
@@ -54,7 +54,7 @@ channels_still p w (to_meet k b alts v o) m i = changed_still (port_of b) (optio
 channels_still p w (to_park bs) m i = queued_still w 0 bs m i
 channels_still p w (to_post bs) m i = queued_still w 0 bs m i
 channels_still p w (to_make what) m i = changed_still p (or_was (option_map unattended (channel_made what))) m i
-channels_still p w (to_close q) m i = changed_still q (option_map closed) m i
+channels_still p w (to_close q) m i = changed_still q (option_map closed_channel) m i
 channels_still p w (to_default v) m i = refl
 channels_still p w (to_spawn kind r) m i = refl
 channels_still p w (to_register name args) m i = refl
@@ -65,7 +65,7 @@ channels_still p w (to_refuse f) m i = refl
 
 pub closed_still : (r : Option ℕ) (m : Ports) (i : ℕ) → is_some (closed_result r m i) ≡ is_some (m i)
 closed_still None m i = refl
-closed_still (Some p) m i = changed_still p (option_map closed) m i
+closed_still (Some p) m i = changed_still p (option_map closed_channel) m i
 
 -- and the shards
 pub waits_still : {X : Type 0} (w : ℕ) (x none : Parked X) (q : Planned) (m : ℕ → Option (ℕ → Option (Parked X))) (i : ℕ) → is_some (waits_by w x none q m i) ≡ is_some (m i)

@@ -1,7 +1,7 @@
 -- What a worker carries, as the parts that it has moved out for an event show it.
 use Rattle.std.specs.Prelude.{◌≡◌, ℕ, Option, Some, None, option_map, cond, eqb}
 use Rattle.ca_commit.specs.Agents.{TaskAgent}
-use Rattle.ca_commit.specs.Contents.{Content, Held as Part, LaneView, Parts, TimersPart, a_bank, a_lane, a_ready, a_shard, the_timers}
+use Rattle.ca_commit.specs.Contents.{Content, PartContents as Part, LaneView, Parts, TimersPart, a_bank, a_lane, a_ready, a_shard, the_timers}
 use Rattle.ca_commit.specs.Gathered.{bank_of, channels_of, lane_of, ready_of, registries_of, shard_of, sorted, timers_of}
 use Rattle.ca_commit.specs.Listing.{listed}
 use Rattle.ca_commit.specs.Listings.{parts}
@@ -71,7 +71,7 @@ module _ {A : Type 0} (n : ℕ) where
     pub ready_parts : (r : ℕ) → option_map f (h.ready r) ≡ cond (eqb w r) (option_map ready_content held.ready) None
 
 -- a part as it is now, with what was settled of it
-abbrev pub paired : {X Y : Type 0} → Option X → Option Y → Option (X × Y)
-paired None o = None
-paired (Some x) None = None
-paired (Some x) (Some y) = Some (x, y)
+abbrev pub paired_parts : {X Y : Type 0} → Option X → Option Y → Option (X × Y)
+paired_parts None o = None
+paired_parts (Some x) None = None
+paired_parts (Some x) (Some y) = Some (x, y)

@@ -17,11 +17,11 @@ use Rattle.ca_commit.specs.Gathered.{Alike}
 use Rattle.ca_commit.specs.Moving.{MovesTurn}
 use Rattle.ca_commit.specs.Touched as said
 use Rattle.ca_commit.specs.declared.task.Ready.{Ready}
-use Rattle.ca_table.specs.Carrying.{AreSorted, Carries, Each, at_places, carried, lane_place, nothing_carried, ready_place, with_at}
+use Rattle.ca_table.specs.Carrying.{AreSorted, Carries, EachCarried, at_places, carried, lane_place, nothing_carried, ready_place, with_at}
 use Rattle.ca_table.specs.Covering.{Covers}
 use Rattle.ca_table.specs.Grips.{Grips}
 use Rattle.ca_table.specs.OneCode.{advances_over, gives_over, starts_over}
-use Rattle.ca_table.specs.Parts.{away, part_of}
+use Rattle.ca_table.specs.Parts.{part_away, part_of}
 use Rattle.ca_table.specs.Seen.{PartSeen, content_of, seen_ready}
 use Rattle.ca_table.specs.Workers.{IsOne, part_of_lane}
 use Rattle.ca_table.specs.declared.part.Lane.{Lane}
@@ -51,11 +51,11 @@ HasCode code x = (valid_code x.0.code.value ≡ code) × (x.1.code ≡ code)
 module _ {A C : Type 0} (n : ℕ) (code : ValidCode) where
   -- the lane alone, moved out
   abbrev pub just_lane : Lane A → Carries (Part A C × PartSeen A)
-  just_lane l = with_at lane_place (Some (away n code, part_of_lane n code l)) nothing_carried
+  just_lane l = with_at lane_place (Some (part_away n code, part_of_lane n code l)) nothing_carried
 
   -- and the ready part r with these tasks, moved out too
   abbrev pub with_ready : ℕ → List (ℕ × TaskAgent A) → Carries (Part A C × PartSeen A) → Carries (Part A C × PartSeen A)
-  with_ready r q h = with_at (ready_place r) (Some (away n code, part_of_ready n code q)) h
+  with_ready r q h = with_at (ready_place r) (Some (part_away n code, part_of_ready n code q)) h
 
   -- both put back as they are now
   abbrev pub both_back : ℕ → Lane A → List (ℕ × TaskAgent A) → LaneBox A → Ready A → Carries (Part A C × PartSeen A)
@@ -67,7 +67,7 @@ module _ {A C : Type 0} (over : CodeView → A → Type 0) (stands_as : ProgramV
     pub one : IsOne over stands_as program (valid_code code) id n w
     pub grips : Grips w.hand (at_places n w.number h)
     pub sorted : AreSorted was h
-    pub coded : Each (HasCode (valid_code code)) h
+    pub coded : EachCarried (HasCode (valid_code code)) h
 
 module _ {A C : Type 0} (over : CodeView → A → Type 0) (place : A → At) (advances : ProgramView → A → A → Type 0) (gives : A → Tree → A → Type 0) (starts : ProgramView → SeedView → A → Type 0) (seen : Part A C → PartSeen A) (code : ValidCode) where
   -- worker w of n draws the event, which touches just these parts and moves them from what they were to what they are,
@@ -76,5 +76,5 @@ module _ {A C : Type 0} (over : CodeView → A → Type 0) (place : A → At) (a
     pub by : d.worker ≡ w
     pub of : d.workers ≡ n
     pub covers : Covers d h
-    pub alike : Each (λ x. Alike d.workers (was x) (is_now seen x)) h
+    pub alike : EachCarried (λ x. Alike d.workers (was x) (is_now seen x)) h
     pub moves : MovesTurn place (advances_over over (valid_code code) advances) (gives_over over (valid_code code) gives) (starts_over over (valid_code code) starts) d.worker d.workers d.what (carried was d.worker h) (carried (is_now seen) d.worker h)

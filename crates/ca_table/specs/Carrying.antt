@@ -67,7 +67,7 @@ module _ {X : Type 0} where
   with_at (ready_place r) o h = record { lane = h.lane; banks = h.banks; shards = h.shards; timers = h.timers; ready = update eqb h.ready r o }
 
   -- all that is carried has the property
-  pub record Each (P : X → Type 0) (h : Carries X) : Type 0 where
+  pub record EachCarried (P : X → Type 0) (h : Carries X) : Type 0 where
     pub lane : (x : X) → h.lane ≡ Some x → P x
     pub banks : (i : ℕ) (x : X) → h.banks i ≡ Some x → P x
     pub shards : (i : ℕ) (x : X) → h.shards i ≡ Some x → P x

@@ -19,7 +19,7 @@ use Rattle.ca_commit.specs.declared.task.Task.{Task}
 module _ {A : Type 0} (place : A → At) (advances : ProgramView → A → A → Type 0) (gives : A → Tree → A → Type 0) (starts : ProgramView → SeedView → A → Type 0) where
   -- Plan q is what `plan` answers from some start for the lane's task, which has advanced, over what is held, and all
   -- that its event needs is there: the numbers that worker w of n gives next, and the task that a spawn starts.
-  pub record IsDue (w n : ℕ) (q : Planned) (lane : LaneView (TaskAgent A)) (held : Held A) (task : Task A) (spawned : Option (Task A)) : Type 0 where
+  pub record IsPlanDue (w n : ℕ) (q : Planned) (lane : LaneView (TaskAgent A)) (held : Held A) (task : Task A) (spawned : Option (Task A)) : Type 0 where
     pub agent : TaskAgent A
     pub has_task : lane.task ≡ Some (task.number, agent)
     pub advanced : advances_of advances lane.program agent (agent_of task)

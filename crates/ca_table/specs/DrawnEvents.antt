@@ -39,9 +39,9 @@ use Rattle.ca_states.specs.declared.valid_code.ValidCode.{ValidCode}
 use Rattle.ca_table.specs.OneCode.{advances_over, gives_over, starts_over}
 use Rattle.ca_table.specs.Bearing.{IsMadeOf, ShowSame, parts_held}
 use Rattle.ca_table.specs.Carriers.{IsMoved, is_now, was}
-use Rattle.ca_table.specs.Carrying.{Carries, Each, carried}
-use Rattle.ca_table.specs.Committing.{IsDone, IsDue}
-use Rattle.ca_table.specs.Covering.{plain}
+use Rattle.ca_table.specs.Carrying.{Carries, EachCarried, carried}
+use Rattle.ca_table.specs.Committing.{IsDone, IsPlanDue}
+use Rattle.ca_table.specs.Covering.{plain_drawn}
 use Rattle.ca_table.specs.Halting.{KeepAll, LeavesLane}
 use Rattle.ca_table.specs.Needing.{Brings, drawn_with, needs_ready, needs_timers, own_if, ports_needed, waits_needed}
 use Rattle.ca_table.specs.Seen.{PartSeen}
@@ -72,7 +72,7 @@ module _ {A C : Type 0} (over_code : CodeView → A → Type 0) (place : A → A
   abbrev pub PlansDraw : Type 0
   PlansDraw = (w n : ℕ) (h : Carries (Part A C × PartSeen A)) (lane lane2 : LaneView (TaskAgent A)) (timers timers2 : Option TimersPart) (held held2 : Held A) (q : Planned) (task : Task A) (spawned running : Option (Task A)) (e : EventView) (ports looked : List ℕ)
       → IsTurned seen w n h (Some lane) (Some lane2) timers timers2 held held2
-      → IsDue place (advances_over over_code (valid_code code) advances) (gives_over over_code (valid_code code) gives) (starts_over over_code (valid_code code) starts) w n q lane held task spawned → IsDone place (advances_over over_code (valid_code code) advances) (gives_over over_code (valid_code code) gives) (starts_over over_code (valid_code code) starts) q lane lane2 held held2 task spawned running → TimesTo held.new_port held.moment q timers timers2
+      → IsPlanDue place (advances_over over_code (valid_code code) advances) (gives_over over_code (valid_code code) gives) (starts_over over_code (valid_code code) starts) w n q lane held task spawned → IsDone place (advances_over over_code (valid_code code) advances) (gives_over over_code (valid_code code) gives) (starts_over over_code (valid_code code) starts) q lane lane2 held held2 task spawned running → TimesTo held.new_port held.moment q timers timers2
       → e ≡ event_of (channels_held held.banks) (registries_held held.banks) task.number (number_of spawned) held.new_port held.new_wait held.moment q
       → Brings ports looked (needs_timers q) (own_if (needs_ready q) w) h
       → IsMoved over_code place advances gives starts seen code n w (drawn_with w n (shown e) ports looked) h
@@ -82,9 +82,9 @@ module _ {A C : Type 0} (over_code : CodeView → A → Type 0) (place : A → A
   PlacesDraw = (w n t u p v m : ℕ) (q : Planned) (h : Carries (Part A C × PartSeen A)) (e : EventView)
       → IsApplied place (advances_over over_code (valid_code code) advances) (gives_over over_code (valid_code code) gives) (starts_over over_code (valid_code code) starts) w n t u p v m q (carried was w h) (carried (is_now seen) w h)
       → e ≡ event_of (carried was w h).bank (carried was w h).registry t u p v m q
-      → Each (λ x. Alike n (was x) (is_now seen x)) h
+      → EachCarried (λ x. Alike n (was x) (is_now seen x)) h
       → Brings (ports_needed p q) (waits_needed v q) (needs_timers q) (own_if (needs_ready q) w) h
-      → IsMoved over_code place advances gives starts seen code n w (plain w n (shown e)) h
+      → IsMoved over_code place advances gives starts seen code n w (plain_drawn w n (shown e)) h
 
   -- the end of a task, which touches the timers where it is that of the main text
   pub record Ends (w n : ℕ) (h : Carries (Part A C × PartSeen A)) (at : At) (lane lane2 : LaneView (TaskAgent A)) (timers timers2 : Option TimersPart) (held held2 : Held A) (task : Task A) (ports looked : List ℕ) : Type 0 where

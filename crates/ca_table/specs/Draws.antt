@@ -58,11 +58,11 @@ MayHold w n other i = Unit {0}
 abbrev pub drawn_allows : Drawn → ℕ → Type 0
 drawn_allows d i = MayHold d.worker d.workers (turn_view d.what) i
 
-all_apart : (P : ℕ → Type 0) (is : List ℕ) → said.AllIn P is → places.AllIn P is
+all_apart : (P : ℕ → Type 0) (is : List ℕ) → said.AllHave P is → places.AllIn P is
 all_apart P [] h = tt
 all_apart P (i ∷ is) h = (h.0, all_apart P is h.1)
 
-apart : (is : List ℕ) → said.IsDistinct is → places.IsDistinct is
+apart : (is : List ℕ) → said.NoneTwice is → places.IsDistinct is
 apart [] h = tt
 apart (i ∷ is) h = (all_apart _ is h.0, apart is h.1)
 

@@ -6,13 +6,13 @@ use Rattle.ca_turns.specs.Hands.{Held, IsWithout}
 use Rattle.ca_turns.specs.Places.{AllIn}
 
 module _ {P C E : Type 0} where
-  abbrev pub Fits : Option (P × C) → Held P C E → ℕ → Type 0
-  Fits None h i = IsWithout h i
-  Fits (Some g) h i = (get_elem? h.parts i ≡ core.some (Some g.0)) × (get_elem? h.view.held i ≡ core.some (Some g.1))
+  abbrev pub GripFits : Option (P × C) → Held P C E → ℕ → Type 0
+  GripFits None h i = IsWithout h i
+  GripFits (Some g) h i = (get_elem? h.parts i ≡ core.some (Some g.0)) × (get_elem? h.view.held i ≡ core.some (Some g.1))
 
   -- the hand holds exactly these parts
   abbrev pub Grips : Held P C E → (ℕ → Option (P × C)) → Type 0
-  Grips h g = (i : ℕ) → Fits (g i) h i
+  Grips h g = (i : ℕ) → GripFits (g i) h i
 
   -- the same hand of the same table
   pub record SameHand (old new : Held P C E) : Type 0 where
@@ -26,8 +26,8 @@ module _ {P C E : Type 0} where
     pub same : SameHand old new
     pub turns : new.view.turns ≡ old.view.turns
 
-abbrev pub nothing : {P C : Type 0} → ℕ → Option (P × C)
-nothing i = None
+abbrev pub no_grip : {P C : Type 0} → ℕ → Option (P × C)
+no_grip i = None
 
 module _ {P C : Type 0} where
   -- it holds each of these
@@ -47,13 +47,13 @@ module _ {P C : Type 0} where
   values g [] = []
   values g (i ∷ is) = add_value (g i) (values g is)
 
-  abbrev pub settled : (ℕ → Option (P × C)) → List ℕ → List C
-  settled g [] = []
-  settled g (i ∷ is) = add_settled (g i) (settled g is)
+  abbrev pub settled_contents : (ℕ → Option (P × C)) → List ℕ → List C
+  settled_contents g [] = []
+  settled_contents g (i ∷ is) = add_settled (g i) (settled_contents g is)
 
-abbrev pub is_among : ℕ → List ℕ → Bool
-is_among i [] = false
-is_among i (j ∷ js) = cond (eqb j i) true (is_among i js)
+abbrev pub is_place_among : ℕ → List ℕ → Bool
+is_place_among i [] = false
+is_place_among i (j ∷ js) = cond (eqb j i) true (is_place_among i js)
 
 module _ {P C : Type 0} (content : P → C) where
   abbrev pub settled_one : Option (P × C) → Option (P × C)
@@ -62,4 +62,4 @@ module _ {P C : Type 0} (content : P → C) where
 
   -- these parts are settled as they are
   abbrev pub settle : List ℕ → (ℕ → Option (P × C)) → ℕ → Option (P × C)
-  settle is g i = cond (is_among i is) (settled_one (g i)) (g i)
+  settle is g i = cond (is_place_among i is) (settled_one (g i)) (g i)

@@ -10,13 +10,13 @@ use Rattle.ca_table.specs.Draws.{turn_view}
 use Rattle.ca_table.specs.declared.drawn.Drawn.{Drawn}
 
 -- what a list of turns leaves of the parts
-abbrev pub left_by : {C E : Type 0} → (E → List ℕ) → List C → List (Turn C E) → List C
-left_by touches cs [] = cs
-left_by touches cs (t ∷ ts) = left_by touches (write cs (touches t.event) t.after) ts
+abbrev pub contents_left : {C E : Type 0} → (E → List ℕ) → List C → List (Turn C E) → List C
+contents_left touches cs [] = cs
+contents_left touches cs (t ∷ ts) = contents_left touches (write cs (touches t.event) t.after) ts
 
 -- what lies in the parts after all that the hand drew, where it is the only one
 abbrev pub left_now : {C E : Type 0} → (E → List ℕ) → View C E → List C
-left_now touches v = left_by touches v.opening v.turns
+left_now touches v = contents_left touches v.opening v.turns
 
 -- what a hand holds, as last settled, is what its turns left there
 pub record HoldsLeft {C E : Type 0} (touches : E → List ℕ) (v : View C E) : Type 0 where

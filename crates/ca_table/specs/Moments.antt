@@ -28,9 +28,9 @@ NeverFall first [] last = first ≤ last
 NeverFall first (m ∷ ms) last = (first ≤ m) × NeverFall m ms last
 
 -- told answers went on by these
-abbrev pub WentOn : List ℕ → Option (List ℕ) → Option (List ℕ) → Type 0
-WentOn ms None new = Unit {0}
-WentOn ms (Some told) new = new ≡ Some (told ++ ms)
+abbrev pub ToldWentOn : List ℕ → Option (List ℕ) → Option (List ℕ) → Type 0
+ToldWentOn ms None new = Unit {0}
+ToldWentOn ms (Some told) new = new ≡ Some (told ++ ms)
 
 -- these stand in the second list, in that order
 abbrev pub StandIn : List ℕ → List ℕ → Type 0
@@ -44,7 +44,7 @@ pub record KeepsTime (journal : List EventView) (least : ℕ) (before after : Op
   pub answers : List ℕ
   pub last : ℕ
   pub rise : NeverFall least answers last
-  pub told : WentOn answers before after
+  pub told : ToldWentOn answers before after
   pub among : StandIn (moments_told journal) answers
 
 -- what became of the clock in a run that began with it so

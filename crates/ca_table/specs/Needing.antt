@@ -7,7 +7,7 @@ use Rattle.ca_commit.specs.Parking.{front_port}
 use Rattle.ca_commit.specs.Planning.{Planned, to_close, to_do, to_make, to_meet, to_park, to_post, to_register, to_spawn}
 use Rattle.ca_commit.specs.Touched as said
 use Rattle.ca_table.specs.Carrying.{Carries}
-use Rattle.ca_table.specs.Covering.{is_named}
+use Rattle.ca_table.specs.Covering.{is_named_one}
 
 -- the channels that it names, where p is the number of a new port
 abbrev pub ports_needed : (port : ℕ) → Planned → List ℕ
@@ -46,7 +46,7 @@ abbrev pub own_if : Bool → ℕ → Option ℕ
 own_if true w = Some w
 own_if false w = None
 
-abbrev pub needed : (w p v : ℕ) → Planned → said.Named
+abbrev pub needed : (w p v : ℕ) → Planned → said.NamedParts
 needed w p v q = record { lane = true; ports = ports_needed p q; waits = waits_needed v q; timers = needs_timers q; ready = own_if (needs_ready q) w }
 
 -- the banks of these ports and the shards of these waits are carried, and of timers and ready parts those that are named
@@ -54,7 +54,7 @@ pub record Brings {X : Type 0} (ports looked : List ℕ) (with_timers : Bool) (o
   pub banks : (i : ℕ) → i < 16 → said.homes ports i ≡ is_some (h.banks i)
   pub shards : (i : ℕ) → i < 16 → said.homes looked i ≡ is_some (h.shards i)
   pub timers : with_timers ≡ is_some h.timers
-  pub ready : (r : ℕ) → is_named of_ready r ≡ is_some (h.ready r)
+  pub ready : (r : ℕ) → is_named_one of_ready r ≡ is_some (h.ready r)
 
 -- the event as worker w of n draws it, with the ports and waits that stand beside it
 abbrev pub drawn_with : (w n : ℕ) → said.Turn → (ports looked : List ℕ) → said.Drawn

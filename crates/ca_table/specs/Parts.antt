@@ -10,7 +10,7 @@ use Rattle.ca_bank.specs.Room.{kept_view}
 use Rattle.ca_bank.specs.declared.bank.Bank.{Bank}
 use Rattle.ca_bank.specs.declared.shard.Shard.{Shard}
 use Rattle.ca_commit.specs.Agents.{TaskAgent}
-use Rattle.ca_commit.specs.Contents.{Counts as CountsView, Mark as MarkView, Parked, TimersPart, unmarked, main_over, clock_failed, stopped}
+use Rattle.ca_commit.specs.Contents.{Counts as CountsView, StopMark as MarkView, Parked, TimersPart, unmarked, main_over, clock_failed, stopped}
 use Rattle.ca_commit.specs.Showing.{parked_view}
 use Rattle.ca_commit.specs.Tasks.{task_view, tasks_in}
 use Rattle.ca_commit.specs.declared.task.Task.{Task}
@@ -67,5 +67,5 @@ abbrev pub part_of : {A C : Type 0} → ℕ → ValidCode → Contents A C → P
 part_of n code x = record { workers = n; code = record { marker = record {}; value = code }; contents = x }
 
 -- what stands in a hand for a part that was moved out
-abbrev pub away : {A C : Type 0} → ℕ → ValidCode → Part A C
-away n code = part_of n code P.Away
+abbrev pub part_away : {A C : Type 0} → ℕ → ValidCode → Part A C
+part_away n code = part_of n code P.Away

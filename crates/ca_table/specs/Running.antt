@@ -25,12 +25,12 @@ as_option core.none = None
 as_option (core.some x) = Some x
 
 -- what lies at a place
-abbrev pub at : {X : Type 0} → List X → ℕ → Option X
-at xs i = as_option (get_elem? xs i)
+abbrev pub lying_at : {X : Type 0} → List X → ℕ → Option X
+lying_at xs i = as_option (get_elem? xs i)
 
 -- all parts of a table, by their numbers, as the definitions of a run have them
 abbrev pub contents_at : {A : Type 0} → List (PartSeen A) → ℕ → Option (Content (TaskAgent A))
-contents_at now i = option_map content_of (at now i)
+contents_at now i = option_map content_of (lying_at now i)
 
 -- the events that the journal shows, of these turns in their order
 abbrev pub shown_by : {C : Type 0} → List (Turn C Drawn) → List EventView

@@ -7,7 +7,7 @@ use Rattle.ca_term.specs.Program.{ProgramParts, program_view}
 use Rattle.ca_states.specs.Code.{CodeView}
 use Rattle.ca_meaning.specs.Registry.{Registry}
 use Rattle.ca_commit.specs.Agents.{TaskAgent}
-use Rattle.ca_commit.specs.Contents.{Content, Counts, Held, Kept, LaneView, Parked, TimersPart, a_bank, a_lane, a_ready, a_shard, away, the_timers}
+use Rattle.ca_commit.specs.Contents.{Content, Counts, PartContents, Kept, LaneView, Parked, TimersPart, a_bank, a_lane, a_ready, a_shard, away, the_timers}
 
 pub record LaneSeen (A : Type 0) : Type 0 where
   pub program : ProgramParts
@@ -36,7 +36,7 @@ pub record PartSeen (A : Type 0) : Type 0 where
 abbrev pub lane_of_seen : {A : Type 0} → LaneSeen A → LaneView (TaskAgent A)
 lane_of_seen l = record { program = program_view l.program; task = l.task; since = l.since; counts = l.counts }
 
-abbrev pub held_of : {A : Type 0} → HeldSeen A → Held (TaskAgent A)
+abbrev pub held_of : {A : Type 0} → HeldSeen A → PartContents (TaskAgent A)
 held_of (seen_lane l) = a_lane (lane_of_seen l)
 held_of (seen_bank b) = a_bank (record { channels = map.get b.channels; registries = map.get b.registries })
 held_of (seen_shard s) = a_shard (map.get s)

@@ -5,7 +5,7 @@ use Rattle.ca_meaning.specs.BodyViews.{is_at_op}
 use Rattle.ca_meaning.specs.Registry.{Registry}
 use Rattle.ca_states.specs.Code.{CodeView}
 use Rattle.ca_commit.specs.Agents.{TaskAgent}
-use Rattle.ca_commit.specs.Contents.{BankView, Held, Kept, LaneView, Parked, TimersPart, a_bank, a_lane, a_ready, a_shard, home, owner, the_timers}
+use Rattle.ca_commit.specs.Contents.{BankView, PartContents, Kept, LaneView, Parked, TimersPart, a_bank, a_lane, a_ready, a_shard, home, owner, the_timers}
 
 module _ {A : Type 0} (over : CodeView → A → Type 0) (code : CodeView) where
   -- the agents of these tasks are over the code
@@ -15,7 +15,7 @@ module _ {A : Type 0} (over : CodeView → A → Type 0) (code : CodeView) where
 
 module _ {A : Type 0} (over : CodeView → A → Type 0) (place : A → At) (code : CodeView) where
   -- the part of number i of a run of n workers, by what is in it
-  pub record IsSound (n i : ℕ) (x : Held (TaskAgent A)) : Type 0 where
+  pub record IsSound (n i : ℕ) (x : PartContents (TaskAgent A)) : Type 0 where
     -- each agent in it is over the code
     pub running : (l : LaneView (TaskAgent A)) (t : ℕ) (a : TaskAgent A) → x ≡ a_lane l → l.task ≡ Some (t, a) → over code a.agent
     pub ready : (q : List (ℕ × TaskAgent A)) → x ≡ a_ready q → AllOver over code q

@@ -8,7 +8,7 @@ use Rattle.ca_meaning.specs.Ends.{but_last}
 use Rattle.ca_meaning.specs.Legal.{is_end_of_main}
 use Rattle.ca_turns.specs.declared.rule.Turn.{Turn}
 use Rattle.ca_turns.specs.History.{IsNumbered, Run}
-use Rattle.ca_turns.specs.Views.{stands}
+use Rattle.ca_turns.specs.Views.{hands_stood_for}
 use Rattle.ca_commit.specs.Touched as said
 use Rattle.ca_table.specs.Draws.{drawn_touches, turn_view}
 use Rattle.ca_table.specs.Grips.{SameHand}
@@ -58,13 +58,13 @@ abbrev pub leaves_run : said.Turn → Bool
 leaves_run turn = stays_stuck turn || obeys_mark turn
 
 -- the worker finds the end of the run
-abbrev pub leaves : said.Turn → Bool
-leaves turn = stays_stuck turn || (obeys_mark turn || ends_main turn)
+abbrev pub finds_run_end : said.Turn → Bool
+finds_run_end turn = stays_stuck turn || (obeys_mark turn || ends_main turn)
 
 -- some turn is such
-abbrev pub has : {C : Type 0} → (said.Turn → Bool) → List (Turn C Drawn) → Bool
-has such [] = false
-has such (t ∷ ts) = such (turn_view t.event.what) || has such ts
+abbrev pub some_turn : {C : Type 0} → (said.Turn → Bool) → List (Turn C Drawn) → Bool
+some_turn such [] = false
+some_turn such (t ∷ ts) = such (turn_view t.event.what) || some_turn such ts
 
 -- the last of these turns is such
 abbrev pub ends_so : {C : Type 0} → (said.Turn → Bool) → List (Turn C Drawn) → Bool
@@ -74,7 +74,7 @@ ends_so such (t ∷ (u ∷ us)) = ends_so such (u ∷ us)
 
 -- the main text ends among them, or by the last of them the worker leaves
 abbrev pub finds_end : {C : Type 0} → List (Turn C Drawn) → Bool
-finds_end ts = has ends_main ts || ends_so leaves_run ts
+finds_end ts = some_turn ends_main ts || ends_so leaves_run ts
 
 -- all but the last of these events cost less than so much; where that is nothing there is none
 abbrev pub Sparing : ℕ → List EventView → Type 0
@@ -84,10 +84,10 @@ Sparing most (e ∷ es) = cost (but_last (e ∷ es)) < most
 -- What a call of `work` with that allowance may answer, by the turns that it drew: Spent where they cost it, Over where
 -- they cost less and the run's end was found, and otherwise why the call is given up.
 abbrev pub AnswersFor : {C : Type 0} → ℕ → Result WorkEnd PoolStop → List (Turn C Drawn) → Type 0
-AnswersFor allowance (Ok Spent) ts = (has gives_up ts ≡ false) × (allowance ≤ cost (shown_by ts))
-AnswersFor allowance (Ok Over) ts = (has gives_up ts ≡ false) × (cost (shown_by ts) < allowance) × (finds_end ts ≡ true)
-AnswersFor allowance (Err ClockFailed) ts = (has fails_clock ts ≡ true) × (has tells_stop ts ≡ false)
-AnswersFor allowance (Err OutOfMemory) ts = has fails_clock ts ≡ false
+AnswersFor allowance (Ok Spent) ts = (some_turn gives_up ts ≡ false) × (allowance ≤ cost (shown_by ts))
+AnswersFor allowance (Ok Over) ts = (some_turn gives_up ts ≡ false) × (cost (shown_by ts) < allowance) × (finds_end ts ≡ true)
+AnswersFor allowance (Err ClockFailed) ts = (some_turn fails_clock ts ≡ true) × (some_turn tells_stop ts ≡ false)
+AnswersFor allowance (Err OutOfMemory) ts = some_turn fails_clock ts ≡ false
 
 -- some event of the journal is the end of the main text
 abbrev pub HasMainEnd : List EventView → Type 0
@@ -96,7 +96,7 @@ HasMainEnd journal = (e : EventView) × In e journal × (is_end_of_main e ≡ tr
 module _ {A C : Type 0} where
   -- some turn that the worker drew is such
   abbrev pub has_drawn : (said.Turn → Bool) → Worker A C → Bool
-  has_drawn such w = has such w.hand.view.turns
+  has_drawn such w = some_turn such w.hand.view.turns
 
   -- some turn of these workers is such
   abbrev pub any_drew : (said.Turn → Bool) → List (Worker A C) → Bool
@@ -126,7 +126,7 @@ module _ {A C : Type 0} where
     pub number : new.number ≡ old.number
     pub table : new.hand.table ≡ old.hand.table
     pub opening : new.hand.view.opening ≡ old.hand.view.opening
-    pub stays_for : stands new.hand.view ≡ stands old.hand.view
+    pub stays_for : hands_stood_for new.hand.view ≡ hands_stood_for old.hand.view
     pub more : List (Turn (PartSeen A) Drawn)
     pub drew : new.hand.view.turns ≡ old.hand.view.turns ++ more
     pub sparing : Sparing allowance (shown_by more)
@@ -152,5 +152,5 @@ module _ {A C : Type 0} where
     pub turns : new.hand.view.turns ≡ old.hand.view.turns ++ more
     pub costs : cost (shown_by more) ≡ spends
     pub few : but_last (shown_by more) ≡ []
-    pub going : has gives_up more ≡ false
+    pub going : some_turn gives_up more ≡ false
     pub finds : found ≡ true → finds_end more ≡ true

@@ -10,7 +10,7 @@ ghost use Rattle.ca_states.specs.ValidCode.{valid_code};
 ghost use Rattle.ca_journal.specs.Events.{events};
 ghost use Rattle.ca_journal.specs.Merge.{entries, events_of, joined};
 ghost use Rattle.ca_turns.specs.Places.{total};
-ghost use Rattle.ca_turns.specs.Views.{stands};
+ghost use Rattle.ca_turns.specs.Views.{hands_stood_for};
 ghost use Rattle.ca_commit.specs.Contents.{TimersPart};
 ghost use Rattle.ca_commit.specs.Gathered.{parts_of};
 ghost use Rattle.ca_commit.specs.Opening.{unasked};

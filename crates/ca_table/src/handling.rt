@@ -7,7 +7,7 @@ ghost use Rattle.ca_term.specs.Program.{ProgramView};
 ghost use Rattle.ca_states.specs.ValidCode.{valid_code};
 ghost use Rattle.ca_journal.specs.Merge.{room};
 ghost use Rattle.ca_turns.specs.Hands.{IsHolding, TableId};
-ghost use Rattle.ca_turns.specs.Views.{stands, turn};
+ghost use Rattle.ca_turns.specs.Views.{hands_stood_for, new_turn};
 ghost use Rattle.ca_commit.specs.Moving.{visible};
 ghost use Rattle.ca_commit.specs.Gathered.{kind_at, kind_of_part};
 ghost use Rattle.ca_commit.specs.Tasks.{tasks_in};
@@ -16,7 +16,7 @@ ghost use Rattle.ca_table.specs.Carriers.{IsCarrying, IsMoved, LaneBox, with_rea
 ghost use Rattle.ca_table.specs.Carrying.{Carries, IsPlace, Place, each_by, lane_place, number_at, part_at, with_at};
 ghost use Rattle.ca_table.specs.Draws.{drawn_allows, drawn_code, drawn_view, turn_view};
 ghost use Rattle.ca_table.specs.Grips.{SameHand, SameTurns, settled_one};
-ghost use Rattle.ca_table.specs.Parts.{away, contents_seen, part_of, part_seen};
+ghost use Rattle.ca_table.specs.Parts.{part_away, contents_seen, part_of, part_seen};
 ghost use Rattle.ca_table.specs.Seen.{PartSeen, held_of};
 ghost use Rattle.ca_table.specs.Sound.{AllOver, IsSound};
 ghost use Rattle.ca_table.specs.Workers.{IsOne, SameWorker, part_count};
@@ -53,7 +53,7 @@ pub fn hold_at<R: Wait, A: Agent, C: Clock + Drop>(
     ensures entries { worker.new.entries ≡ worker.old.entries }
     ensures kind { kind_of_part (held_of (contents_seen C.least C.faults C.readings result)) ≡ kind_at worker.old.workers at }
     ensures sound { IsSound A.over A.place (valid_code code.now) worker.old.workers at (held_of (contents_seen C.least C.faults C.readings result)) }
-    ensures carries { (program : ProgramView) (n : ℕ) (h : Carries (Part A C × PartSeen A)) (z : Place) → IsCarrying A.over A.stands program code.now table.now.id n worker.old h → IsPlace z → at ≡ number_at n worker.old.number z → IsCarrying A.over A.stands program code.now table.now.id n worker.new (with_at z (Some (away n code.now, part_seen C.least C.faults C.readings (part_of n code.now result))) h) }
+    ensures carries { (program : ProgramView) (n : ℕ) (h : Carries (Part A C × PartSeen A)) (z : Place) → IsCarrying A.over A.stands program code.now table.now.id n worker.old h → IsPlace z → at ≡ number_at n worker.old.number z → IsCarrying A.over A.stands program code.now table.now.id n worker.new (with_at z (Some (part_away n code.now, part_seen C.least C.faults C.readings (part_of n code.now result))) h) }
 {
     let workers = worker.workers;
     hold_out(
@@ -81,9 +81,9 @@ pub fn try_hold_at<A: Agent, C: Clock + Drop>(
     ensures entries { worker.new.entries ≡ worker.old.entries }
     ensures kind { IfSome result (λ x. kind_of_part (held_of (contents_seen C.least C.faults C.readings x)) ≡ kind_at worker.old.workers at) }
     ensures sound { IfSome result (λ x. IsSound A.over A.place (valid_code code.now) worker.old.workers at (held_of (contents_seen C.least C.faults C.readings x))) }
-    ensures carries { IfSome result (λ x. (program : ProgramView) (n : ℕ) (h : Carries (Part A C × PartSeen A)) (z : Place) → IsCarrying A.over A.stands program code.now table.now.id n worker.old h → IsPlace z → at ≡ number_at n worker.old.number z → IsCarrying A.over A.stands program code.now table.now.id n worker.new (with_at z (Some (away n code.now, part_seen C.least C.faults C.readings (part_of n code.now x))) h)) }
+    ensures carries { IfSome result (λ x. (program : ProgramView) (n : ℕ) (h : Carries (Part A C × PartSeen A)) (z : Place) → IsCarrying A.over A.stands program code.now table.now.id n worker.old h → IsPlace z → at ≡ number_at n worker.old.number z → IsCarrying A.over A.stands program code.now table.now.id n worker.new (with_at z (Some (part_away n code.now, part_seen C.least C.faults C.readings (part_of n code.now x))) h)) }
     ensures busy { IfNone result ((program : ProgramView) (n : ℕ) (h : Carries (Part A C × PartSeen A)) → IsCarrying A.over A.stands program code.now table.now.id n worker.old h → IsCarrying A.over A.stands program code.now table.now.id n worker.new h) }
-    ensures lone { IfNone result (stands worker.old.hand.view < worker.old.hand.view.hands) }
+    ensures lone { IfNone result (hands_stood_for worker.old.hand.view < worker.old.hand.view.hands) }
 {
     let workers = worker.workers;
     try_out(table, &mut worker.hand, &worker.program, code, workers, at)
@@ -151,7 +151,7 @@ pub fn take_at<A: Agent, C: Clock + Drop>(
     ensures turns { SameTurns worker.old.hand worker.new.hand }
     ensures entries { worker.new.entries ≡ worker.old.entries }
     ensures out { (x : Part A C) × (get_elem? worker.old.hand.parts at ≡ some (Some x)) × (x.contents ≡ result) }
-    ensures carries { (program : ProgramView) (id : TableId) (n : ℕ) (h : Carries (Part A C × PartSeen A)) (z : Place) (y : Part A C) (c : PartSeen A) → IsCarrying A.over A.stands program code.now id n worker.old (with_at z (Some (y, c)) h) → IsPlace z → at ≡ number_at n worker.old.number z → IsCarrying A.over A.stands program code.now id n worker.new (with_at z (Some (away n code.now, c)) h) }
+    ensures carries { (program : ProgramView) (id : TableId) (n : ℕ) (h : Carries (Part A C × PartSeen A)) (z : Place) (y : Part A C) (c : PartSeen A) → IsCarrying A.over A.stands program code.now id n worker.old (with_at z (Some (y, c)) h) → IsPlace z → at ≡ number_at n worker.old.number z → IsCarrying A.over A.stands program code.now id n worker.new (with_at z (Some (part_away n code.now, c)) h) }
 {
     let away = part_with(code, worker.workers, Contents::Away);
     let part = take_part::<Pool<A, C>>(&mut worker.hand, at, away);
@@ -167,7 +167,7 @@ pub fn take_lane<A: Agent, C: Clock + Drop>(
     ensures same { SameWorker worker.old worker.new }
     ensures turns { SameTurns worker.old.hand worker.new.hand }
     ensures entries { worker.new.entries ≡ worker.old.entries }
-    ensures carries { (program : ProgramView) (id : TableId) (n : ℕ) (h : Carries (Part A C × PartSeen A)) (l : LaneBox A) (c : PartSeen A) → IsCarrying A.over A.stands program code.now id n worker.old (with_at lane_place (Some (part_of n code.now (V.Lane l), c)) h) → (result ≡ l) × IsCarrying A.over A.stands program code.now id n worker.new (with_at lane_place (Some (away n code.now, c)) h) }
+    ensures carries { (program : ProgramView) (id : TableId) (n : ℕ) (h : Carries (Part A C × PartSeen A)) (l : LaneBox A) (c : PartSeen A) → IsCarrying A.over A.stands program code.now id n worker.old (with_at lane_place (Some (part_of n code.now (V.Lane l), c)) h) → (result ≡ l) × IsCarrying A.over A.stands program code.now id n worker.new (with_at lane_place (Some (part_away n code.now, c)) h) }
 {
     let number = worker.number;
     match take_at(code, worker, number) {
@@ -204,7 +204,7 @@ pub fn draw_carried<A: Agent, C: Clock + Drop>(
     ensures same { SameWorker worker.old worker.new }
     ensures room { room worker.old.entries ≤ room worker.new.entries + length (visible (turn_view drawn.what)) }
     ensures hand { SameHand worker.old.hand worker.new.hand }
-    ensures drew { (k : ℕ) × (before : List (PartSeen A)) × (after : List (PartSeen A)) × (worker.new.hand.view.turns ≡ worker.old.hand.view.turns ++ turn k drawn before after ∷ []) }
+    ensures drew { (k : ℕ) × (before : List (PartSeen A)) × (after : List (PartSeen A)) × (worker.new.hand.view.turns ≡ worker.old.hand.view.turns ++ new_turn k drawn before after ∷ []) }
     ensures carries { (program : ProgramView) (code : ValidCode) (n : ℕ) (h : Carries (Part A C × PartSeen A)) → IsCarrying A.over A.stands program code table.now.id n worker.old h → IsMoved A.over A.place A.advances A.gives A.starts (part_seen C.least C.faults C.readings) code n worker.old.number (drawn_view drawn) h → IsCarrying A.over A.stands program code table.now.id n worker.new (each_by (settled_one (part_seen C.least C.faults C.readings)) h) }
 {
     draw_event(table, worker, drawn);
@@ -225,7 +225,7 @@ pub fn draw_beside<A: Agent, C: Clock + Drop>(
     ensures same { SameWorker worker.old worker.new }
     ensures room { room worker.old.entries ≤ room worker.new.entries + length (visible (turn_view drawn.what)) }
     ensures hand { SameHand worker.old.hand worker.new.hand }
-    ensures drew { (k : ℕ) × (before : List (PartSeen A)) × (after : List (PartSeen A)) × (worker.new.hand.view.turns ≡ worker.old.hand.view.turns ++ turn k drawn before after ∷ []) }
+    ensures drew { (k : ℕ) × (before : List (PartSeen A)) × (after : List (PartSeen A)) × (worker.new.hand.view.turns ≡ worker.old.hand.view.turns ++ new_turn k drawn before after ∷ []) }
     ensures carries { (program : ProgramView) (code : ValidCode) (n : ℕ) (h : Carries (Part A C × PartSeen A)) → IsCarrying A.over A.stands program code table.now.id n worker.old h → IsMoved A.over A.place A.advances A.gives A.starts (part_seen C.least C.faults C.readings) code n worker.old.number (drawn_view drawn) (beside_lane h) → IsCarrying A.over A.stands program code table.now.id n worker.new (settled_beside (part_seen C.least C.faults C.readings) h) }
 {
     draw_event(table, worker, drawn);

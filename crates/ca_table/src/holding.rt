@@ -7,11 +7,11 @@ ghost use Rattle.ca_term.specs.Program.{program_view};
 ghost use Rattle.ca_states.specs.ValidCode.{valid_code};
 ghost use Rattle.ca_turns.specs.Hands.{IsHolding, IsWithout};
 ghost use Rattle.ca_turns.specs.Steps.{SeesOne};
-ghost use Rattle.ca_turns.specs.Views.{stands};
+ghost use Rattle.ca_turns.specs.Views.{hands_stood_for};
 ghost use Rattle.ca_commit.specs.Gathered.{kind_at, kind_of_part};
 ghost use Rattle.ca_table.specs.Draws.{drawn_moves, drawn_touches};
 ghost use Rattle.ca_table.specs.Grips.{Grips, SameTurns};
-ghost use Rattle.ca_table.specs.Parts.{away, contents_seen, part_of, part_seen};
+ghost use Rattle.ca_table.specs.Parts.{part_away, contents_seen, part_of, part_seen};
 ghost use Rattle.ca_table.specs.Running.{Knows};
 ghost use Rattle.ca_table.specs.Seen.{PartSeen, held_of};
 ghost use Rattle.ca_table.specs.Sound.{IsSound};
@@ -59,7 +59,7 @@ fn move_out<A: Agent, C: Clock + Drop>(
     ensures view { hand.new.view ≡ hand.old.view }
     ensures kind { kind_of_part (held_of (contents_seen C.least C.faults C.readings result)) ≡ kind_at workers at }
     ensures sound { IsSound A.over A.place (valid_code code.now) workers at (held_of (contents_seen C.least C.faults C.readings result)) }
-    ensures grips { (g : ℕ → Option (Part A C × PartSeen A)) (x : Part A C) → Grips hand.old (update eqb g at (Some (x, part_seen C.least C.faults C.readings x))) → Grips hand.new (update eqb g at (Some (away workers code.now, part_seen C.least C.faults C.readings (part_of workers code.now result)))) }
+    ensures grips { (g : ℕ → Option (Part A C × PartSeen A)) (x : Part A C) → Grips hand.old (update eqb g at (Some (x, part_seen C.least C.faults C.readings x))) → Grips hand.new (update eqb g at (Some (part_away workers code.now, part_seen C.least C.faults C.readings (part_of workers code.now result)))) }
 {
     let away = part_with(code, workers, Contents::Away);
     let part = take_part::<Pool<A, C>>(hand, at, away);
@@ -85,7 +85,7 @@ pub fn hold_out<R: Wait, A: Agent, C: Clock + Drop>(
     ensures same { SameTurns hand.old hand.new }
     ensures kind { kind_of_part (held_of (contents_seen C.least C.faults C.readings result)) ≡ kind_at workers at }
     ensures sound { IsSound A.over A.place (valid_code code.now) workers at (held_of (contents_seen C.least C.faults C.readings result)) }
-    ensures grips { (g : ℕ → Option (Part A C × PartSeen A)) → Grips hand.old g → Grips hand.new (update eqb g at (Some (away workers code.now, part_seen C.least C.faults C.readings (part_of workers code.now result)))) }
+    ensures grips { (g : ℕ → Option (Part A C × PartSeen A)) → Grips hand.old g → Grips hand.new (update eqb g at (Some (part_away workers code.now, part_seen C.least C.faults C.readings (part_of workers code.now result)))) }
     ensures history { SeesOne drawn_touches (drawn_moves A.over A.place A.advances A.gives A.starts) hand.new.view }
     ensures left { KeepsLeft hand.old.view hand.new.view }
 {
@@ -110,10 +110,10 @@ pub fn try_out<A: Agent, C: Clock + Drop>(
     ensures same { SameTurns hand.old hand.new }
     ensures kind { IfSome result (λ x. kind_of_part (held_of (contents_seen C.least C.faults C.readings x)) ≡ kind_at workers at) }
     ensures sound { IfSome result (λ x. IsSound A.over A.place (valid_code code.now) workers at (held_of (contents_seen C.least C.faults C.readings x))) }
-    ensures grips { IfSome result (λ x. (g : ℕ → Option (Part A C × PartSeen A)) → Grips hand.old g → Grips hand.new (update eqb g at (Some (away workers code.now, part_seen C.least C.faults C.readings (part_of workers code.now x))))) }
+    ensures grips { IfSome result (λ x. (g : ℕ → Option (Part A C × PartSeen A)) → Grips hand.old g → Grips hand.new (update eqb g at (Some (part_away workers code.now, part_seen C.least C.faults C.readings (part_of workers code.now x))))) }
     ensures kept { IfNone result ((g : ℕ → Option (Part A C × PartSeen A)) → Grips hand.old g → Grips hand.new g) }
     ensures left { KeepsLeft hand.old.view hand.new.view }
-    ensures lone { IfNone result (stands hand.old.view < hand.old.view.hands) }
+    ensures lone { IfNone result (hands_stood_for hand.old.view < hand.old.view.hands) }
 {
     if try_hold(table, hand, at) {
         Some(move_out(hand, program, code, workers, at))

@@ -8,12 +8,12 @@ ghost use Rattle.ca_turns.specs.declared.rule.Turn.{Turn};
 ghost use Rattle.ca_commit.specs.Moving.{visible};
 ghost use Rattle.ca_table.specs.Carriers.{IsCarrying, IsMoved};
 ghost use Rattle.ca_table.specs.Carrying.{Carries, IsPlace, Place, each_by, lane_place, number_at, part_at, with_at};
-ghost use Rattle.ca_table.specs.Covering.{plain};
+ghost use Rattle.ca_table.specs.Covering.{plain_drawn};
 ghost use Rattle.ca_table.specs.Draws.{turn_view};
 ghost use Rattle.ca_table.specs.Grips.{SameHand, SameTurns, settled_one};
-ghost use Rattle.ca_table.specs.Parts.{away, part_of, part_seen};
+ghost use Rattle.ca_table.specs.Parts.{part_away, part_of, part_seen};
 ghost use Rattle.ca_table.specs.Seen.{PartSeen};
-ghost use Rattle.ca_table.specs.Worked.{Drew, gives_up, leaves};
+ghost use Rattle.ca_table.specs.Worked.{Drew, gives_up, finds_run_end};
 ghost use Rattle.ca_table.specs.Workers.{SameWorker, part_of_lane};
 ghost use Rattle.ca_table.specs.declared.drawn.Drawn.{Drawn};
 ghost use Rattle.ca_table.specs.declared.part.Contents.TheVariants as V;
@@ -38,11 +38,11 @@ pub fn leave_at<A: Agent, C: Clock + Drop>(
     at: u64,
     contents: Contents<A, C>,
 )
-    requires carries { (program : ProgramView) × (n : ℕ) × (h : Carries (Part A C × PartSeen A)) × (z : Place) × IsCarrying A.over A.stands program code.now table.now.id n worker.old (with_at z (Some (away n code.now, part_seen C.least C.faults C.readings (part_of n code.now contents))) h) × IsPlace z × (at ≡ number_at n worker.old.number z) }
+    requires carries { (program : ProgramView) × (n : ℕ) × (h : Carries (Part A C × PartSeen A)) × (z : Place) × IsCarrying A.over A.stands program code.now table.now.id n worker.old (with_at z (Some (part_away n code.now, part_seen C.least C.faults C.readings (part_of n code.now contents))) h) × IsPlace z × (at ≡ number_at n worker.old.number z) }
     ensures same { SameWorker worker.old worker.new }
     ensures turns { SameTurns worker.old.hand worker.new.hand }
     ensures entries { worker.new.entries ≡ worker.old.entries }
-    ensures carries { (program : ProgramView) (n : ℕ) (h : Carries (Part A C × PartSeen A)) (z : Place) → part_at z h ≡ None → IsCarrying A.over A.stands program code.now table.now.id n worker.old (with_at z (Some (away n code.now, part_seen C.least C.faults C.readings (part_of n code.now contents))) h) → IsPlace z → at ≡ number_at n worker.old.number z → IsCarrying A.over A.stands program code.now table.now.id n worker.new h }
+    ensures carries { (program : ProgramView) (n : ℕ) (h : Carries (Part A C × PartSeen A)) (z : Place) → part_at z h ≡ None → IsCarrying A.over A.stands program code.now table.now.id n worker.old (with_at z (Some (part_away n code.now, part_seen C.least C.faults C.readings (part_of n code.now contents))) h) → IsPlace z → at ≡ number_at n worker.old.number z → IsCarrying A.over A.stands program code.now table.now.id n worker.new h }
 {
     put_at(code, worker, at, contents);
     give_at(table, worker, at);
@@ -57,15 +57,15 @@ pub fn draw_with_lane<A: Agent, C: Clock + Drop>(
     lane: Box<Lane<A>>,
     what: Turned,
 ) -> Box<Lane<A>>
-    requires carries { (program : ProgramView) × (n : ℕ) × (h : Carries (Part A C × PartSeen A)) × (l : PartSeen A) × IsCarrying A.over A.stands program code.now table.now.id n worker.old (with_at lane_place (Some (away n code.now, l)) h) × IsMoved A.over A.place A.advances A.gives A.starts (part_seen C.least C.faults C.readings) code.now n worker.old.number (plain worker.old.number n (turn_view what)) (with_at lane_place (Some (part_of n code.now (V.Lane lane), l)) h) }
+    requires carries { (program : ProgramView) × (n : ℕ) × (h : Carries (Part A C × PartSeen A)) × (l : PartSeen A) × IsCarrying A.over A.stands program code.now table.now.id n worker.old (with_at lane_place (Some (part_away n code.now, l)) h) × IsMoved A.over A.place A.advances A.gives A.starts (part_seen C.least C.faults C.readings) code.now n worker.old.number (plain_drawn worker.old.number n (turn_view what)) (with_at lane_place (Some (part_of n code.now (V.Lane lane), l)) h) }
     requires room { length (visible (turn_view what)) ≤ room worker.old.entries }
     requires turns { length worker.old.hand.view.turns < 2 ^ 59 }
     ensures same { SameWorker worker.old worker.new }
     ensures lane { result ≡ lane }
     ensures hand { SameHand worker.old.hand worker.new.hand }
     ensures turn { (t : Turn (PartSeen A) Drawn) × (worker.new.hand.view.turns ≡ worker.old.hand.view.turns ++ t ∷ []) × (t.event.what ≡ what) }
-    ensures drew { gives_up (turn_view what) ≡ false → Drew (cost (visible (turn_view what))) (leaves (turn_view what)) worker.old worker.new }
-    ensures carries { (program : ProgramView) (n : ℕ) (h : Carries (Part A C × PartSeen A)) (l : PartSeen A) → IsCarrying A.over A.stands program code.now table.now.id n worker.old (with_at lane_place (Some (away n code.now, l)) h) → IsMoved A.over A.place A.advances A.gives A.starts (part_seen C.least C.faults C.readings) code.now n worker.old.number (plain worker.old.number n (turn_view what)) (with_at lane_place (Some (part_of n code.now (V.Lane lane), l)) h) → IsCarrying A.over A.stands program code.now table.now.id n worker.new (with_at lane_place (Some (away n code.now, part_of_lane n code.now lane.value)) (each_by (settled_one (part_seen C.least C.faults C.readings)) h)) }
+    ensures drew { gives_up (turn_view what) ≡ false → Drew (cost (visible (turn_view what))) (finds_run_end (turn_view what)) worker.old worker.new }
+    ensures carries { (program : ProgramView) (n : ℕ) (h : Carries (Part A C × PartSeen A)) (l : PartSeen A) → IsCarrying A.over A.stands program code.now table.now.id n worker.old (with_at lane_place (Some (part_away n code.now, l)) h) → IsMoved A.over A.place A.advances A.gives A.starts (part_seen C.least C.faults C.readings) code.now n worker.old.number (plain_drawn worker.old.number n (turn_view what)) (with_at lane_place (Some (part_of n code.now (V.Lane lane), l)) h) → IsCarrying A.over A.stands program code.now table.now.id n worker.new (with_at lane_place (Some (part_away n code.now, part_of_lane n code.now lane.value)) (each_by (settled_one (part_seen C.least C.faults C.readings)) h)) }
 {
     let number = worker.number;
     put_at(code, worker, number, Contents::Lane(lane));

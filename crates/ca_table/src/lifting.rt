@@ -4,12 +4,12 @@ ghost use Rattle.ca_term.specs.Program.{ProgramView};
 ghost use Rattle.ca_turns.specs.Hands.{IsHolding, TableId};
 ghost use Rattle.ca_commit.specs.Gathered.{bank_kind, shard_kind};
 ghost use Rattle.ca_commit.specs.Listing.{listed};
-ghost use Rattle.ca_commit.specs.Listings.{parts, spare};
+ghost use Rattle.ca_commit.specs.Listings.{parts, spare_parts};
 ghost use Rattle.ca_table.specs.Carriers.{IsCarrying};
 ghost use Rattle.ca_table.specs.Carrying.{Carries};
 ghost use Rattle.ca_table.specs.Grips.{SameTurns};
 ghost use Rattle.ca_table.specs.Homes.{has_home};
-ghost use Rattle.ca_table.specs.Lifting.{HasNone, Row, SettledIf, bank_row, contents_kind, first_of, kind_of_row, laid_back, lifted, shard_row, with_all};
+ghost use Rattle.ca_table.specs.Lifting.{HasNone, PartRow, SettledIf, bank_row, contents_kind, first_part_number, kind_of_row, laid_back, lifted, shard_row, with_row};
 ghost use Rattle.ca_table.specs.Parts.{contents_seen, part_seen};
 ghost use Rattle.ca_states.specs.ValidCode.{valid_code};
 ghost use Rattle.ca_table.specs.Seen.{PartSeen, held_of};
@@ -36,11 +36,11 @@ const ALL: u64 = 16;
 
 /// Parts of one kind, of which there are sixteen.
 pub trait Sixteen<A, C>: Numbered {
-    ghost use Rattle.ca_table.specs.Lifting.{Row};
+    ghost use Rattle.ca_table.specs.Lifting.{PartRow};
     ghost use Rattle.ca_table.specs.declared.part.Contents.{Contents};
 
     // banks, or shards
-    ghost group: { Row };
+    ghost group: { PartRow };
 
     // what it is as a part
     ghost as_contents: { Self → Contents A C };
@@ -48,7 +48,7 @@ pub trait Sixteen<A, C>: Numbered {
     /// The number of the first of them.
     fn first(workers: u64) -> u64
         requires { workers ≤ 16 }
-        ensures number { result ≡ first_of group workers }
+        ensures number { result ≡ first_part_number group workers }
         ensures small { result ≤ 32 };
 
     fn from_contents(contents: Contents<A, C>) -> Self
@@ -130,15 +130,15 @@ pub fn load_one<R: Wait, A: Agent, C: Clock + Drop, T: Sixteen<A, C>>(
 )
     requires carries { (program : ProgramView) × (n : ℕ) × (h : Carries (Part A C × PartSeen A)) × IsCarrying A.over A.stands program code.now table.now.id n worker.old h }
     requires number { number < 16 }
-    requires ascending { (i : ℕ) → IsHolding worker.old.hand i → i < first_of T.group worker.old.workers + number }
-    requires room { 0 < spare list.old }
+    requires ascending { (i : ℕ) → IsHolding worker.old.hand i → i < first_part_number T.group worker.old.workers + number }
+    requires room { 0 < spare_parts list.old }
     ensures same { SameWorker worker.old worker.new }
     ensures turns { SameTurns worker.old.hand worker.new.hand }
     ensures entries { worker.new.entries ≡ worker.old.entries }
-    ensures list { (x : T) × (parts list.new ≡ parts list.old ++ x ∷ []) × (T.number x ≡ number) × IsSound A.over A.place (valid_code code.now) worker.old.workers (first_of T.group worker.old.workers + number) (held_of (contents_seen C.least C.faults C.readings (T.as_contents x))) }
-    ensures room { spare list.old ≤ spare list.new + 1 }
-    ensures ascending { (i : ℕ) → IsHolding worker.new.hand i → i < first_of T.group worker.old.workers + number + 1 }
-    ensures carries { (program : ProgramView) (n : ℕ) (h : Carries (Part A C × PartSeen A)) → listed T.number (parts list.old) number ≡ None → IsCarrying A.over A.stands program code.now table.now.id n worker.old (with_all T.group (lifted n code.now T.as_contents (part_seen C.least C.faults C.readings) T.number (parts list.old)) h) → IsCarrying A.over A.stands program code.now table.now.id n worker.new (with_all T.group (lifted n code.now T.as_contents (part_seen C.least C.faults C.readings) T.number (parts list.new)) h) }
+    ensures list { (x : T) × (parts list.new ≡ parts list.old ++ x ∷ []) × (T.number x ≡ number) × IsSound A.over A.place (valid_code code.now) worker.old.workers (first_part_number T.group worker.old.workers + number) (held_of (contents_seen C.least C.faults C.readings (T.as_contents x))) }
+    ensures room { spare_parts list.old ≤ spare_parts list.new + 1 }
+    ensures ascending { (i : ℕ) → IsHolding worker.new.hand i → i < first_part_number T.group worker.old.workers + number + 1 }
+    ensures carries { (program : ProgramView) (n : ℕ) (h : Carries (Part A C × PartSeen A)) → listed T.number (parts list.old) number ≡ None → IsCarrying A.over A.stands program code.now table.now.id n worker.old (with_row T.group (lifted n code.now T.as_contents (part_seen C.least C.faults C.readings) T.number (parts list.old)) h) → IsCarrying A.over A.stands program code.now table.now.id n worker.new (with_row T.group (lifted n code.now T.as_contents (part_seen C.least C.faults C.readings) T.number (parts list.new)) h) }
 {
     let at = T::first(worker.workers) + number;
     let part = T::from_contents(hold_at(rt, table, code, worker, at));
@@ -159,18 +159,18 @@ pub fn load<R: Wait, A: Agent, C: Clock + Drop, T: Sixteen<A, C>>(
     list: &mut Listing<T>,
 )
     requires carries { (program : ProgramView) × (n : ℕ) × (h : Carries (Part A C × PartSeen A)) × IsCarrying A.over A.stands program code.now table.now.id n worker.old h × HasNone T.group h }
-    requires ascending { (i : ℕ) → IsHolding worker.old.hand i → i < first_of T.group worker.old.workers }
+    requires ascending { (i : ℕ) → IsHolding worker.old.hand i → i < first_part_number T.group worker.old.workers }
     requires empty { parts list.old ≡ [] }
-    requires room { 16 ≤ spare list.old }
+    requires room { 16 ≤ spare_parts list.old }
     ensures same { SameWorker worker.old worker.new }
     ensures turns { SameTurns worker.old.hand worker.new.hand }
     ensures entries { worker.new.entries ≡ worker.old.entries }
     ensures homes { (i : ℕ) → i < 16 → is_some (listed T.number (parts list.new) i) ≡ has_home homes.now i }
     ensures none { (i : ℕ) → 16 ≤ i → listed T.number (parts list.new) i ≡ None }
-    ensures sound { (i : ℕ) (x : T) → listed T.number (parts list.new) i ≡ Some x → IsSound A.over A.place (valid_code code.now) worker.old.workers (first_of T.group worker.old.workers + i) (held_of (contents_seen C.least C.faults C.readings (T.as_contents x))) }
-    ensures room { spare list.old ≤ spare list.new + length (parts list.new) }
-    ensures ascending { (i : ℕ) → IsHolding worker.new.hand i → i < first_of T.group worker.old.workers + 16 }
-    ensures carries { (program : ProgramView) (n : ℕ) (h : Carries (Part A C × PartSeen A)) → HasNone T.group h → IsCarrying A.over A.stands program code.now table.now.id n worker.old h → IsCarrying A.over A.stands program code.now table.now.id n worker.new (with_all T.group (lifted n code.now T.as_contents (part_seen C.least C.faults C.readings) T.number (parts list.new)) h) }
+    ensures sound { (i : ℕ) (x : T) → listed T.number (parts list.new) i ≡ Some x → IsSound A.over A.place (valid_code code.now) worker.old.workers (first_part_number T.group worker.old.workers + i) (held_of (contents_seen C.least C.faults C.readings (T.as_contents x))) }
+    ensures room { spare_parts list.old ≤ spare_parts list.new + length (parts list.new) }
+    ensures ascending { (i : ℕ) → IsHolding worker.new.hand i → i < first_part_number T.group worker.old.workers + 16 }
+    ensures carries { (program : ProgramView) (n : ℕ) (h : Carries (Part A C × PartSeen A)) → HasNone T.group h → IsCarrying A.over A.stands program code.now table.now.id n worker.old h → IsCarrying A.over A.stands program code.now table.now.id n worker.new (with_row T.group (lifted n code.now T.as_contents (part_seen C.least C.faults C.readings) T.number (parts list.new)) h) }
 {
     for number in homes.first()..homes.end() {
         if homes.has(number) {
@@ -185,14 +185,14 @@ pub fn unload<A: Agent, C: Clock + Drop, T: Sixteen<A, C>>(
     worker: &mut Worker<A, C>,
     list: &mut Listing<T>,
 ) -> Homes
-    requires carries { (program : ProgramView) × (id : TableId) × (n : ℕ) × (h : Carries (Part A C × PartSeen A)) × (was : ℕ → Option (PartSeen A)) × ((i : ℕ) → is_some (was i) ≡ is_some (listed T.number (parts list.old) i)) × IsCarrying A.over A.stands program code.now id n worker.old (with_all T.group (λ i. laid_back n code.now T.as_contents None (was i)) h) }
+    requires carries { (program : ProgramView) × (id : TableId) × (n : ℕ) × (h : Carries (Part A C × PartSeen A)) × (was : ℕ → Option (PartSeen A)) × ((i : ℕ) → is_some (was i) ≡ is_some (listed T.number (parts list.old) i)) × IsCarrying A.over A.stands program code.now id n worker.old (with_row T.group (λ i. laid_back n code.now T.as_contents None (was i)) h) }
     ensures same { SameWorker worker.old worker.new }
     ensures turns { SameTurns worker.old.hand worker.new.hand }
     ensures entries { worker.new.entries ≡ worker.old.entries }
     ensures empty { parts list.new ≡ [] }
-    ensures room { spare list.old + length (parts list.old) ≤ spare list.new }
+    ensures room { spare_parts list.old + length (parts list.old) ≤ spare_parts list.new }
     ensures homes { (i : ℕ) → i < 16 → has_home result i ≡ is_some (listed T.number (parts list.old) i) }
-    ensures carries { (program : ProgramView) (id : TableId) (n : ℕ) (h : Carries (Part A C × PartSeen A)) (was : ℕ → Option (PartSeen A)) → ((i : ℕ) → is_some (was i) ≡ is_some (listed T.number (parts list.old) i)) → IsCarrying A.over A.stands program code.now id n worker.old (with_all T.group (λ i. laid_back n code.now T.as_contents None (was i)) h) → IsCarrying A.over A.stands program code.now id n worker.new (with_all T.group (λ i. laid_back n code.now T.as_contents (listed T.number (parts list.old) i) (was i)) h) }
+    ensures carries { (program : ProgramView) (id : TableId) (n : ℕ) (h : Carries (Part A C × PartSeen A)) (was : ℕ → Option (PartSeen A)) → ((i : ℕ) → is_some (was i) ≡ is_some (listed T.number (parts list.old) i)) → IsCarrying A.over A.stands program code.now id n worker.old (with_row T.group (λ i. laid_back n code.now T.as_contents None (was i)) h) → IsCarrying A.over A.stands program code.now id n worker.new (with_row T.group (λ i. laid_back n code.now T.as_contents (listed T.number (parts list.old) i) (was i)) h) }
 {
     let mut homes = Homes::none();
     while let Some(part) = list.pop() {
@@ -211,11 +211,11 @@ pub fn give_all<A: Agent, C: Clock + Drop>(
     first: u64,
     homes: &Homes,
 )
-    requires carries { (program : ProgramView) × (code : ValidCode) × (n : ℕ) × (row : Row) × (h : Carries (Part A C × PartSeen A)) × (now : ℕ → Option (Part A C × PartSeen A)) × (first ≡ first_of row n) × ((i : ℕ) → i < 16 → SettledIf (part_seen C.least C.faults C.readings) (has_home homes.now i) (now i)) × IsCarrying A.over A.stands program code table.now.id n worker.old (with_all row now h) }
+    requires carries { (program : ProgramView) × (code : ValidCode) × (n : ℕ) × (row : PartRow) × (h : Carries (Part A C × PartSeen A)) × (now : ℕ → Option (Part A C × PartSeen A)) × (first ≡ first_part_number row n) × ((i : ℕ) → i < 16 → SettledIf (part_seen C.least C.faults C.readings) (has_home homes.now i) (now i)) × IsCarrying A.over A.stands program code table.now.id n worker.old (with_row row now h) }
     ensures same { SameWorker worker.old worker.new }
     ensures turns { SameTurns worker.old.hand worker.new.hand }
     ensures entries { worker.new.entries ≡ worker.old.entries }
-    ensures carries { (program : ProgramView) (code : ValidCode) (n : ℕ) (row : Row) (h : Carries (Part A C × PartSeen A)) (now : ℕ → Option (Part A C × PartSeen A)) → first ≡ first_of row n → ((i : ℕ) → i < 16 → SettledIf (part_seen C.least C.faults C.readings) (has_home homes.now i) (now i)) → IsCarrying A.over A.stands program code table.now.id n worker.old (with_all row now h) → IsCarrying A.over A.stands program code table.now.id n worker.new (with_all row (λ i. None) h) }
+    ensures carries { (program : ProgramView) (code : ValidCode) (n : ℕ) (row : PartRow) (h : Carries (Part A C × PartSeen A)) (now : ℕ → Option (Part A C × PartSeen A)) → first ≡ first_part_number row n → ((i : ℕ) → i < 16 → SettledIf (part_seen C.least C.faults C.readings) (has_home homes.now i) (now i)) → IsCarrying A.over A.stands program code table.now.id n worker.old (with_row row now h) → IsCarrying A.over A.stands program code table.now.id n worker.new (with_row row (λ i. None) h) }
 {
     for number in homes.first()..homes.end() {
         if homes.has(number) {

@@ -6,8 +6,8 @@ ghost use Rattle.std.specs.Map.{update};
 ghost use Rattle.ca_turns.specs.declared.rule.Turn.{Turn};
 ghost use Rattle.ca_turns.specs.Hands.{IsHolding, IsNone, IsWithout};
 ghost use Rattle.ca_turns.specs.Steps.{SeesOne};
-ghost use Rattle.ca_turns.specs.Views.{stands, turn};
-ghost use Rattle.ca_table.specs.Grips.{Grips, HasAll, SameHand, SameTurns, settle, settled, values};
+ghost use Rattle.ca_turns.specs.Views.{hands_stood_for, new_turn};
+ghost use Rattle.ca_table.specs.Grips.{Grips, HasAll, SameHand, SameTurns, settle, settled_contents, values};
 ghost use Rattle.ca_table.specs.LoneHands.{HoldsLeft};
 
 use ca_turns::{Busy, Hand, Object, Table};
@@ -50,7 +50,7 @@ pub(crate) fn try_hold<O: Object>(table: &Table<O>, hand: &mut Hand<O>, at: u64)
     ensures history { result ≡ true → SeesOne O.touches O.moves hand.new.view }
     ensures long { result ≡ true → length hand.new.view.held ≡ length hand.old.view.held }
     ensures left { result ≡ false → HoldsLeft O.touches hand.old.view → HoldsLeft O.touches hand.new.view }
-    ensures lone { result ≡ false → stands hand.old.view < hand.old.view.hands }
+    ensures lone { result ≡ false → hands_stood_for hand.old.view < hand.old.view.hands }
 {
     match table.try_hold(hand, at) {
         Ok(()) => true,
@@ -73,11 +73,11 @@ pub(crate) fn take_part<O: Object>(hand: &mut Hand<O>, at: u64, other: O::Part) 
 pub(crate) fn draw<O: Object>(table: &Table<O>, hand: &mut Hand<O>, event: &O::Event) -> u64
     requires table { hand.old.table ≡ table.now.id }
     requires allows { (i : ℕ) → IsHolding hand.old i → IsNone (O.touches event.now) i → O.allows event.now i }
-    requires moved { (g : ℕ → Option (O.Part × O.Content)) × Grips hand.old g × HasAll g (O.touches event.now) × O.moves event.now (settled g (O.touches event.now)) (map O.content (values g (O.touches event.now))) }
+    requires moved { (g : ℕ → Option (O.Part × O.Content)) × Grips hand.old g × HasAll g (O.touches event.now) × O.moves event.now (settled_contents g (O.touches event.now)) (map O.content (values g (O.touches event.now))) }
     requires room { length hand.old.view.turns < 2 ^ 59 }
     ensures same { SameHand hand.old hand.new }
     ensures grips { (g : ℕ → Option (O.Part × O.Content)) → Grips hand.old g → Grips hand.new (settle O.content (O.touches event.now) g) }
-    ensures drew { (before after : List O.Content) × (hand.new.view.turns ≡ hand.old.view.turns ++ turn result event.now before after ∷ []) }
+    ensures drew { (before after : List O.Content) × (hand.new.view.turns ≡ hand.old.view.turns ++ new_turn result event.now before after ∷ []) }
     ensures later { (k : ℕ) (t : Turn O.Content O.Event) → get_elem? hand.old.view.turns k ≡ some t → t.number < result }
     ensures left { HoldsLeft O.touches hand.old.view → HoldsLeft O.touches hand.new.view }
 {

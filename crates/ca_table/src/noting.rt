@@ -4,13 +4,13 @@ ghost use Rattle.ca_term.specs.Program.{ProgramView};
 ghost use Rattle.ca_states.specs.Code.{CodeView};
 ghost use Rattle.ca_journal.specs.Merge.{entries, room};
 ghost use Rattle.ca_turns.specs.Hands.{IsHolding, IsNone};
-ghost use Rattle.ca_turns.specs.Views.{turn};
+ghost use Rattle.ca_turns.specs.Views.{new_turn};
 ghost use Rattle.ca_commit.specs.Moving.{visible};
 ghost use Rattle.ca_table.specs.Draws.{drawn_allows, drawn_moves, drawn_touches, turn_view};
-ghost use Rattle.ca_table.specs.Grips.{Grips, HasAll, SameHand, settle, settled, values};
+ghost use Rattle.ca_table.specs.Grips.{Grips, HasAll, SameHand, settle, settled_contents, values};
 ghost use Rattle.ca_table.specs.Parts.{part_seen};
 ghost use Rattle.ca_table.specs.Seen.{PartSeen};
-ghost use Rattle.ca_table.specs.Workers.{IsOne, SameWorker, entries_of};
+ghost use Rattle.ca_table.specs.Workers.{IsOne, SameWorker, event_entries};
 ghost use Rattle.ca_table.specs.declared.part.Part.{Part};
 
 use crate::drawn::{Drawn, Turned};
@@ -46,7 +46,7 @@ pub fn can_draw<A: Agent, C: Clock + Drop>(worker: &Worker<A, C>) -> bool
 // The entry of an event that the journal shows; none of another.
 fn note(into: &mut Entries, number: u64, what: Turned)
     requires { length (visible (turn_view what)) ≤ room into.old }
-    ensures noted { entries into.new ≡ entries into.old ++ entries_of number what }
+    ensures noted { entries into.new ≡ entries into.old ++ event_entries number what }
     ensures room { room into.old ≤ room into.new + length (visible (turn_view what)) }
 {
     if let Turned::Shown(event) = what {
@@ -64,11 +64,11 @@ pub fn draw_event<A: Agent, C: Clock + Drop>(
     requires room { length (visible (turn_view drawn.what)) ≤ room worker.old.entries }
     requires turns { length worker.old.hand.view.turns < 2 ^ 59 }
     requires allows { (i : ℕ) → IsHolding worker.old.hand i → IsNone (drawn_touches drawn) i → drawn_allows drawn i }
-    requires moved { (g : ℕ → Option (Part A C × PartSeen A)) × Grips worker.old.hand g × HasAll g (drawn_touches drawn) × drawn_moves A.over A.place A.advances A.gives A.starts drawn (settled g (drawn_touches drawn)) (map (part_seen C.least C.faults C.readings) (values g (drawn_touches drawn))) }
+    requires moved { (g : ℕ → Option (Part A C × PartSeen A)) × Grips worker.old.hand g × HasAll g (drawn_touches drawn) × drawn_moves A.over A.place A.advances A.gives A.starts drawn (settled_contents g (drawn_touches drawn)) (map (part_seen C.least C.faults C.readings) (values g (drawn_touches drawn))) }
     ensures one { (program : ProgramView) (code : CodeView) (n : ℕ) → IsOne A.over A.stands program code table.now.id n worker.old → IsOne A.over A.stands program code table.now.id n worker.new }
     ensures grips { (g : ℕ → Option (Part A C × PartSeen A)) → Grips worker.old.hand g → Grips worker.new.hand (settle (part_seen C.least C.faults C.readings) (drawn_touches drawn) g) }
     ensures hand { SameHand worker.old.hand worker.new.hand }
-    ensures drew { (k : ℕ) × (before : List (PartSeen A)) × (after : List (PartSeen A)) × (worker.new.hand.view.turns ≡ worker.old.hand.view.turns ++ turn k drawn before after ∷ []) }
+    ensures drew { (k : ℕ) × (before : List (PartSeen A)) × (after : List (PartSeen A)) × (worker.new.hand.view.turns ≡ worker.old.hand.view.turns ++ new_turn k drawn before after ∷ []) }
     ensures same { SameWorker worker.old worker.new }
     ensures room { room worker.old.entries ≤ room worker.new.entries + length (visible (turn_view drawn.what)) }
 {

@@ -7,10 +7,10 @@ ghost use Rattle.ca_meaning.specs.Task.{BodyRest, TaskBody, script};
 ghost use Rattle.ca_turns.specs.Hands.{IsFresh, TableId};
 ghost use Rattle.ca_turns.specs.Places.{total};
 ghost use Rattle.ca_commit.specs.Opening.{unasked};
-ghost use Rattle.ca_table.specs.Opening.{empty_bank, empty_shard, idle_lane, main_ready, none_ready, opening_list, part_of};
+ghost use Rattle.ca_table.specs.Opening.{empty_bank, empty_shard, idle_lane, main_ready, none_ready, opening_list, seen_part};
 ghost use Rattle.ca_table.specs.Parts.{part_seen};
 ghost use Rattle.ca_table.specs.Seen.{PartSeen, seen_timers};
-ghost use Rattle.ca_table.specs.Workers.{IsNew, IsOpenedWith, IsReady, stands_for};
+ghost use Rattle.ca_table.specs.Workers.{IsNewWorker, IsOpenedWith, IsReady, stands_for};
 ghost use Rattle.ca_table.specs.Worked.{HasDrawnNothing};
 
 use crate::answer::WorkEnd;
@@ -99,7 +99,7 @@ fn timers<A: Agent, C: Clock + Drop>(
     workers: u64,
     clock: C,
 ) -> Result<Part<A, C>, OutOfMemory>
-    ensures { IfOk result (λ p. part_seen C.least C.faults C.readings p ≡ part_of workers (valid_code code.now) (seen_timers (unasked (C.least clock) (C.faults clock) (C.readings clock)))) }
+    ensures { IfOk result (λ p. part_seen C.least C.faults C.readings p ≡ seen_part workers (valid_code code.now) (seen_timers (unasked (C.least clock) (C.faults clock) (C.readings clock)))) }
 {
     let clockwork = Clockwork {
         timers: Timers::new(alloc),
@@ -274,7 +274,7 @@ fn enlist<A: Agent, C: Clock + Drop>(
 ) -> Result<Vec<Worker<A, C>>, OutOfMemory>
     requires { length hands.items ≡ workers }
     ensures many { IfOk result (λ v. length v.items ≡ workers) }
-    ensures new { IfOk result (λ v. (id : TableId) (cs : List (PartSeen A)) (n : ℕ) → All (IsFresh id cs n) hands.items → All (IsNew (program_view program.now) (valid_code code.now) workers id cs n) v.items) }
+    ensures new { IfOk result (λ v. (id : TableId) (cs : List (PartSeen A)) (n : ℕ) → All (IsFresh id cs n) hands.items → All (IsNewWorker (program_view program.now) (valid_code code.now) workers id cs n) v.items) }
 {
     let mut all = Vec::with_capacity(alloc, hands.len())?;
     while let Some(hand) = hands.pop() {

@@ -5,7 +5,7 @@ ghost use Rattle.std.specs.Prelude.{◌≡◌, ℕ, ◌+◌, ◌^◌, ◌<◌, I
 ghost use Rattle.ca_term.specs.Program.{ProgramView};
 ghost use Rattle.ca_states.specs.ValidCode.{valid_code};
 ghost use Rattle.ca_turns.specs.Hands.{TableId};
-ghost use Rattle.ca_turns.specs.Views.{stands};
+ghost use Rattle.ca_turns.specs.Views.{hands_stood_for};
 ghost use Rattle.ca_commit.specs.Agents.{TaskAgent};
 ghost use Rattle.ca_commit.specs.Moving.{visible};
 ghost use Rattle.ca_commit.specs.Tasks.{tasks_in};
@@ -13,13 +13,13 @@ ghost use Rattle.ca_commit.specs.Touched.{picks, yields};
 ghost use Rattle.ca_commit.specs.declared.task.Task.{Task};
 ghost use Rattle.ca_table.specs.Carriers.{IsCarrying, IsMoved, both_back, just_lane, with_ready};
 ghost use Rattle.ca_table.specs.Carrying.{Carries, each_by};
-ghost use Rattle.ca_table.specs.Covering.{plain};
+ghost use Rattle.ca_table.specs.Covering.{plain_drawn};
 ghost use Rattle.ca_table.specs.Draws.{drawn_touches, drawn_view, turn_view};
 ghost use Rattle.ca_table.specs.Grips.{SameHand, SameTurns, settled_one};
 ghost use Rattle.ca_table.specs.LoneHands.{DrewTurn, left_now};
 ghost use Rattle.ca_table.specs.Parts.{part_seen};
 ghost use Rattle.ca_table.specs.Seen.{PartSeen, seen_ready};
-ghost use Rattle.ca_table.specs.Worked.{Drew, gives_up, leaves};
+ghost use Rattle.ca_table.specs.Worked.{Drew, gives_up, finds_run_end};
 ghost use Rattle.ca_table.specs.Workers.{IsSeated, SameWorker};
 ghost use Rattle.ca_table.specs.declared.part.Lane.{Lane};
 ghost use Rattle.ca_table.specs.declared.part.Part.{Part};
@@ -47,7 +47,7 @@ pub fn silent<A: Agent, C: Clock + Drop>(
 ) -> Drawn
     ensures code { result.code.value ≡ code.now }
     ensures what { result.what ≡ what }
-    ensures view { drawn_view result ≡ plain worker.now.number worker.now.workers (turn_view what) }
+    ensures view { drawn_view result ≡ plain_drawn worker.now.number worker.now.workers (turn_view what) }
 {
     let none = Homes::none();
     Drawn {
@@ -85,14 +85,14 @@ fn draw_silent<A: Agent, C: Clock + Drop>(
     worker: &mut Worker<A, C>,
     what: Turned,
 )
-    requires carries { (program : ProgramView) × (n : ℕ) × (h : Carries (Part A C × PartSeen A)) × IsCarrying A.over A.stands program code.now table.now.id n worker.old h × IsMoved A.over A.place A.advances A.gives A.starts (part_seen C.least C.faults C.readings) code.now n worker.old.number (plain worker.old.number n (turn_view what)) h }
+    requires carries { (program : ProgramView) × (n : ℕ) × (h : Carries (Part A C × PartSeen A)) × IsCarrying A.over A.stands program code.now table.now.id n worker.old h × IsMoved A.over A.place A.advances A.gives A.starts (part_seen C.least C.faults C.readings) code.now n worker.old.number (plain_drawn worker.old.number n (turn_view what)) h }
     requires hidden { visible (turn_view what) ≡ [] }
     requires turns { length worker.old.hand.view.turns < 2 ^ 59 }
     ensures same { SameWorker worker.old worker.new }
     ensures hand { SameHand worker.old.hand worker.new.hand }
     ensures turn { DrewTurn (turn_view what) worker.old.hand.view worker.new.hand.view }
-    ensures drew { gives_up (turn_view what) ≡ false → Drew 0 (leaves (turn_view what)) worker.old worker.new }
-    ensures carries { (program : ProgramView) (n : ℕ) (h : Carries (Part A C × PartSeen A)) → IsCarrying A.over A.stands program code.now table.now.id n worker.old h → IsMoved A.over A.place A.advances A.gives A.starts (part_seen C.least C.faults C.readings) code.now n worker.old.number (plain worker.old.number n (turn_view what)) h → IsCarrying A.over A.stands program code.now table.now.id n worker.new (each_by (settled_one (part_seen C.least C.faults C.readings)) h) }
+    ensures drew { gives_up (turn_view what) ≡ false → Drew 0 (finds_run_end (turn_view what)) worker.old worker.new }
+    ensures carries { (program : ProgramView) (n : ℕ) (h : Carries (Part A C × PartSeen A)) → IsCarrying A.over A.stands program code.now table.now.id n worker.old h → IsMoved A.over A.place A.advances A.gives A.starts (part_seen C.least C.faults C.readings) code.now n worker.old.number (plain_drawn worker.old.number n (turn_view what)) h → IsCarrying A.over A.stands program code.now table.now.id n worker.new (each_by (settled_one (part_seen C.least C.faults C.readings)) h) }
 {
     let drawn = silent(code, worker, what);
     draw_carried(table, worker, drawn);
@@ -127,15 +127,15 @@ fn draw_with_ready<A: Agent, C: Clock + Drop>(
     at: u64,
     what: Turned,
 ) -> Box<Lane<A>>
-    requires carries { (program : ProgramView) × (n : ℕ) × (l : Lane A) × (q : List (ℕ × TaskAgent A)) × IsCarrying A.over A.stands program code.now table.now.id n worker.old (with_ready n code.now at q (just_lane n code.now l)) × IsMoved A.over A.place A.advances A.gives A.starts (part_seen C.least C.faults C.readings) code.now n worker.old.number (plain worker.old.number n (turn_view what)) (both_back n code.now at l q lane ready) × (at < n) }
+    requires carries { (program : ProgramView) × (n : ℕ) × (l : Lane A) × (q : List (ℕ × TaskAgent A)) × IsCarrying A.over A.stands program code.now table.now.id n worker.old (with_ready n code.now at q (just_lane n code.now l)) × IsMoved A.over A.place A.advances A.gives A.starts (part_seen C.least C.faults C.readings) code.now n worker.old.number (plain_drawn worker.old.number n (turn_view what)) (both_back n code.now at l q lane ready) × (at < n) }
     requires hidden { visible (turn_view what) ≡ [] }
     requires turns { length worker.old.hand.view.turns < 2 ^ 59 }
     ensures same { SameWorker worker.old worker.new }
     ensures lane { result ≡ lane }
     ensures hand { SameHand worker.old.hand worker.new.hand }
     ensures turn { DrewTurn (turn_view what) worker.old.hand.view worker.new.hand.view }
-    ensures drew { gives_up (turn_view what) ≡ false → Drew 0 (leaves (turn_view what)) worker.old worker.new }
-    ensures carries { (program : ProgramView) (n : ℕ) (l : Lane A) (q : List (ℕ × TaskAgent A)) → IsCarrying A.over A.stands program code.now table.now.id n worker.old (with_ready n code.now at q (just_lane n code.now l)) → IsMoved A.over A.place A.advances A.gives A.starts (part_seen C.least C.faults C.readings) code.now n worker.old.number (plain worker.old.number n (turn_view what)) (both_back n code.now at l q lane ready) → IsCarrying A.over A.stands program code.now table.now.id n worker.new (just_lane n code.now result.value) }
+    ensures drew { gives_up (turn_view what) ≡ false → Drew 0 (finds_run_end (turn_view what)) worker.old worker.new }
+    ensures carries { (program : ProgramView) (n : ℕ) (l : Lane A) (q : List (ℕ × TaskAgent A)) → IsCarrying A.over A.stands program code.now table.now.id n worker.old (with_ready n code.now at q (just_lane n code.now l)) → IsMoved A.over A.place A.advances A.gives A.starts (part_seen C.least C.faults C.readings) code.now n worker.old.number (plain_drawn worker.old.number n (turn_view what)) (both_back n code.now at l q lane ready) → IsCarrying A.over A.stands program code.now table.now.id n worker.new (just_lane n code.now result.value) }
 {
     let place = worker.workers + 33 + at;
     put_both(code, worker, lane, ready, at);
@@ -186,7 +186,7 @@ pub fn pick<R: Wait, A: Agent, C: Clock + Drop>(
     ensures picked { IsSome result.value.task → DrewTurn (picks at) worker.old.hand.view worker.new.hand.view }
     ensures none { result.value.task ≡ None → SameTurns worker.old.hand worker.new.hand }
     ensures since { IsSome result.value.task → result.value.since ≡ 0 }
-    ensures empty { result.value.task ≡ None → stands worker.old.hand.view ≡ worker.old.hand.view.hands → (c : PartSeen A) × (get_elem? (left_now drawn_touches worker.new.hand.view) (worker.old.workers + 33 + at) ≡ some c) × (c.held ≡ seen_ready []) }
+    ensures empty { result.value.task ≡ None → hands_stood_for worker.old.hand.view ≡ worker.old.hand.view.hands → (c : PartSeen A) × (get_elem? (left_now drawn_touches worker.new.hand.view) (worker.old.workers + 33 + at) ≡ some c) × (c.held ≡ seen_ready []) }
     ensures drew { Drew 0 false worker.old worker.new }
     ensures over { (t : Task A) → result.value.task ≡ Some t → A.over (valid_code code.now) t.agent }
     ensures seated { (program : ProgramView) (n : ℕ) → IsSeated A.over A.stands program code.now table.now.id n worker.old lane.value → IsSeated A.over A.stands program code.now table.now.id n worker.new result.value }

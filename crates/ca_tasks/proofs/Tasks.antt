@@ -5,7 +5,7 @@ use Rattle.ca_term.specs.declared.fault.Fault.{Fault}
 use Rattle.ca_term.specs.declared.place.Place.{Place}
 use Rattle.ca_term.specs.Operation.{OpView, choosing, putting}
 use Rattle.ca_meaning.specs.Asking.{too_large_branches}
-use Rattle.ca_meaning.specs.Asks.{Ask, Next, to, stop, fail, chooses, pair_of, puts, stands_at, too_large_here}
+use Rattle.ca_meaning.specs.Asks.{Ask, Next, to, stop, fail, ask_to_choose, pair_of, ask_to_put, stands_at, too_large_here}
 use Rattle.ca_meaning.specs.Body.{At, asking}
 use Rattle.ca_meaning.specs.MixTable.{MixPorts, MixState, mix_asks, mix_chooses, mix_drops, mix_puts, mix_reads, port_trees}
 use Rattle.ca_meaning.specs.MultTable.{Delivery, DeliverState, MultPorts, MultState, deliver_answers, deliver_asks, deliver_puts, deliver_untaps, mult_asks, mult_closes, mult_reads, mult_reads_last, mult_spawns, mult_takes, mult_waits}
@@ -21,10 +21,10 @@ module _ (C : CodeView) where
   at_asking p None op h = h
   at_asking p (Some f) op h = tt
 
-  at_puts : (c : ℕ) (v : Tree) (p : Place) → HasTaskAt C (puts c v p)
+  at_puts : (c : ℕ) (v : Tree) (p : Place) → HasTaskAt C (ask_to_put c v p)
   at_puts c v p = at_asking p (too_large_here v) (putting (port c) v) tt
 
-  at_chooses : (ports : Trees) (p : Place) → HasTaskAt C (chooses ports p)
+  at_chooses : (ports : Trees) (p : Place) → HasTaskAt C (ask_to_choose ports p)
   at_chooses ports p = at_asking p (too_large_branches ports) (choosing ports false None) tt
 
   at_next : {S : Type 0} (p : Place) (asks : S → Ask) (x : Next S) → ((s : S) → HasTaskAt C (asks s p)) → HasTaskAt C (stands_at p asks x)

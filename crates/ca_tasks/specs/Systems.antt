@@ -24,12 +24,12 @@ pub record SystemView : Type 0 where
   pub body : SystemBody
   pub place : At
 
-abbrev pub goes_on : SystemBody → SystemView
-goes_on b = record { body = b; place = local }
+abbrev pub system_going_on : SystemBody → SystemView
+system_going_on b = record { body = b; place = local }
 
 abbrev pub stage_view : SystemBody → Stage → SystemView
-stage_view b Resting = goes_on b
-stage_view b (Answered v) = goes_on (system_fill (view v) b)
+stage_view b Resting = system_going_on b
+stage_view b (Answered v) = system_going_on (system_fill (view v) b)
 stage_view b (Standing s) = record { body = b; place = stand_at s }
 
 abbrev pub system_view : SystemTask → SystemView
@@ -41,40 +41,40 @@ StandsFrom P local m b = SystemRest P m b
 StandsFrom P p m b = (b ≡ m) × (p ≡ system_at m)
 
 -- a system task stands for no script's text
-abbrev pub StandsAs : ProgramView → SystemView → TaskBody → Type 0
-StandsAs P m (script b) = ⊥
-StandsAs P m (system_task b) = StandsFrom P m.place m.body b
+abbrev pub SystemStandsAs : ProgramView → SystemView → TaskBody → Type 0
+SystemStandsAs P m (script b) = ⊥
+SystemStandsAs P m (system_task b) = StandsFrom P m.place m.body b
 
 -- it comes to rest, and is where its body is
-abbrev pub GoesOn : ProgramView → SystemView → SystemView → Type 0
-GoesOn P m n = SystemRest P m.body n.body × (n.place ≡ system_at n.body)
+abbrev pub SystemGoesOn : ProgramView → SystemView → SystemView → Type 0
+SystemGoesOn P m n = SystemRest P m.body n.body × (n.place ≡ system_at n.body)
 
 -- to its next pause; where it is paused it stays
-abbrev pub AdvancesFrom : ProgramView → At → SystemView → SystemView → Type 0
-AdvancesFrom P local m n = GoesOn P m n
-AdvancesFrom P p m n = n ≡ m
+abbrev pub SystemAdvancesFrom : ProgramView → At → SystemView → SystemView → Type 0
+SystemAdvancesFrom P local m n = SystemGoesOn P m n
+SystemAdvancesFrom P p m n = n ≡ m
 
-abbrev pub Advances : ProgramView → SystemView → SystemView → Type 0
-Advances P m n = AdvancesFrom P m.place m n
+abbrev pub SystemAdvances : ProgramView → SystemView → SystemView → Type 0
+SystemAdvances P m n = SystemAdvancesFrom P m.place m n
 
 -- the answer is kept, and the task goes on
-abbrev pub Gives : SystemView → Tree → SystemView → Type 0
-Gives m v n = n ≡ goes_on (system_fill v m.body)
+abbrev pub SystemGives : SystemView → Tree → SystemView → Type 0
+SystemGives m v n = n ≡ system_going_on (system_fill v m.body)
 
 -- a new task of a system task's seed, none of another
-abbrev pub Starts : SeedView → SystemView → Type 0
-Starts (go n values result place) m = ⊥
-Starts (system kind values place) m = m ≡ goes_on (new_system kind values place)
+abbrev pub SystemStarts : SeedView → SystemView → Type 0
+SystemStarts (go n values result place) m = ⊥
+SystemStarts (system kind values place) m = m ≡ system_going_on (new_system kind values place)
 
 -- the code has the function, with one parameter
-abbrev pub HasFunction : CodeView → Option PlainFunction → Type 0
-HasFunction C None = Unit {0}
-HasFunction C (Some f) = IsTrue (is_applied C f)
+abbrev pub HasAppliedFunction : CodeView → Option PlainFunction → Type 0
+HasAppliedFunction C None = Unit {0}
+HasAppliedFunction C (Some f) = IsTrue (is_applied C f)
 
 -- the code has the function that the task applies, if it applies one
 abbrev pub HasItsFunction : CodeView → SystemBody → Type 0
-HasItsFunction C b = HasFunction C (function_of b)
+HasItsFunction C b = HasAppliedFunction C (function_of b)
 
 -- over that code, and at no operation that starts a task which the code hasn't
-abbrev pub IsOver : CodeView → SystemView → Type 0
-IsOver C m = HasItsFunction C m.body × HasTaskAt C m.place
+abbrev pub IsSystemOver : CodeView → SystemView → Type 0
+IsSystemOver C m = HasItsFunction C m.body × HasTaskAt C m.place

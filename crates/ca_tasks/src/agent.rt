@@ -1,7 +1,7 @@
 //! A task of a run as an agent.
 ghost use Rattle.std.specs.Prelude.{◌≡◌};
-ghost use Rattle.ca_tasks.specs.Tasks.{advances, gives, over, place, stands, starts};
-ghost use Rattle.ca_tasks.specs.TaskLaws.{advanced, answered, asked, started, stays};
+ghost use Rattle.ca_tasks.specs.Tasks.{advances, gives, task_over_code, place, stands, starts};
+ghost use Rattle.ca_tasks.specs.TaskLaws.{task_advanced, task_answered, task_asked, task_started, task_stays};
 
 use crate::task::AnyTask;
 use ca_agent::agent::{Agent, Outcome, Pause};
@@ -11,7 +11,7 @@ use ca_value::memory::OutOfMemory;
 use std::alloc::Global;
 
 impl Agent for AnyTask {
-    ghost over = { over };
+    ghost over = { task_over_code };
 
     ghost stands = { stands };
 
@@ -45,13 +45,13 @@ impl Agent for AnyTask {
         }
     }
 
-    ghost advanced = { advanced };
+    ghost advanced = { task_advanced };
 
-    ghost answered = { answered };
+    ghost answered = { task_answered };
 
-    ghost stays = { stays };
+    ghost stays = { task_stays };
 
-    ghost asked = { asked };
+    ghost asked = { task_asked };
 
-    ghost started = { started };
+    ghost started = { task_started };
 }

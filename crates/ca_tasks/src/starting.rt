@@ -5,7 +5,7 @@ ghost use Rattle.ca_value.specs.View.{trees};
 ghost use Rattle.ca_states.specs.Valid.{is_task};
 ghost use Rattle.ca_states.specs.ValidCode.{valid_code};
 ghost use Rattle.ca_meaning.specs.System.{new_system};
-ghost use Rattle.ca_tasks.specs.Systems.{IsOver, goes_on, system_view};
+ghost use Rattle.ca_tasks.specs.Systems.{IsSystemOver, system_going_on, system_view};
 
 use crate::system::SystemTask as Running;
 use crate::task::AnyTask;
@@ -38,8 +38,8 @@ fn system_for(
     code: &ValidCode,
     seed: &SystemSeed,
 ) -> Result<Option<Running>, OutOfMemory>
-    ensures starts { IfOk result (λ o. IfSome o (λ t. system_view t ≡ goes_on (new_system seed.now.kind (trees (list seed.now.values)) seed.now.place))) }
-    ensures over { IfOk result (λ o. IfSome o (λ t. IsOver (valid_code code.now) (system_view t))) }
+    ensures starts { IfOk result (λ o. IfSome o (λ t. system_view t ≡ system_going_on (new_system seed.now.kind (trees (list seed.now.values)) seed.now.place))) }
+    ensures over { IfOk result (λ o. IfSome o (λ t. IsSystemOver (valid_code code.now) (system_view t))) }
     ensures none { IfOk result (λ o. IfNone o (is_task (valid_code code.now) seed.now.kind ≡ true → ⊥)) }
 {
     if !has_function_of(code, seed.kind) {

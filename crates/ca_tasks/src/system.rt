@@ -5,11 +5,11 @@ ghost use Rattle.ca_meaning.specs.System.{SystemRest, system_at};
 ghost use Rattle.ca_states.specs.ValidCode.{valid_code};
 ghost use Rattle.ca_lower.specs.Lowered.{Lowered};
 ghost use Rattle.ca_agent.specs.Agents.{PausesAt};
-ghost use Rattle.ca_system.specs.Applications.{pending};
+ghost use Rattle.ca_system.specs.Applications.{pending_application};
 ghost use Rattle.ca_system.specs.Stands.{stand_at};
 ghost use Rattle.ca_system_tasks.specs.Tables.{table_body};
-ghost use Rattle.ca_tasks.specs.Systems.{StandsAs, Advances, Gives, GoesOn, HasItsFunction, IsOver, Starts, goes_on, system_view};
-ghost use Rattle.ca_tasks.specs.SystemLaws.{advanced, answered, asked, started, stays_over};
+ghost use Rattle.ca_tasks.specs.Systems.{SystemStandsAs, SystemAdvances, SystemGives, SystemGoesOn, HasItsFunction, IsSystemOver, SystemStarts, system_going_on, system_view};
+ghost use Rattle.ca_tasks.specs.SystemLaws.{system_advanced, system_answered, system_asked, system_started, system_stays_over};
 
 use ca_agent::agent::{Agent, Outcome, Pause};
 use ca_applying::apply::apply;
@@ -43,7 +43,7 @@ pub enum Stage {
 impl SystemTask {
     /// A new task in the state that its table is in.
     pub fn new(table: SystemTable) -> SystemTask
-        ensures { system_view result ≡ goes_on (table_body table) }
+        ensures { system_view result ≡ system_going_on (table_body table) }
     {
         SystemTask {
             table,
@@ -53,9 +53,9 @@ impl SystemTask {
 
     fn go_on(&mut self, alloc: Global, code: &ValidCode) -> Result<Pause, OutOfMemory>
         requires { HasItsFunction (valid_code code.now) (system_view self.old).body }
-        ensures goes { OnOk result ((program : ProgramView) → Lowered program (valid_code code.now) → GoesOn program (system_view self.old) (system_view self.new)) }
+        ensures goes { OnOk result ((program : ProgramView) → Lowered program (valid_code code.now) → SystemGoesOn program (system_view self.old) (system_view self.new)) }
         ensures pauses { IfOk result (λ p. PausesAt p (system_view self.new).place) }
-        ensures over { OnOk result (IsOver (valid_code code.now) (system_view self.new)) }
+        ensures over { OnOk result (IsSystemOver (valid_code code.now) (system_view self.new)) }
     {
         self.follow(alloc)?;
         come_to_rest(&mut self.table, alloc, code)?;
@@ -74,7 +74,7 @@ impl SystemTask {
 
     // It pauses where its table stands.
     fn pause(&mut self, alloc: Global) -> Result<Pause, OutOfMemory>
-        requires { pending (table_body self.old.table) ≡ None }
+        requires { pending_application (table_body self.old.table) ≡ None }
         ensures body { OnOk result ((system_view self.new).body ≡ table_body self.old.table) }
         ensures there { OnOk result ((system_view self.new).place ≡ system_at (system_view self.new).body) }
         ensures pauses { IfOk result (λ p. PausesAt p (system_view self.new).place) }
@@ -90,7 +90,7 @@ impl SystemTask {
 fn come_to_rest(table: &mut SystemTable, alloc: Global, code: &ValidCode) -> Result<(), OutOfMemory>
     requires { HasItsFunction (valid_code code.now) (table_body table.old) }
     ensures rests { OnOk result ((program : ProgramView) → Lowered program (valid_code code.now) → SystemRest program (table_body table.old) (table_body table.new)) }
-    ensures applies { OnOk result (pending (table_body table.new) ≡ None) }
+    ensures applies { OnOk result (pending_application (table_body table.new) ≡ None) }
     ensures over { OnOk result (HasItsFunction (valid_code code.now) (table_body table.new)) }
 {
     let returned = match table.pending() {
@@ -121,17 +121,17 @@ impl Stage {
 }
 
 impl Agent for SystemTask {
-    ghost over = { λ code a. IsOver code (system_view a) };
+    ghost over = { λ code a. IsSystemOver code (system_view a) };
 
-    ghost stands = { λ program a b. StandsAs program (system_view a) b };
+    ghost stands = { λ program a b. SystemStandsAs program (system_view a) b };
 
     ghost place = { λ a. (system_view a).place };
 
-    ghost advances = { λ program a c. Advances program (system_view a) (system_view c) };
+    ghost advances = { λ program a c. SystemAdvances program (system_view a) (system_view c) };
 
-    ghost gives = { λ a v c. Gives (system_view a) v (system_view c) };
+    ghost gives = { λ a v c. SystemGives (system_view a) v (system_view c) };
 
-    ghost starts = { λ program seed a. Starts seed (system_view a) };
+    ghost starts = { λ program seed a. SystemStarts seed (system_view a) };
 
     fn want(&self) -> &Want {
         match &self.stage {
@@ -152,13 +152,13 @@ impl Agent for SystemTask {
         }
     }
 
-    ghost advanced = { λ program a c b. advanced program (system_view a) (system_view c) b };
+    ghost advanced = { λ program a c b. system_advanced program (system_view a) (system_view c) b };
 
-    ghost answered = { λ program a c b w v st _ at g. answered program (system_view a) (system_view c) b w v st at g };
+    ghost answered = { λ program a c b w v st _ at g. system_answered program (system_view a) (system_view c) b w v st at g };
 
-    ghost stays = { λ code a c v. stays_over code (system_view a) (system_view c) v };
+    ghost stays = { λ code a c v. system_stays_over code (system_view a) (system_view c) v };
 
-    ghost asked = { λ code a seed at. asked code (system_view a) seed at };
+    ghost asked = { λ code a seed at. system_asked code (system_view a) seed at };
 
-    ghost started = { λ program seed a. started program seed (system_view a) };
+    ghost started = { λ program seed a. system_started program seed (system_view a) };
 }

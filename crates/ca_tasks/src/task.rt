@@ -4,7 +4,7 @@ ghost use Rattle.ca_states.specs.ValidCode.{valid_code};
 ghost use Rattle.ca_meaning.specs.Body.{new_body};
 ghost use Rattle.ca_meaning.specs.Task.{TaskBody, BodyRest, script};
 ghost use Rattle.ca_lower.specs.Lowered.{Lowered};
-ghost use Rattle.ca_tasks.specs.Tasks.{over, stands};
+ghost use Rattle.ca_tasks.specs.Tasks.{task_over_code, stands};
 
 use crate::system::SystemTask;
 use ca_machine::machine::Machine;
@@ -24,7 +24,7 @@ impl AnyTask {
     /// The new task of the main text.
     pub fn main(alloc: Global, code: &ValidCode) -> Result<AnyTask, OutOfMemory>
         ensures stands { IfOk result (λ t. (program : ProgramView) (b : TaskBody) → Lowered program (valid_code code.now) → BodyRest program (script (new_body program.main)) b → stands program t b) }
-        ensures over { IfOk result (λ t. over (valid_code code.now) t) }
+        ensures over { IfOk result (λ t. task_over_code (valid_code code.now) t) }
     {
         Ok(AnyTask::Text(Box::new(alloc, Machine::main(alloc, code)?)?))
     }

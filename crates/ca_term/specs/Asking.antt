@@ -20,7 +20,7 @@ use Rattle.ca_term.specs.declared.head.SystemTask.TheVariants.{Onto, Merge}
 use Rattle.ca_term.specs.declared.head.RegisterName.{RegisterName}
 use Rattle.ca_term.specs.declared.head.RegisterName.TheVariants.{Toggle, SoloMode}
 use Rattle.ca_term.specs.Operation.{OpView, taking, putting, choosing, making, spawning, closing, registering, printing, posting, WhatView, unbuffered, fixed, dropping, sliding, promise, timeout, mult, mix, publication, SeedView, go, system}
-use Rattle.ca_term.specs.Operands.{or_else, truth, first_of, second_of, third_of, last_of, without_last, is_pair, port_number}
+use Rattle.ca_term.specs.Operands.{or_else, truth, first_of, second_of, third_of, last_of, without_last, is_pair, port_of_value}
 
 -- a builtin's fault, as a task's
 abbrev pub task_fault : ValueFault → Fault
@@ -52,12 +52,12 @@ abbrev pub too_large_branches : Trees → Option Fault
 too_large_branches none = None
 too_large_branches (item v vs) = or_else (too_large_branch v) (too_large_branches vs)
 
-abbrev pub ports_in : Tree → Trees
-ports_in (vector vs) = vs
-ports_in v = none
+abbrev pub alts_ports : Tree → Trees
+alts_ports (vector vs) = vs
+alts_ports v = none
 
 abbrev pub bad_branches : Tree → Option Fault
-bad_branches v = or_else (not_a_vector v) (too_large_branches (ports_in v))
+bad_branches v = or_else (not_a_vector v) (too_large_branches (alts_ports v))
 
 abbrev pub priority_in : AltsOptions → Trees → Bool
 priority_in AltsOptions.None vs = false
@@ -81,7 +81,7 @@ abbrev pub bad_alts : AltsOptions → Trees → Option Fault
 bad_alts options vs = or_else (bad_branches (first_of vs)) (too_large_default (default_in options vs))
 
 abbrev pub alts_of : AltsOptions → Trees → OpView
-alts_of options vs = choosing (ports_in (first_of vs)) (priority_in options vs) (default_in options vs)
+alts_of options vs = choosing (alts_ports (first_of vs)) (priority_in options vs) (default_in options vs)
 
 -- what is made, where the number is a whole one from the low to the high
 abbrev pub ranged : ℕ → ℕ → (ℕ → WhatView) → Tree → Result WhatView Fault
@@ -126,19 +126,19 @@ bad_operands (SeedKind.Go n) vs = not_a_port (last_of vs)
 bad_operands (SeedKind.System kind) vs = bad_collection kind vs
 
 abbrev pub seed_of : SeedKind → Trees → Place → SeedView
-seed_of (SeedKind.Go n) vs p = go n (without_last vs) (port_number (last_of vs)) p
+seed_of (SeedKind.Go n) vs p = go n (without_last vs) (port_of_value (last_of vs)) p
 seed_of (SeedKind.System kind) vs p = system kind vs p
 
 -- A mix's modes: `:mute`, `:pause` and `:solo` to booleans; as a solo mode `:mute` or `:pause`.
-abbrev pub is_named : List ℕ → Tree → Bool
-is_named name (key k) = bytes_eq k name
-is_named name v = false
+abbrev pub is_key_named : List ℕ → Tree → Bool
+is_key_named name (key k) = bytes_eq k name
+is_key_named name v = false
 
 abbrev pub is_solo_mode : Tree → Bool
-is_solo_mode v = is_named (codes "mute") v || is_named (codes "pause") v
+is_solo_mode v = is_key_named (codes "mute") v || is_key_named (codes "pause") v
 
 abbrev pub is_mode : Tree → Bool
-is_mode v = is_solo_mode v || is_named (codes "solo") v
+is_mode v = is_solo_mode v || is_key_named (codes "solo") v
 
 abbrev pub is_bool : Tree → Bool
 is_bool (bool b) = true

@@ -7,9 +7,9 @@ IsIn m [] = ⊥
 IsIn m (n ∷ ns) = (m ≡ n) ⊎ IsIn m ns
 
 -- the names in scope behind the bindings
-abbrev pub behind : Bindings → List ℕ → List ℕ
-behind empty ns = ns
-behind (binding n t bs) ns = behind bs (n ∷ ns)
+abbrev pub names_behind : Bindings → List ℕ → List ℕ
+names_behind empty ns = ns
+names_behind (binding n t bs) ns = names_behind bs (n ∷ ns)
 
 -- the names in scope behind those that have their values
 abbrev pub behind_found : Founds → List ℕ → List ℕ
@@ -22,8 +22,8 @@ abbrev mutual
   IsClosed ns (const v) = Unit {0}
   IsClosed ns (var n) = IsIn n ns
   IsClosed ns (branch c a b) = IsClosed ns c × IsClosed ns a × IsClosed ns b
-  IsClosed ns (bind bs body) = AreClosedBindings ns bs × IsClosed (behind bs ns) body
-  IsClosed ns (loop fs bs body) = AreClosedBindings ns bs × IsClosed (behind bs (behind_found fs ns)) body
+  IsClosed ns (bind bs body) = AreClosedBindings ns bs × IsClosed (names_behind bs ns) body
+  IsClosed ns (loop fs bs body) = AreClosedBindings ns bs × IsClosed (names_behind bs (behind_found fs ns)) body
   IsClosed ns (seq ts) = AreClosed ns ts
   IsClosed ns (frame body) = IsClosed [] body
   IsClosed ns (turn names text now) = IsClosed names text × IsClosed [] now

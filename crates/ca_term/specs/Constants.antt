@@ -19,14 +19,14 @@ abbrev mutual
   HasScalars scalars (branch c a b) = HasScalars scalars c × HasScalars scalars a × HasScalars scalars b
   HasScalars scalars (bind bs body) = BindingsHaveScalars scalars bs × HasScalars scalars body
   HasScalars scalars (loop fs bs body) = BindingsHaveScalars scalars bs × HasScalars scalars body
-  HasScalars scalars (seq ts) = HaveScalars scalars ts
+  HasScalars scalars (seq ts) = TermsHaveScalars scalars ts
   HasScalars scalars (frame body) = HasScalars scalars body
   HasScalars scalars (turn names whole now) = HasScalars scalars whole × HasScalars scalars now
-  HasScalars scalars (apply h ts p) = HaveScalars scalars ts
+  HasScalars scalars (apply h ts p) = TermsHaveScalars scalars ts
 
-  pub HaveScalars : Scalars → Kernels → Type 0
-  HaveScalars scalars none = Unit {0}
-  HaveScalars scalars (item t ts) = HasScalars scalars t × HaveScalars scalars ts
+  pub TermsHaveScalars : Scalars → Kernels → Type 0
+  TermsHaveScalars scalars none = Unit {0}
+  TermsHaveScalars scalars (item t ts) = HasScalars scalars t × TermsHaveScalars scalars ts
 
   pub BindingsHaveScalars : Scalars → Bindings → Type 0
   BindingsHaveScalars scalars empty = Unit {0}

@@ -2,7 +2,7 @@
 -- position of its loop and has its arity; each function, builtin and go body is there and takes so many
 -- values; the names that are bound on one path differ.
 use Rattle.std.specs.Prelude.{◌≡◌, ℕ, zero, suc, ◌+◌, List, [], ◌∷◌, length, Option, Some, None, Bool, true, IsTrue}
-use Rattle.ca_value.specs.Builtins.{admits}
+use Rattle.ca_value.specs.Builtins.{admits_arguments}
 use Rattle.ca_term.specs.declared.head.Head.{Head}
 use Rattle.ca_term.specs.declared.head.Head.TheVariants.{Recur, Builtin, Call, Take, Put, Alts, Make, Spawn, Close, Register, Print, Post}
 use Rattle.ca_term.specs.declared.head.SeedKind.{SeedKind}
@@ -10,7 +10,7 @@ use Rattle.ca_term.specs.declared.head.SystemTask.{SystemTask}
 use Rattle.ca_term.specs.declared.head.SystemTask.TheVariants.{Mult, Deliver, Mix, Pub, Pipe, Merge, Onto, Feed, Job, Collect}
 use Rattle.ca_term.specs.declared.head.PlainFunction.{PlainFunction}
 use Rattle.ca_term.specs.Kernel.{Kernel, Kernels, Bindings, Founds, const, var, branch, bind, loop, seq, frame, turn, apply, none, item, empty, binding}
-use Rattle.ca_term.specs.Closed.{IsIn, behind, behind_found}
+use Rattle.ca_term.specs.Closed.{IsIn, names_behind, behind_found}
 
 -- what a term may name: of each function and of each go body how many values it takes, and which
 -- functions are plain
@@ -34,28 +34,28 @@ Takes (a ∷ as') zero k = a ≡ k
 Takes (a ∷ as') (suc n) k = Takes as' n k
 
 -- a function that a system task can apply: it takes one value, and has no operation
-abbrev pub IsApplied : Known → PlainFunction → Type 0
-IsApplied known (PlainFunction.Defined n) = Takes known.functions n 1 × (known.plain n ≡ true)
-IsApplied known (PlainFunction.Builtin b) = IsTrue (admits b 1)
-IsApplied known PlainFunction.Keyword = Unit {0}
+abbrev pub IsApplicable : Known → PlainFunction → Type 0
+IsApplicable known (PlainFunction.Defined n) = Takes known.functions n 1 × (known.plain n ≡ true)
+IsApplicable known (PlainFunction.Builtin b) = IsTrue (admits_arguments b 1)
+IsApplicable known PlainFunction.Keyword = Unit {0}
 
 abbrev pub SuitsSystem : Known → SystemTask → Type 0
 SuitsSystem known Mult = Unit {0}
 SuitsSystem known Deliver = Unit {0}
 SuitsSystem known Mix = Unit {0}
-SuitsSystem known (Pub f) = IsApplied known f
+SuitsSystem known (Pub f) = IsApplicable known f
 SuitsSystem known Pipe = Unit {0}
 SuitsSystem known Merge = Unit {0}
 SuitsSystem known Onto = Unit {0}
 SuitsSystem known Feed = Unit {0}
-SuitsSystem known (Job xf f) = IsApplied known f
+SuitsSystem known (Job xf f) = IsApplicable known f
 SuitsSystem known Collect = Unit {0}
 
 -- A head over so many operands, where a `recur` takes as many values as the target says, or has none: what
 -- can be told without the program.
 abbrev pub IsOrderly : Option ℕ → Head → ℕ → Type 0
 IsOrderly target Recur k = target ≡ Some k
-IsOrderly target (Builtin b) k = IsTrue (admits b k)
+IsOrderly target (Builtin b) k = IsTrue (admits_arguments b k)
 IsOrderly target (Call n) k = Unit {0}
 IsOrderly target Take k = Unit {0}
 IsOrderly target Put k = Unit {0}
@@ -70,7 +70,7 @@ IsOrderly target Post k = Unit {0}
 -- the same, and what it names is there
 abbrev pub Suits : Known → Option ℕ → Head → ℕ → Type 0
 Suits known target Recur k = target ≡ Some k
-Suits known target (Builtin b) k = IsTrue (admits b k)
+Suits known target (Builtin b) k = IsTrue (admits_arguments b k)
 Suits known target (Call n) k = Takes known.functions n k
 Suits known target Take k = Unit {0}
 Suits known target Put k = Unit {0}
@@ -111,12 +111,12 @@ abbrev mutual
   FitBindings S (binding n t bs) = Fits S None t × FitBindings S bs
 
 -- a new name
-abbrev pub IsNew : ℕ → List ℕ → Type 0
-IsNew n ns = IsIn n ns → ⊥
+abbrev pub IsNewName : ℕ → List ℕ → Type 0
+IsNewName n ns = IsIn n ns → ⊥
 
 abbrev pub AreNewFound : List ℕ → Founds → Type 0
 AreNewFound ns [] = Unit {0}
-AreNewFound ns (f ∷ fs) = IsNew f.0 ns × AreNewFound (f.0 ∷ ns) fs
+AreNewFound ns (f ∷ fs) = IsNewName f.0 ns × AreNewFound (f.0 ∷ ns) fs
 
 -- no name in scope is bound again
 abbrev mutual
@@ -124,8 +124,8 @@ abbrev mutual
   BindsAnew ns (const v) = Unit {0}
   BindsAnew ns (var n) = Unit {0}
   BindsAnew ns (branch c a b) = BindsAnew ns c × BindsAnew ns a × BindsAnew ns b
-  BindsAnew ns (bind bs body) = BindingsAnew ns bs × BindsAnew (behind bs ns) body
-  BindsAnew ns (loop fs bs body) = AreNewFound ns fs × BindingsAnew (behind_found fs ns) bs × BindsAnew (behind bs (behind_found fs ns)) body
+  BindsAnew ns (bind bs body) = BindingsAnew ns bs × BindsAnew (names_behind bs ns) body
+  BindsAnew ns (loop fs bs body) = AreNewFound ns fs × BindingsAnew (behind_found fs ns) bs × BindsAnew (names_behind bs (behind_found fs ns)) body
   BindsAnew ns (seq ts) = TermsAnew ns ts
   BindsAnew ns (frame body) = BindsAnew [] body
   BindsAnew ns (turn names text now) = BindsAnew names text × BindsAnew [] now
@@ -137,7 +137,7 @@ abbrev mutual
 
   pub BindingsAnew : List ℕ → Bindings → Type 0
   BindingsAnew ns empty = Unit {0}
-  BindingsAnew ns (binding n t bs) = IsNew n ns × BindsAnew ns t × BindingsAnew (n ∷ ns) bs
+  BindingsAnew ns (binding n t bs) = IsNewName n ns × BindsAnew ns t × BindingsAnew (n ∷ ns) bs
 
 -- without an operation, and with calls of plain functions alone
 abbrev pub IsPlainHead : (ℕ → Bool) → Head → Type 0

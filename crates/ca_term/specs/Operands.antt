@@ -19,9 +19,9 @@ abbrev pub or_else : Option Fault → Option Fault → Option Fault
 or_else (Some f) g = Some f
 or_else None g = g
 
-abbrev pub port_number : Tree → ℕ
-port_number (port n) = n
-port_number v = 0
+abbrev pub port_of_value : Tree → ℕ
+port_of_value (port n) = n
+port_of_value v = 0
 
 abbrev pub is_nil : Tree → Bool
 is_nil nil = true

@@ -17,11 +17,11 @@ abbrev pub bindings_of : List (ℕ × Kernel) → Bindings
 bindings_of [] = empty
 bindings_of (b ∷ bs) = binding b.0 b.1 (bindings_of bs)
 
-abbrev pub found : Found → ℕ × Tree
-found f = (f.name, view f.value)
+abbrev pub view_of_found : Found → ℕ × Tree
+view_of_found f = (f.name, view f.value)
 
 abbrev pub founds : List Found → Founds
-founds fs = map found fs
+founds fs = map view_of_found fs
 
 abbrev pub term_step : Term-F Kernel (ℕ × Kernel) → Kernel
 term_step (Term-F.Const v) = const (view v)
@@ -40,12 +40,12 @@ binding_step b = (b.name, b.term)
 abbrev pub kernel : Term → Kernel
 kernel = fold-Term Kernel (ℕ × Kernel) term_step binding_step
 
-abbrev pub named : Binding → ℕ × Kernel
-named = fold-Binding Kernel (ℕ × Kernel) term_step binding_step
+abbrev pub binding_view : Binding → ℕ × Kernel
+binding_view = fold-Binding Kernel (ℕ × Kernel) term_step binding_step
 
 -- of lists
 abbrev pub kernels : List Term → Kernels
 kernels ts = kernels_of (map kernel ts)
 
 abbrev pub bindings : List Binding → Bindings
-bindings bs = bindings_of (map named bs)
+bindings bs = bindings_of (map binding_view bs)

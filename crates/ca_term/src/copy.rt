@@ -2,7 +2,7 @@ ghost use Rattle.std.specs.Prelude.{◌≡◌, IfOk};
 ghost use Rattle.ca_value.specs.Seq.{list};
 ghost use Rattle.ca_value.specs.View.{trees};
 ghost use Rattle.ca_term.specs.Operation.{seed_view};
-ghost use Rattle.ca_term.specs.View.{kernel, kernels, named, bindings, found, founds};
+ghost use Rattle.ca_term.specs.View.{kernel, kernels, binding_view, bindings, view_of_found, founds};
 
 use crate::operation::{GoSeed, Seed, SystemSeed};
 use crate::term::{Binding, Found, Term};
@@ -53,7 +53,7 @@ impl Binding {
     /// An equal binding, in memory of its own.
     #[cycle(copy)]
     pub fn copy(&self, alloc: Global) -> Result<Binding, OutOfMemory>
-        ensures { IfOk result (λ b. named b ≡ named self.now) }
+        ensures { IfOk result (λ b. binding_view b ≡ binding_view self.now) }
     {
         Ok(Binding {
             name: self.name,
@@ -65,7 +65,7 @@ impl Binding {
 impl Found {
     /// The same name with an equal value.
     pub fn copy(&self, alloc: Global) -> Result<Found, OutOfMemory>
-        ensures { IfOk result (λ f. found f ≡ found self.now) }
+        ensures { IfOk result (λ f. view_of_found f ≡ view_of_found self.now) }
     {
         Ok(Found {
             name: self.name,

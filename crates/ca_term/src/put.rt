@@ -2,7 +2,7 @@ ghost use Rattle.std.specs.Prelude.{◌≡◌, IfOk};
 ghost use Rattle.ca_value.specs.Seq.{list};
 ghost use Rattle.ca_value.specs.View.{view};
 ghost use Rattle.ca_term.specs.Kernel.{put, put_items, put_bindings};
-ghost use Rattle.ca_term.specs.View.{kernel, kernels, named, bindings};
+ghost use Rattle.ca_term.specs.View.{kernel, kernels, binding_view, bindings};
 
 use crate::copy::copy_found;
 use crate::term::{Binding, Term};
@@ -58,7 +58,7 @@ impl Binding {
     /// A copy of the binding with the value in place of the name.
     #[cycle(with)]
     pub fn with(&self, alloc: Global, name: u64, value: &Value) -> Result<Binding, OutOfMemory>
-        ensures { IfOk result (λ b. ((named b).0 ≡ (named self.now).0) × ((named b).1 ≡ put name (view value.now) (named self.now).1)) }
+        ensures { IfOk result (λ b. ((binding_view b).0 ≡ (binding_view self.now).0) × ((binding_view b).1 ≡ put name (view value.now) (binding_view self.now).1)) }
     {
         Ok(Binding {
             name: self.name,

@@ -1,5 +1,5 @@
 ghost use Rattle.std.specs.Prelude.{◌≡◌};
-ghost use Rattle.ca_term.specs.View.{kernel, named};
+ghost use Rattle.ca_term.specs.View.{kernel, binding_view};
 
 use crate::head::Head;
 use crate::place::Place;
@@ -47,7 +47,7 @@ pub struct Found {
 impl Binding {
     /// The binding of that name to that term.
     pub fn new(name: u64, term: Term) -> Binding
-        ensures { named result ≡ (name, kernel term) }
+        ensures { binding_view result ≡ (name, kernel term) }
     {
         Binding { name, term }
     }

@@ -4,8 +4,8 @@ use Rattle.std.proofs.lemmas.List.{append-nil}
 use Rattle.std.specs.Prelude.{slice_get, filter, nat_le, not}
 use Rattle.std.proofs.lemmas.Bool.Decides.{nat_tests}
 use Rattle.ca_value.specs.Deadlines.{Deadline, is_before, opened, due, open_after}
-use Rattle.ca_timers.specs.Timers.{NoneBefore, AreOrdered, IsInFront}
-use Rattle.ca_timers.specs.Stored.{first_of}
+use Rattle.ca_timers.specs.Timers.{NoDeadlineBefore, AreOrdered, IsInFront}
+use Rattle.ca_timers.specs.Stored.{earlier_deadline}
 
 -- what stands no earlier than a later one is later too
 pub before_later : (d a b : Deadline) → is_before d a ≡ true → is_before b a ≡ false → is_before d b ≡ true
@@ -14,14 +14,14 @@ before_later d a b h k = grind (arith, nat_tests)
 pub before_not_after : (d a : Deadline) → is_before d a ≡ true → is_before a d ≡ false
 before_not_after d a h = grind (arith, nat_tests)
 
-pub opened_none_before : (e d : Deadline) (ds : List Deadline) → is_before d e ≡ false → NoneBefore e ds → NoneBefore e (opened d ds)
+pub opened_none_before : (e d : Deadline) (ds : List Deadline) → is_before d e ≡ false → NoDeadlineBefore e ds → NoDeadlineBefore e (opened d ds)
 opened_none_before e d [] h all = (h, tt)
 opened_none_before e d (a ∷ ds) h all = by (is_before d a) (opened_none_before e d ds h all.1) where
-  by : (b : Bool) → NoneBefore e (opened d ds) → NoneBefore e (cond b (d ∷ a ∷ ds) (a ∷ opened d ds))
+  by : (b : Bool) → NoDeadlineBefore e (opened d ds) → NoDeadlineBefore e (cond b (d ∷ a ∷ ds) (a ∷ opened d ds))
   by true k = (h, all)
   by false k = (all.0, k)
 
-pub none_before_later : (d a : Deadline) (ds : List Deadline) → is_before d a ≡ true → NoneBefore a ds → NoneBefore d ds
+pub none_before_later : (d a : Deadline) (ds : List Deadline) → is_before d a ≡ true → NoDeadlineBefore a ds → NoDeadlineBefore d ds
 none_before_later d a [] h all = tt
 none_before_later d a (b ∷ ds) h all = (before_not_after d b (before_later d a b h all.0), none_before_later d a ds h all.1)
 
@@ -38,7 +38,7 @@ due_port m None = None
 due_port m (Some d) = cond (nat_le d.moment m) (Some d.port) None
 
 -- no deadline is due behind one that is not
-none_due : (m : ℕ) (d : Deadline) (ds : List Deadline) → nat_le d.moment m ≡ false → NoneBefore d ds → due m ds ≡ []
+none_due : (m : ℕ) (d : Deadline) (ds : List Deadline) → nat_le d.moment m ≡ false → NoDeadlineBefore d ds → due m ds ≡ []
 none_due m d [] h all = refl
 none_due m d (e ∷ ds) h all = by (nat_le e.moment m) (later e all.0) (none_due m d ds h all.1) where
   later : (e : Deadline) → is_before e d ≡ false → nat_le e.moment m ≡ false
@@ -65,7 +65,7 @@ due_at m (d ∷ ds) k o = by (nat_le d.moment m) refl k (λ j. due_at m ds j o.1
   by false h (suc j) r = behind h (suc j) ∙ none (slice_get ds j) (slice_get (due m ds) j) (behind h j) (r j)
 
 -- where a deadline is not due, those behind it stay open
-stay_behind : (m : ℕ) (d : Deadline) (ds : List Deadline) → nat_le d.moment m ≡ false → NoneBefore d ds → open_after m ds ≡ ds
+stay_behind : (m : ℕ) (d : Deadline) (ds : List Deadline) → nat_le d.moment m ≡ false → NoDeadlineBefore d ds → open_after m ds ≡ ds
 stay_behind m d [] h all = refl
 stay_behind m d (e ∷ ds) h all = by (nat_le e.moment m) (later e all.0) (stay_behind m d ds h all.1) where
   later : (e : Deadline) → is_before e d ≡ false → nat_le e.moment m ≡ false
@@ -94,11 +94,11 @@ none_leaves m (d ∷ ds) o h = by (nat_le d.moment m) refl h where
   by false k r = ap (λ (s : List Deadline). d ∷ s) (stay_behind m d ds k o.0)
 
 -- parts of an ordered list are ordered
-none_in_front : (d : Deadline) (xs ys : List Deadline) → NoneBefore d (xs ++ ys) → NoneBefore d xs
+none_in_front : (d : Deadline) (xs ys : List Deadline) → NoDeadlineBefore d (xs ++ ys) → NoDeadlineBefore d xs
 none_in_front d [] ys all = tt
 none_in_front d (x ∷ xs) ys all = (all.0, none_in_front d xs ys all.1)
 
-none_there : (d e : Deadline) (xs ys : List Deadline) → NoneBefore d (xs ++ e ∷ ys) → is_before e d ≡ false
+none_there : (d e : Deadline) (xs ys : List Deadline) → NoDeadlineBefore d (xs ++ e ∷ ys) → is_before e d ≡ false
 none_there d e [] ys all = all.0
 none_there d e (x ∷ xs) ys all = none_there d e xs ys all.1
 
@@ -134,7 +134,7 @@ length-opened d (x ∷ xs) = by (is_before d x) (length-opened d xs) where
   by false h = grind arith
 
 -- which deadline is the first one, when one more is opened
-pub first_opened : (d : Deadline) (ds : List Deadline) → Some (first_of (slice_get ds 0) d) ≡ slice_get (opened d ds) 0
+pub first_opened : (d : Deadline) (ds : List Deadline) → Some (earlier_deadline (slice_get ds 0) d) ≡ slice_get (opened d ds) 0
 first_opened d [] = refl
 first_opened d (e ∷ ds) = by (is_before d e) where
   by : (b : Bool) → Some (cond b d e) ≡ slice_get (cond b (d ∷ e ∷ ds) (e ∷ opened d ds)) 0
@@ -151,7 +151,7 @@ abbrev pub NotBefore : Deadline → Option Deadline → Type 0
 NotBefore d None = Unit {0}
 NotBefore d (Some e) = is_before d e ≡ false
 
-not_before_first : (d x y : Deadline) (ys : List Deadline) → NoneBefore x (y ∷ ys) → NotBefore d (slice_get (y ∷ ys) (length ys)) → is_before d x ≡ false
+not_before_first : (d x y : Deadline) (ys : List Deadline) → NoDeadlineBefore x (y ∷ ys) → NotBefore d (slice_get (y ∷ ys) (length ys)) → is_before d x ≡ false
 not_before_first d x y [] all h = not_earlier d y x h all.0
 not_before_first d x y (z ∷ zs) all h = not_before_first d x z zs all.1 h
 

@@ -12,6 +12,6 @@ abbrev pub IsStored : Inside → Type 0
 IsStored t = AreOrdered t.queue.deadlines × (option_map deadline_view t.first ≡ slice_get t.queue.deadlines 0)
 
 -- the earlier of two deadlines, the other where none stood there
-abbrev pub first_of : Option Deadline → Deadline → Deadline
-first_of None d = d
-first_of (Some e) d = cond (is_before d e) d e
+abbrev pub earlier_deadline : Option Deadline → Deadline → Deadline
+earlier_deadline None d = d
+earlier_deadline (Some e) d = cond (is_before d e) d e

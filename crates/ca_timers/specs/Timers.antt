@@ -10,21 +10,21 @@ pub record TimersView : Type 0 where
   pub moment : ℕ
   pub spare : ℕ
 
-abbrev pub port_number : PortId → ℕ
-port_number p = p.n
+abbrev pub deadline_port : PortId → ℕ
+deadline_port p = p.n
 
 abbrev pub deadline_view : OpenDeadline → Deadline
 deadline_view d = record { moment = d.moment; port = d.port.n }
 
 -- none of the deadlines stands before it
-abbrev pub NoneBefore : Deadline → List Deadline → Type 0
-NoneBefore d [] = Unit {0}
-NoneBefore d (e ∷ es) = (is_before e d ≡ false) × NoneBefore d es
+abbrev pub NoDeadlineBefore : Deadline → List Deadline → Type 0
+NoDeadlineBefore d [] = Unit {0}
+NoDeadlineBefore d (e ∷ es) = (is_before e d ≡ false) × NoDeadlineBefore d es
 
 -- each stands no later than those behind it
 abbrev pub AreOrdered : List Deadline → Type 0
 AreOrdered [] = Unit {0}
-AreOrdered (d ∷ ds) = NoneBefore d ds × AreOrdered ds
+AreOrdered (d ∷ ds) = NoDeadlineBefore d ds × AreOrdered ds
 
 -- it stands before the first one, where there is any
 abbrev pub IsInFront : Deadline → List Deadline → Type 0

@@ -1,7 +1,7 @@
 ghost use Rattle.std.specs.Prelude.{◌≡◌, ◌+◌, ◌<◌, ◌≤◌, [], drop, slice_get, option_map, OnOk, OnSome, IfNone};
 ghost use Rattle.ca_value.specs.Deadlines.{opened, due};
-ghost use Rattle.ca_timers.specs.Timers.{port_number, deadline_view};
-ghost use Rattle.ca_timers.specs.Stored.{first_of};
+ghost use Rattle.ca_timers.specs.Timers.{deadline_port, deadline_view};
+ghost use Rattle.ca_timers.specs.Stored.{earlier_deadline};
 
 use crate::deadline::OpenDeadline;
 use crate::queue::DeadlineQueue;
@@ -101,7 +101,7 @@ impl Timers {
 
     /// Takes out the first deadline that is at most `now` and gives its port, or None where there is none.
     pub fn pop_due(&mut self, now: u64) -> Option<PortId>
-        ensures port { option_map port_number result ≡ slice_get (due now self.old.deadlines) 0 }
+        ensures port { option_map deadline_port result ≡ slice_get (due now self.old.deadlines) 0 }
         ensures popped { OnSome result (self.new.deadlines ≡ drop 1 self.old.deadlines) }
         ensures none { IfNone result (self.new.deadlines ≡ self.old.deadlines) }
         ensures moment { self.new.moment ≡ self.old.moment }
@@ -120,7 +120,7 @@ impl Timers {
     /// the last one.
     #[tactic(auto, using(crate::proofs::Order::due_at))]
     pub fn due(&self, now: u64, place: u64) -> Option<PortId>
-        ensures { option_map port_number result ≡ slice_get (due now self.now.deadlines) place }
+        ensures { option_map deadline_port result ≡ slice_get (due now self.now.deadlines) place }
     {
         match self.queue.get(place) {
             Some(deadline) if deadline.moment <= now => Some(deadline.port),
@@ -131,7 +131,7 @@ impl Timers {
 
 // The earlier one, the other where none stood there.
 fn first_of(first: Option<OpenDeadline>, other: OpenDeadline) -> OpenDeadline
-    ensures { deadline_view result ≡ first_of (option_map deadline_view first) (deadline_view other) }
+    ensures { deadline_view result ≡ earlier_deadline (option_map deadline_view first) (deadline_view other) }
 {
     match first {
         Some(first) if !other.is_before(&first) => first,

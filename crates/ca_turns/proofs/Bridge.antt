@@ -9,7 +9,7 @@ use Rattle.atomic_table.specs.Table.{State, Me, Allows, Splits, Joins, stepped}
 use Rattle.ca_turns.specs.declared.rule.Turn.{Turn}
 use Rattle.ca_turns.specs.declared.rule.View.{View}
 use Rattle.ca_turns.specs.Places.{IsDistinct}
-use Rattle.ca_turns.specs.OneHistory.{OneHistory, HandOk, IsAt, IsDrawn, Has, LastLeft, IsFree, IsHeld, event_word}
+use Rattle.ca_turns.specs.OneHistory.{OneHistory, HandOk, IsTurnAt, IsDrawn, HandHas, LastLeft, IsPartFree, IsPartHeld, event_word}
 use Rattle.ca_turns.specs.Steps.{IsOneRun}
 use Rattle.ca_turns.proofs.Lists.{in_range, there_is, zero_suc, suc-injective}
 use Rattle.ca_turns.proofs.Runs.{last_in}
@@ -37,7 +37,7 @@ module _ {P C E : Type 0} (content : P → C) (touches : E → List ℕ) (moves 
   pub at_home : (s : St) (r : Rule s) (i : ℕ) (x : P) → get_elem? s.homes i ≡ some (some (Some x)) → get_elem? r.now i ≡ some (content x)
   at_home s r i x e = home_now s r i x e (r.keeper i) (r.each_part i (in_range s.homes i (some (Some x)) e))
 
-  free_or_held : (s : St) (r : Rule s) (i q : ℕ) → r.keeper i ≡ q → Kept content s.words s.homes s.views r.now i q → IsFree s i ⊎ IsHeld s i
+  free_or_held : (s : St) (r : Rule s) (i q : ℕ) → r.keeper i ≡ q → Kept content s.words s.homes s.views r.now i q → IsPartFree s i ⊎ IsPartHeld s i
   free_or_held s r i zero e kept = inl (kept.0, (λ j c x. zero_suc j (sym e ∙ ((r.each_view j x.0 x.1).holds i c x.2).0)), (kept.1.0, kept.1.1))
   free_or_held s r i (suc j) e kept = inr (kept.0, (j, kept.1.1, (kept.1.0, kept.1.2, kept.1.3)), kept.2)
 
@@ -78,7 +78,7 @@ module _ {P C E : Type 0} (content : P → C) (touches : E → List ℕ) (moves 
       content_now h i c near l = let x = there_is h.1 i (let a : length h.1 ≡ length opening = h.4 in let b : length opening ≡ length s.homes = r.as_many in omega arith) in
           x.1 ∙ ap some (one_last touches moves opening (IsDrawn s.views) one apart (event_word s) i x.0 c (last_of touches moves opening (IsDrawn s.views) one apart (event_word s) r.each_number r.moved r.inside r.shown (event_word s) h i x.0 x.1) l)
 
-      abbrev holder : (i : ℕ) → IsFree s i ⊎ IsHeld s i → ℕ
+      abbrev holder : (i : ℕ) → IsPartFree s i ⊎ IsPartHeld s i → ℕ
       holder i (inl f) = 0
       holder i (inr h) = suc h.1.0
 
@@ -90,7 +90,7 @@ module _ {P C E : Type 0} (content : P → C) (touches : E → List ℕ) (moves 
       owner_by n (yes h) = let x = r.each_number n h in (x.1.0, x.1.1)
       owner_by n (no ne) = (0, 0)
 
-      kept_by : (now : List C) → ((i : ℕ) (c : C) → i < length s.homes → LastLeft s.views touches opening (event_word s) i c → get_elem? now i ≡ some c) → (i : ℕ) → i < length s.homes → (p : IsFree s i ⊎ IsHeld s i) → Kept content s.words s.homes s.views now i (holder i p)
+      kept_by : (now : List C) → ((i : ℕ) (c : C) → i < length s.homes → LastLeft s.views touches opening (event_word s) i c → get_elem? now i ≡ some c) → (i : ℕ) → i < length s.homes → (p : IsPartFree s i ⊎ IsPartHeld s i) → Kept content s.words s.homes s.views now i (holder i p)
       kept_by now shows i h (inl f) = (f.0, (f.2.0, f.2.1, shows i (content f.2.0) h (r.at_home i f.2.0 f.2.1)))
       kept_by now shows i h (inr f) = (f.0, (f.1.2.0, f.1.1, f.1.2.1, f.1.2.2), f.2)
 
@@ -98,11 +98,11 @@ module _ {P C E : Type 0} (content : P → C) (touches : E → List ℕ) (moves 
       each_kept now shows i h (yes h') = kept_by now shows i h' (r.each_part i h')
       each_kept now shows i h (no n) = absurd (n h)
 
-      holder_is : (i j : ℕ) (c : C) → Has s.views j i c → (p : IsFree s i ⊎ IsHeld s i) → holder i p ≡ suc j
+      holder_is : (i j : ℕ) (c : C) → HandHas s.views j i c → (p : IsPartFree s i ⊎ IsPartHeld s i) → holder i p ≡ suc j
       holder_is i j c has (inl f) = absurd (f.1 j c has)
       holder_is i j c has (inr h) = ap suc (r.one_holder i h.1.0 j h.1.1 c h.1.2 has)
 
-      keeper_is : (i j : ℕ) (c : C) → i < length s.homes → Has s.views j i c → (d : Dec (i < length s.homes)) → keeper_by i d ≡ suc j
+      keeper_is : (i j : ℕ) (c : C) → i < length s.homes → HandHas s.views j i c → (d : Dec (i < length s.homes)) → keeper_by i d ≡ suc j
       keeper_is i j c h has (yes h') = holder_is i j c has (r.each_part i h')
       keeper_is i j c h has (no n) = absurd (n h)
 
@@ -110,7 +110,7 @@ module _ {P C E : Type 0} (content : P → C) (touches : E → List ℕ) (moves 
       owner_at n h (yes h') = let x = r.each_number n h' in (x.1.2, x.0, x.1.3, x.1.4, x.2)
       owner_at n h (no ne) = absurd (ne h)
 
-      owner_is : (j k : ℕ) (t : Turn C E) → IsAt s.views j k t → (d : Dec (t.number < event_word s)) → Path (ℕ × ℕ) (owner_by t.number d) (j, k)
+      owner_is : (j k : ℕ) (t : Turn C E) → IsTurnAt s.views j k t → (d : Dec (t.number < event_word s)) → Path (ℕ × ℕ) (owner_by t.number d) (j, k)
       owner_is j k t is (yes h) = let x = r.each_number t.number h in let p = r.once x.1.0 x.1.1 j k x.0 t (x.1.2, x.1.3, x.1.4) is x.2 in λ i. (p.0 i, p.1 i)
       owner_is j k t is (no ne) = absurd (ne (r.no_other t (j, k, is.0, is.1, is.2)))
 

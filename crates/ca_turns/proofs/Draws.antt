@@ -10,8 +10,8 @@ use Rattle.atomic_table.specs.Table.{State, Me, step, keeps, Allows}
 use Rattle.atomic_table.proofs.Lists.{at_set, set_again, set_here, at_longer, at_last}
 use Rattle.ca_turns.specs.declared.rule.View.{View}
 use Rattle.ca_turns.specs.declared.rule.Turn.{Turn}
-use Rattle.ca_turns.specs.Places.{Reads, write, total}
-use Rattle.ca_turns.specs.Views.{turn, drawing, drawn, stands}
+use Rattle.ca_turns.specs.Places.{ReadsPlaces, write, total}
+use Rattle.ca_turns.specs.Views.{new_turn, drawing, drawn, hands_stood_for}
 use Rattle.ca_turns.specs.Steps.{drew, told_short}
 use Rattle.ca_turns.proofs.Lists.{put, put_here, put_else, after_set, in_range, at_snoc, total-set, total-le, one_of, zero_suc, suc-injective}
 use Rattle.ca_turns.proofs.Runs.{all_in, length-write, write_else, reads_now, reads_all, held_after, both_written, still_held, one_more}
@@ -37,11 +37,11 @@ module _ {P C E : Type 0} (content : P → C) (touches : E → List ℕ) (moves 
 
   -- the word does not wrap
   pub few_drawn : (s : St) (r : Rule s) → length r.log ≤ 2 ^ 63
-  few_drawn s r = let a = total-le drawn stands (2 ^ 59) s.views (λ j v e. (r.each_view j v e).few) in let b : total drawn s.views ≡ length r.log = r.all_drawn in let c : total stands s.views ≡ hands = r.all_stand in let d : hands ≤ 16 = r.at_most in
-      let a' : total drawn s.views ≤ 2 ^ 59 * total stands s.views = a in omega arith
+  few_drawn s r = let a = total-le drawn hands_stood_for (2 ^ 59) s.views (λ j v e. (r.each_view j v e).few) in let b : total drawn s.views ≡ length r.log = r.all_drawn in let c : total hands_stood_for s.views ≡ hands = r.all_stand in let d : hands ≤ 16 = r.at_most in
+      let a' : total drawn s.views ≤ 2 ^ 59 * total hands_stood_for s.views = a in omega arith
 
-  drawn_at : (s : St) (r : Rule s) (id : ℕ) (v : View C E) (t : Turn C E) → get_elem? s.views id ≡ some v → t.number ≡ length r.log → Reads v.held (touches t.event) (map Some t.before) → moves t.event t.before t.after → length t.after ≡ length (touches t.event)
-      → length v.turns < 2 ^ 59 → 0 < stands v → (n : ℕ) → n ≡ length r.log + 1 → Rule record { words = set s.words 0 n; homes = s.homes; views = set s.views id (drawing v (touches t.event) t) }
+  drawn_at : (s : St) (r : Rule s) (id : ℕ) (v : View C E) (t : Turn C E) → get_elem? s.views id ≡ some v → t.number ≡ length r.log → ReadsPlaces v.held (touches t.event) (map Some t.before) → moves t.event t.before t.after → length t.after ≡ length (touches t.event)
+      → length v.turns < 2 ^ 59 → 0 < hands_stood_for v → (n : ℕ) → n ≡ length r.log + 1 → Rule record { words = set s.words 0 n; homes = s.homes; views = set s.views id (drawing v (touches t.event) t) }
   drawn_at s r id v t at num reads goes fits room may n more =
       let ok = r.each_view id v at in let is : List ℕ = touches t.event in let w : View C E = drawing v is t in let y : ℕ = length r.log in let words' = set s.words 0 n in let views' = set s.views id w in let now' = write r.now is t.after in let log' = r.log ++ t ∷ [] in
       let owner' = put r.owner y (id, length v.turns) in let mine = reads_all (λ k. r.keeper k ≡ suc id) v.held (λ k c e. (ok.holds k c e).0) is t.before reads in let long : length s.words ≡ length s.homes + 1 = r.wide in
@@ -76,7 +76,7 @@ module _ {P C E : Type 0} (content : P → C) (touches : E → List ℕ) (moves 
               )
         ];
         all_drawn = let a = total-set drawn s.views id v w at in let b : total drawn s.views ≡ length r.log = r.all_drawn in let c : length log' ≡ length r.log + 1 = length-append r.log (t ∷ []) in omega arith;
-        all_stand = let a = total-set stands s.views id v w at in let b = r.all_stand in omega arith;
+        all_stand = let a = total-set hands_stood_for s.views id v w at in let b = r.all_stand in omega arith;
         apart = same_names s.views id v w hands at refl r.apart;
         each_part = λ k h. part_stays content s.words words' s.homes s.views views' r.now now' k (get_or-set_other s.words 0 (k + 1) n 0 (λ e. omega arith))
             (λ j u c e e'. let a = after_set s.views id v w at j u e in ⊎_elim
@@ -97,7 +97,7 @@ module _ {P C E : Type 0} (content : P → C) (touches : E → List ℕ) (moves 
                     ap (λ m. get_elem? log' m) is' ∙ at_last r.log t y refl ∙ ap some new.1,
                     ap owner' is' ∙ put_here r.owner y (id, length v.turns) ∙ ap (λ (m : ℕ). (id, m)) (sym new.0),
                   )) (at_snoc v.turns t t' k e);
-              few = let a : 2 ^ 59 * 1 ≤ 2 ^ 59 * stands v = mul-le-mul_left (2 ^ 59) may in let b : length w.turns ≡ length v.turns + 1 = fewer in let c : length w.turns ≤ 2 ^ 59 * stands v = omega arith in c;
+              few = let a : 2 ^ 59 * 1 ≤ 2 ^ 59 * hands_stood_for v = mul-le-mul_left (2 ^ 59) may in let b : length w.turns ≡ length v.turns + 1 = fewer in let c : length w.turns ≤ 2 ^ 59 * hands_stood_for v = omega arith in c;
             }))
             (λ b. let ok' = r.each_view j u b.1 in record {
               knows = ok'.knows;
@@ -107,10 +107,10 @@ module _ {P C E : Type 0} (content : P → C) (touches : E → List ℕ) (moves 
             }) (at_set s.views id j w u e);
       }
 
-  pub draws : (n id : ℕ) (me : M) (t : Turn C E) (ts : List (Turn C E)) → ts ≡ t ∷ [] → Reads me.0.held (touches t.event) (map Some t.before) → moves t.event t.before t.after → length t.after ≡ length (touches t.event) → length me.0.turns < 2 ^ 59 → 0 < stands me.0
+  pub draws : (n id : ℕ) (me : M) (t : Turn C E) (ts : List (Turn C E)) → ts ≡ t ∷ [] → ReadsPlaces me.0.held (touches t.event) (map Some t.before) → moves t.event t.before t.after → length t.after ≡ length (touches t.event) → length me.0.turns < 2 ^ 59 → 0 < hands_stood_for me.0
       → Allows Rule n id me 0 (λ y. (y + 1) % 2 ^ 64) (drew touches ts (step n 0 1 0 none) me)
   draws n id me t ts one reads goes fits room may s r wide at _ = let y : ℕ = get_or s.words 0 0 in let few : length r.log ≤ 2 ^ 63 = few_drawn s r in let is : y ≡ length r.log = r.count in
-      let t' : Turn C E = turn y t.event t.before t.after in let w : View C E = drawing me.0 (touches t.event) t' in let next : (y + 1) % 2 ^ 64 ≡ y + 1 = mod-eq_of_lt (omega arith) in (
+      let t' : Turn C E = new_turn y t.event t.before t.after in let w : View C E = drawing me.0 (touches t.event) t' in let next : (y + 1) % 2 ^ 64 ≡ y + 1 = mod-eq_of_lt (omega arith) in (
         w,
         keeps,
         tt,

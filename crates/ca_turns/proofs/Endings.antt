@@ -8,8 +8,8 @@ use Rattle.atomic_table.proofs.Lists.{at_map}
 use Rattle.ca_turns.specs.declared.rule.View.{View}
 use Rattle.ca_turns.specs.declared.rule.Turn.{Turn}
 use Rattle.ca_turns.specs.Places.{IsDistinct}
-use Rattle.ca_turns.specs.Views.{hand_numbers, stands, HoldsNone, first_view}
-use Rattle.ca_turns.specs.OneHistory.{StandsFor}
+use Rattle.ca_turns.specs.Views.{hand_numbers, hands_stood_for, HoldsNone, first_view}
+use Rattle.ca_turns.specs.OneHistory.{HandStandsFor}
 use Rattle.ca_turns.specs.Steps.{IsWhole, Sees}
 use Rattle.ca_turns.proofs.Lists.{there_is, no_part}
 use Rattle.ca_turns.proofs.Ruled.{Ruled, ViewOk, Kept}
@@ -71,7 +71,7 @@ module _ {P C E : Type 0} (content : P → C) (touches : E → List ℕ) (moves 
         few = omega arith;
       }
 
-      named : (j k h : ℕ) → StandsFor (first_view {E = E} (map content ps) hands ∷ []) j k h → (j ≡ 0) × (get_elem? (hand_numbers hands) k ≡ some h)
+      named : (j k h : ℕ) → HandStandsFor (first_view {E = E} (map content ps) hands ∷ []) j k h → (j ≡ 0) × (get_elem? (hand_numbers hands) k ≡ some h)
       named zero k h n = (refl, ap (λ (v : View C E). get_elem? v.stands_for k) (some-injective _ _ n.1) ∙ n.2)
       named (suc j) k h n = absurd (some-ne-none n.0 (sym n.1))
 
@@ -88,14 +88,14 @@ module _ {P C E : Type 0} (content : P → C) (touches : E → List ℕ) (moves 
     abbrev Rule : State (Option P) (View C E) → Type 0
     Rule = Ruled content touches moves start hands
 
-    pub closes : (apart : (e : E) → IsDistinct (touches e)) (ws : List ℕ) (xs : List (Option P)) (id : ℕ) (v : View C E) → stands v ≡ v.hands → 0 < stands v → HoldsNone v → Final (Seen (Literal content touches moves start hands) id v) ws xs
+    pub closes : (apart : (e : E) → IsDistinct (touches e)) (ws : List ℕ) (xs : List (Option P)) (id : ℕ) (v : View C E) → hands_stood_for v ≡ v.hands → 0 < hands_stood_for v → HoldsNone v → Final (Seen (Literal content touches moves start hands) id v) ws xs
         → (ps : List P) × (log : List (Turn C E)) × (xs ≡ map Some ps) × Sees touches moves v log (map content ps) × IsWhole v log
-    closes apart ws xs id v all some_ blank (s, (l, at), _, as_long, same) = let r = ruled content touches moves start hands apart s l in let kn = (r.each_view id v at).knows some_ in let all' : stands v ≡ hands = all ∙ kn.1 in
+    closes apart ws xs id v all some_ blank (s, (l, at), _, as_long, same) = let r = ruled content touches moves start hands apart s l in let kn = (r.each_view id v at).knows some_ in let all' : hands_stood_for v ≡ hands = all ∙ kn.1 in
         let one = only content touches moves start hands s r id v at all' in
         let g = gathered content xs r.now (r.as_long ∙ as_long) (λ i h. there s r id v at blank one i (subst (λ n. i < n) (sym as_long) h) (r.keeper i) xs same (r.each_part i (subst (λ n. i < n) (sym as_long) h))) in
         let seen = sees content touches moves start hands s r id v v at some_ refl refl refl refl (λ i c e. absurd (blank i c e)) in (g.0, r.log, g.1, subst (Sees touches moves v r.log) g.2 seen, seen.alone all)
       where
-        there : (s : State (Option P) (View C E)) (r : Rule s) (id : ℕ) (v : View C E) → get_elem? s.views id ≡ some v → HoldsNone v → ((j : ℕ) (u : View C E) → get_elem? s.views j ≡ some u → 0 < stands u → j ≡ id) → (i : ℕ) → i < length s.homes → (q : ℕ)
+        there : (s : State (Option P) (View C E)) (r : Rule s) (id : ℕ) (v : View C E) → get_elem? s.views id ≡ some v → HoldsNone v → ((j : ℕ) (u : View C E) → get_elem? s.views j ≡ some u → 0 < hands_stood_for u → j ≡ id) → (i : ℕ) → i < length s.homes → (q : ℕ)
             → (xs : List (Option P)) → ((k : ℕ) (y : Option P) → get_elem? s.homes k ≡ some (some y) → get_elem? xs k ≡ some y) → Kept content s.words s.homes s.views r.now i q → (x : P) × (get_elem? xs i ≡ some (Some x)) × (get_elem? r.now i ≡ some (content x))
         there s r id v at blank one i h zero xs same kept = (kept.1.0, same i (Some kept.1.0) kept.1.1, kept.1.2)
         there s r id v at blank one i h (suc j) xs same kept = let u : View C E = kept.1.0 in let c : C = kept.1.1 in let o = (r.each_view j u kept.1.2).holds i c kept.1.3 in let is = one j u kept.1.2 o.2 in

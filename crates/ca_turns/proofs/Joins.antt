@@ -10,7 +10,7 @@ use Rattle.atomic_table.proofs.Lists.{at_set, set_here, set_else, at_longer}
 use Rattle.ca_turns.specs.declared.rule.View.{View}
 use Rattle.ca_turns.specs.declared.rule.Turn.{Turn}
 use Rattle.ca_turns.specs.Places.{total}
-use Rattle.ca_turns.specs.Views.{drawn, stands, left_view, right_view, both_views, spent_view, HoldsNone}
+use Rattle.ca_turns.specs.Views.{drawn, hands_stood_for, left_view, right_view, both_views, spent_view, HoldsNone}
 use Rattle.ca_turns.specs.OneHistory.{StandApart}
 use Rattle.ca_turns.proofs.Lists.{pick, pick_yes, pick_no, after_set, in_range, total-set, total-snoc, at_snoc, at_second, at_either, no_part}
 use Rattle.ca_turns.proofs.Ruled.{Ruled, ViewOk}
@@ -105,7 +105,7 @@ module _ {P C E : Type 0} (content : P → C) (touches : E → List ℕ) (moves 
   -- other views of which each turn, part and hand is still one's
   reviewed : (s : St) (r : Rule s) (vs : List (View C E)) (owner : ℕ → ℕ × ℕ)
       → ((n : ℕ) → n < length r.log → (v : View C E) × (t : Turn C E) × (get_elem? vs (owner n).0 ≡ some v) × (get_elem? v.turns (owner n).1 ≡ some t) × (t.number ≡ n))
-      → total drawn vs ≡ length r.log → total stands vs ≡ hands → StandApart vs hands
+      → total drawn vs ≡ length r.log → total hands_stood_for vs ≡ hands → StandApart vs hands
       → ((j k : ℕ) (v : View C E) (c : C) → get_elem? s.views j ≡ some v → get_elem? v.held k ≡ some (Some c) → (v' : View C E) × (get_elem? vs j ≡ some v') × (get_elem? v'.held k ≡ some (Some c)))
       → ((j : ℕ) (v : View C E) → get_elem? vs j ≡ some v → ViewOk opening hands r.now r.log r.keeper owner j v) → Rule record { words = s.words; homes = s.homes; views = vs }
   reviewed s r vs owner owned all_drawn all_stand apart held each = record {
@@ -127,8 +127,8 @@ module _ {P C E : Type 0} (content : P → C) (touches : E → List ℕ) (moves 
     each_view = each;
   }
 
-  pub splits : (id : ℕ) (v : View C E) → v.turns ≡ [] → 1 < stands v → Splits Rule id v (left_view v) (right_view v)
-  splits id v blank two s r at = let l = left_view v in let u = right_view v in let vs : List (View C E) = set s.views id l in let ok = r.each_view id v at in let some_ : 0 < stands v = omega arith in let less : stands l + 1 ≡ stands v = all_but_one v.stands_for two in let one : stands u ≡ 1 = just_one v.stands_for two in
+  pub splits : (id : ℕ) (v : View C E) → v.turns ≡ [] → 1 < hands_stood_for v → Splits Rule id v (left_view v) (right_view v)
+  splits id v blank two s r at = let l = left_view v in let u = right_view v in let vs : List (View C E) = set s.views id l in let ok = r.each_view id v at in let some_ : 0 < hands_stood_for v = omega arith in let less : hands_stood_for l + 1 ≡ hands_stood_for v = all_but_one v.stands_for two in let one : hands_stood_for u ≡ 1 = just_one v.stands_for two in
       let none_drawn : length v.turns ≡ 0 = ap length blank in
       reviewed s r (vs ++ u ∷ []) r.owner
       (λ n h. let o = r.owned n h in let a = after_set s.views id v l at (r.owner n).0 o.0 o.2 in (
@@ -139,7 +139,7 @@ module _ {P C E : Type 0} (content : P → C) (touches : E → List ℕ) (moves 
         o.4,
       ))
       (let a = total-set drawn s.views id v l at in let b = total-snoc drawn vs u in let d : total drawn s.views ≡ length r.log = r.all_drawn in omega arith)
-      (let a = total-set stands s.views id v l at in let b = total-snoc stands vs u in let d = r.all_stand in omega arith)
+      (let a = total-set hands_stood_for s.views id v l at in let b = total-snoc hands_stood_for vs u in let d = r.all_stand in omega arith)
       (split_names s.views id v hands at r.apart)
       (λ j k w c e e'. let a = after_set s.views id v l at j w e in (
         a.0,
@@ -150,9 +150,9 @@ module _ {P C E : Type 0} (content : P → C) (touches : E → List ℕ) (moves 
       (λ old. ⊎_elim
       (λ b. subst (ViewOk opening hands r.now r.log r.keeper r.owner j) b.1 (subst (λ (k : ℕ). ViewOk opening hands r.now r.log r.keeper r.owner k l) (sym b.0) record {
         knows = λ m. ok.knows some_;
-        holds = λ k c e. let h = ok.holds k c e in (h.0, h.1, (let g : 0 < stands l = omega arith in g));
+        holds = λ k c e. let h = ok.holds k c e in (h.0, h.1, (let g : 0 < hands_stood_for l = omega arith in g));
         drew = ok.drew;
-        few = let g : length v.turns ≤ 2 ^ 59 * stands l = omega arith in g;
+        few = let g : length v.turns ≤ 2 ^ 59 * hands_stood_for l = omega arith in g;
       }))
       (λ b. r.each_view j w b.1) (at_set s.views id j l w old))
       (λ new. subst (ViewOk opening hands r.now r.log r.keeper r.owner j) new.1 record {
@@ -170,7 +170,7 @@ module _ {P C E : Type 0} (content : P → C) (touches : E → List ℕ) (moves 
       just_one [] h = absurd (omega arith)
       just_one (x ∷ l) h = refl
 
-  pub merges : (id : ℕ) (v : View C E) (other : ℕ) (w : View C E) → 0 < stands v → 0 < stands w → HoldsNone w → Joins Rule id v other w (both_views v w) spent_view
+  pub merges : (id : ℕ) (v : View C E) (other : ℕ) (w : View C E) → 0 < hands_stood_for v → 0 < hands_stood_for w → HoldsNone w → Joins Rule id v other w (both_views v w) spent_view
   merges id v other w may may' none_held s r at apart at' = let b = both_views v w in let vs : List (View C E) = set s.views id b in let vs' : List (View C E) = set vs other spent_view in let ok = r.each_view id v at in
       let old' : get_elem? s.views other ≡ some w = sym (set_else s.views id other b apart) ∙ at' in let ok' = r.each_view other w old' in let owner' = rehomed r.owner id other (length v.turns) in
       let here : get_elem? vs' id ≡ some b = set_else vs other id spent_view (λ e. apart (sym e)) ∙ set_here s.views id b (in_range s.views id v at) in
@@ -198,7 +198,7 @@ module _ {P C E : Type 0} (content : P → C) (touches : E → List ℕ) (moves 
         )
       ])
       (let a = total-set drawn s.views id v b at in let a' = total-set drawn vs other w spent_view at' in let d : total drawn s.views ≡ length r.log = r.all_drawn in let e : length b.turns ≡ length v.turns + length w.turns = length-append v.turns w.turns in omega arith)
-      (let a = total-set stands s.views id v b at in let a' = total-set stands vs other w spent_view at' in let d = r.all_stand in let e : stands b ≡ stands v + stands w = length-append v.stands_for w.stands_for in omega arith)
+      (let a = total-set hands_stood_for s.views id v b at in let a' = total-set hands_stood_for vs other w spent_view at' in let d = r.all_stand in let e : hands_stood_for b ≡ hands_stood_for v + hands_stood_for w = length-append v.stands_for w.stands_for in omega arith)
       (join_names s.views id other v w hands at old' apart r.apart)
       (λ j k u c e e'. let ne : j ≢ other = λ z. none_held k c (sym (ap (λ (z : View C E). get_elem? z.held k) (some-injective u w (sym e ∙ ap (get_elem? s.views) z ∙ old'))) ∙ e') in let a = stays j u e ne in
       (a.0, a.1, ⊎_elim (λ t. ap (λ (z : View C E). get_elem? z.held k) t.2 ∙ sym (ap (λ (z : View C E). get_elem? z.held k) t.1) ∙ e') (λ t. ap (λ (z : View C E). get_elem? z.held k) t.1 ∙ e') a.2))
@@ -212,11 +212,11 @@ module _ {P C E : Type 0} (content : P → C) (touches : E → List ℕ) (moves 
       (λ t. let ne : j ≢ other = t.0 in ⊎_elim
       (λ z. subst (ViewOk opening hands r.now r.log r.keeper owner' j) z.1 (subst (λ (k : ℕ). ViewOk opening hands r.now r.log r.keeper owner' k b) (sym z.0) record {
         knows = λ m. ok.knows may;
-        holds = λ k c e. let h = ok.holds k c e in (h.0, h.1, (let e : stands b ≡ stands v + stands w = length-append v.stands_for w.stands_for in let g : 0 < stands b = omega arith in g));
+        holds = λ k c e. let h = ok.holds k c e in (h.0, h.1, (let e : hands_stood_for b ≡ hands_stood_for v + hands_stood_for w = length-append v.stands_for w.stands_for in let g : 0 < hands_stood_for b = omega arith in g));
         drew = λ k t' e. ⊎_elim (λ a. let d = ok.drew k t' a in (d.0, rest t'.number (λ z. apart (sym z ∙ ap (λ (z : ℕ × ℕ). z.0) d.1)) ∙ d.1))
             (λ a. let d = ok'.drew a.0 t' a.2 in (d.0, rehomed_here r.owner id other (length v.turns) t'.number a.0 d.1 ∙ ap (λ (m : ℕ). (id, m)) (sym a.1))) (at_either v.turns w.turns k t' e);
-        few = let e : stands b ≡ stands v + stands w = length-append v.stands_for w.stands_for in let a : length v.turns ≤ 2 ^ 59 * stands v = ok.few in let a' : length w.turns ≤ 2 ^ 59 * stands w = ok'.few in let c : length b.turns ≡ length v.turns + length w.turns = length-append v.turns w.turns in
-            let g : length b.turns ≤ 2 ^ 59 * stands b = omega arith in g;
+        few = let e : hands_stood_for b ≡ hands_stood_for v + hands_stood_for w = length-append v.stands_for w.stands_for in let a : length v.turns ≤ 2 ^ 59 * hands_stood_for v = ok.few in let a' : length w.turns ≤ 2 ^ 59 * hands_stood_for w = ok'.few in let c : length b.turns ≡ length v.turns + length w.turns = length-append v.turns w.turns in
+            let g : length b.turns ≤ 2 ^ 59 * hands_stood_for b = omega arith in g;
       }))
       (λ z. let o = r.each_view j u z.1 in record {
         knows = o.knows;

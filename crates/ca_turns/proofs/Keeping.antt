@@ -8,9 +8,9 @@ use Rattle.atomic_table.specs.Seated.{TableId}
 use Rattle.atomic_table.specs.Table.{Me}
 use Rattle.atomic_table.proofs.Lists.{set_here, set_else}
 use Rattle.ca_turns.specs.declared.rule.View.{View}
-use Rattle.ca_turns.specs.Views.{stands, idle, right_view}
-use Rattle.ca_turns.specs.Places.{without}
-use Rattle.ca_turns.specs.Hands.{Held, is_there, there, one_if, IsOut, IsHand, IsSettled, IsWithout, SameBut, IsFresh}
+use Rattle.ca_turns.specs.Views.{hands_stood_for, idle, right_view}
+use Rattle.ca_turns.specs.Places.{without_first_pair}
+use Rattle.ca_turns.specs.Hands.{Held, is_there, there, one_where, IsOut, IsHand, IsPartSettled, IsWithout, SameBut, IsFresh}
 use Rattle.ca_turns.proofs.Lists.{in_range, none_some}
 use Rattle.ca_turns.proofs.Looks.{there_at}
 use Rattle.ca_turns.proofs.Fronts.{at_there, none_out, out_more, out_less}
@@ -51,7 +51,7 @@ arrived {P} parts held held' out out' at res x c free alike o is held_is out_is 
 )
 
 -- A part goes
-pub departed : {P C : Type 0} (parts : List (Option P)) (held : List (Option C)) (out out' : List (ℕ × Option P)) (at : ℕ) (x : P) → get_elem? parts at ≡ some (Some x) → there parts ≡ there held → IsOut (there parts) out → out' ≡ without at out
+pub departed : {P C : Type 0} (parts : List (Option P)) (held : List (Option C)) (out out' : List (ℕ × Option P)) (at : ℕ) (x : P) → get_elem? parts at ≡ some (Some x) → there parts ≡ there held → IsOut (there parts) out → out' ≡ without_first_pair at out
     → (there (set parts at None) ≡ there (set held at None)) × IsOut (there (set parts at None)) out'
 departed {P} parts held out out' at x here alike o out_is = let bs = there parts in (
   went parts held at alike,
@@ -72,14 +72,14 @@ rewritten {me = me} parts i x w e h = let same = same_there parts i x w e in rec
   counted = h.counted;
 }
 
-pub is_new : {P C E : Type 0} (id : TableId) (me : Me (Option P) (View C E)) (n : ℕ) → n ≡ id.slots → me.0.held ≡ replicate n None → me.1 ≡ [] → me.0.turns ≡ [] → 0 < stands me.0 → IsHand id me (replicate n None) 0
+pub is_new : {P C E : Type 0} (id : TableId) (me : Me (Option P) (View C E)) (n : ℕ) → n ≡ id.slots → me.0.held ≡ replicate n None → me.1 ≡ [] → me.0.turns ≡ [] → 0 < hands_stood_for me.0 → IsHand id me (replicate n None) 0
 is_new {P} {C} id me n sized held out none_drawn live = record {
   live = live;
   sized = length-replicate n None ∙ sized;
   alike = both n ∙ sym (ap there held);
   out = subst (IsOut (there (replicate {A = Option P} n None))) (sym out) record {
     emptied = λ k i x e. some-ne-none (i, Some x) (sym e);
-    listed = λ i e. absurd (let b : one_if (get_or (there (replicate {A = Option P} n None)) i false) ≡ one_if true = ap one_if e in let c : one_if (get_or (there (replicate {A = Option P} n None)) i false) ≡ one_if false = ap one_if (blank n i) in omega arith);
+    listed = λ i e. absurd (let b : one_where (get_or (there (replicate {A = Option P} n None)) i false) ≡ one_where true = ap one_where e in let c : one_where (get_or (there (replicate {A = Option P} n None)) i false) ≡ one_where false = ap one_where (blank n i) in omega arith);
     once = tt;
     here = tt;
   };
@@ -96,7 +96,7 @@ is_new {P} {C} id me n sized held out none_drawn live = record {
     blank (suc n) (suc i) = blank n i
 
 some_of : {A : Type 0} (o : Option A) → is_there o ≡ true → (x : A) × (o ≡ Some x)
-some_of None e = absurd (let b : one_if false ≡ one_if true = ap one_if e in omega arith)
+some_of None e = absurd (let b : one_where false ≡ one_where true = ap one_where e in omega arith)
 some_of (Some x) e = (x, refl)
 
 -- nothing is out with a hand that holds nothing
@@ -123,8 +123,8 @@ module _ {P C E : Type 0} {id : TableId} {me : Me (Option P) (View C E)} {count 
   pub free_here : (slots : ℕ) → hand.table.slots ≡ slots → i < slots → IsWithout hand i → get_elem? parts i ≡ some None
   free_here slots same near without = is_free parts i (subst (λ n. i < n) (sym (ok.sized ∙ ap (λ v. v.table.slots) is ∙ same)) near) (subst (λ v. IsWithout v i) (sym is) without)
 
-  pub settled_here : (content : P → C) → IsSettled content hand i → (x : P) × (get_elem? parts i ≡ some (Some x)) × (get_elem? me.0.held i ≡ some (Some (content x)))
-  settled_here content s = subst (λ v. IsSettled content v i) (sym is) s
+  pub settled_here : (content : P → C) → IsPartSettled content hand i → (x : P) × (get_elem? parts i ≡ some (Some x)) × (get_elem? me.0.held i ≡ some (Some (content x)))
+  settled_here content s = subst (λ v. IsPartSettled content v i) (sym is) s
 
   pub near_here : (slots : ℕ) (x : P) → hand.table.slots ≡ slots → get_elem? parts i ≡ some (Some x) → i < slots
   near_here slots x same at = subst (λ n. i < n) (ok.sized ∙ ap (λ v. v.table.slots) is ∙ same) (in_range parts i (Some x) at)

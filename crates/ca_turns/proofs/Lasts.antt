@@ -8,7 +8,7 @@ use Rattle.atomic_table.specs.Table.{State}
 use Rattle.ca_turns.specs.declared.rule.Turn.{Turn}
 use Rattle.ca_turns.specs.declared.rule.View.{View}
 use Rattle.ca_turns.specs.History.{Run}
-use Rattle.ca_turns.specs.OneHistory.{IsAt, IsDrawn, LastLeft}
+use Rattle.ca_turns.specs.OneHistory.{IsTurnAt, IsDrawn, LastLeft}
 use Rattle.ca_turns.proofs.Lists.{in_range}
 use Rattle.ca_turns.proofs.Runs.{last_in, up_to, in_take, below, read_one, read_some, long_reads, long_run}
 use Rattle.ca_turns.proofs.Ruled.{Ruled}
@@ -41,7 +41,7 @@ module _ {P C E : Type 0} (content : P → C) (touches : E → List ℕ) (moves 
   inside t d m p e = let u = up_to touches moves opening r.log r.now t.number t r.runs (drawn_is t d) in let at = read_some u.0 (touches t.event) t.before u.2.0 m p e in
       subst (λ n. p < n) (long_run touches moves opening (take t.number r.log) u.0 u.1) (in_range u.0 p at.0 at.1)
 
-  pub one_place : (i a j b : ℕ) (t u : Turn C E) → IsAt s.views i a t → IsAt s.views j b u → t.number ≡ u.number → (i ≡ j) × (a ≡ b)
+  pub one_place : (i a j b : ℕ) (t u : Turn C E) → IsTurnAt s.views i a t → IsTurnAt s.views j b u → t.number ≡ u.number → (i ≡ j) × (a ≡ b)
   one_place i a j b t u x y e = let o = ((r.each_view i x.0 x.1).drew a t x.2).1 in let o' = ((r.each_view j y.0 y.1).drew b u y.2).1 in let p : Path (ℕ × ℕ) (i, a) (j, b) = sym o ∙ ap r.owner e ∙ o' in (ap (λ (z : ℕ × ℕ). z.0) p, ap (λ (z : ℕ × ℕ). z.1) p)
 
   pub at_number : (n : ℕ) → n < length r.log → (t : Turn C E) × IsDrawn s.views t × (t.number ≡ n)

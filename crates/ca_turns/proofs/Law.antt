@@ -6,14 +6,14 @@ use native.Mathlib.Decide.{dec_le}
 use lib.ListN.{get_elem?}
 use Rattle.ca_turns.specs.declared.rule.Turn.{Turn}
 use Rattle.ca_turns.specs.Places.{write, IsDistinct}
-use Rattle.ca_turns.specs.History.{Leaves, Untouched, Run}
+use Rattle.ca_turns.specs.History.{LeavesPart, Untouched, Run}
 use Rattle.ca_turns.proofs.Lists.{in_range, there_is, at_snoc}
 use Rattle.ca_turns.proofs.Runs.{one_index, one_more, length-write, last_in, reads_by}
 
 module _ {C E : Type 0} (touches : E → List ℕ) (moves : E → List C → List C → Type 0) (opening : List C) (D : Turn C E → Type 0) where
   -- what the turn of the greatest number below n that touches the part left, or the first content
   abbrev pub Last : ℕ → ℕ → C → Type 0
-  Last n p c = ((t : Turn C E) × D t × (t.number < n) × Leaves touches t p c × ((u : Turn C E) → D u → t.number < u.number → u.number < n → Untouched touches u p))
+  Last n p c = ((t : Turn C E) × D t × (t.number < n) × LeavesPart touches t p c × ((u : Turn C E) → D u → t.number < u.number → u.number < n → Untouched touches u p))
       ⊎ (((u : Turn C E) → D u → u.number < n → Untouched touches u p) × (get_elem? opening p ≡ some c))
 
   abbrev pub History : ℕ → Type 0
@@ -26,11 +26,11 @@ module _ {C E : Type 0} (touches : E → List ℕ) (moves : E → List C → Lis
         (λ x. ⊎_elim (λ y. same x y) (λ y. absurd (y.0 x.0 x.1 x.2 x.3.0 x.3.1)) b)
         (λ x. ⊎_elim (λ y. absurd (x.0 y.0 y.1 y.2 y.3.0 y.3.1)) (λ y. some-injective c d (sym x.1 ∙ y.1)) b) a
       where
-        leaves : (t u : Turn C E) → Path (Turn C E) t u → Leaves touches t p c → Leaves touches u p d → c ≡ d
-        leaves t u e x y = let y' = subst (λ (z : Turn C E). Leaves touches z p d) (sym e) y in let m = one_index (touches t.event) (apart t.event) x.0 y'.0 p x.1 y'.1 in some-injective c d (sym x.2 ∙ ap (get_elem? t.after) m ∙ y'.2)
+        leaves : (t u : Turn C E) → Path (Turn C E) t u → LeavesPart touches t p c → LeavesPart touches u p d → c ≡ d
+        leaves t u e x y = let y' = subst (λ (z : Turn C E). LeavesPart touches z p d) (sym e) y in let m = one_index (touches t.event) (apart t.event) x.0 y'.0 p x.1 y'.1 in some-injective c d (sym x.2 ∙ ap (get_elem? t.after) m ∙ y'.2)
 
-        same : ((t : Turn C E) × D t × (t.number < n) × Leaves touches t p c × ((u : Turn C E) → D u → t.number < u.number → u.number < n → Untouched touches u p))
-            → ((t : Turn C E) × D t × (t.number < n) × Leaves touches t p d × ((u : Turn C E) → D u → t.number < u.number → u.number < n → Untouched touches u p)) → c ≡ d
+        same : ((t : Turn C E) × D t × (t.number < n) × LeavesPart touches t p c × ((u : Turn C E) → D u → t.number < u.number → u.number < n → Untouched touches u p))
+            → ((t : Turn C E) × D t × (t.number < n) × LeavesPart touches t p d × ((u : Turn C E) → D u → t.number < u.number → u.number < n → Untouched touches u p)) → c ≡ d
         same x y = elim (dec_le x.0.number y.0.number) [
           | yes le ↦ elim (dec_le y.0.number x.0.number) [
             | yes ge ↦ leaves x.0 y.0 (one x.0 y.0 x.1 y.1 (let a : x.0.number ≤ y.0.number = le in let b : y.0.number ≤ x.0.number = ge in omega arith)) x.3 y.3

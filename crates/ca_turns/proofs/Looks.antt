@@ -5,19 +5,19 @@ use lib.ListN.{get_elem?}
 use lib.Seq.{map-set}
 use Rattle.std.specs.Prelude.{Option, Some, None}
 use Rattle.atomic_table.proofs.Lists.{set_here}
-use Rattle.ca_turns.specs.Places.{Reads, write, AllIn, IsDistinct}
-use Rattle.ca_turns.specs.Hands.{is_there, there, one_if, look, look_one, AllThere, IsNone}
+use Rattle.ca_turns.specs.Places.{ReadsPlaces, write, AllIn, IsDistinct}
+use Rattle.ca_turns.specs.Hands.{is_there, there, one_where, look, look_one, AllThere, IsNone}
 use Rattle.ca_turns.proofs.Lists.{in_range, read_at}
 use Rattle.ca_turns.proofs.Runs.{write_else}
 
-pub all_read : {A : Type 0} (h : List (Option A)) (is : List ℕ) → AllThere h is → Reads h is (map Some (look h is))
+pub all_read : {A : Type 0} (h : List (Option A)) (is : List ℕ) → AllThere h is → ReadsPlaces h is (map Some (look h is))
 all_read h [] a = tt
 all_read h (i ∷ is) a = let at = at_there h i a.0 in let e : get_or h i None ≡ Some at.0 = reads h i at.0 at.1 in
-    subst (λ (o : Option _). Reads h (i ∷ is) (map Some (look_one o (look h is)))) (sym e) (at.1, all_read h is a.1)
+    subst (λ (o : Option _). ReadsPlaces h (i ∷ is) (map Some (look_one o (look h is)))) (sym e) (at.1, all_read h is a.1)
   where
     at_there : {A : Type 0} (h : List (Option A)) (i : ℕ) → get_or (there h) i false ≡ true → (x : A) × (get_elem? h i ≡ some (Some x))
-    at_there [] i e = absurd (let b : one_if false ≡ one_if true = ap one_if e in omega arith)
-    at_there (None ∷ h) zero e = absurd (let b : one_if false ≡ one_if true = ap one_if e in omega arith)
+    at_there [] i e = absurd (let b : one_where false ≡ one_where true = ap one_where e in omega arith)
+    at_there (None ∷ h) zero e = absurd (let b : one_where false ≡ one_where true = ap one_where e in omega arith)
     at_there (Some x ∷ h) zero e = (x, refl)
     at_there (y ∷ h) (suc i) e = at_there h i e
 
@@ -29,7 +29,7 @@ all_read h (i ∷ is) a = let at = at_there h i a.0 in let e : get_or h i None �
 pub long_look : {A : Type 0} (h : List (Option A)) (is : List ℕ) → AllThere h is → length (look h is) ≡ length is
 long_look h is a = long h is (look h is) (all_read h is a)
   where
-    long : {A : Type 0} (h : List (Option A)) (is : List ℕ) (cs : List A) → Reads h is (map Some cs) → length cs ≡ length is
+    long : {A : Type 0} (h : List (Option A)) (is : List ℕ) (cs : List A) → ReadsPlaces h is (map Some cs) → length cs ≡ length is
     long h [] [] r = refl
     long h [] (c ∷ cs) r = absurd r
     long h (i ∷ is) [] r = absurd r
@@ -59,8 +59,8 @@ all_there h [] a = tt
 all_there h (i ∷ is) a = (read_at (there h) i true false (there_at h i (Some a.0.0) a.0.1), all_there h is a.1)
 
 at_there : {A : Type 0} (h : List (Option A)) (i : ℕ) → get_or (there h) i false ≡ true → (x : A) × (get_elem? h i ≡ some (Some x))
-at_there [] i e = absurd (let b : one_if false ≡ one_if true = ap one_if e in omega arith)
-at_there (None ∷ h) zero e = absurd (let b : one_if false ≡ one_if true = ap one_if e in omega arith)
+at_there [] i e = absurd (let b : one_where false ≡ one_where true = ap one_where e in omega arith)
+at_there (None ∷ h) zero e = absurd (let b : one_where false ≡ one_where true = ap one_where e in omega arith)
 at_there (Some x ∷ h) zero e = (x, refl)
 at_there (y ∷ h) (suc i) e = at_there h i e
 

@@ -6,8 +6,8 @@ use lib.ListN.{get_elem?}
 use Rattle.std.specs.Prelude.{Option, Some}
 use Rattle.atomic_table.proofs.Lists.{at_set, set_here, set_else}
 use Rattle.ca_turns.specs.declared.rule.Turn.{Turn}
-use Rattle.ca_turns.specs.Places.{write, Reads, AllIn, IsDistinct}
-use Rattle.ca_turns.specs.History.{Untouched, Replay, Goes, Run}
+use Rattle.ca_turns.specs.Places.{write, ReadsPlaces, AllIn, IsDistinct}
+use Rattle.ca_turns.specs.History.{Untouched, Replay, TurnGoes, Run}
 use Rattle.ca_turns.proofs.Lists.{in_range, both_some}
 
 pub all_in : (K L : ℕ → Type 0) → ((i : ℕ) → K i → L i) → (is : List ℕ) → AllIn K is → AllIn L is
@@ -38,13 +38,13 @@ module _ {A : Type 0} where
   write_else l (i ∷ is) [] j a = refl
   write_else l (i ∷ is) (c ∷ cs) j a = write_else (set l i c) is cs j a.1 ∙ set_else l i j c a.0
 
-  pub reads_now : (h : List (Option A)) (now : List A) → ((i : ℕ) (c : A) → get_elem? h i ≡ some (Some c) → get_elem? now i ≡ some c) → (is : List ℕ) (cs : List A) → Reads h is (map Some cs) → Reads now is cs
+  pub reads_now : (h : List (Option A)) (now : List A) → ((i : ℕ) (c : A) → get_elem? h i ≡ some (Some c) → get_elem? now i ≡ some c) → (is : List ℕ) (cs : List A) → ReadsPlaces h is (map Some cs) → ReadsPlaces now is cs
   reads_now h now tie [] [] r = tt
   reads_now h now tie [] (c ∷ cs) r = r
   reads_now h now tie (i ∷ is) [] r = r
   reads_now h now tie (i ∷ is) (c ∷ cs) r = (tie i c r.0, reads_now h now tie is cs r.1)
 
-  pub reads_all : (K : ℕ → Type 0) (h : List (Option A)) → ((i : ℕ) (c : A) → get_elem? h i ≡ some (Some c) → K i) → (is : List ℕ) (cs : List A) → Reads h is (map Some cs) → AllIn K is
+  pub reads_all : (K : ℕ → Type 0) (h : List (Option A)) → ((i : ℕ) (c : A) → get_elem? h i ≡ some (Some c) → K i) → (is : List ℕ) (cs : List A) → ReadsPlaces h is (map Some cs) → AllIn K is
   reads_all K h tie [] [] r = tt
   reads_all K h tie [] (c ∷ cs) r = tt
   reads_all K h tie (i ∷ is) [] r = absurd r
@@ -74,8 +74,8 @@ module _ {A : Type 0} where
   ]
 
 module _ {C E : Type 0} (touches : E → List ℕ) (moves : E → List C → List C → Type 0) where
-  pub one_more : (s : List C) (ts : List (Turn C E)) (t : Turn C E) (z : List C) → Run touches moves s ts z → Goes touches moves z t → Run touches moves s (ts ++ t ∷ []) (write z (touches t.event) t.after)
-  one_more s [] t z is go = (subst (λ (x : List C). Goes touches moves x t) (sym is) go, ap (λ (x : List C). write x (touches t.event) t.after) is)
+  pub one_more : (s : List C) (ts : List (Turn C E)) (t : Turn C E) (z : List C) → Run touches moves s ts z → TurnGoes touches moves z t → Run touches moves s (ts ++ t ∷ []) (write z (touches t.event) t.after)
+  one_more s [] t z is go = (subst (λ (x : List C). TurnGoes touches moves x t) (sym is) go, ap (λ (x : List C). write x (touches t.event) t.after) is)
   one_more s (u ∷ us) t z runs go = (runs.0, one_more (write s (touches u.event) u.after) us t z runs.1 go)
 
 written_from : {A : Type 0} (s : List A) (is : List ℕ) (cs : List A) → length cs ≡ length is → (p : ℕ) (c : A) → get_elem? (write s is cs) p ≡ some c
@@ -110,9 +110,9 @@ module _ {C E : Type 0} (touches : E → List ℕ) (moves : E → List C → Lis
       all h w (suc k) u x = h k u x
 
   -- the turns up to one of them
-  pub up_to : (s : List C) (ts : List (Turn C E)) (z : List C) (n : ℕ) (t : Turn C E) → Run touches moves s ts z → get_elem? ts n ≡ some t → (y : List C) × Run touches moves s (take n ts) y × Goes touches moves y t
+  pub up_to : (s : List C) (ts : List (Turn C E)) (z : List C) (n : ℕ) (t : Turn C E) → Run touches moves s ts z → get_elem? ts n ≡ some t → (y : List C) × Run touches moves s (take n ts) y × TurnGoes touches moves y t
   up_to s [] z n t r e = absurd (some-ne-none t (sym e))
-  up_to s (u ∷ ts) z zero t r e = (s, refl, subst (Goes touches moves s) (some-injective u t e) r.0)
+  up_to s (u ∷ ts) z zero t r e = (s, refl, subst (TurnGoes touches moves s) (some-injective u t e) r.0)
   up_to s (u ∷ ts) z (suc n) t r e = let h = up_to (write s (touches u.event) u.after) ts z n t r.1 e in (h.0, (r.0, h.1), h.2)
 
 pub in_take : {A : Type 0} (l : List A) (n k : ℕ) → k < n → get_elem? (take n l) k ≡ get_elem? l k
@@ -127,27 +127,27 @@ below [] (suc n) k a e = absurd (some-ne-none a (sym e))
 below (x ∷ l) (suc n) zero a e = omega arith
 below (x ∷ l) (suc n) (suc k) a e = let h = below l n k a e in omega arith
 
-pub read_one : {A : Type 0} (s : List A) (is : List ℕ) (cs : List A) → Reads s is cs → (m p : ℕ) (c : A) → get_elem? is m ≡ some p → get_elem? cs m ≡ some c → get_elem? s p ≡ some c
+pub read_one : {A : Type 0} (s : List A) (is : List ℕ) (cs : List A) → ReadsPlaces s is cs → (m p : ℕ) (c : A) → get_elem? is m ≡ some p → get_elem? cs m ≡ some c → get_elem? s p ≡ some c
 read_one s [] cs r m p c e f = absurd (some-ne-none p (sym e))
 read_one s (i ∷ is) [] r m p c e f = absurd r
 read_one s (i ∷ is) (d ∷ ds) r zero p c e f = ap (get_elem? s) (sym (some-injective i p e)) ∙ r.0 ∙ f
 read_one s (i ∷ is) (d ∷ ds) r (suc m) p c e f = read_one s is ds r.1 m p c e f
 
--- what is true of each place is what `Reads` says
-pub reads_by : {A : Type 0} (s : List A) (is : List ℕ) (cs : List A) → length cs ≡ length is → ((m p : ℕ) (c : A) → get_elem? is m ≡ some p → get_elem? cs m ≡ some c → get_elem? s p ≡ some c) → Reads s is cs
+-- what is true of each place is what `ReadsPlaces` says
+pub reads_by : {A : Type 0} (s : List A) (is : List ℕ) (cs : List A) → length cs ≡ length is → ((m p : ℕ) (c : A) → get_elem? is m ≡ some p → get_elem? cs m ≡ some c → get_elem? s p ≡ some c) → ReadsPlaces s is cs
 reads_by s [] [] e h = tt
 reads_by s [] (c ∷ cs) e h = absurd (omega arith)
 reads_by s (i ∷ is) [] e h = absurd (omega arith)
 reads_by s (i ∷ is) (c ∷ cs) e h = (h 0 i c refl refl, reads_by s is cs (omega arith) (λ m p d x y. h (suc m) p d x y))
 
 -- each place that is read has something
-pub read_some : {A : Type 0} (s : List A) (is : List ℕ) (cs : List A) → Reads s is cs → (m p : ℕ) → get_elem? is m ≡ some p → (c : A) × (get_elem? s p ≡ some c)
+pub read_some : {A : Type 0} (s : List A) (is : List ℕ) (cs : List A) → ReadsPlaces s is cs → (m p : ℕ) → get_elem? is m ≡ some p → (c : A) × (get_elem? s p ≡ some c)
 read_some s [] cs r m p e = absurd (some-ne-none p (sym e))
 read_some s (i ∷ is) [] r m p e = absurd r
 read_some s (i ∷ is) (d ∷ ds) r zero p e = (d, ap (get_elem? s) (sym (some-injective i p e)) ∙ r.0)
 read_some s (i ∷ is) (d ∷ ds) r (suc m) p e = read_some s is ds r.1 m p e
 
-pub long_reads : {A : Type 0} (s : List A) (is : List ℕ) (cs : List A) → Reads s is cs → length cs ≡ length is
+pub long_reads : {A : Type 0} (s : List A) (is : List ℕ) (cs : List A) → ReadsPlaces s is cs → length cs ≡ length is
 long_reads s [] [] r = refl
 long_reads s [] (c ∷ cs) r = absurd r
 long_reads s (i ∷ is) [] r = absurd r

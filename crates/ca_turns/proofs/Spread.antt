@@ -8,9 +8,9 @@ use Rattle.std.specs.Prelude.{Option, ◌-◌}
 use Rattle.atomic_table.proofs.Lists.{at_map}
 use Rattle.crossbeam_utils.specs.Padded.{padded_value}
 use Rattle.atomic_table.specs.Table.{State, Me, Act, keeps, takes, gives, chain, rest, turned, carried_after, homes_after, Valid, Allows, Splits, Joins, opening, Final, Seen}
-use Rattle.ca_turns.specs.Lines.{line_of, words_of, Padded, bare_homes, bare_out, bare, bare_table, InLines}
+use Rattle.ca_turns.specs.Lines.{line_address, words_of, Padded, bare_homes, bare_out, bare, bare_table, InLines}
 
-pub eighth : (k : ℕ) → line_of k / 8 ≡ k
+pub eighth : (k : ℕ) → line_address k / 8 ≡ k
 eighth k = omega arith
 
 dropped : (m : ℕ) (ws : List ℕ) (i : ℕ) → get_or (drop m ws) i 0 ≡ get_or ws (m + i) 0
@@ -19,18 +19,18 @@ dropped (suc m) [] i = refl
 dropped (suc m) (w ∷ ws) i = dropped m ws i ∙ ap (λ j. get_or (w ∷ ws) j 0) (let e : suc (m + i) ≡ suc m + i = omega arith in e)
 
 -- the k-th of the first n words
-pub word_at : (n k : ℕ) (ws : List ℕ) → k < n → get_or (words_of n ws) k 0 ≡ get_or ws (line_of k) 0
+pub word_at : (n k : ℕ) (ws : List ℕ) → k < n → get_or (words_of n ws) k 0 ≡ get_or ws (line_address k) 0
 word_at zero k ws h = absurd (omega arith)
 word_at (suc n) zero ws h = refl
-word_at (suc n) (suc k) ws h = word_at n k (drop 8 ws) (omega arith) ∙ dropped 8 ws (line_of k) ∙ ap (λ i. get_or ws i 0) (let e : 8 + line_of k ≡ line_of (suc k) = omega arith in e)
+word_at (suc n) (suc k) ws h = word_at n k (drop 8 ws) (omega arith) ∙ dropped 8 ws (line_address k) ∙ ap (λ i. get_or ws i 0) (let e : 8 + line_address k ≡ line_address (suc k) = omega arith in e)
 
 -- a write to the k-th of them
-pub words_set : (n k x : ℕ) (ws : List ℕ) → line_of k < length ws → words_of n (set ws (line_of k) x) ≡ set (words_of n ws) k x
+pub words_set : (n k x : ℕ) (ws : List ℕ) → line_address k < length ws → words_of n (set ws (line_address k) x) ≡ set (words_of n ws) k x
 words_set zero k x ws h = refl
 words_set (suc n) zero x [] h = absurd (omega arith)
 words_set (suc n) zero x (w ∷ ws) h = refl
-words_set (suc n) (suc k) x ws h = ap₂ (λ y ys. y ∷ ys) (get_or-set_other ws (line_of (suc k)) 0 x 0 (λ e. omega arith)) (
-    ap (λ i. words_of n (drop 8 (set ws i x))) (let e : line_of (suc k) ≡ 8 + line_of k = omega arith in e) ∙ ap (words_of n) (drop_set 8 (line_of k) ws)
+words_set (suc n) (suc k) x ws h = ap₂ (λ y ys. y ∷ ys) (get_or-set_other ws (line_address (suc k)) 0 x 0 (λ e. omega arith)) (
+    ap (λ i. words_of n (drop 8 (set ws i x))) (let e : line_address (suc k) ≡ 8 + line_address k = omega arith in e) ∙ ap (words_of n) (drop_set 8 (line_address k) ws)
     ∙ words_set n k x (drop 8 ws) (let l : length (drop 8 ws) ≡ length ws - 8 = length-drop 8 ws in omega arith))
   where
     drop_set : (m i : ℕ) (ws : List ℕ) → drop m (set ws (m + i) x) ≡ set (drop m ws) i x
@@ -103,17 +103,17 @@ module _ {P : Type 0} where
       go (y ∷ ys) = ap (λ z. (y.0, padded_value y.1) ∷ z) (go ys)
 
   module _ {V : Type 0} (rule : State (Option P) V → Type 0) where
-    pub spread : (n id k : ℕ) (me : Me (Padded P) V) (f : ℕ → ℕ) (then : ℕ → Me (Option P) V → Type 0) → k ≤ n → Allows rule n id (bare me) k f then → Allows (InLines rule) n id me (line_of k) f (λ r m. then r (bare m))
+    pub spread : (n id k : ℕ) (me : Me (Padded P) V) (f : ℕ → ℕ) (then : ℕ → Me (Option P) V → Type 0) → k ≤ n → Allows rule n id (bare me) k f then → Allows (InLines rule) n id me (line_address k) f (λ r m. then r (bare m))
     spread n id k me f then near go s r wide at small =
-        let hs = s.homes in let long : length hs ≡ n = wide in let is : get_or (words_of (length hs + 1) s.words) k 0 ≡ get_or s.words (line_of k) 0 = word_at (length hs + 1) k s.words (omega arith) in
+        let hs = s.homes in let long : length hs ≡ n = wide in let is : get_or (words_of (length hs + 1) s.words) k 0 ≡ get_or s.words (line_address k) 0 = word_at (length hs + 1) k s.words (omega arith) in
         let x = go (bare_table s) r.ruled (length-map hs (maybe.map padded_value) ∙ wide) at (subst (λ (w : ℕ). w < 18446744073709551616) (sym is) small) in let y = lift hs me.1 x.1 x.2 in
-        let v : ℕ = f (get_or s.words (line_of k) 0) in let same = length-homes_after hs me.1 y.0 in let room : line_of k < length s.words = (let w : length s.words ≡ line_of (length hs + 1) = r.wide in omega arith) in (
+        let v : ℕ = f (get_or s.words (line_address k) 0) in let same = length-homes_after hs me.1 y.0 in let room : line_address k < length s.words = (let w : length s.words ≡ line_address (length hs + 1) = r.wide in omega arith) in (
           x.0,
           y.0,
           y.1,
           record {
-            wide = length-set s.words (line_of k) v ∙ r.wide ∙ ap (λ m. line_of (m + 1)) (sym same);
-            ruled = let words = sym (ap (λ m. words_of (m + 1) (set s.words (line_of k) v)) same ∙ words_set (length hs + 1) k v s.words room ∙ ap (λ w. set (words_of (length hs + 1) s.words) k (f w)) (sym is)) in
+            wide = length-set s.words (line_address k) v ∙ r.wide ∙ ap (λ m. line_address (m + 1)) (sym same);
+            ruled = let words = sym (ap (λ m. words_of (m + 1) (set s.words (line_address k) v)) same ∙ words_set (length hs + 1) k v s.words room ∙ ap (λ w. set (words_of (length hs + 1) s.words) k (f w)) (sym is)) in
                 subst (λ (z : List ℕ × List (maybe.Option (Option P))). rule record { words = z.0; homes = z.1; views = set s.views id x.0 }) (λ i. (words i, sym y.2 i)) x.3;
           },
           subst (λ (z : ℕ × List (ℕ × Option P)). then z.0 (x.0, z.1)) (λ i. (is i, sym y.3 i)) x.4,
@@ -125,10 +125,10 @@ module _ {P : Type 0} where
     pub spread_join : (id : ℕ) (v : V) (other : ℕ) (w both spent : V) → Joins rule id v other w both spent → Joins (InLines {P = P} rule) id v other w both spent
     spread_join id v other w both spent go s r at apart at' = record { wide = r.wide; ruled = go (bare_table s) r.ruled at apart at' }
 
-    pub spread_open : (ws : List ℕ) (xs : List (Padded P)) (ys : List (Option P)) (v : V) → ws ≡ replicate (line_of (length xs + 1)) 0 → map padded_value xs ≡ ys → rule (opening (replicate (length ys + 1) 0) ys v) → InLines rule (opening ws xs v)
+    pub spread_open : (ws : List ℕ) (xs : List (Padded P)) (ys : List (Option P)) (v : V) → ws ≡ replicate (line_address (length xs + 1)) 0 → map padded_value xs ≡ ys → rule (opening (replicate (length ys + 1) 0) ys v) → InLines rule (opening ws xs v)
     spread_open ws xs ys v zeros are go = let hs = map some xs in let long : length hs ≡ length xs = length-map xs some in let as_many : length ys ≡ length xs = sym (ap length are) ∙ length-map xs padded_value in record {
-      wide = ap length zeros ∙ length-replicate (line_of (length xs + 1)) 0 ∙ ap (λ m. line_of (m + 1)) (sym long);
-      ruled = let words = sym (words_zero (length hs + 1) ws (λ i. ap (λ l. get_or l i 0) zeros ∙ zero_at (line_of (length xs + 1)) i) ∙ ap (λ m. replicate {A = ℕ} (m + 1) 0) (long ∙ sym as_many)) in
+      wide = ap length zeros ∙ length-replicate (line_address (length xs + 1)) 0 ∙ ap (λ m. line_address (m + 1)) (sym long);
+      ruled = let words = sym (words_zero (length hs + 1) ws (λ i. ap (λ l. get_or l i 0) zeros ∙ zero_at (line_address (length xs + 1)) i) ∙ ap (λ m. replicate {A = ℕ} (m + 1) 0) (long ∙ sym as_many)) in
           subst (λ (z : List ℕ × List (maybe.Option (Option P))). rule record { words = z.0; homes = z.1; views = v ∷ [] }) (λ i. (words i, sym (all_home xs ∙ ap (map some) are) i)) go;
     }
       where

@@ -7,8 +7,8 @@ pub use Rattle.atomic_table.specs.Seated.{TableId}
 use Rattle.atomic_table.specs.Table.{Me}
 use Rattle.ca_turns.specs.declared.rule.View.{View}
 use Rattle.ca_turns.specs.Places.{AllIn, IsDistinct}
-use Rattle.ca_turns.specs.Lines.{line_of}
-use Rattle.ca_turns.specs.Views.{stands}
+use Rattle.ca_turns.specs.Lines.{line_address}
+use Rattle.ca_turns.specs.Views.{hands_stood_for}
 
 -- A table: which one it is, with its number of parts, `id.slots`, and where the vector of parts lies that it was opened with
 pub record Opened : Type 0 where
@@ -17,7 +17,7 @@ pub record Opened : Type 0 where
 
 -- a table of 1 to 256 parts, with a word for the events and one for each part, each on a line of its own
 abbrev pub IsTableId : TableId → Type 0
-IsTableId id = (id.words ≡ line_of (id.slots + 1)) × (id.slots ≤ 256)
+IsTableId id = (id.words ≡ line_address (id.slots + 1)) × (id.slots ≤ 256)
 
 -- A hand: which table it is of, what it knows, and the parts that it holds, as they are now, each at its number
 pub record Held (P C E : Type 0) : Type 0 where
@@ -36,8 +36,8 @@ module _ {P C E : Type 0} where
   HoldsNothing h = (i : ℕ) (x : P) → get_elem? h.parts i ≢ some (Some x)
 
   -- the hand holds the part, whose content is as last settled
-  abbrev pub IsSettled : (P → C) → Held P C E → ℕ → Type 0
-  IsSettled content h i = (x : P) × (get_elem? h.parts i ≡ some (Some x)) × (get_elem? h.view.held i ≡ some (Some (content x)))
+  abbrev pub IsPartSettled : (P → C) → Held P C E → ℕ → Type 0
+  IsPartSettled content h i = (x : P) × (get_elem? h.parts i ≡ some (Some x)) × (get_elem? h.view.held i ≡ some (Some (content x)))
 
   -- what is held at each place but i, and its settled content, are the same
   abbrev pub SameBut : ℕ → Held P C E → Held P C E → Type 0
@@ -51,7 +51,7 @@ module _ {P C E : Type 0} where
     pub opened_for : h.view.hands ≡ hands
     pub held : h.view.held ≡ replicate (length contents) None
     pub turns : h.view.turns ≡ []
-    pub stands_for_one : stands h.view ≡ 1
+    pub stands_for_one : hands_stood_for h.view ≡ 1
 
 -- what lies at these places, of those where something does
 abbrev pub look_one : {A : Type 0} → Option A → List A → List A
@@ -81,13 +81,13 @@ IsNone is i = (m : ℕ) → get_elem? is m ≢ some i
 abbrev pub places : {A : Type 0} → List (ℕ × A) → List ℕ
 places xs = map (λ x. x.0) xs
 
-abbrev pub one_if : Bool → ℕ
-one_if true = 1
-one_if false = 0
+abbrev pub one_where : Bool → ℕ
+one_where true = 1
+one_where false = 0
 
 abbrev pub times : ℕ → List ℕ → ℕ
 times i [] = 0
-times i (j ∷ js) = one_if (nat_eq i j) + times i js
+times i (j ∷ js) = one_where (nat_eq i j) + times i js
 
 -- nothing lies in the slots that are out
 abbrev pub Emptied : {A : Type 0} → List (ℕ × Option A) → Type 0
@@ -105,7 +105,7 @@ pub record IsOut {A : Type 0} (bs : List Bool) (out : List (ℕ × Option A)) : 
   pub here : AllIn (λ i. slice_index_or bs i false ≡ true) (places out)
 
 pub record IsHand {P C E : Type 0} (id : TableId) (me : Me (Option P) (View C E)) (parts : List (Option P)) (count : ℕ) : Type 0 where
-  pub live : 0 < stands me.0
+  pub live : 0 < hands_stood_for me.0
   pub sized : length parts ≡ id.slots
   pub alike : there parts ≡ there me.0.held
   pub out : IsOut (there parts) me.1

@@ -6,8 +6,8 @@ use Rattle.crossbeam_utils.specs.Padded.{padded_value}
 use Rattle.atomic_table.specs.Table.{State, Me, Step}
 
 -- where in memory the word k of the rule stands: eight words of 8 bytes are a line of 64
-abbrev pub line_of : ℕ → ℕ
-line_of k = 8 * k
+abbrev pub line_address : ℕ → ℕ
+line_address k = 8 * k
 
 -- the first n words that stand so
 abbrev pub words_of : ℕ → List ℕ → List ℕ
@@ -40,7 +40,7 @@ module _ {P V : Type 0} where
 
   -- the rule holds of the table without what lies between
   pub record InLines (rule : State (Option P) V → Type 0) (s : State (Padded P) V) : Type 0 where
-    pub wide : length s.words ≡ line_of (length s.homes + 1)
+    pub wide : length s.words ≡ line_address (length s.homes + 1)
     pub ruled : rule (bare_table s)
 
   -- what a step tells, of the rule's table

@@ -11,11 +11,11 @@ module _ {A : Type 0} where
   write s (i ∷ is) (c ∷ cs) = write (slice_set s i c) is cs
 
   -- the values at these places are these
-  abbrev pub Reads : List A → List ℕ → List A → Type 0
-  Reads s [] [] = Unit {0}
-  Reads s [] (c ∷ cs) = ⊥
-  Reads s (i ∷ is) [] = ⊥
-  Reads s (i ∷ is) (c ∷ cs) = (get_elem? s i ≡ some c) × Reads s is cs
+  abbrev pub ReadsPlaces : List A → List ℕ → List A → Type 0
+  ReadsPlaces s [] [] = Unit {0}
+  ReadsPlaces s [] (c ∷ cs) = ⊥
+  ReadsPlaces s (i ∷ is) [] = ⊥
+  ReadsPlaces s (i ∷ is) (c ∷ cs) = (get_elem? s i ≡ some c) × ReadsPlaces s is cs
 
   -- what f counts, of all of them together
   abbrev pub total : (A → ℕ) → List A → ℕ
@@ -23,9 +23,9 @@ module _ {A : Type 0} where
   total f (v ∷ vs) = f v + total f vs
 
 -- the list without the first pair that has this number
-abbrev pub without : {A : Type 0} → ℕ → List (ℕ × A) → List (ℕ × A)
-without i [] = []
-without i (x ∷ xs) = if nat_eq x.0 i then xs else x ∷ without i xs
+abbrev pub without_first_pair : {A : Type 0} → ℕ → List (ℕ × A) → List (ℕ × A)
+without_first_pair i [] = []
+without_first_pair i (x ∷ xs) = if nat_eq x.0 i then xs else x ∷ without_first_pair i xs
 
 -- each of these places is such
 abbrev pub AllIn : (ℕ → Type 0) → List ℕ → Type 0

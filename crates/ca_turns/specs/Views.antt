@@ -12,16 +12,16 @@ hand_numbers zero = []
 hand_numbers (suc n) = n ∷ hand_numbers n
 
 module _ {C E : Type 0} where
-  abbrev pub turn : ℕ → E → List C → List C → Turn C E
-  turn n e b a = record { number = n; event = e; before = b; after = a }
+  abbrev pub new_turn : ℕ → E → List C → List C → Turn C E
+  new_turn n e b a = record { number = n; event = e; before = b; after = a }
 
   -- how many events the hand drew
   abbrev pub drawn : View C E → ℕ
   drawn v = length v.turns
 
   -- for how many of the hands that the table was opened for it stands
-  abbrev pub stands : View C E → ℕ
-  stands v = length v.stands_for
+  abbrev pub hands_stood_for : View C E → ℕ
+  hands_stood_for v = length v.stands_for
 
   abbrev pub HoldsNone : View C E → Type 0
   HoldsNone v = (i : ℕ) (c : C) → get_elem? v.held i ≢ some (Some c)
@@ -43,8 +43,8 @@ module _ {C E : Type 0} where
   having_missed v is = record { opening = v.opening; hands = v.hands; held = v.held; turns = v.turns; stands_for = v.stands_for; missed = is }
 
   -- it found the part i held
-  abbrev pub missing : View C E → ℕ → View C E
-  missing v i = having_missed v (i ∷ v.missed)
+  abbrev pub missing_part : View C E → ℕ → View C E
+  missing_part v i = having_missed v (i ∷ v.missed)
 
   -- it drew the turn t, which touches these parts
   abbrev pub drawing : View C E → List ℕ → Turn C E → View C E

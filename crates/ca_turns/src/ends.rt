@@ -4,8 +4,8 @@ ghost use Rattle.std.specs.Mem.Slots.{slots_items, slots_filled, slots_len, IsFu
 ghost use Rattle.std.specs.Vec.{vec_capacity, vec_ptr};
 ghost use Rattle.ca_turns.specs.declared.rule.Turn.{Turn};
 ghost use Rattle.crossbeam_utils.specs.Padded.{padded_value};
-ghost use Rattle.ca_turns.specs.Lines.{line_of};
-ghost use Rattle.ca_turns.specs.Views.{first_view, stands, HoldsNone};
+ghost use Rattle.ca_turns.specs.Lines.{line_address};
+ghost use Rattle.ca_turns.specs.Views.{first_view, hands_stood_for, HoldsNone};
 ghost use Rattle.ca_turns.specs.Steps.{IsWhole, Sees};
 
 use crate::object::Object;
@@ -40,9 +40,9 @@ pub(crate) fn open_slots<O: Object>(
     slots: Vec<Slot<O::Part>>,
     start: &Start<O::Part>,
 ) -> Result<(Owned<O>, Place<O>), Refused<Slot<O::Part>, Global>>
-    requires parts { (map padded_value slots.items ≡ map Some start.now.parts.value.items) × (words.now ≡ replicate (line_of (length slots.items + 1)) 0) }
+    requires parts { (map padded_value slots.items ≡ map Some start.now.parts.value.items) × (words.now ≡ replicate (line_address (length slots.items + 1)) 0) }
     requires hands { (0 < start.now.hands) × (start.now.hands ≤ 16) }
-    ensures ok { IfOk result (λ t. (t.0.shared.table_id.words ≡ line_of (length slots.items + 1)) × (t.0.shared.table_id.slots ≡ length slots.items) × (t.1.table_id ≡ t.0.shared.table_id) × (t.1.me ≡ (first_view (map O.content start.now.parts.value.items) start.now.hands, []))) }
+    ensures ok { IfOk result (λ t. (t.0.shared.table_id.words ≡ line_address (length slots.items + 1)) × (t.0.shared.table_id.slots ≡ length slots.items) × (t.1.table_id ≡ t.0.shared.table_id) × (t.1.me ≡ (first_view (map O.content start.now.parts.value.items) start.now.hands, []))) }
     ensures err { IfErr result (λ r. r.slots.items ≡ slots.items) }
 {
     Table::new(alloc, words, slots, start)
@@ -52,7 +52,7 @@ pub(crate) fn close_slots<O: Object>(
     table: Owned<O>,
     seat: Place<O>,
 ) -> Closed<Slot<O::Part>, Global>
-    requires table { (seat.table_id ≡ table.shared.table_id) × (stands seat.me.0 ≡ seat.me.0.hands) × (0 < stands seat.me.0) }
+    requires table { (seat.table_id ≡ table.shared.table_id) × (hands_stood_for seat.me.0 ≡ seat.me.0.hands) × (0 < hands_stood_for seat.me.0) }
     requires home { HoldsNone seat.me.0 }
     ensures counts { (slots_len result.words ≡ table.shared.table_id.words) × (slots_len result.slots ≡ table.shared.table_id.slots) × IsFull result.words × IsFull result.slots }
     ensures history { (ps : List O.Part) × (log : List (Turn O.Content O.Event)) × (map padded_value (slots_items result.slots) ≡ map Some ps) × Sees O.touches O.moves seat.me.0 log (map O.content ps) × IsWhole seat.me.0 log }

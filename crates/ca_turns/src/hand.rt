@@ -1,7 +1,7 @@
 ghost use mathlib.Core.Option.{some};
 ghost use lib.ListN.{get_elem?};
 ghost use Rattle.std.specs.Prelude.{◌≡◌, ◌<◌, ◌≤◌, IfOk, None, Some, [], length, replicate};
-ghost use Rattle.ca_turns.specs.Views.{stands, HoldsNone};
+ghost use Rattle.ca_turns.specs.Views.{hands_stood_for, HoldsNone};
 ghost use Rattle.ca_turns.specs.Hands.{IsHolding, HoldsNothing};
 
 use crate::lend::inside;
@@ -92,7 +92,7 @@ pub(crate) fn new_hand<P: Drop, C, E>(
 ) -> Result<HandOf<P, C, E>, AllocError>
     requires fits { (count ≡ seat.table_id.slots) × (count ≤ 256) × (seat.me.0.held ≡ replicate count None) }
     requires none { (seat.me.1 ≡ []) × (seat.me.0.turns ≡ []) }
-    requires live { 0 < stands seat.me.0 }
+    requires live { 0 < hands_stood_for seat.me.0 }
     ensures { IfOk result (λ h. (h.table ≡ seat.table_id) × (h.view ≡ seat.me.0) × (h.parts ≡ replicate count None)) }
 {
     let parts = nones(alloc, count)?;
@@ -118,7 +118,7 @@ impl<P: Drop, C, E> HandOf<P, C, E> {
         requires { HoldsNothing self }
         ensures seat { (result.table_id ≡ self.table) × (result.me.0 ≡ self.view) }
         ensures none { (result.me.1 ≡ []) × HoldsNone result.me.0 }
-        ensures live { 0 < stands result.me.0 }
+        ensures live { 0 < hands_stood_for result.me.0 }
     {
         let Self {
             seat,

@@ -4,10 +4,10 @@ ghost use mathlib.Core.Option.{some};
 ghost use lib.ListN.{get_elem?};
 ghost use Rattle.atomic_table.specs.Table.{rest};
 ghost use Rattle.ca_turns.specs.declared.rule.Turn.{Turn};
-ghost use Rattle.ca_turns.specs.Lines.{bare, line_of};
-ghost use Rattle.ca_turns.specs.Places.{Reads, without};
-ghost use Rattle.ca_turns.specs.Views.{turn, stands, holding, drawing, left_view, right_view, both_views, HoldsNone};
-ghost use Rattle.ca_turns.specs.Steps.{SeesOne, Took, Missed, IsGiven};
+ghost use Rattle.ca_turns.specs.Lines.{bare, line_address};
+ghost use Rattle.ca_turns.specs.Places.{ReadsPlaces, without_first_pair};
+ghost use Rattle.ca_turns.specs.Views.{new_turn, hands_stood_for, holding, drawing, left_view, right_view, both_views, HoldsNone};
+ghost use Rattle.ca_turns.specs.Steps.{SeesOne, TookPart, Missed, IsGiven};
 ghost use Rattle.ca_turns.specs.Hands.{IsTableId, IsOut, places, there, times};
 
 use crate::object::Object;
@@ -35,7 +35,7 @@ const WORDS_IN_A_LINE: usize = 8;
 // Where in memory the word k of the rule stands: the event word is 0, that of the part i is i + 1.
 pub(crate) fn line(k: usize) -> usize
     requires { k ≤ 257 }
-    ensures { result ≡ line_of k }
+    ensures { result ≡ line_address k }
 {
     WORDS_IN_A_LINE * k
 }
@@ -61,9 +61,9 @@ fn swap_in<O: Object>(
 fn take<O: Object>(words: &Words<O>, seat: &mut Place<O>, part: usize) -> bool
     requires table { (seat.old.table_id ≡ words.now.table_id) × IsTableId words.now.table_id }
     requires part { part < words.now.table_id.slots }
-    requires free { (get_elem? seat.old.me.0.held part ≡ some None) × (0 < stands seat.old.me.0) }
+    requires free { (get_elem? seat.old.me.0.held part ≡ some None) × (0 < hands_stood_for seat.old.me.0) }
     ensures table { seat.new.table_id ≡ seat.old.table_id }
-    ensures took { MatchBool result (Took O.content O.touches O.moves part (bare seat.old.me) (bare seat.new.me)) (Missed part (bare seat.old.me) (bare seat.new.me)) }
+    ensures took { MatchBool result (TookPart O.content O.touches O.moves part (bare seat.old.me) (bare seat.new.me)) (Missed part (bare seat.old.me) (bare seat.new.me)) }
 {
     words.compare_exchange::<Take<O>>(seat, line(part + 1), 0, 1) == 0
 }
@@ -76,7 +76,7 @@ pub(crate) fn take_out<O: Object>(
 ) -> Option<O::Part>
     requires table { (seat.old.table_id ≡ words.now.table_id) × IsTableId words.now.table_id }
     requires part { part < words.now.table_id.slots }
-    requires free { (get_elem? seat.old.me.0.held part ≡ some None) × (0 < stands seat.old.me.0) }
+    requires free { (get_elem? seat.old.me.0.held part ≡ some None) × (0 < hands_stood_for seat.old.me.0) }
     ensures table { seat.new.table_id ≡ seat.old.table_id }
     ensures took { MatchOption result (Missed part (bare seat.old.me) (bare seat.new.me)) (λ x. (bare seat.new.me ≡ (holding seat.old.me.0 part (Some (O.content x)), (part, None) ∷ (bare seat.old.me).1)) × SeesOne O.touches O.moves seat.new.me.0) }
 {
@@ -94,10 +94,10 @@ pub(crate) fn take_out<O: Object>(
 pub(crate) fn bring_to_front<O: Object>(words: &Words<O>, seat: &mut Place<O>, part: usize)
     requires table { (seat.old.table_id ≡ words.now.table_id) × IsTableId words.now.table_id }
     requires part { part < words.now.table_id.slots }
-    requires out { IsOut (there seat.old.me.0.held) (bare seat.old.me).1 × (0 < times part (places (bare seat.old.me).1)) × (0 < stands seat.old.me.0) }
+    requires out { IsOut (there seat.old.me.0.held) (bare seat.old.me).1 × (0 < times part (places (bare seat.old.me).1)) × (0 < hands_stood_for seat.old.me.0) }
     ensures table { seat.new.table_id ≡ seat.old.table_id }
     ensures view { seat.new.me.0 ≡ seat.old.me.0 }
-    ensures front { (bare seat.new.me).1 ≡ (part, None) ∷ without part (bare seat.old.me).1 }
+    ensures front { (bare seat.new.me).1 ≡ (part, None) ∷ without_first_pair part (bare seat.old.me).1 }
 {
     words.load::<ToFront>(seat, line(part + 1));
 }
@@ -105,7 +105,7 @@ pub(crate) fn bring_to_front<O: Object>(words: &Words<O>, seat: &mut Place<O>, p
 fn free<O: Object>(words: &Words<O>, seat: &mut Place<O>, part: usize)
     requires table { (seat.old.table_id ≡ words.now.table_id) × IsTableId words.now.table_id }
     requires part { part < words.now.table_id.slots }
-    requires held { IsGiven O.content part (bare seat.old.me) × (0 < stands seat.old.me.0) }
+    requires held { IsGiven O.content part (bare seat.old.me) × (0 < hands_stood_for seat.old.me.0) }
     ensures table { seat.new.table_id ≡ seat.old.table_id }
     ensures freed { (seat.new.me.0 ≡ holding seat.old.me.0 part None) × ((bare seat.new.me).1 ≡ rest (bare seat.old.me).1) }
 {
@@ -116,7 +116,7 @@ fn free<O: Object>(words: &Words<O>, seat: &mut Place<O>, part: usize)
 pub(crate) fn put_in<O: Object>(words: &Words<O>, seat: &mut Place<O>, part: usize, x: O::Part)
     requires table { (seat.old.table_id ≡ words.now.table_id) × IsTableId words.now.table_id }
     requires part { part < words.now.table_id.slots }
-    requires held { ((bare seat.old.me).1 ≡ (part, None) ∷ rest (bare seat.old.me).1) × (get_elem? seat.old.me.0.held part ≡ some (Some (O.content x))) × (0 < stands seat.old.me.0) }
+    requires held { ((bare seat.old.me).1 ≡ (part, None) ∷ rest (bare seat.old.me).1) × (get_elem? seat.old.me.0.held part ≡ some (Some (O.content x))) × (0 < hands_stood_for seat.old.me.0) }
     ensures table { seat.new.table_id ≡ seat.old.table_id }
     ensures freed { bare seat.new.me ≡ (holding seat.old.me.0 part None, rest (bare seat.old.me).1) }
 {
@@ -136,10 +136,10 @@ pub(crate) fn draw_as<O: Object, J: Drawing<O::Content, O::Event>>(
     _event: &O::Event,
 ) -> u64
     requires table { (seat.old.table_id ≡ words.now.table_id) × IsTableId words.now.table_id }
-    requires turn { (t : Turn O.Content O.Event) × (J.turns ≡ t ∷ []) × Reads seat.old.me.0.held (O.touches t.event) (map Some t.before) × O.moves t.event t.before t.after × (length t.after ≡ length (O.touches t.event)) }
-    requires room { (length seat.old.me.0.turns < 2 ^ 59) × (0 < stands seat.old.me.0) }
+    requires turn { (t : Turn O.Content O.Event) × (J.turns ≡ t ∷ []) × ReadsPlaces seat.old.me.0.held (O.touches t.event) (map Some t.before) × O.moves t.event t.before t.after × (length t.after ≡ length (O.touches t.event)) }
+    requires room { (length seat.old.me.0.turns < 2 ^ 59) × (0 < hands_stood_for seat.old.me.0) }
     ensures table { seat.new.table_id ≡ seat.old.table_id }
-    ensures drew { (t : Turn O.Content O.Event) → J.turns ≡ t ∷ [] → (seat.new.me.0 ≡ drawing seat.old.me.0 (O.touches t.event) (turn result t.event t.before t.after)) × ((bare seat.new.me).1 ≡ (bare seat.old.me).1) × ((k : ℕ) (u : Turn O.Content O.Event) → get_elem? seat.old.me.0.turns k ≡ some u → u.number < result) }
+    ensures drew { (t : Turn O.Content O.Event) → J.turns ≡ t ∷ [] → (seat.new.me.0 ≡ drawing seat.old.me.0 (O.touches t.event) (new_turn result t.event t.before t.after)) × ((bare seat.new.me).1 ≡ (bare seat.old.me).1) × ((k : ℕ) (u : Turn O.Content O.Event) → get_elem? seat.old.me.0.turns k ≡ some u → u.number < result) }
 {
     words.fetch_add::<Draw<O, J>>(seat, line(0), 1)
 }
@@ -147,7 +147,7 @@ pub(crate) fn draw_as<O: Object, J: Drawing<O::Content, O::Event>>(
 // Split, while the table is opened.
 pub(crate) fn split_off<O: Object>(words: &Words<O>, seat: &mut Place<O>) -> Place<O>
     requires table { (seat.old.table_id ≡ words.now.table_id) × IsTableId words.now.table_id }
-    requires opening { (seat.old.me.0.turns ≡ []) × (1 < stands seat.old.me.0) }
+    requires opening { (seat.old.me.0.turns ≡ []) × (1 < hands_stood_for seat.old.me.0) }
     ensures table { (seat.new.table_id ≡ seat.old.table_id) × (result.table_id ≡ seat.old.table_id) }
     ensures views { (seat.new.me ≡ (left_view seat.old.me.0, seat.old.me.1)) × (result.me ≡ (right_view seat.old.me.0, [])) }
 {
@@ -157,7 +157,7 @@ pub(crate) fn split_off<O: Object>(words: &Words<O>, seat: &mut Place<O>) -> Pla
 // Join.
 pub(crate) fn join_in<O: Object>(words: &Words<O>, seat: &mut Place<O>, other: Place<O>)
     requires table { (seat.old.table_id ≡ words.now.table_id) × IsTableId words.now.table_id × (other.table_id ≡ words.now.table_id) }
-    requires live { (0 < stands seat.old.me.0) × (0 < stands other.me.0) × HoldsNone other.me.0 × (other.me.1 ≡ []) }
+    requires live { (0 < hands_stood_for seat.old.me.0) × (0 < hands_stood_for other.me.0) × HoldsNone other.me.0 × (other.me.1 ≡ []) }
     ensures table { seat.new.table_id ≡ seat.old.table_id }
     ensures views { seat.new.me ≡ (both_views seat.old.me.0 other.me.0, seat.old.me.1) }
 {

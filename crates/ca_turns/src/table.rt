@@ -1,7 +1,7 @@
 ghost use Rattle.std.specs.Prelude.{◌≡◌, ℕ, ◌+◌, ◌-◌, ◌<◌, ◌≤◌, List, [], IfOk, All, length, map};
 ghost use Rattle.std.specs.Vec.{vec_ptr};
 ghost use Rattle.ca_turns.specs.declared.rule.Turn.{Turn};
-ghost use Rattle.ca_turns.specs.Views.{idle, stands, both_views};
+ghost use Rattle.ca_turns.specs.Views.{idle, hands_stood_for, both_views};
 ghost use Rattle.ca_turns.specs.Steps.{IsWhole, Sees};
 ghost use Rattle.ca_turns.specs.Hands.{HoldsNothing, IsFresh, IsTableId};
 
@@ -57,7 +57,7 @@ fn deal<O: Object>(
 ) -> Result<Vec<Hand<O>>, AllocError>
     requires table { (seat.table_id ≡ words.now.table_id) × IsTableId words.now.table_id × (count ≡ words.now.table_id.slots) }
     requires seat { (count ≡ length seat.me.0.opening) × (seat.me ≡ (idle seat.me.0.opening hands seat.me.0.stands_for, [])) }
-    requires hands { (stands seat.me.0 ≡ hands) × (0 < hands) }
+    requires hands { (hands_stood_for seat.me.0 ≡ hands) × (0 < hands) }
     ensures { IfOk result (λ v. (length v.items ≡ hands) × All (IsFresh words.now.table_id seat.me.0.opening hands) v.items) }
 {
     let mut all = Vec::with_capacity(alloc, hands as usize)?;
@@ -123,7 +123,7 @@ impl<O: Object> Table<O> {
     /// there once, and each stands in the hand's list.
     pub fn close(self, hand: Hand<O>) -> Closed<O>
         requires table { hand.table ≡ self.id }
-        requires all { stands hand.view ≡ hand.view.hands }
+        requires all { hands_stood_for hand.view ≡ hand.view.hands }
         requires nothing { HoldsNothing hand }
         ensures history { (log : List (Turn O.Content O.Event)) × Sees O.touches O.moves hand.view log (map O.content result.parts.items) × IsWhole hand.view log }
         ensures in_place { vec_ptr result.parts ≡ self.memory }

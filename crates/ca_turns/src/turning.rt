@@ -4,10 +4,10 @@ ghost use Rattle.std.specs.Prelude.{◌≡◌, ℕ, ◌<◌, List, length, Some,
 ghost use mathlib.Core.Option.{some};
 ghost use lib.ListN.{get_elem?};
 ghost use Rattle.ca_turns.specs.declared.rule.Turn.{Turn};
-ghost use Rattle.ca_turns.specs.Views.{turn, stands, holding, missing, having_missed, drawing};
+ghost use Rattle.ca_turns.specs.Views.{new_turn, hands_stood_for, holding, missing_part, having_missed, drawing};
 ghost use Rattle.ca_turns.specs.Steps.{SeesOne};
 ghost use Rattle.ca_turns.specs.Places.{AllIn};
-ghost use Rattle.ca_turns.specs.Hands.{look, IsHolding, IsNone, IsWithout, IsSettled, SameBut, IsTableId};
+ghost use Rattle.ca_turns.specs.Hands.{look, IsHolding, IsNone, IsWithout, IsPartSettled, SameBut, IsTableId};
 
 use crate::errors::Busy;
 use crate::hand::Hand;
@@ -64,9 +64,9 @@ impl<O: Object> Table<O> {
         requires free { IsWithout hand.old part }
         ensures table { hand.new.table ≡ hand.old.table }
         ensures held { IfOk result (λ _. (x : O.Part) × (hand.new.parts ≡ slice_set hand.old.parts part (Some x)) × (hand.new.view ≡ holding hand.old.view part (Some (O.content x)))) }
-        ensures settled { IfOk result (λ _. IsSettled O.content hand.new part) }
+        ensures settled { IfOk result (λ _. IsPartSettled O.content hand.new part) }
         ensures history { IfOk result (λ _. SeesOne O.touches O.moves hand.new.view) }
-        ensures busy { IfErr result (λ _. (hand.new.parts ≡ hand.old.parts) × (hand.new.view ≡ missing hand.old.view part) × (stands hand.old.view < hand.old.view.hands)) }
+        ensures busy { IfErr result (λ _. (hand.new.parts ≡ hand.old.parts) × (hand.new.view ≡ missing_part hand.old.view part) × (hands_stood_for hand.old.view < hand.old.view.hands)) }
         ensures others { SameBut part hand.old hand.new }
     {
         let at = part as usize;
@@ -86,7 +86,7 @@ impl<O: Object> Table<O> {
         requires free { IsWithout hand.old part }
         ensures table { hand.new.table ≡ hand.old.table }
         ensures held { MatchBool result ((x : O.Part) × (missed : List ℕ) × (hand.new.parts ≡ slice_set hand.old.parts part (Some x)) × (hand.new.view ≡ holding (having_missed hand.old.view missed) part (Some (O.content x)))) ((hand.new.parts ≡ hand.old.parts) × ((missed : List ℕ) × (hand.new.view ≡ having_missed hand.old.view missed))) }
-        ensures settled { OnTrue result (IsSettled O.content hand.new part) }
+        ensures settled { OnTrue result (IsPartSettled O.content hand.new part) }
         ensures history { OnTrue result (SeesOne O.touches O.moves hand.new.view) }
         ensures others { SameBut part hand.old hand.new }
     {
@@ -107,7 +107,7 @@ impl<O: Object> Table<O> {
         requires free { IsWithout hand.old part }
         ensures table { hand.new.table ≡ hand.old.table }
         ensures held { (x : O.Part) × (missed : List ℕ) × (hand.new.parts ≡ slice_set hand.old.parts part (Some x)) × (hand.new.view ≡ holding (having_missed hand.old.view missed) part (Some (O.content x))) }
-        ensures settled { IsSettled O.content hand.new part }
+        ensures settled { IsPartSettled O.content hand.new part }
         ensures history { SeesOne O.touches O.moves hand.new.view }
         ensures others { SameBut part hand.old hand.new }
     {
@@ -129,7 +129,7 @@ impl<O: Object> Table<O> {
         requires ascending { (i : ℕ) → IsHolding hand.old i → i < part }
         ensures table { hand.new.table ≡ hand.old.table }
         ensures held { (x : O.Part) × (missed : List ℕ) × (hand.new.parts ≡ slice_set hand.old.parts part (Some x)) × (hand.new.view ≡ holding (having_missed hand.old.view missed) part (Some (O.content x))) }
-        ensures settled { IsSettled O.content hand.new part }
+        ensures settled { IsPartSettled O.content hand.new part }
         ensures history { SeesOne O.touches O.moves hand.new.view }
         ensures others { SameBut part hand.old hand.new }
     {
@@ -148,9 +148,9 @@ impl<O: Object> Table<O> {
         requires room { length hand.old.view.turns < 2 ^ 59 }
         ensures table { hand.new.table ≡ hand.old.table }
         ensures parts { hand.new.parts ≡ hand.old.parts }
-        ensures drew { hand.new.view ≡ drawing hand.old.view (O.touches event.now) (turn result event.now (look hand.old.view.held (O.touches event.now)) (map O.content (look hand.old.parts (O.touches event.now)))) }
+        ensures drew { hand.new.view ≡ drawing hand.old.view (O.touches event.now) (new_turn result event.now (look hand.old.view.held (O.touches event.now)) (map O.content (look hand.old.parts (O.touches event.now)))) }
         ensures later { (k : ℕ) (t : Turn O.Content O.Event) → get_elem? hand.old.view.turns k ≡ some t → t.number < result }
-        ensures settled { (m i : ℕ) → get_elem? (O.touches event.now) m ≡ some i → IsSettled O.content hand.new i }
+        ensures settled { (m i : ℕ) → get_elem? (O.touches event.now) m ≡ some i → IsPartSettled O.content hand.new i }
         ensures others { (i : ℕ) → IsNone (O.touches event.now) i → get_elem? hand.new.view.held i ≡ get_elem? hand.old.view.held i }
     {
         let number = draw_as::<O, Brand>(&self.owned.shared, &mut hand.seat, &hand.parts, event);
@@ -161,7 +161,7 @@ impl<O: Object> Table<O> {
     /// Gives back a part whose content is as last settled, and wakes one who waits for it.
     pub fn give_back(&self, hand: &mut Hand<O>, part: u64)
         requires table { hand.old.table ≡ self.now.id }
-        requires settled { IsSettled O.content hand.old part }
+        requires settled { IsPartSettled O.content hand.old part }
         ensures table { hand.new.table ≡ hand.old.table }
         ensures parts { hand.new.parts ≡ slice_set hand.old.parts part None }
         ensures given { hand.new.view ≡ holding hand.old.view part None }

@@ -4,35 +4,35 @@ use mathlib.Core.Option.{some}
 use lib.ListN.{get_elem?}
 use Rattle.ca_turns.specs.Hands.{TableId, HoldsNothing}
 use Rattle.ca_turns.specs.declared.rule.Turn.{Turn}
-use Rattle.ca_turns.specs.Views.{stands}
+use Rattle.ca_turns.specs.Views.{hands_stood_for}
 use Rattle.ca_turns_counters.specs.declared.counters.Event.{Event}
 use Rattle.ca_turns_counters.specs.declared.workers.Worker.{Worker}
 use Rattle.ca_turns_counters.specs.Turning.{Counting}
 
 -- a hand that holds nothing and drew nothing
-abbrev pub IsIdle : TableId → Counting → Type 0
-IsIdle id h = (h.table ≡ id) × HoldsNothing h × (length h.view.turns ≡ 0)
+abbrev pub IsHandIdle : TableId → Counting → Type 0
+IsHandIdle id h = (h.table ≡ id) × HoldsNothing h × (length h.view.turns ≡ 0)
 
 -- it holds nothing, has noted the number of each event that it drew, and its spare hand is idle
-pub record IsReady (id : TableId) (w : Worker) : Type 0 where
+pub record IsReadyToCount (id : TableId) (w : Worker) : Type 0 where
   pub table : w.hand.table ≡ id
   pub nothing : HoldsNothing w.hand
   pub noted : vec_len w.numbers ≡ length w.hand.view.turns
-  pub spare : IfSome w.spare (IsIdle id)
+  pub spare : IfSome w.spare (IsHandIdle id)
 
 -- for how many hands a worker's hands stand
 abbrev pub spare_stands : Option Counting → ℕ
 spare_stands None = 0
-spare_stands (Some h) = stands h.view
+spare_stands (Some h) = hands_stood_for h.view
 
 abbrev pub stand : Worker → ℕ
-stand w = stands w.hand.view + spare_stands w.spare
+stand w = hands_stood_for w.hand.view + spare_stands w.spare
 
 -- how many events a worker drew
-abbrev pub drew : Worker → ℕ
-drew w = length w.hand.view.turns
+abbrev pub events_drawn : Worker → ℕ
+events_drawn w = length w.hand.view.turns
 
-pub record SameWorker (old new : Worker) : Type 0 where
+pub record SameCountingWorker (old new : Worker) : Type 0 where
   pub opening : new.hand.view.opening ≡ old.hand.view.opening
   pub opened_for : new.hand.view.hands ≡ old.hand.view.hands
   pub stand : stand new ≡ stand old
@@ -44,20 +44,20 @@ Repeats e w = (k : ℕ) (t : Turn ℕ Event) → get_elem? w.hand.view.turns k �
 
 -- a worker of a table that was opened for n hands with these counters, before its first event, with room for that many numbers
 pub record IsNew (id : TableId) (cs : List ℕ) (n room : ℕ) (w : Worker) : Type 0 where
-  pub ready : IsReady id w
+  pub ready : IsReadyToCount id w
   pub opening : w.hand.view.opening ≡ cs
   pub opened_for : w.hand.view.hands ≡ n
-  pub none_drawn : drew w ≡ 0
+  pub none_drawn : events_drawn w ≡ 0
   pub has_room : room ≤ vec_capacity w.numbers
 
 -- before its first event, with room for the numbers of two rounds
-abbrev pub IsRested : TableId → ℕ → Worker → Type 0
-IsRested id times w = IsReady id w × (drew w ≡ 0) × (2 * times ≤ vec_capacity w.numbers)
+abbrev pub IsBeforeFirstEvent : TableId → ℕ → Worker → Type 0
+IsBeforeFirstEvent id times w = IsReadyToCount id w × (events_drawn w ≡ 0) × (2 * times ≤ vec_capacity w.numbers)
 
 -- after two rounds, in which it repeated one of these two events
 pub record Worked (id : TableId) (even odd : Event) (times : ℕ) (old new : Worker) : Type 0 where
-  pub ready : IsReady id new
+  pub ready : IsReadyToCount id new
   pub spare : new.spare ≡ None
-  pub same : SameWorker old new
-  pub drawn : drew new ≡ drew old + 2 * times
+  pub same : SameCountingWorker old new
+  pub drawn : events_drawn new ≡ events_drawn old + 2 * times
   pub repeats : (e : Event) → even ≡ e → odd ≡ e → Repeats e old → Repeats e new

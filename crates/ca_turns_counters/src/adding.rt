@@ -3,8 +3,8 @@ ghost use lib.ListN.{get_elem?};
 ghost use Rattle.std.specs.Prelude.{◌≡◌, ℕ, ◌+◌, ◌^◌, ◌<◌, length, Some, slice_set};
 ghost use Rattle.ca_turns.specs.Hands.{HoldsNothing, IsHolding};
 ghost use Rattle.ca_turns_counters.specs.declared.counters.Event.TheVariants.{One, Pair};
-ghost use Rattle.ca_turns_counters.specs.Adding.{one_more, IsWithin};
-ghost use Rattle.ca_turns_counters.specs.Turning.{HoldsOnly, HoldsPair, Same, Drew};
+ghost use Rattle.ca_turns_counters.specs.Adding.{counter_after, AreCountersWithin};
+ghost use Rattle.ca_turns_counters.specs.Turning.{HoldsOnly, HoldsPair, Same, DrewEvent};
 
 use crate::counters::{Counters, Event};
 use ca_turns::{Hand, Table};
@@ -15,7 +15,7 @@ fn count_up(hand: &mut Hand<Counters>, part: u64)
     requires { IsHolding hand.old part }
     ensures table { hand.new.table ≡ hand.old.table }
     ensures view { hand.new.view ≡ hand.old.view }
-    ensures parts { (n : ℕ) × (get_elem? hand.old.parts part ≡ some (Some n)) × (hand.new.parts ≡ slice_set hand.old.parts part (Some (one_more n))) }
+    ensures parts { (n : ℕ) × (get_elem? hand.old.parts part ≡ some (Some n)) × (hand.new.parts ≡ slice_set hand.old.parts part (Some (counter_after n))) }
 {
     let count = hand.part_mut(part);
     *count = count.wrapping_add(1);
@@ -28,7 +28,7 @@ pub fn add_held(table: &Table<Counters>, hand: &mut Hand<Counters>, part: u64) -
     requires room { length hand.old.view.turns < 2 ^ 59 }
     ensures nothing { HoldsNothing hand.new }
     ensures same { Same hand.old hand.new }
-    ensures drew { Drew (One part) result hand.old hand.new }
+    ensures drew { DrewEvent (One part) result hand.old hand.new }
 {
     count_up(hand, part);
     let number = table.draw(hand, &Event::One(part));
@@ -49,7 +49,7 @@ pub fn add_one<R: Wait>(
     requires room { length hand.old.view.turns < 2 ^ 59 }
     ensures nothing { HoldsNothing hand.new }
     ensures same { Same hand.old hand.new }
-    ensures drew { Drew (One part) result hand.old hand.new }
+    ensures drew { DrewEvent (One part) result hand.old hand.new }
 {
     table.hold(rt, hand, part);
     add_held(table, hand, part)
@@ -63,7 +63,7 @@ fn add_held_pair(table: &Table<Counters>, hand: &mut Hand<Counters>, low: u64) -
     requires room { length hand.old.view.turns < 2 ^ 59 }
     ensures nothing { HoldsNothing hand.new }
     ensures same { Same hand.old hand.new }
-    ensures drew { Drew (Pair low) result hand.old hand.new }
+    ensures drew { DrewEvent (Pair low) result hand.old hand.new }
 {
     count_up(hand, low);
     count_up(hand, low + 1);
@@ -86,7 +86,7 @@ pub fn add_pair<R: Wait>(
     requires room { length hand.old.view.turns < 2 ^ 59 }
     ensures nothing { HoldsNothing hand.new }
     ensures same { Same hand.old hand.new }
-    ensures drew { Drew (Pair low) result hand.old hand.new }
+    ensures drew { DrewEvent (Pair low) result hand.old hand.new }
 {
     table.hold(rt, hand, low);
     table.hold(rt, hand, low + 1);
@@ -101,12 +101,12 @@ pub fn add<R: Wait>(
     event: &Event,
 ) -> u64
     requires table { hand.old.table ≡ table.now.id }
-    requires range { IsWithin table.now.id.slots event.now }
+    requires range { AreCountersWithin table.now.id.slots event.now }
     requires nothing { HoldsNothing hand.old }
     requires room { length hand.old.view.turns < 2 ^ 59 }
     ensures nothing { HoldsNothing hand.new }
     ensures same { Same hand.old hand.new }
-    ensures drew { Drew event.now result hand.old hand.new }
+    ensures drew { DrewEvent event.now result hand.old hand.new }
 {
     match event {
         Event::One(part) => add_one(rt, table, hand, *part),

@@ -17,12 +17,12 @@ impl Object for Counters {
 
     type Event = Event;
 
-    ghost use Rattle.ca_turns_counters.specs.Adding.{added, Adds};
+    ghost use Rattle.ca_turns_counters.specs.Adding.{counters_added, Adds};
     ghost use Rattle.ca_turns_counters.specs.Apart.{added_distinct};
 
     ghost content = { λ n. n };
 
-    ghost touches = { added };
+    ghost touches = { counters_added };
 
     ghost moves = { Adds };
 

@@ -1,6 +1,6 @@
 ghost use Rattle.std.specs.Prelude.{◌≡◌, ◌+◌, ◌-◌, ◌*◌, ◌^◌, ◌<◌, ◌≤◌, ◌∷◌, IfOk, replicate, vec_len};
 ghost use Rattle.ca_turns_counters.specs.declared.counters.Event.TheVariants.{One};
-ghost use Rattle.ca_turns_counters.specs.Adding.{IsWithin};
+ghost use Rattle.ca_turns_counters.specs.Adding.{AreCountersWithin};
 
 use crate::counters::{Counters, Event};
 use crate::gathering::{enlist, gather};
@@ -34,7 +34,7 @@ pub fn count<R: Threads + Wait + Sync>(
 ) -> Result<Counted, OutOfMemory>
     requires counters { (0 < counters) × (counters ≤ 256) }
     requires hands { (0 < hands) × (hands ≤ 16) }
-    requires range { IsWithin counters even.now × IsWithin counters odd.now }
+    requires range { AreCountersWithin counters even.now × AreCountersWithin counters odd.now }
     requires room { 2 * times < 2 ^ 59 }
     ensures first { even.now ≡ One 0 → odd.now ≡ One 0 → IfOk result (λ c. c.counters.items ≡ vec_len c.numbers ∷ replicate (counters - 1) 0) }
 {

@@ -1,9 +1,9 @@
 ghost use Rattle.std.specs.Prelude.{◌≡◌, ℕ, ◌+◌, ◌<◌, ◌≤◌, List, All, IfOk, length, None, ◌++◌, vec_len, vec_capacity, option_to_list};
 ghost use Rattle.ca_turns.specs.Hands.{TableId, IsFresh};
 ghost use Rattle.ca_turns.specs.Places.{total};
-ghost use Rattle.ca_turns.specs.Views.{stands};
+ghost use Rattle.ca_turns.specs.Views.{hands_stood_for};
 ghost use Rattle.ca_turns_counters.specs.declared.counters.Event.{Event};
-ghost use Rattle.ca_turns_counters.specs.Working.{IsNew, IsReady, Repeats, stand, drew};
+ghost use Rattle.ca_turns_counters.specs.Working.{IsNew, IsReadyToCount, Repeats, stand, events_drawn};
 
 use crate::counters::Counters;
 use crate::workers::Worker;
@@ -12,10 +12,10 @@ use std::alloc::{AllocError, Global};
 
 // The worker joins another, and its numbers go behind the other's.
 fn merge(table: &Table<Counters>, into: &mut Worker, from: Worker) -> Result<(), OutOfMemory>
-    requires ready { IsReady table.now.id into.old × IsReady table.now.id from × (from.spare ≡ None) }
-    ensures ready { IfOk result (λ _. IsReady table.now.id into.new) }
+    requires ready { IsReadyToCount table.now.id into.old × IsReadyToCount table.now.id from × (from.spare ≡ None) }
+    ensures ready { IfOk result (λ _. IsReadyToCount table.now.id into.new) }
     ensures stand { IfOk result (λ _. stand into.new ≡ stand into.old + stand from) }
-    ensures drew { IfOk result (λ _. drew into.new ≡ drew into.old + drew from) }
+    ensures drew { IfOk result (λ _. events_drawn into.new ≡ events_drawn into.old + events_drawn from) }
     ensures opening { IfOk result (λ _. into.new.hand.view.opening ≡ into.old.hand.view.opening) }
     ensures opened_for { IfOk result (λ _. into.new.hand.view.hands ≡ into.old.hand.view.hands) }
     ensures repeats { IfOk result (λ _. (e : Event) → Repeats e into.old → Repeats e from → Repeats e into.new) }
@@ -37,10 +37,10 @@ pub fn gather(
     mut all: Worker,
     mut others: Vec<Worker>,
 ) -> Result<Worker, OutOfMemory>
-    requires ready { IsReady table.now.id all × All (λ w. IsReady table.now.id w × (w.spare ≡ None)) others.items }
-    ensures ready { IfOk result (λ w. IsReady table.now.id w × (w.spare ≡ all.spare)) }
+    requires ready { IsReadyToCount table.now.id all × All (λ w. IsReadyToCount table.now.id w × (w.spare ≡ None)) others.items }
+    ensures ready { IfOk result (λ w. IsReadyToCount table.now.id w × (w.spare ≡ all.spare)) }
     ensures stand { IfOk result (λ w. stand w ≡ stand all + total stand others.items) }
-    ensures drew { IfOk result (λ w. drew w ≡ drew all + total drew others.items) }
+    ensures drew { IfOk result (λ w. events_drawn w ≡ events_drawn all + total events_drawn others.items) }
     ensures opening { IfOk result (λ w. w.hand.view.opening ≡ all.hand.view.opening) }
     ensures opened_for { IfOk result (λ w. w.hand.view.hands ≡ all.hand.view.hands) }
     ensures repeats { IfOk result (λ w. (e : Event) → Repeats e all → All (Repeats e) others.items → Repeats e w) }
@@ -84,7 +84,7 @@ pub fn enlist(
 ) -> Result<Vec<Worker>, OutOfMemory>
     requires some { 0 < length hands.items }
     ensures some { IfOk result (λ v. 0 < length v.items) }
-    ensures stand { IfOk result (λ v. total stand v.items ≡ total (λ h. stands h.view) hands.items) }
+    ensures stand { IfOk result (λ v. total stand v.items ≡ total (λ h. hands_stood_for h.view) hands.items) }
     ensures fresh { IfOk result (λ v. (id : TableId) (cs : List ℕ) (n : ℕ) → All (IsFresh id cs n) hands.items → All (IsNew id cs n room) v.items) }
 {
     let mut workers = Vec::new(alloc);

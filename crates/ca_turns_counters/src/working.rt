@@ -1,8 +1,8 @@
 ghost use Rattle.std.specs.Prelude.{◌≡◌, ℕ, ◌+◌, ◌*◌, ◌^◌, ◌<◌, ◌≤◌, length, vec_capacity, All, None, slice_index_or};
 ghost use Rattle.ca_turns_counters.specs.declared.counters.Event.{Event};
 ghost use Rattle.ca_turns_counters.specs.declared.workers.Worker.{Worker};
-ghost use Rattle.ca_turns_counters.specs.Adding.{IsWithin};
-ghost use Rattle.ca_turns_counters.specs.Working.{IsReady, IsRested, SameWorker, Worked, Repeats, drew};
+ghost use Rattle.ca_turns_counters.specs.Adding.{AreCountersWithin};
+ghost use Rattle.ca_turns_counters.specs.Working.{IsReadyToCount, IsBeforeFirstEvent, SameCountingWorker, Worked, Repeats, events_drawn};
 
 use crate::adding::add;
 use crate::counters::{Counters, Event};
@@ -14,12 +14,12 @@ use std::thread::Threads;
 
 // One event more.
 fn turn_once<R: Wait>(rt: &R, table: &Table<Counters>, worker: &mut Worker, event: &Event)
-    requires ready { IsReady table.now.id worker.old }
-    requires range { IsWithin table.now.id.slots event.now }
-    requires room { (drew worker.old < 2 ^ 59) × (drew worker.old < vec_capacity worker.old.numbers) }
-    ensures ready { IsReady table.now.id worker.new }
-    ensures same { SameWorker worker.old worker.new }
-    ensures one { drew worker.new ≡ drew worker.old + 1 }
+    requires ready { IsReadyToCount table.now.id worker.old }
+    requires range { AreCountersWithin table.now.id.slots event.now }
+    requires room { (events_drawn worker.old < 2 ^ 59) × (events_drawn worker.old < vec_capacity worker.old.numbers) }
+    ensures ready { IsReadyToCount table.now.id worker.new }
+    ensures same { SameCountingWorker worker.old worker.new }
+    ensures one { events_drawn worker.new ≡ events_drawn worker.old + 1 }
     ensures repeats { Repeats event.now worker.old → Repeats event.now worker.new }
     ensures spare { worker.new.spare ≡ worker.old.spare }
 {
@@ -35,12 +35,12 @@ fn turn_times<R: Wait>(
     event: &Event,
     times: u64,
 )
-    requires ready { IsReady table.now.id worker.old }
-    requires range { IsWithin table.now.id.slots event.now }
-    requires room { (drew worker.old + times < 2 ^ 59) × (drew worker.old + times ≤ vec_capacity worker.old.numbers) }
-    ensures ready { IsReady table.now.id worker.new }
-    ensures same { SameWorker worker.old worker.new }
-    ensures drew { drew worker.new ≡ drew worker.old + times }
+    requires ready { IsReadyToCount table.now.id worker.old }
+    requires range { AreCountersWithin table.now.id.slots event.now }
+    requires room { (events_drawn worker.old + times < 2 ^ 59) × (events_drawn worker.old + times ≤ vec_capacity worker.old.numbers) }
+    ensures ready { IsReadyToCount table.now.id worker.new }
+    ensures same { SameCountingWorker worker.old worker.new }
+    ensures drew { events_drawn worker.new ≡ events_drawn worker.old + times }
     ensures repeats { Repeats event.now worker.old → Repeats event.now worker.new }
     ensures spare { worker.new.spare ≡ worker.old.spare }
 {
@@ -51,10 +51,10 @@ fn turn_times<R: Wait>(
 
 // The spare hand joins the worker's own.
 fn take_in(table: &Table<Counters>, worker: &mut Worker)
-    requires ready { IsReady table.now.id worker.old }
-    ensures ready { IsReady table.now.id worker.new }
-    ensures same { SameWorker worker.old worker.new }
-    ensures drew { drew worker.new ≡ drew worker.old }
+    requires ready { IsReadyToCount table.now.id worker.old }
+    ensures ready { IsReadyToCount table.now.id worker.new }
+    ensures same { SameCountingWorker worker.old worker.new }
+    ensures drew { events_drawn worker.new ≡ events_drawn worker.old }
     ensures repeats { (e : Event) → Repeats e worker.old → Repeats e worker.new }
     ensures spare { worker.new.spare ≡ None }
 {
@@ -72,12 +72,12 @@ pub fn work<R: Wait>(
     event: &Event,
     times: u64,
 )
-    requires ready { IsReady table.now.id worker.old }
-    requires range { IsWithin table.now.id.slots event.now }
-    requires room { (drew worker.old + 2 * times < 2 ^ 59) × (drew worker.old + 2 * times ≤ vec_capacity worker.old.numbers) }
-    ensures ready { IsReady table.now.id worker.new }
-    ensures same { SameWorker worker.old worker.new }
-    ensures drew { drew worker.new ≡ drew worker.old + 2 * times }
+    requires ready { IsReadyToCount table.now.id worker.old }
+    requires range { AreCountersWithin table.now.id.slots event.now }
+    requires room { (events_drawn worker.old + 2 * times < 2 ^ 59) × (events_drawn worker.old + 2 * times ≤ vec_capacity worker.old.numbers) }
+    ensures ready { IsReadyToCount table.now.id worker.new }
+    ensures same { SameCountingWorker worker.old worker.new }
+    ensures drew { events_drawn worker.new ≡ events_drawn worker.old + 2 * times }
     ensures repeats { Repeats event.now worker.old → Repeats event.now worker.new }
     ensures spare { worker.new.spare ≡ None }
 {
@@ -96,8 +96,8 @@ fn work_at<R: Wait>(
     odd: &Event,
     times: u64,
 )
-    requires ready { IsRested table.now.id times worker.old }
-    requires range { IsWithin table.now.id.slots even.now × IsWithin table.now.id.slots odd.now }
+    requires ready { IsBeforeFirstEvent table.now.id times worker.old }
+    requires range { AreCountersWithin table.now.id.slots even.now × AreCountersWithin table.now.id.slots odd.now }
     requires room { 2 * times < 2 ^ 59 }
     ensures { Worked table.now.id even.now odd.now times worker.old worker.new }
 {
@@ -118,8 +118,8 @@ fn work_each<R: Threads + Wait + Sync>(
     times: u64,
 )
     requires some { 0 < length workers.old }
-    requires ready { All (IsRested table.now.id times) workers.old }
-    requires range { IsWithin table.now.id.slots even.now × IsWithin table.now.id.slots odd.now }
+    requires ready { All (IsBeforeFirstEvent table.now.id times) workers.old }
+    requires range { AreCountersWithin table.now.id.slots even.now × AreCountersWithin table.now.id.slots odd.now }
     requires room { 2 * times < 2 ^ 59 }
     ensures many { length workers.new ≡ length workers.old }
     ensures worked { (k : ℕ) (d : Worker) → k < length workers.old → Worked table.now.id even.now odd.now times (slice_index_or workers.old k d) (slice_index_or workers.new k d) }
@@ -130,7 +130,7 @@ fn work_each<R: Threads + Wait + Sync>(
         workers,
         threads,
         &|place, worker: &mut Worker|
-            requires { IsRested table.now.id times worker.old × IsWithin table.now.id.slots even.now × IsWithin table.now.id.slots odd.now × (2 * times < 2 ^ 59) }
+            requires { IsBeforeFirstEvent table.now.id times worker.old × AreCountersWithin table.now.id.slots even.now × AreCountersWithin table.now.id.slots odd.now × (2 * times < 2 ^ 59) }
             ensures { Worked table.entry.now.id even.entry.now odd.entry.now times worker.old worker.new }
         { work_at(rt, table, worker, place, even, odd, times) },
     );
@@ -147,8 +147,8 @@ pub fn work_all<R: Threads + Wait + Sync>(
     times: u64,
 )
     requires some { 0 < length workers.old.items }
-    requires ready { All (IsRested table.now.id times) workers.old.items }
-    requires range { IsWithin table.now.id.slots even.now × IsWithin table.now.id.slots odd.now }
+    requires ready { All (IsBeforeFirstEvent table.now.id times) workers.old.items }
+    requires range { AreCountersWithin table.now.id.slots even.now × AreCountersWithin table.now.id.slots odd.now }
     requires room { 2 * times < 2 ^ 59 }
     ensures many { length workers.new.items ≡ length workers.old.items }
     ensures worked { (k : ℕ) (d : Worker) → k < length workers.old.items → Worked table.now.id even.now odd.now times (slice_index_or workers.old.items k d) (slice_index_or workers.new.items k d) }

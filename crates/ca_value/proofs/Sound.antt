@@ -4,7 +4,7 @@ use Rattle.std.specs.Prelude.{slice_get, slice_set, unwrap_or, ok_or}
 use Rattle.ca_value.specs.declared.fault.ValueFault.{ValueFault}
 use Rattle.ca_value.specs.Tree.{Tree, Trees, TreePairs, vector, map as map_tree, none, item, empty, pair, trees_of, pairs_of, items_of, entries_of}
 use Rattle.ca_value.specs.IsValue.{Scalars, IsRegular, AreRegular, ArePairsRegular}
-use Rattle.ca_value.specs.Outcome.{Answer, Outcome, ◌>>=◌, truth}
+use Rattle.ca_value.specs.Outcome.{Answer, Outcome, ◌>>=◌, truth_outcome}
 use Rattle.ca_value.specs.Kinds.{vector_of, sequence_of, mapping_of}
 
 -- of an answer that there is
@@ -40,7 +40,7 @@ module _ (w : Scalars) where
   abbrev pub IsSound : Outcome → Type 0
   IsSound o = AnswerIs (IsRegular w) o
 
-  pub truth_sound : (r : Answer Bool) → IsSound (truth r)
+  pub truth_sound : (r : Answer Bool) → IsSound (truth_outcome r)
   truth_sound (Ok b) = tt
   truth_sound (Err f) = tt
 

@@ -8,10 +8,10 @@ use Rattle.ca_value.specs.declared.fault.ValueFault.TheVariants.{TooHeavy, TooNe
 use Rattle.ca_value.specs.Tree.{Tree, Trees, nil, none, item, items_of}
 use Rattle.ca_value.specs.Measure.{weight_of, depth_of}
 use Rattle.ca_value.specs.IsValue.{Scalars, IsRegular, IsValue, AreValues}
-use Rattle.ca_value.specs.Outcome.{Outcome, judged, one, two, one_or_two, two_or_three, one_and_more}
+use Rattle.ca_value.specs.Outcome.{Outcome, judged, of_one_argument, of_two_arguments, one_or_two, two_or_three, one_and_more}
 use Rattle.ca_value.specs.Builtins.{answer, builtin_result}
-use Rattle.ca_value.specs.Numbers.{in_range, running, difference_of, quotient_of, remainder_of, modulus_of, chosen, worker_count_of}
-use Rattle.ca_value.specs.Maps.{count_of}
+use Rattle.ca_value.specs.Numbers.{in_range, folded_in_range, difference_of, quotient_of, remainder_of, modulus_of, preferred, worker_count_of}
+use Rattle.ca_value.specs.Maps.{count_answer}
 use Rattle.ca_value.proofs.SoundNumbers.{whole, number_sound, one_number, two_numbers, all_numbers, in_range_is, running_is, difference_is, quotient_is, remainder_is, modulus_is, least_is, greatest_is, count_is, worker_count_is}
 use Rattle.ca_value.proofs.Sound.{AreSound, IsSoundOption, IsSound, truth_sound, trees_sound, unwrap_sound}
 use Rattle.ca_value.proofs.SoundVectors.{appended_sound, nth_sound, first_sound, last_sound, popped_sound, subvec_sound, range_sound, part_sound}
@@ -22,17 +22,17 @@ AreLight [] = Unit {0}
 AreLight (t ∷ ts) = (weight_of t ≤ 131072) × AreLight ts
 
 module _ (w : Scalars) where
-  one_sound : (ts : List Tree) (f : Tree → Outcome) → AreSound w ts → ((a : Tree) → IsRegular w a → IsSound w (f a)) → IsSound w (one ts f)
+  one_sound : (ts : List Tree) (f : Tree → Outcome) → AreSound w ts → ((a : Tree) → IsRegular w a → IsSound w (f a)) → IsSound w (of_one_argument ts f)
   one_sound [] f s h = tt
   one_sound (a ∷ []) f s h = h a s.0
   one_sound (a ∷ b ∷ ts) f s h = tt
 
-  one_sound_light : (ts : List Tree) (f : Tree → Outcome) → AreLight ts → ((a : Tree) → weight_of a ≤ 131072 → IsSound w (f a)) → IsSound w (one ts f)
+  one_sound_light : (ts : List Tree) (f : Tree → Outcome) → AreLight ts → ((a : Tree) → weight_of a ≤ 131072 → IsSound w (f a)) → IsSound w (of_one_argument ts f)
   one_sound_light [] f l h = tt
   one_sound_light (a ∷ []) f l h = h a l.0
   one_sound_light (a ∷ b ∷ ts) f l h = tt
 
-  two_sound : (ts : List Tree) (f : Tree → Tree → Outcome) → AreSound w ts → ((a b : Tree) → IsRegular w a → IsRegular w b → IsSound w (f a b)) → IsSound w (two ts f)
+  two_sound : (ts : List Tree) (f : Tree → Tree → Outcome) → AreSound w ts → ((a b : Tree) → IsRegular w a → IsRegular w b → IsSound w (f a b)) → IsSound w (of_two_arguments ts f)
   two_sound [] f s h = tt
   two_sound (a ∷ []) f s h = tt
   two_sound (a ∷ b ∷ []) f s h = h a b s.0 s.1.0
@@ -58,8 +58,8 @@ module _ (w : Scalars) where
   one_and_more_sound (a ∷ us) f s h = h a us s.0 s.1
 
   pub answer_sound : (b : Builtin) (ts : List Tree) → AreSound w ts → AreLight ts → IsSound w (answer b ts)
-  answer_sound Builtin.Add ts s l = all_numbers w (running ◌+ℤ◌ (pos 0)) ts s (λ zs i. running_is w ◌+ℤ◌ (pos 0) zs (whole w (pos 0) refl))
-  answer_sound Builtin.Multiply ts s l = all_numbers w (running ◌*ℤ◌ (pos 1)) ts s (λ zs i. running_is w ◌*ℤ◌ (pos 1) zs (whole w (pos 1) refl))
+  answer_sound Builtin.Add ts s l = all_numbers w (folded_in_range ◌+ℤ◌ (pos 0)) ts s (λ zs i. running_is w ◌+ℤ◌ (pos 0) zs (whole w (pos 0) refl))
+  answer_sound Builtin.Multiply ts s l = all_numbers w (folded_in_range ◌*ℤ◌ (pos 1)) ts s (λ zs i. running_is w ◌*ℤ◌ (pos 1) zs (whole w (pos 1) refl))
   answer_sound Builtin.Subtract ts s l = all_numbers w difference_of ts s (λ zs i. difference_is w zs i)
   answer_sound Builtin.Inc ts s l = one_sound ts _ s (λ a p. one_number w (λ z. in_range (z +ℤ pos 1)) a p (λ z i. in_range_is w (z +ℤ pos 1)))
   answer_sound Builtin.Dec ts s l = one_sound ts _ s (λ a p. one_number w (λ z. in_range (z -ℤ pos 1)) a p (λ z i. in_range_is w (z -ℤ pos 1)))
@@ -72,8 +72,8 @@ module _ (w : Scalars) where
   answer_sound Builtin.Greater ts s l = truth_sound w _
   answer_sound Builtin.LessOrEqual ts s l = truth_sound w _
   answer_sound Builtin.GreaterOrEqual ts s l = truth_sound w _
-  answer_sound Builtin.Min ts s l = all_numbers w (chosen int_min) ts s (λ zs i. least_is w zs i)
-  answer_sound Builtin.Max ts s l = all_numbers w (chosen int_max) ts s (λ zs i. greatest_is w zs i)
+  answer_sound Builtin.Min ts s l = all_numbers w (preferred int_min) ts s (λ zs i. least_is w zs i)
+  answer_sound Builtin.Max ts s l = all_numbers w (preferred int_max) ts s (λ zs i. greatest_is w zs i)
   answer_sound Builtin.Not ts s l = one_sound ts _ s (λ a p. tt)
   answer_sound Builtin.IsNil ts s l = one_sound ts _ s (λ a p. tt)
   answer_sound Builtin.IsSome ts s l = one_sound ts _ s (λ a p. tt)
@@ -90,7 +90,7 @@ module _ (w : Scalars) where
   answer_sound Builtin.Conj ts s l = one_and_more_sound ts _ s (λ a us p q. appended_sound w a us p q)
   answer_sound Builtin.Nth ts s l = two_or_three_sound ts _ s (λ c i d p q. nth_sound w c i d p q)
   answer_sound Builtin.Get ts s l = two_or_three_sound ts _ s (λ c k d p q. get_of_sound w c k (unwrap_or d nil) p (unwrap_sound w d nil q tt))
-  answer_sound Builtin.Count ts s l = one_sound_light ts _ l (λ a h. number_sound w (count_of a) (count_is w a h))
+  answer_sound Builtin.Count ts s l = one_sound_light ts _ l (λ a h. number_sound w (count_answer a) (count_is w a h))
   answer_sound Builtin.IsEmpty ts s l = one_sound ts _ s (λ a p. truth_sound w _)
   answer_sound Builtin.First ts s l = one_sound ts _ s (λ a p. first_sound w a p)
   answer_sound Builtin.Last ts s l = one_sound ts _ s (λ a p. last_sound w a p)

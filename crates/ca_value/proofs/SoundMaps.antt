@@ -9,7 +9,7 @@ use Rattle.ca_value.specs.Tree.{Tree, nil, int, text, vector, map as map_tree, i
 use Rattle.ca_value.specs.Equality.{equals}
 use Rattle.ca_value.specs.IsValue.{Scalars, IsRegular, KeysDiffer}
 use Rattle.ca_value.specs.Kinds.{integer_of, mapping_of, vector_from, map_from}
-use Rattle.ca_value.specs.Maps.{place_of, value_at, put, put_all, without, without_all, paired, item_under, get_of, item_set, all_set, places_of, items_assoc, assoc_of, dissoc_of, vector_or_nil, keys_of, values_of, pair_vector, walked}
+use Rattle.ca_value.specs.Maps.{key_place, value_at, put_pair, put_all, without_pair, without_all, paired, item_under, get_of, item_set, all_set, places_of, items_assoc, assoc_of, dissoc_of, vector_or_nil, keys_of, values_of_map, pair_vector, walked}
 use Rattle.ca_value.proofs.Lists.{entries_of_pairs_of}
 use Rattle.ca_value.proofs.MapLaws.{IsAtPlace, at_place, absent}
 use Rattle.ca_value.proofs.Sound.{AreSound, PairsAreSound, IsSoundOption, AnswerIs, IsSound, goes_on, goes_on_any, choice_sound, trees_sound, items_sound, pairs_sound, entries_sound, mapping_of_sound, append_sound, set_sound, unwrap_sound}
@@ -34,40 +34,40 @@ module _ (w : Scalars) where
   value_at_sound (p ∷ ps) k s = choice_sound (IsSoundOption w) (equals k p.0) (Some p.1) (value_at ps k) s.1 (value_at_sound ps k s.2)
 
   -- the parts after a put, and without a key
-  put_parts : (ps : List (Tree × Tree)) (k v : Tree) → PairsAreSound w ps → IsRegular w k → IsRegular w v → PairsAreSound w (put ps k v)
+  put_parts : (ps : List (Tree × Tree)) (k v : Tree) → PairsAreSound w ps → IsRegular w k → IsRegular w v → PairsAreSound w (put_pair ps k v)
   put_parts [] k v s a b = (a, b, tt)
-  put_parts (p ∷ ps) k v s a b = choice_sound (PairsAreSound w) (equals k p.0) ((p.0, v) ∷ ps) (p ∷ put ps k v) (s.0, b, s.2) (s.0, s.1, put_parts ps k v s.2 a b)
+  put_parts (p ∷ ps) k v s a b = choice_sound (PairsAreSound w) (equals k p.0) ((p.0, v) ∷ ps) (p ∷ put_pair ps k v) (s.0, b, s.2) (s.0, s.1, put_parts ps k v s.2 a b)
 
-  without_parts : (ps : List (Tree × Tree)) (k : Tree) → PairsAreSound w ps → PairsAreSound w (without ps k)
+  without_parts : (ps : List (Tree × Tree)) (k : Tree) → PairsAreSound w ps → PairsAreSound w (without_pair ps k)
   without_parts [] k s = tt
-  without_parts (p ∷ ps) k s = choice_sound (PairsAreSound w) (equals k p.0) ps (p ∷ without ps k) s.2 (s.0, s.1, without_parts ps k s.2)
+  without_parts (p ∷ ps) k s = choice_sound (PairsAreSound w) (equals k p.0) ps (p ∷ without_pair ps k) s.2 (s.0, s.1, without_parts ps k s.2)
 
   -- a key that has no place is equal to no key
-  unequal_step : (p : Tree × Tree) (ps : List (Tree × Tree)) (k : Tree) (b : Bool) → equals k p.0 ≡ b → (o : Option ℕ) → place_of ps k ≡ o → place_of (p ∷ ps) k ≡ None → (equals k p.0 ≡ false) × (place_of ps k ≡ None)
+  unequal_step : (p : Tree × Tree) (ps : List (Tree × Tree)) (k : Tree) (b : Bool) → equals k p.0 ≡ b → (o : Option ℕ) → key_place ps k ≡ o → key_place (p ∷ ps) k ≡ None → (equals k p.0 ≡ false) × (key_place ps k ≡ None)
   unequal_step p ps k true e o d h = absurd (none-some 0 (sym (rw e at h)))
   unequal_step p ps k false e None d h = (e, d)
   unequal_step p ps k false e (Some i) d h = absurd (none-some (i + 1) (sym (rw (e, d) at h)))
 
-  unequal : (ps : List (Tree × Tree)) (k : Tree) → place_of ps k ≡ None → (j : ℕ) (d : Tree) → j < length (keys ps) → equals k (slice_index_or (keys ps) j d) ≡ false
+  unequal : (ps : List (Tree × Tree)) (k : Tree) → key_place ps k ≡ None → (j : ℕ) (d : Tree) → j < length (keys ps) → equals k (slice_index_or (keys ps) j d) ≡ false
   unequal [] k h j d l = absurd (omega arith)
-  unequal (p ∷ ps) k h zero d l = (unequal_step p ps k (equals k p.0) refl (place_of ps k) refl h).0
-  unequal (p ∷ ps) k h (suc j) d l = unequal ps k (unequal_step p ps k (equals k p.0) refl (place_of ps k) refl h).1 j d (omega arith)
+  unequal (p ∷ ps) k h zero d l = (unequal_step p ps k (equals k p.0) refl (key_place ps k) refl h).0
+  unequal (p ∷ ps) k h (suc j) d l = unequal ps k (unequal_step p ps k (equals k p.0) refl (key_place ps k) refl h).1 j d (omega arith)
 
   -- a put keeps the keys, or adds one that differs from all
-  put_keys : (ps : List (Tree × Tree)) (k v : Tree) (i : ℕ) → IsAtPlace ps k i → keys (put ps k v) ≡ keys ps
+  put_keys : (ps : List (Tree × Tree)) (k v : Tree) (i : ℕ) → IsAtPlace ps k i → keys (put_pair ps k v) ≡ keys ps
   put_keys ps k v i at =
       ap keys (at.set v)
       ∙ map-set (λ (p : Tree × Tree). p.0) ps i ((slice_index_or ps i (nil, nil)).0, v)
       ∙ ap (slice_set (keys ps) i) (sym (get_or-map (λ (p : Tree × Tree). p.0) ps i (nil, nil) nil at.within))
       ∙ set-get_or (keys ps) i nil
 
-  put_differ : (ps : List (Tree × Tree)) (k v : Tree) (o : Option ℕ) → place_of ps k ≡ o → KeysDiffer ps → KeysDiffer (put ps k v)
+  put_differ : (ps : List (Tree × Tree)) (k v : Tree) (o : Option ℕ) → key_place ps k ≡ o → KeysDiffer ps → KeysDiffer (put_pair ps k v)
   put_differ ps k v (Some i) e h =
       let P : List Tree → Type 0 = λ ks. AllPairs (λ k l. equals l k ≡ false) ks in
       subst P (sym (put_keys ps k v i (at_place ps k i e))) h
   put_differ ps k v None e h =
       let P : List Tree → Type 0 = λ ks. AllPairs (λ k l. equals l k ≡ false) ks in
-      let added : keys (put ps k v) ≡ keys ps ++ k ∷ [] = ap keys ((absent ps k e).added v) ∙ map_push (λ (p : Tree × Tree). p.0) ps (k, v) in
+      let added : keys (put_pair ps k v) ≡ keys ps ++ k ∷ [] = ap keys ((absent ps k e).added v) ∙ map_push (λ (p : Tree × Tree). p.0) ps (k, v) in
       subst P (sym added) (all_pairs_push (λ a b. equals b a ≡ false) (keys ps) k h (λ j d l. unequal ps k e j d l))
 
   keys_remove : (ps : List (Tree × Tree)) (i : ℕ) → keys (remove ps i) ≡ remove (keys ps) i
@@ -76,7 +76,7 @@ module _ (w : Scalars) where
       ∙ ap (λ ys. ys ++ keys (drop (suc i) ps)) (sym (take-map (λ (p : Tree × Tree). p.0) i ps))
       ∙ ap (λ ys. take i (keys ps) ++ ys) (sym (drop-map (λ (p : Tree × Tree). p.0) (suc i) ps))
 
-  without_differ : (ps : List (Tree × Tree)) (k : Tree) (o : Option ℕ) → place_of ps k ≡ o → KeysDiffer ps → KeysDiffer (without ps k)
+  without_differ : (ps : List (Tree × Tree)) (k : Tree) (o : Option ℕ) → key_place ps k ≡ o → KeysDiffer ps → KeysDiffer (without_pair ps k)
   without_differ ps k (Some i) e h =
       let P : List Tree → Type 0 = λ ks. AllPairs (λ k l. equals l k ≡ false) ks in
       let at = at_place ps k i e in
@@ -87,19 +87,19 @@ module _ (w : Scalars) where
       let P : List (Tree × Tree) → Type 0 = λ qs. KeysDiffer qs in
       subst P (sym (absent ps k e).same) h
 
-  put_sound : (ps : List (Tree × Tree)) (k v : Tree) → IsSoundMap ps → IsRegular w k → IsRegular w v → IsSoundMap (put ps k v)
-  put_sound ps k v s a b = record { differ = put_differ ps k v (place_of ps k) refl s.differ; parts = put_parts ps k v s.parts a b }
+  put_sound : (ps : List (Tree × Tree)) (k v : Tree) → IsSoundMap ps → IsRegular w k → IsRegular w v → IsSoundMap (put_pair ps k v)
+  put_sound ps k v s a b = record { differ = put_differ ps k v (key_place ps k) refl s.differ; parts = put_parts ps k v s.parts a b }
 
-  without_sound : (ps : List (Tree × Tree)) (k : Tree) → IsSoundMap ps → IsSoundMap (without ps k)
-  without_sound ps k s = record { differ = without_differ ps k (place_of ps k) refl s.differ; parts = without_parts ps k s.parts }
+  without_sound : (ps : List (Tree × Tree)) (k : Tree) → IsSoundMap ps → IsSoundMap (without_pair ps k)
+  without_sound ps k s = record { differ = without_differ ps k (key_place ps k) refl s.differ; parts = without_parts ps k s.parts }
 
   put_all_sound : (qs ps : List (Tree × Tree)) → IsSoundMap ps → PairsAreSound w qs → IsSoundMap (put_all ps qs)
   put_all_sound [] ps s r = s
-  put_all_sound (q ∷ qs) ps s r = put_all_sound qs (put ps q.0 q.1) (put_sound ps q.0 q.1 s r.0 r.1) r.2
+  put_all_sound (q ∷ qs) ps s r = put_all_sound qs (put_pair ps q.0 q.1) (put_sound ps q.0 q.1 s r.0 r.1) r.2
 
   without_all_sound : (ks : List Tree) (ps : List (Tree × Tree)) → IsSoundMap ps → IsSoundMap (without_all ps ks)
   without_all_sound [] ps s = s
-  without_all_sound (k ∷ ks) ps s = without_all_sound ks (without ps k) (without_sound ps k s)
+  without_all_sound (k ∷ ks) ps s = without_all_sound ks (without_pair ps k) (without_sound ps k s)
 
   empty_sound : IsSoundMap []
   empty_sound = record { differ = λ i j d h l. absurd (omega arith); parts = tt }
@@ -175,7 +175,7 @@ module _ (w : Scalars) where
   pub keys_sound : (c : Tree) → IsRegular w c → IsSound w (keys_of c)
   keys_sound c s = goes_on (PairsAreSound w) (IsRegular w) (mapping_of c) _ (mapping_of_sound w c s) (λ ps p. vector_or_nil_sound (map (λ (p : Tree × Tree). p.0) ps) (firsts_sound ps p))
 
-  pub values_sound : (c : Tree) → IsRegular w c → IsSound w (values_of c)
+  pub values_sound : (c : Tree) → IsRegular w c → IsSound w (values_of_map c)
   values_sound c s = goes_on (PairsAreSound w) (IsRegular w) (mapping_of c) _ (mapping_of_sound w c s) (λ ps p. vector_or_nil_sound (map (λ (p : Tree × Tree). p.1) ps) (seconds_sound ps p))
 
   pair_vectors_sound : (ps : List (Tree × Tree)) → PairsAreSound w ps → AreSound w (map pair_vector ps)

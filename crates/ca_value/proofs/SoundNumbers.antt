@@ -8,10 +8,10 @@ use Rattle.ca_value.specs.declared.fault.ValueFault.TheVariants.{Overflow, ZeroD
 use Rattle.ca_value.specs.Tree.{Tree, Trees, TreePairs, nil, bool, int, text, key, vector, map, port, none, item, empty, pair, items_of, entries_of}
 use Rattle.ca_value.specs.Measure.{weight_of, weight_of_items, weight_of_pairs}
 use Rattle.ca_value.specs.IsValue.{Scalars, any, written, IsInteger, IsRegular}
-use Rattle.ca_value.specs.Outcome.{Answer, number}
+use Rattle.ca_value.specs.Outcome.{Answer, number_outcome}
 use Rattle.ca_value.specs.Kinds.{integer_of, integers_of, with_integer, with_two, with_integers}
-use Rattle.ca_value.specs.Numbers.{fits_64, lies_within, in_range, running, difference_of, is_zero, quotient_of, remainder_of, floored, modulus_of, chosen, worker_count_of}
-use Rattle.ca_value.specs.Maps.{count_of}
+use Rattle.ca_value.specs.Numbers.{fits_64, lies_within, in_range, folded_in_range, difference_of, is_zero, quotient_of, remainder_of, floored, modulus_of, preferred, worker_count_of}
+use Rattle.ca_value.specs.Maps.{count_answer}
 use Rattle.ca_value.specs.Vectors.{distance_of, integers_from, bounds_of}
 use Rattle.ca_value.proofs.RangeLaws.{integers_from_more}
 use Rattle.ca_value.proofs.Sound.{AreSound, IsSoundOption, AnswerIs, IsSound, goes_on, choice_sound, append_sound}
@@ -79,7 +79,7 @@ pub modulus_is : (w : Scalars) (a b : ℤ) → IsInteger w a → IsInteger w b �
 modulus_is any a b i j = any_number (modulus_of a b)
 modulus_is written a b i j = choice_sound (AnswerIs (IsInteger written)) (is_zero b) (Err ZeroDivisor) (Ok (floored (int_rem a b) b)) tt (floored_fits (int_rem a b) b (rem_fits a b i) j)
 
-pub count_is : (w : Scalars) (c : Tree) → weight_of c ≤ 131072 → AnswerIs (IsInteger w) (count_of c)
+pub count_is : (w : Scalars) (c : Tree) → weight_of c ≤ 131072 → AnswerIs (IsInteger w) (count_answer c)
 count_is w (map ps) h = whole w (pos (length (entries_of ps))) (mag_fits (pos (length (entries_of ps))) (omega (arith, entries_counted ps, h)))
 count_is w (vector ts) h = whole w (pos (length (items_of ts))) (mag_fits (pos (length (items_of ts))) (omega (arith, items_counted ts, h)))
 count_is w nil h = whole w (pos 0) refl
@@ -107,7 +107,7 @@ module _ (w : Scalars) where
   AreIntegers [] = Unit {0}
   AreIntegers (z ∷ zs) = IsInteger w z × AreIntegers zs
 
-  pub number_sound : (o : Answer ℤ) → IsNumber o → IsSound w (number o)
+  pub number_sound : (o : Answer ℤ) → IsNumber o → IsSound w (number_outcome o)
   number_sound (Ok z) i = i
   number_sound (Err f) i = tt
 
@@ -122,15 +122,15 @@ module _ (w : Scalars) where
       goes_on (IsInteger w) AreIntegers (integer_of t) _ (integer_is t s.0)
       (λ z i. goes_on AreIntegers AreIntegers (integers_of ts) (λ zs. Ok (z ∷ zs)) (integers_are ts s.1) (λ zs j. (i, j)))
 
-  pub one_number : (f : ℤ → Answer ℤ) (t : Tree) → IsRegular w t → ((z : ℤ) → IsInteger w z → IsNumber (f z)) → IsSound w (number (with_integer f t))
+  pub one_number : (f : ℤ → Answer ℤ) (t : Tree) → IsRegular w t → ((z : ℤ) → IsInteger w z → IsNumber (f z)) → IsSound w (number_outcome (with_integer f t))
   one_number f t s h = number_sound (with_integer f t) (goes_on (IsInteger w) (IsInteger w) (integer_of t) f (integer_is t s) h)
 
-  pub two_numbers : (f : ℤ → ℤ → Answer ℤ) (t u : Tree) → IsRegular w t → IsRegular w u → ((x y : ℤ) → IsInteger w x → IsInteger w y → IsNumber (f x y)) → IsSound w (number (with_two f t u))
+  pub two_numbers : (f : ℤ → ℤ → Answer ℤ) (t u : Tree) → IsRegular w t → IsRegular w u → ((x y : ℤ) → IsInteger w x → IsInteger w y → IsNumber (f x y)) → IsSound w (number_outcome (with_two f t u))
   two_numbers f t u s r h =
       number_sound (with_two f t u) (goes_on (IsInteger w) (IsInteger w) (integer_of t) _ (integer_is t s)
       (λ x i. goes_on (IsInteger w) (IsInteger w) (integer_of u) (λ y. f x y) (integer_is u r) (λ y j. h x y i j)))
 
-  pub all_numbers : (f : List ℤ → Answer ℤ) (ts : List Tree) → AreSound w ts → ((zs : List ℤ) → AreIntegers zs → IsNumber (f zs)) → IsSound w (number (with_integers f ts))
+  pub all_numbers : (f : List ℤ → Answer ℤ) (ts : List Tree) → AreSound w ts → ((zs : List ℤ) → AreIntegers zs → IsNumber (f zs)) → IsSound w (number_outcome (with_integers f ts))
   all_numbers f ts s h = number_sound (with_integers f ts) (goes_on AreIntegers (IsInteger w) (integers_of ts) f (integers_are ts s) h)
 
   -- the numbers that it answers
@@ -140,9 +140,9 @@ module _ (w : Scalars) where
       goes_on (IsInteger w) _ (integer_of a) _ (integer_is a s)
       (λ low i. goes_on (IsInteger w) _ (integer_of b) (λ high. Ok (low, high)) (integer_is b r) (λ high j. (i, j)))
 
-  pub running_is : (f : ℤ → ℤ → ℤ) (a : ℤ) (bs : List ℤ) → IsInteger w a → IsNumber (running f a bs)
+  pub running_is : (f : ℤ → ℤ → ℤ) (a : ℤ) (bs : List ℤ) → IsInteger w a → IsNumber (folded_in_range f a bs)
   running_is f a [] i = i
-  running_is f a (b ∷ bs) i = goes_on (IsInteger w) (IsInteger w) (in_range (f a b)) (λ c. running f c bs) (in_range_is w (f a b)) (λ c j. running_is f c bs j)
+  running_is f a (b ∷ bs) i = goes_on (IsInteger w) (IsInteger w) (in_range (f a b)) (λ c. folded_in_range f c bs) (in_range_is w (f a b)) (λ c j. running_is f c bs j)
 
   pub difference_is : (zs : List ℤ) → AreIntegers zs → IsNumber (difference_of zs)
   difference_is [] i = tt
@@ -156,14 +156,14 @@ module _ (w : Scalars) where
   folded f a [] h i j = i
   folded f a (z ∷ zs) h i j = folded f (f a z) zs h (h a z i j.0) j.1
 
-  chosen_is : (f : ℤ → ℤ → ℤ) (zs : List ℤ) → ((x y : ℤ) → IsInteger w x → IsInteger w y → IsInteger w (f x y)) → AreIntegers zs → IsNumber (chosen f zs)
+  chosen_is : (f : ℤ → ℤ → ℤ) (zs : List ℤ) → ((x y : ℤ) → IsInteger w x → IsInteger w y → IsInteger w (f x y)) → AreIntegers zs → IsNumber (preferred f zs)
   chosen_is f [] h i = tt
   chosen_is f (a ∷ bs) h i = folded f a bs h i.0 i.1
 
-  pub least_is : (zs : List ℤ) → AreIntegers zs → IsNumber (chosen int_min zs)
+  pub least_is : (zs : List ℤ) → AreIntegers zs → IsNumber (preferred int_min zs)
   least_is zs i = chosen_is int_min zs (λ x y p q. choice_sound (IsInteger w) (int_lt y x) y x q p) i
 
-  pub greatest_is : (zs : List ℤ) → AreIntegers zs → IsNumber (chosen int_max zs)
+  pub greatest_is : (zs : List ℤ) → AreIntegers zs → IsNumber (preferred int_max zs)
   greatest_is zs i = chosen_is int_max zs (λ x y p q. choice_sound (IsInteger w) (int_lt y x) x y p q) i
 
   pub integers_sound : (low high : ℤ) (n : ℕ) → n ≤ distance_of low high → IsInteger w low → IsInteger w high → AreSound w (integers_from low n)

@@ -6,7 +6,7 @@ use Rattle.ca_value.specs.declared.value.Pair.{Pair}
 use Rattle.ca_value.specs.Pairs.{pairs_list}
 use Rattle.ca_value.specs.View.{trees, tree_pairs, pairs_view, pair_view}
 use Rattle.ca_value.specs.Tree.{TreePairs}
-use Rattle.ca_value.specs.Equality.{equals, equal_items, pair_count, within, has_pair}
+use Rattle.ca_value.specs.Equality.{equals, equal_items, pair_count, is_map_within, has_pair}
 
 pub pair_count-tree_pairs : (ps : List Pair) → pair_count (tree_pairs ps) ≡ length ps
 pair_count-tree_pairs [] = refl
@@ -27,5 +27,5 @@ equal_items-lengths (x ∷ xs) [] h = refl
 equal_items-lengths (x ∷ xs) (y ∷ ys) h =
     let rest = equal_items-lengths xs ys (λ e. h (ap suc e)) in rw rest (and-false _)
 
-pub within-next : (l : List Pair) (i : ℕ) (x : Pair) (b : TreePairs) → x ≡ get_or l i x → i < length l → within (tree_pairs (drop i l)) b ≡ has_pair (equals (pair_view x).0) (equals (pair_view x).1) b && within (tree_pairs (drop (i + 1) l)) b
+pub within-next : (l : List Pair) (i : ℕ) (x : Pair) (b : TreePairs) → x ≡ get_or l i x → i < length l → is_map_within (tree_pairs (drop i l)) b ≡ has_pair (equals (pair_view x).0) (equals (pair_view x).1) b && is_map_within (tree_pairs (drop (i + 1) l)) b
 within-next l i x b e h = rw (drop-cons l i x, ← e, add-one) refl

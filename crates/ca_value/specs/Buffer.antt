@@ -57,17 +57,17 @@ drop_by promise_buffer full [] v = None
 drop_by promise_buffer full (w ∷ ws) v = Some v
 
 -- the value that is dropped then
-abbrev pub dropped : Policy → ℕ → List Tree → Tree → Option Tree
-dropped policy capacity vs v = drop_by policy (is_full capacity vs) vs v
+abbrev pub value_dropped : Policy → ℕ → List Tree → Tree → Option Tree
+value_dropped policy capacity vs v = drop_by policy (is_full capacity vs) vs v
 
 -- the list after its first value was given; a promise gives it ever after
-abbrev pub give : Policy → List Tree → List Tree
-give no_buffer vs = without_first vs
-give fixed_buffer vs = without_first vs
-give dropping_buffer vs = without_first vs
-give sliding_buffer vs = without_first vs
-give promise_buffer vs = vs
+abbrev pub give_first : Policy → List Tree → List Tree
+give_first no_buffer vs = without_first vs
+give_first fixed_buffer vs = without_first vs
+give_first dropping_buffer vs = without_first vs
+give_first sliding_buffer vs = without_first vs
+give_first promise_buffer vs = vs
 
 -- the value that leaves then; none leaves a promise
-abbrev pub given : Policy → List Tree → Option Tree
-given policy vs = cond (is_promise policy) None (slice_get vs 0)
+abbrev pub value_given : Policy → List Tree → Option Tree
+value_given policy vs = cond (is_promise policy) None (slice_get vs 0)

@@ -24,7 +24,7 @@ abbrev mutual
   equals (text a) (text b) = bytes_eq a b
   equals (key a) (key b) = bytes_eq a b
   equals (vector a) (vector b) = equal_items a b
-  equals (map a) (map b) = (pair_count a == pair_count b) && within a b
+  equals (map a) (map b) = (pair_count a == pair_count b) && is_map_within a b
   equals (port a) (port b) = a == b
   equals a b = false
 
@@ -34,9 +34,9 @@ abbrev mutual
   equal_items ts us = false
 
   -- each pair of the first map is in the second
-  pub within : TreePairs → TreePairs → Bool
-  within empty b = true
-  within (pair k v a) b = has_pair (equals k) (equals v) b && within a b
+  pub is_map_within : TreePairs → TreePairs → Bool
+  is_map_within empty b = true
+  is_map_within (pair k v a) b = has_pair (equals k) (equals v) b && is_map_within a b
 
 -- a pair with an equal key is there
 abbrev pub has_key : Tree → TreePairs → Bool

@@ -14,27 +14,27 @@ value_at [] k = None
 value_at (p ∷ ps) k = if equals k p.0 then Some p.1 else value_at ps k
 
 -- the place of a key, if it is there
-abbrev pub place_of : List (Tree × Tree) → Tree → Option ℕ
-place_of [] k = None
-place_of (p ∷ ps) k = if equals k p.0 then Some 0 else option_map (λ n. n + 1) (place_of ps k)
+abbrev pub key_place : List (Tree × Tree) → Tree → Option ℕ
+key_place [] k = None
+key_place (p ∷ ps) k = if equals k p.0 then Some 0 else option_map (λ n. n + 1) (key_place ps k)
 
 -- the value takes the place of an equal key's, else the pair stands last
-abbrev pub put : List (Tree × Tree) → Tree → Tree → List (Tree × Tree)
-put [] k v = (k, v) ∷ []
-put (p ∷ ps) k v = if equals k p.0 then ((p.0, v) ∷ ps) else (p ∷ put ps k v)
+abbrev pub put_pair : List (Tree × Tree) → Tree → Tree → List (Tree × Tree)
+put_pair [] k v = (k, v) ∷ []
+put_pair (p ∷ ps) k v = if equals k p.0 then ((p.0, v) ∷ ps) else (p ∷ put_pair ps k v)
 
 abbrev pub put_all : List (Tree × Tree) → List (Tree × Tree) → List (Tree × Tree)
 put_all ps [] = ps
-put_all ps (q ∷ qs) = put_all (put ps q.0 q.1) qs
+put_all ps (q ∷ qs) = put_all (put_pair ps q.0 q.1) qs
 
 -- the pair of the key is left out
-abbrev pub without : List (Tree × Tree) → Tree → List (Tree × Tree)
-without [] k = []
-without (p ∷ ps) k = if equals k p.0 then ps else (p ∷ without ps k)
+abbrev pub without_pair : List (Tree × Tree) → Tree → List (Tree × Tree)
+without_pair [] k = []
+without_pair (p ∷ ps) k = if equals k p.0 then ps else (p ∷ without_pair ps k)
 
 abbrev pub without_all : List (Tree × Tree) → List Tree → List (Tree × Tree)
 without_all ps [] = ps
-without_all ps (k ∷ ks) = without_all (without ps k) ks
+without_all ps (k ∷ ks) = without_all (without_pair ps k) ks
 
 -- keys and values that stand in turn
 abbrev pub paired : List Tree → List (Tree × Tree)
@@ -58,14 +58,14 @@ contains_of (vector ts) k = Ok (is_some (item_under (items_of ts) k))
 contains_of nil k = Ok false
 contains_of t k = Err WrongKind
 
-abbrev pub count_of : Tree → Answer ℤ
-count_of (map ps) = Ok (pos (length (entries_of ps)))
-count_of (vector ts) = Ok (pos (length (items_of ts)))
-count_of nil = Ok (pos 0)
-count_of t = Err WrongKind
+abbrev pub count_answer : Tree → Answer ℤ
+count_answer (map ps) = Ok (pos (length (entries_of ps)))
+count_answer (vector ts) = Ok (pos (length (items_of ts)))
+count_answer nil = Ok (pos 0)
+count_answer t = Err WrongKind
 
 abbrev pub is_empty_of : Tree → Answer Bool
-is_empty_of c = count_of c >>= λ n. Ok (is_zero n)
+is_empty_of c = count_answer c >>= λ n. Ok (is_zero n)
 
 -- an item set at a place within the list, or at its end
 abbrev pub item_set : List Tree → ℤ → Tree → Answer (List Tree)
@@ -108,8 +108,8 @@ halves_of f c = mapping_of c >>= λ ps. Ok (vector_or_nil (map_list f ps))
 abbrev pub keys_of : Tree → Outcome
 keys_of c = halves_of (λ p. p.0) c
 
-abbrev pub values_of : Tree → Outcome
-values_of c = halves_of (λ p. p.1) c
+abbrev pub values_of_map : Tree → Outcome
+values_of_map c = halves_of (λ p. p.1) c
 
 abbrev pub pair_vector : Tree × Tree → Tree
 pair_vector p = vector_from (p.0 ∷ p.1 ∷ [])

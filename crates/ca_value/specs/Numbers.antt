@@ -17,15 +17,15 @@ abbrev pub in_range : ℤ → Answer ℤ
 in_range z = if fits_64 z then Ok z else Err Overflow
 
 -- from left to right, each partial result in range
-abbrev pub running : (ℤ → ℤ → ℤ) → ℤ → List ℤ → Answer ℤ
-running f a [] = Ok a
-running f a (b ∷ bs) = in_range (f a b) >>= λ c. running f c bs
+abbrev pub folded_in_range : (ℤ → ℤ → ℤ) → ℤ → List ℤ → Answer ℤ
+folded_in_range f a [] = Ok a
+folded_in_range f a (b ∷ bs) = in_range (f a b) >>= λ c. folded_in_range f c bs
 
 -- the negation of one number, or the first less the others
 abbrev pub difference_of : List ℤ → Answer ℤ
 difference_of [] = Err WrongKind
 difference_of (a ∷ []) = in_range (neg_ℤ a)
-difference_of (a ∷ b ∷ bs) = running ◌-ℤ◌ a (b ∷ bs)
+difference_of (a ∷ b ∷ bs) = folded_in_range ◌-ℤ◌ a (b ∷ bs)
 
 abbrev pub is_zero : ℤ → Bool
 is_zero z = int_eq z (pos 0)
@@ -49,18 +49,18 @@ abbrev pub modulus_of : ℤ → ℤ → Answer ℤ
 modulus_of a b = if is_zero b then Err ZeroDivisor else Ok (floored (int_rem a b) b)
 
 -- the first of the numbers that the choice prefers to all others
-abbrev pub chosen : (ℤ → ℤ → ℤ) → List ℤ → Answer ℤ
-chosen f [] = Err WrongKind
-chosen f (a ∷ bs) = Ok (fold f a bs)
+abbrev pub preferred : (ℤ → ℤ → ℤ) → List ℤ → Answer ℤ
+preferred f [] = Err WrongKind
+preferred f (a ∷ bs) = Ok (fold f a bs)
 
 -- each number and the next stand in this order
 abbrev pub rising : (ℤ → ℤ → Bool) → ℤ → List ℤ → Bool
 rising r a [] = true
 rising r a (b ∷ bs) = r a b && rising r b bs
 
-abbrev pub in_order : (ℤ → ℤ → Bool) → List ℤ → Answer Bool
-in_order r [] = Err WrongKind
-in_order r (a ∷ bs) = Ok (rising r a bs)
+abbrev pub are_in_order : (ℤ → ℤ → Bool) → List ℤ → Answer Bool
+are_in_order r [] = Err WrongKind
+are_in_order r (a ∷ bs) = Ok (rising r a bs)
 
 abbrev pub worker_count_of : ℤ → Answer ℤ
 worker_count_of z = if lies_within (pos 1) (pos 64) z then Ok z else Err OutOfRange

@@ -21,13 +21,13 @@ abbrev pub ◌>>=◌ : {A B : Type 0} → Answer A → (A → Answer B) → Answ
 Ok x >>= f = f x
 Err e >>= f = Err e
 
-abbrev pub number : Answer ℤ → Outcome
-number (Ok z) = Ok (int z)
-number (Err f) = Err f
+abbrev pub number_outcome : Answer ℤ → Outcome
+number_outcome (Ok z) = Ok (int z)
+number_outcome (Err f) = Err f
 
-abbrev pub truth : Answer Bool → Outcome
-truth (Ok b) = Ok (bool b)
-truth (Err f) = Err f
+abbrev pub truth_outcome : Answer Bool → Outcome
+truth_outcome (Ok b) = Ok (bool b)
+truth_outcome (Err f) = Err f
 
 -- a result weighs at most 65,536 and is at most 64 deep; the weight is tested first
 abbrev pub judged : Outcome → Outcome
@@ -38,13 +38,13 @@ judged (Ok t) =
 judged (Err f) = Err f
 
 -- by the number of arguments; a list of another length has no meaning
-abbrev pub one : List Tree → (Tree → Outcome) → Outcome
-one (a ∷ []) f = f a
-one ts f = Err WrongKind
+abbrev pub of_one_argument : List Tree → (Tree → Outcome) → Outcome
+of_one_argument (a ∷ []) f = f a
+of_one_argument ts f = Err WrongKind
 
-abbrev pub two : List Tree → (Tree → Tree → Outcome) → Outcome
-two (a ∷ b ∷ []) f = f a b
-two ts f = Err WrongKind
+abbrev pub of_two_arguments : List Tree → (Tree → Tree → Outcome) → Outcome
+of_two_arguments (a ∷ b ∷ []) f = f a b
+of_two_arguments ts f = Err WrongKind
 
 abbrev pub one_or_two : List Tree → (Tree → Option Tree → Outcome) → Outcome
 one_or_two (a ∷ []) f = f a None

@@ -9,8 +9,8 @@ use Rattle.ca_value.specs.Tree.{Tree, Trees, TreePairs, nil, bool, int, text, ke
 abbrev pub bool_text : Bool → List ℕ
 bool_text b = cond b (codes "true") (codes "false")
 
-abbrev pub port_text : ℕ → List ℕ
-port_text n = codes "#port " ++ decimal n
+abbrev pub port_printed : ℕ → List ℕ
+port_printed n = codes "#port " ++ decimal n
 
 -- a byte of a text as it stands between quotes: quote, backslash, line feed, tab and carriage return
 -- are escaped, every other byte stands as it is
@@ -35,36 +35,36 @@ printed_text Plain s = s
 printed_text Readable s = quoted s
 
 abbrev mutual
-  pub printed : Style → Tree → List ℕ
-  printed style nil = codes "nil"
-  printed style (bool b) = bool_text b
-  printed style (int z) = signed_decimal z
-  printed style (text s) = printed_text style s
-  printed style (key s) = 58 ∷ s
-  printed style (vector ts) = 91 ∷ (printed_items style ts ++ 93 ∷ [])
-  printed style (map ps) = 123 ∷ (printed_pairs style ps ++ 125 ∷ [])
-  printed style (port n) = port_text n
+  pub printed_value : Style → Tree → List ℕ
+  printed_value style nil = codes "nil"
+  printed_value style (bool b) = bool_text b
+  printed_value style (int z) = signed_decimal z
+  printed_value style (text s) = printed_text style s
+  printed_value style (key s) = 58 ∷ s
+  printed_value style (vector ts) = 91 ∷ (printed_items style ts ++ 93 ∷ [])
+  printed_value style (map ps) = 123 ∷ (printed_pairs style ps ++ 125 ∷ [])
+  printed_value style (port n) = port_printed n
 
   -- items are joined by a space
   pub printed_items : Style → Trees → List ℕ
   printed_items style none = []
-  printed_items style (item t ts) = printed style t ++ printed_more style ts
+  printed_items style (item t ts) = printed_value style t ++ printed_more style ts
 
   pub printed_more : Style → Trees → List ℕ
   printed_more style none = []
-  printed_more style (item t ts) = 32 ∷ (printed style t ++ printed_more style ts)
+  printed_more style (item t ts) = 32 ∷ (printed_value style t ++ printed_more style ts)
 
   -- pairs are joined by a comma and a space
   pub printed_pairs : Style → TreePairs → List ℕ
   printed_pairs style empty = []
-  printed_pairs style (pair k v ps) = printed style k ++ (32 ∷ (printed style v ++ printed_more_pairs style ps))
+  printed_pairs style (pair k v ps) = printed_value style k ++ (32 ∷ (printed_value style v ++ printed_more_pairs style ps))
 
   pub printed_more_pairs : Style → TreePairs → List ℕ
   printed_more_pairs style empty = []
-  printed_more_pairs style (pair k v ps) = 44 ∷ (32 ∷ (printed style k ++ (32 ∷ (printed style v ++ printed_more_pairs style ps))))
+  printed_more_pairs style (pair k v ps) = 44 ∷ (32 ∷ (printed_value style k ++ (32 ∷ (printed_value style v ++ printed_more_pairs style ps))))
 
 abbrev pub plain_text : Tree → List ℕ
-plain_text t = printed Plain t
+plain_text t = printed_value Plain t
 
 abbrev pub plain_items : Trees → List ℕ
 plain_items ts = printed_items Plain ts
@@ -73,7 +73,7 @@ abbrev pub plain_more : Trees → List ℕ
 plain_more ts = printed_more Plain ts
 
 abbrev pub readable_text : Tree → List ℕ
-readable_text t = printed Readable t
+readable_text t = printed_value Readable t
 
 abbrev pub readable_items : Trees → List ℕ
 readable_items ts = printed_items Readable ts

@@ -11,9 +11,9 @@ is_falsy nil = true
 is_falsy (bool b) = not b
 is_falsy t = false
 
-abbrev pub is_nil : Tree → Bool
-is_nil nil = true
-is_nil t = false
+abbrev pub is_nil_tree : Tree → Bool
+is_nil_tree nil = true
+is_nil_tree t = false
 
 abbrev pub is_the_bool : Bool → Tree → Bool
 is_the_bool true (bool b) = b

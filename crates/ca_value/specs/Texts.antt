@@ -9,6 +9,6 @@ str_text nil = []
 str_text (text s) = s
 str_text t = readable_text t
 
-abbrev pub joined : List Tree → List ℕ
-joined [] = []
-joined (t ∷ ts) = str_text t ++ joined ts
+abbrev pub joined_text : List Tree → List ℕ
+joined_text [] = []
+joined_text (t ∷ ts) = str_text t ++ joined_text ts

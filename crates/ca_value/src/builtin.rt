@@ -4,8 +4,8 @@ ghost use Rattle.ca_value.specs.View.{view, views, trees};
 ghost use Rattle.ca_value.specs.Outcome.{outcome, judged, IsFault};
 ghost use Rattle.ca_value.specs.IsValue.{Scalars, IsValue, AreValues};
 ghost use Rattle.ca_value.specs.Maps.{contains_of};
-ghost use Rattle.ca_value.specs.Vectors.{part_of};
-ghost use Rattle.ca_value.specs.Builtins.{answer, builtin_result, admits};
+ghost use Rattle.ca_value.specs.Vectors.{item_at_index};
+ghost use Rattle.ca_value.specs.Builtins.{answer, builtin_result, admits_arguments};
 
 pub mod direct;
 mod judge;
@@ -86,7 +86,7 @@ pub enum Builtin {
 /// The value of a builtin at its arguments, or its fault. It takes so many arguments as the builtin
 /// admits.
 pub fn apply_builtin(alloc: Global, builtin: Builtin, args: Items) -> Result<Value, ApplyError>
-    requires { IsTrue (admits builtin (length (list args))) }
+    requires { IsTrue (admits_arguments builtin (length (list args))) }
     ensures value { IfOk result (λ v. builtin_result builtin (trees (list args)) ≡ Ok (view v)) }
     ensures fault { IfErr result (λ e. IsFault e (builtin_result builtin (trees (list args)))) }
     ensures sound { (w : Scalars) → AreValues w (trees (list args)) → IfOk result (λ v. IsValue w (view v)) }
@@ -100,7 +100,7 @@ pub fn apply_builtin(alloc: Global, builtin: Builtin, args: Items) -> Result<Val
 
 // The same, with want of memory apart from the faults.
 fn evaluate(alloc: Global, builtin: Builtin, args: Items) -> Result<Answer<Value>, OutOfMemory>
-    requires { IsTrue (admits builtin (length (list args))) }
+    requires { IsTrue (admits_arguments builtin (length (list args))) }
     ensures { IfOk result (λ r. outcome r ≡ judged (answer builtin (views (list args)))) }
 {
     match builtin {
@@ -164,7 +164,7 @@ fn contains(args: (Value, Value)) -> Answer<bool>
 
 // The part of two values that are let go.
 fn part(alloc: Global, args: (Value, Value)) -> Result<Answer<Value>, OutOfMemory>
-    ensures { IfOk result (λ r. outcome r ≡ part_of (view args.0) (view args.1)) }
+    ensures { IfOk result (λ r. outcome r ≡ item_at_index (view args.0) (view args.1)) }
 {
     vectors::part(alloc, &args.0, &args.1)
 }

@@ -2,7 +2,7 @@ ghost use Rattle.std.specs.Prelude.{◌≡◌};
 ghost use Rattle.ca_value.specs.Seq.{list};
 ghost use Rattle.ca_value.specs.Tree.{map, trees_of, pairs_of};
 ghost use Rattle.ca_value.specs.View.{view, pair_view, pairs_view, trees, vector_trees, map_pairs};
-ghost use Rattle.ca_value.specs.Equality.{equals, equal_items, within, has_pair};
+ghost use Rattle.ca_value.specs.Equality.{equals, equal_items, is_map_within, has_pair};
 
 use crate::seq::Seq;
 use crate::value::{Map, Pair, Pairs, Spine, Table, Value, Vector};
@@ -72,7 +72,7 @@ impl Pairs {
     // Whether each pair is among the other ones.
     #[cycle(equal)]
     fn is_within(&self, other: &Pairs) -> bool
-        ensures { result ≡ within (pairs_view self.now) (pairs_view other.now) }
+        ensures { result ≡ is_map_within (pairs_view self.now) (pairs_view other.now) }
     {
         for pair in self.as_slice() {
             if !pair.is_in(other) {

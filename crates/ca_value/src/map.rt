@@ -5,7 +5,7 @@ ghost use Rattle.ca_value.specs.Tree.{nil, pairs_of};
 ghost use Rattle.ca_value.specs.Measure.{weight_of, depth_of, weight_of_pairs, depth_of_pairs};
 ghost use Rattle.ca_value.specs.Measured.{capped, IsDepthAfter};
 ghost use Rattle.ca_value.specs.Equality.{has_key};
-ghost use Rattle.ca_value.specs.Maps.{place_of, put};
+ghost use Rattle.ca_value.specs.Maps.{key_place, put_pair};
 ghost use Rattle.ca_value.specs.View.{view, pair_view, pair_views, map_pairs};
 
 use crate::copy::pair_copies;
@@ -44,7 +44,7 @@ impl Map {
     /// Sets the value of the key, in the place of an equal key or at the end: in place where no copy
     /// shares the pairs, else in pairs of its own.
     pub fn put(&mut self, alloc: Global, key: Value, value: Value) -> Result<(), OutOfMemory>
-        ensures ok { OnOk result (map_pairs self.new ≡ put (map_pairs self.old) (view key) (view value)) }
+        ensures ok { OnOk result (map_pairs self.new ≡ put_pair (map_pairs self.old) (view key) (view value)) }
         ensures err { OnErr result (map_pairs self.new ≡ map_pairs self.old) }
     {
         match Arc::get_mut(&mut self.table) {
@@ -114,7 +114,7 @@ impl Table {
 
     // Sets the value of the key, in the place of an equal key or at the end.
     fn put(&mut self, key: Value, value: Value) -> Result<(), OutOfMemory>
-        ensures ok { OnOk result (self.new ≡ put self.old (view key) (view value)) }
+        ensures ok { OnOk result (self.new ≡ put_pair self.old (view key) (view value)) }
         ensures err { OnErr result (self.new ≡ self.old) }
     {
         match place(self.as_slice(), &key) {
@@ -170,7 +170,7 @@ impl Table {
 
 /// The place of the pair with an equal key.
 pub(crate) fn place(pairs: &[Pair], key: &Value) -> Option<u64>
-    ensures { result ≡ place_of (pair_views pairs.now) (view key.now) }
+    ensures { result ≡ key_place (pair_views pairs.now) (view key.now) }
 {
     for i in 0..pairs.len() {
         if key.is_equal(&pairs[i].key) {

@@ -2,7 +2,7 @@ ghost use Rattle.std.specs.Prelude.{◌≡◌, ◌∷◌, ◌++◌, OnOk, IfOk};
 ghost use Rattle.ca_value.specs.Seq.{list};
 ghost use Rattle.ca_value.specs.View.{view, pair_view, pairs_view, trees, vector_trees, map_pairs};
 ghost use Rattle.ca_value.specs.Tree.{trees_of, pairs_of};
-ghost use Rattle.ca_value.specs.Printed.{plain_text, readable_text, printed_text, printed, printed_items, printed_pairs, quoted, escaped};
+ghost use Rattle.ca_value.specs.Printed.{plain_text, readable_text, printed_text, printed_value, printed_items, printed_pairs, quoted, escaped};
 
 use crate::memory::OutOfMemory;
 use crate::seq::{Seq, Text};
@@ -46,7 +46,7 @@ impl Value {
     }
 
     fn print(&self, alloc: Global, style: Style) -> Result<Text, OutOfMemory>
-        ensures { IfOk result (λ t. list t ≡ printed style (view self.now)) }
+        ensures { IfOk result (λ t. list t ≡ printed_value style (view self.now)) }
     {
         let mut text = Text::new(alloc);
         self.append(style, &mut text)?;
@@ -55,7 +55,7 @@ impl Value {
 
     #[cycle(printed)]
     fn append(&self, style: Style, into: &mut Text) -> Result<(), OutOfMemory>
-        ensures { OnOk result (list into.new ≡ list into.old ++ printed style (view self.now)) }
+        ensures { OnOk result (list into.new ≡ list into.old ++ printed_value style (view self.now)) }
     {
         match self {
             Value::Nil => into.append(b"nil"),
@@ -147,7 +147,7 @@ impl Pair {
     // The key, a space and the value.
     #[cycle(printed)]
     fn append(&self, style: Style, into: &mut Text) -> Result<(), OutOfMemory>
-        ensures { let p = pair_view self.now in OnOk result (list into.new ≡ list into.old ++ (printed style p.0 ++ (32 ∷ printed style p.1))) }
+        ensures { let p = pair_view self.now in OnOk result (list into.new ≡ list into.old ++ (printed_value style p.0 ++ (32 ∷ printed_value style p.1))) }
     {
         self.key.append(style, into)?;
         into.append(b" ")?;

@@ -5,7 +5,7 @@ use Rattle.std.specs.Str.{bytes_eq}
 use Rattle.clap.specs.Lexer.{long_of}
 use Rattle.clap.specs.Walk.{Row, Rule, has_row, reading_by}
 use Rattle.clap.proofs.WalkLemmas.{both}
-use Rattle.ca_words.specs.Words.{Text, after, bare, budget_in, is_load_word, workers_in}
+use Rattle.ca_words.specs.Words.{Text, behind_start, bare_word, budget_in, is_load_word, workers_in}
 use Rattle.ca_words.proofs.Rules.{is_bare, load_rules, next_place, place, valued}
 use Rattle.ca_words.proofs.LongWords.{after_is, bare_is_open, long_value, same_text, some≢none}
 use Rattle.ca_words.proofs.OpenWords.{bare_open}
@@ -39,10 +39,10 @@ load_served = record { longs = longs; places = places }
 -- ---- a word without a `-`
 
 -- a word that does not begin with `-` is itself, and no option
-bare_is : (x : Text) → is_bare x ≡ true → bare x ≡ Some x
-bare_is x e = go (is_some (after (codes "-") x)) refl
+bare_is : (x : Text) → is_bare x ≡ true → bare_word x ≡ Some x
+bare_is x e = go (is_some (behind_start (codes "-") x)) refl
   where
-    go : (b : Bool) → is_some (after (codes "-") x) ≡ b → bare x ≡ Some x
+    go : (b : Bool) → is_some (behind_start (codes "-") x) ≡ b → bare_word x ≡ Some x
     go true h = absurd (true≢false (sym (rw h at e)))
     go false h = rw h refl
 
@@ -63,7 +63,7 @@ bare_no_budget x e = go (budget_in x) refl
 -- ---- the arguments
 
 abbrev pub number : Argument
-number = record { id = codes "n"; value_in = bare; row = λ v. use_row (codes "n") (reading_by number_rule) (v ∷ []); fits = any }
+number = record { id = codes "n"; value_in = bare_word; row = λ v. use_row (codes "n") (reading_by number_rule) (v ∷ []); fits = any }
 
 abbrev pub load_arguments : List Argument
 load_arguments = number ∷ workers ∷ []

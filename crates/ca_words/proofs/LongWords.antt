@@ -6,7 +6,7 @@ use Rattle.std.proofs.Common.{eqb-true}
 use Rattle.std.specs.Str.{bytes_eq}
 use Rattle.std.proofs.lemmas.Slice.Eq.{bytes_eq-Decides}
 use Rattle.clap.specs.Lexer.{has_byte, long_of, name_and_value}
-use Rattle.ca_words.specs.Words.{Text, after, joined, wants_value}
+use Rattle.ca_words.specs.Words.{Text, behind_start, options_joined, wants_value}
 use Rattle.ca_words.proofs.Rules.{is_bare}
 
 -- ---- words
@@ -109,10 +109,10 @@ bare_is_open (y ∷ ys) e = go (nat_eq 45 y) refl
     go true h = absurd (true≢false (sym (rw h at e)))
     go false h = rw (no_dash y h) refl
 
-pub joined_apart : (x v : Text) (ws : List Text) → wants_value x ≡ true → joined (x ∷ v ∷ ws) ≡ (x ++ 61 ∷ v) ∷ joined ws
+pub joined_apart : (x v : Text) (ws : List Text) → wants_value x ≡ true → options_joined (x ∷ v ∷ ws) ≡ (x ++ 61 ∷ v) ∷ options_joined ws
 joined_apart x v ws h = rw h refl
 
-pub joined_whole : (x v : Text) (ws : List Text) → wants_value x ≡ false → joined (x ∷ v ∷ ws) ≡ x ∷ joined (v ∷ ws)
+pub joined_whole : (x v : Text) (ws : List Text) → wants_value x ≡ false → options_joined (x ∷ v ∷ ws) ≡ x ∷ options_joined (v ∷ ws)
 joined_whole x v ws h = rw h refl
 
 -- ---- texts
@@ -122,7 +122,7 @@ same_text a n h = sym ((bytes_eq-Decides a n).0 h)
 
 -- ---- what follows a text
 
-pub after_is : (p x v : Text) → after p x ≡ Some v → x ≡ p ++ v
+pub after_is : (p x v : Text) → behind_start p x ≡ Some v → x ≡ p ++ v
 after_is [] x v e = ap (λ o. or_empty o) e
   where
     or_empty : Option Text → Text
@@ -131,6 +131,6 @@ after_is [] x v e = ap (λ o. or_empty o) e
 after_is (a ∷ p) [] v e = absurd (some≢none v e)
 after_is (a ∷ p) (b ∷ x) v e = go (nat_eq a b) refl (after_is p x v)
   where
-    go : (t : Bool) → nat_eq a b ≡ t → (after p x ≡ Some v → x ≡ p ++ v) → b ∷ x ≡ a ∷ (p ++ v)
+    go : (t : Bool) → nat_eq a b ≡ t → (behind_start p x ≡ Some v → x ≡ p ++ v) → b ∷ x ≡ a ∷ (p ++ v)
     go true h rec = ap (λ z. z ∷ x) (sym (eqb-true a b h)) ∙ ap (λ z. a ∷ z) (rec (rw h at e))
     go false h rec = absurd (some≢none v (rw h at e))

@@ -7,7 +7,7 @@ use Rattle.clap.specs.Walk.{Held, Row, Rule, Walk, idle, option}
 use Rattle.clap.specs.Simple.{Shape, built, filled, new_rule, new_shape, with_index}
 use Rattle.clap.specs.declared.builder.action.ArgAction.TheVariants.{SetTrue}
 use Rattle.ca_words.specs.Line.{command_line}
-use Rattle.ca_words.specs.Words.{Text, bare}
+use Rattle.ca_words.specs.Words.{Text, bare_word}
 
 -- ---- the rules as they are built
 
@@ -44,7 +44,7 @@ abbrev pub wait : List Row → Text → ℕ → Walk
 wait rows n k = record { held = held rows (Some (n, [])); waiting = option n; position = k; is_trailing = false; stopped = None }
 
 abbrev pub is_bare : Text → Bool
-is_bare x = is_some (bare x)
+is_bare x = is_some (bare_word x)
 
 -- the word is no `--` (45 45) and does not begin with a single `-`
 abbrev pub IsOpen : Text → Type 0

@@ -6,8 +6,8 @@ use Rattle.std.specs.Str.{bytes_eq}
 use Rattle.clap.specs.Faults.{default_fault, defaults_fault}
 use Rattle.clap.specs.Walk.{row_text, Row, first_of, has_row, one_of, reading_by, rows_after, with_default, with_values}
 use Rattle.clap.specs.declared.parser.matches.ValueSource.TheVariants.{DefaultValue}
-use Rattle.ca_words.specs.Reading.{flag_text, is_open}
-use Rattle.ca_words.specs.Words.{Text, budget_in, is_journal, is_run_word, joined, once, run_with, run_words, setting, workers_in}
+use Rattle.ca_words.specs.Reading.{flag_text, is_open_word}
+use Rattle.ca_words.specs.Words.{Text, budget_in, is_journal, is_run_word, options_joined, once, run_with, run_words, setting, workers_in}
 use Rattle.ca_words.proofs.Rules.{flag, leaf, run_rules, valued}
 use Rattle.ca_words.proofs.Steps.{both_none}
 use Rattle.ca_words.proofs.Walks.{Opens, back, on}
@@ -77,18 +77,18 @@ journal_said (w ∷ v ∷ ws) rows h = absurd h
 
 pub run_taken : (ws : List Text) → Opens ws → below (leaf (codes "run") run_rules) ws ≡ []
     → (b : Bool) × (one_of (codes "journal") (rows_after run_rules [] ws) ≡ Some (flag_text b))
-    × (run_words (joined ws) ≡ run_with (setting 1 1 16 (option_to_list (first_of (codes "workers") (rows_after run_rules [] ws))))
+    × (run_words (options_joined ws) ≡ run_with (setting 1 1 16 (option_to_list (first_of (codes "workers") (rows_after run_rules [] ws))))
     (setting 1000000 1 4000000 (option_to_list (first_of (codes "budget") (rows_after run_rules [] ws)))) (Some b))
 run_taken ws o e =
     let r = back (codes "run") run_rules run_served ws o [] None 1 (below_passes ws (codes "run") run_rules e) in
-    let s = all_back run_rules run_arguments is_run_word Anywhere run_word (joined ws) 1 [] r.0 r.1 in
+    let s = all_back run_rules run_arguments is_run_word Anywhere run_word (options_joined ws) 1 [] r.0 r.1 in
     let rows_is : rows_after run_rules [] ws ≡ end r.0.1 = ap end r.2 in
-    let j = journal_said (filter_map journal_in (joined ws)) r.0.1 s.1.1.1.0 in
-    let w = ap (λ (rs : List Row). option_to_list (first_of (codes "workers") rs)) rows_is ∙ said workers (joined ws) r.0.1 refl (λ v. refl) s.1.0 in
-    let b = ap (λ (rs : List Row). option_to_list (first_of (codes "budget") rs)) rows_is ∙ said budget (joined ws) r.0.1 refl (λ v. refl) s.1.1.0 in (
+    let j = journal_said (filter_map journal_in (options_joined ws)) r.0.1 s.1.1.1.0 in
+    let w = ap (λ (rs : List Row). option_to_list (first_of (codes "workers") rs)) rows_is ∙ said workers (options_joined ws) r.0.1 refl (λ v. refl) s.1.0 in
+    let b = ap (λ (rs : List Row). option_to_list (first_of (codes "budget") rs)) rows_is ∙ said budget (options_joined ws) r.0.1 refl (λ v. refl) s.1.1.0 in (
       j.0,
       ap (one_of (codes "journal")) rows_is ∙ j.2,
-      rw s.0 (λ i. run_with (setting 1 1 16 (sym w i)) (setting 1000000 1 4000000 (sym b i)) ((ap once (journals (joined ws)) ∙ j.1) i)),
+      rw s.0 (λ i. run_with (setting 1 1 16 (sym w i)) (setting 1000000 1 4000000 (sym b i)) ((ap once (journals (options_joined ws)) ∙ j.1) i)),
     )
 
 -- ---- what the definition takes, clap takes
@@ -126,14 +126,14 @@ no_defaults rows =
     both_none _ _ (valued_default (codes "workers") rows) (both_none _ _ (valued_default (codes "budget") one)
     (both_none _ _ (flag_default (codes "journal") (with_default one (valued (codes "budget")))) refl))
 
-pub run_takes : (ws : List Text) → Opens ws → is_some (run_words (joined ws)) ≡ true → below (leaf (codes "run") run_rules) ws ≡ []
+pub run_takes : (ws : List Text) → Opens ws → is_some (run_words (options_joined ws)) ≡ true → below (leaf (codes "run") run_rules) ws ≡ []
 run_takes ws o e =
-    let f = fits (joined ws) e in
+    let f = fits (options_joined ws) e in
     passes_below ws (codes "run") run_rules no_defaults (λ rows. refl)
-    (on (codes "run") run_rules run_served ws o [] None 1 refl (all_on run_rules run_arguments is_run_word Anywhere run_word (joined ws) 1 [] f.0 f.1 tt))
+    (on (codes "run") run_rules run_served ws o [] None 1 refl (all_on run_rules run_arguments is_run_word Anywhere run_word (options_joined ws) 1 [] f.0 f.1 tt))
 
 -- and such words are given to clap
-pub run_open : (ws : List Text) → is_some (run_words (joined ws)) ≡ true → list_all is_open ws ≡ true
+pub run_open : (ws : List Text) → is_some (run_words (options_joined ws)) ≡ true → list_all is_open_word ws ≡ true
 run_open ws e =
-    let f = fits (joined ws) e in
-    all_open ws (all_fine run_rules run_arguments is_run_word Anywhere run_word (joined ws) f.0 (values_of run_arguments (joined ws) [] f.1))
+    let f = fits (options_joined ws) e in
+    all_open ws (all_fine run_rules run_arguments is_run_word Anywhere run_word (options_joined ws) f.0 (values_of run_arguments (options_joined ws) [] f.1))

@@ -6,7 +6,7 @@ use Rattle.std.specs.List.{list_all}
 use Rattle.clap.specs.Faults.{default_fault}
 use Rattle.clap.specs.Walk.{Row, has_row}
 use Rattle.clap.proofs.WalkLemmas.{both}
-use Rattle.ca_words.specs.Words.{Text, is_digit, is_number, number_of, setting}
+use Rattle.ca_words.specs.Words.{Text, is_decimal_digit, is_number, number_asked, setting}
 use Rattle.ca_words.proofs.Rules.{is_bare, valued}
 use Rattle.ca_words.proofs.Rows.{HasRoom, Says, found}
 use Rattle.ca_words.proofs.Taken.{any}
@@ -23,18 +23,18 @@ values_said i row [] rows first h = rw h refl
 values_said i row (v ∷ []) rows first h = rw (h.1, first v) refl
 values_said i row (v ∷ w ∷ vs) rows first h = absurd h
 
-digit_is_bare : (y : ℕ) → is_digit y ≡ true → nat_eq 45 y ≡ false
+digit_is_bare : (y : ℕ) → is_decimal_digit y ≡ true → nat_eq 45 y ≡ false
 digit_is_bare y e = grind arith
 
 pub number_is_bare : (v : Text) → is_number v ≡ true → is_bare v ≡ true
 number_is_bare [] e = absurd (true≢false (sym e))
 number_is_bare (y ∷ ys) e =
-    let parts = both (nat_le 1 (length (y ∷ ys))) (nat_le (length (y ∷ ys)) 7 && list_all is_digit (y ∷ ys)) e in
-    let digits = both (nat_le (length (y ∷ ys)) 7) (list_all is_digit (y ∷ ys)) parts.1 in
-    let first = both (is_digit y) (list_all is_digit ys) digits.1 in
+    let parts = both (nat_le 1 (length (y ∷ ys))) (nat_le (length (y ∷ ys)) 7 && list_all is_decimal_digit (y ∷ ys)) e in
+    let digits = both (nat_le (length (y ∷ ys)) 7) (list_all is_decimal_digit (y ∷ ys)) parts.1 in
+    let first = both (is_decimal_digit y) (list_all is_decimal_digit ys) digits.1 in
     rw (digit_is_bare y first.0) refl
 
-pub number_from : (least most : ℕ) (v : Text) → is_some (number_of least most v) ≡ true → is_number v ≡ true
+pub number_from : (least most : ℕ) (v : Text) → is_some (number_asked least most v) ≡ true → is_number v ≡ true
 number_from least most v e = go (is_number v) refl
   where
     go : (b : Bool) → is_number v ≡ b → is_number v ≡ true

@@ -5,7 +5,7 @@ use Rattle.clap.specs.Lexer.{long_of}
 use Rattle.clap.specs.Kinds.{or_else}
 use Rattle.clap.specs.Faults.{settle_fault, walk_fault}
 use Rattle.clap.specs.Walk.{Row, Rule, Walk, arg_by_id, arg_by_index, arg_by_long, has_row, settled, settled_rows, used, walked}
-use Rattle.ca_words.specs.Words.{Text, joined, wants_value}
+use Rattle.ca_words.specs.Words.{Text, options_joined, wants_value}
 use Rattle.ca_words.proofs.Rules.{IsOpen, at, flag, is_bare, leaf, next_place, place, valued, wait}
 use Rattle.ca_words.proofs.Steps.{both_none, cons≢nil, empty_settle, flag_fresh, flag_turn, flag_walk, fresh_flag, fresh_place, fresh_value, full_turn, given_turn, given_walk, none_of, other_long_turn, place_fresh, place_turn, place_walk, settle, stray_turn, turn, unknown_turn, value_fresh, value_turn, value_walk, waits_turn, waits_walk}
 use Rattle.ca_words.proofs.Taken.{IsLong, IsPlace, Served, all_taken, any, taken}
@@ -84,11 +84,11 @@ module _ (m : Text) (c : List Rule) (served : Served c) where
   Reached js ws rows p k = (st : ℕ × List Row) × (all_taken any c (k, settled_rows c p rows) js ≡ Some st) × (end_rows (at rows p k) ws ≡ st.1)
 
   whole_back : (x : Text) (ws : List Text) → IsOpen x → Opens ws → (rows : List Row) (p : Option (Text × List Text)) (k : ℕ) → wants_value x ≡ false
-      → ((rows : List Row) (p : Option (Text × List Text)) (k : ℕ) → Passes (at rows p k) ws → Reached (joined ws) ws rows p k)
-      → Passes (at rows p k) (x ∷ ws) → Reached (x ∷ joined ws) (x ∷ ws) rows p k
+      → ((rows : List Row) (p : Option (Text × List Text)) (k : ℕ) → Passes (at rows p k) ws → Reached (options_joined ws) ws rows p k)
+      → Passes (at rows p k) (x ∷ ws) → Reached (x ∷ options_joined ws) (x ∷ ws) rows p k
   whole_back x ws o os rows p k alone rec e = go (see k x o) (pass_split (at rows p k) x ws e)
     where
-      go : Seen m c k x → (turn m c (at rows p k) x ≡ []) × Passes (walked c [] (at rows p k) x) ws → Reached (x ∷ joined ws) (x ∷ ws) rows p k
+      go : Seen m c k x → (turn m c (at rows p k) x ≡ []) × Passes (walked c [] (at rows p k) x) ws → Reached (x ∷ options_joined ws) (x ∷ ws) rows p k
       go (waits n is a b w) t = absurd (true≢false (sym w ∙ alone))
       go (refused a b) t = absurd (a rows p t.0)
       go (given n v is a b) t =
@@ -131,11 +131,11 @@ module _ (m : Text) (c : List Rule) (served : Served c) where
       o.3 v ∙ ap (λ y. Some (y, Some v)) same
 
   apart_back : (x v : Text) (ws : List Text) → IsOpen x → IsOpen v → Opens ws → (rows : List Row) (p : Option (Text × List Text)) (k : ℕ) → wants_value x ≡ true
-      → ((rows : List Row) (p : Option (Text × List Text)) (k : ℕ) → Passes (at rows p k) ws → Reached (joined ws) ws rows p k)
-      → Passes (at rows p k) (x ∷ v ∷ ws) → Reached ((x ++ 61 ∷ v) ∷ joined ws) (x ∷ v ∷ ws) rows p k
+      → ((rows : List Row) (p : Option (Text × List Text)) (k : ℕ) → Passes (at rows p k) ws → Reached (options_joined ws) ws rows p k)
+      → Passes (at rows p k) (x ∷ v ∷ ws) → Reached ((x ++ 61 ∷ v) ∷ options_joined ws) (x ∷ v ∷ ws) rows p k
   apart_back x v ws o ov os rows p k w rec e = go (see k x o) (pass_split (at rows p k) x (v ∷ ws) e)
     where
-      go : Seen m c k x → (turn m c (at rows p k) x ≡ []) × Passes (walked c [] (at rows p k) x) (v ∷ ws) → Reached ((x ++ 61 ∷ v) ∷ joined ws) (x ∷ v ∷ ws) rows p k
+      go : Seen m c k x → (turn m c (at rows p k) x ≡ []) × Passes (walked c [] (at rows p k) x) (v ∷ ws) → Reached ((x ++ 61 ∷ v) ∷ options_joined ws) (x ∷ v ∷ ws) rows p k
       go (refused a b) t = absurd (a rows p t.0)
       go (flagged n is a off) t = absurd (true≢false (sym w ∙ off))
       go (placed n is a b) t = absurd (some≢none _ (sym is ∙ (wanting x w).2))
@@ -168,7 +168,7 @@ module _ (m : Text) (c : List Rule) (served : Served c) where
           cons≢nil _ _ (sym (empty_settle m c (settled_rows c p rows) n b) ∙ end)
 
   -- where the walk passes, the words are taken, with the same rows
-  pub back : (ws : List Text) → Opens ws → (rows : List Row) (p : Option (Text × List Text)) (k : ℕ) → Passes (at rows p k) ws → Reached (joined ws) ws rows p k
+  pub back : (ws : List Text) → Opens ws → (rows : List Row) (p : Option (Text × List Text)) (k : ℕ) → Passes (at rows p k) ws → Reached (options_joined ws) ws rows p k
   back [] o rows p k e = ((k, settled_rows c p rows), refl, refl)
   back (x ∷ []) o rows p k e = go (wants_value x) refl
     where
@@ -178,9 +178,9 @@ module _ (m : Text) (c : List Rule) (served : Served c) where
   back (x ∷ v ∷ ws) o rows p k e = go (wants_value x) refl (back (v ∷ ws) o.1) (back ws o.1.1)
     where
       go : (b : Bool) → wants_value x ≡ b
-          → ((rows : List Row) (p : Option (Text × List Text)) (k : ℕ) → Passes (at rows p k) (v ∷ ws) → Reached (joined (v ∷ ws)) (v ∷ ws) rows p k)
-          → ((rows : List Row) (p : Option (Text × List Text)) (k : ℕ) → Passes (at rows p k) ws → Reached (joined ws) ws rows p k)
-          → Reached (joined (x ∷ v ∷ ws)) (x ∷ v ∷ ws) rows p k
+          → ((rows : List Row) (p : Option (Text × List Text)) (k : ℕ) → Passes (at rows p k) (v ∷ ws) → Reached (options_joined (v ∷ ws)) (v ∷ ws) rows p k)
+          → ((rows : List Row) (p : Option (Text × List Text)) (k : ℕ) → Passes (at rows p k) ws → Reached (options_joined ws) ws rows p k)
+          → Reached (options_joined (x ∷ v ∷ ws)) (x ∷ v ∷ ws) rows p k
       go true h one two = subst (λ (js : List Text). Reached js (x ∷ v ∷ ws) rows p k) (sym (joined_apart x v ws h)) (apart_back x v ws o.0 o.1.0 o.1.1 rows p k h two e)
       go false h one two = subst (λ (js : List Text). Reached js (x ∷ v ∷ ws) rows p k) (sym (joined_whole x v ws h)) (whole_back x (v ∷ ws) o.0 o.1 rows p k h one e)
 
@@ -200,39 +200,39 @@ module _ (m : Text) (c : List Rule) (served : Served c) where
   fresh_of true x f e = absurd (true≢false (sym e))
 
   abbrev Onward : List Text → Type 0
-  Onward ws = (rows : List Row) (p : Option (Text × List Text)) (k : ℕ) → settle m c rows p ≡ [] → TakenBy is_bare (joined ws) rows p k → Passes (at rows p k) ws
+  Onward ws = (rows : List Row) (p : Option (Text × List Text)) (k : ℕ) → settle m c rows p ≡ [] → TakenBy is_bare (options_joined ws) rows p k → Passes (at rows p k) ws
 
   not_taken : (x : Text) (js : List Text) (k : ℕ) (rows : List Row) → taken is_bare c (k, rows) x ≡ None → is_some (all_taken is_bare c (k, rows) (x ∷ js)) ≡ true → ⊥
   not_taken x js k rows none e = true≢false (sym (rw none at e))
 
   whole_on : (x : Text) (ws : List Text) → IsOpen x → (rows : List Row) (p : Option (Text × List Text)) (k : ℕ) → wants_value x ≡ false → Onward ws
-      → settle m c rows p ≡ [] → TakenBy is_bare (x ∷ joined ws) rows p k → Passes (at rows p k) (x ∷ ws)
+      → settle m c rows p ≡ [] → TakenBy is_bare (x ∷ options_joined ws) rows p k → Passes (at rows p k) (x ∷ ws)
   whole_on x ws o rows p k alone rec s e = go (see k x o)
     where
       go : Seen m c k x → Passes (at rows p k) (x ∷ ws)
       go (waits n is a b w) = absurd (true≢false (sym w ∙ alone))
-      go (refused a b) = absurd (not_taken x (joined ws) k (settled_rows c p rows) (b is_bare (settled_rows c p rows)) e)
+      go (refused a b) = absurd (not_taken x (options_joined ws) k (settled_rows c p rows) (b is_bare (settled_rows c p rows)) e)
       go (given n v is a b) =
           let now = settled_rows c p rows in
-          let pass = guarded (is_bare v) _ (λ (t : ℕ × List Row). all_taken is_bare c t (joined ws)) (rw (is, a) at e) in
-          let fresh = fresh_of (has_row n now) (k, used (valued n) (v ∷ []) now) (λ t. all_taken is_bare c t (joined ws)) pass.1 in
+          let pass = guarded (is_bare v) _ (λ (t : ℕ × List Row). all_taken is_bare c t (options_joined ws)) (rw (is, a) at e) in
+          let fresh = fresh_of (has_row n now) (k, used (valued n) (v ∷ []) now) (λ t. all_taken is_bare c t (options_joined ws)) pass.1 in
           pass_join (at rows p k) x ws (given_turn m c rows p k x n v o.0 is a ∙ both_none _ _ s (value_fresh n v now fresh.0))
           (subst (λ (w : Walk). Passes w ws) (sym (given_walk m c rows p k x n v o.0 is a)) (rec (used (valued n) (v ∷ []) now) None k refl fresh.1))
       go (flagged n is a w) =
           let now = settled_rows c p rows in
-          let fresh = fresh_of (has_row n now) (k, used (flag n) [] now) (λ t. all_taken is_bare c t (joined ws)) (rw (is, a) at e) in
+          let fresh = fresh_of (has_row n now) (k, used (flag n) [] now) (λ t. all_taken is_bare c t (options_joined ws)) (rw (is, a) at e) in
           pass_join (at rows p k) x ws (flag_turn m c rows p k x n o.0 is a ∙ both_none _ _ s (flag_fresh n now fresh.0))
           (subst (λ (w : Walk). Passes w ws) (sym (flag_walk m c rows p k x n o.0 is a)) (rec (used (flag n) [] now) None k refl fresh.1))
       go (placed n is a b) =
           let now = settled_rows c p rows in
-          let pass = guarded (is_bare x) _ (λ (t : ℕ × List Row). all_taken is_bare c t (joined ws)) (rw (is, a) at e) in
-          let fresh = fresh_of (has_row n now) (next_place k, used (place n k) (x ∷ []) now) (λ t. all_taken is_bare c t (joined ws)) pass.1 in
+          let pass = guarded (is_bare x) _ (λ (t : ℕ × List Row). all_taken is_bare c t (options_joined ws)) (rw (is, a) at e) in
+          let fresh = fresh_of (has_row n now) (next_place k, used (place n k) (x ∷ []) now) (λ t. all_taken is_bare c t (options_joined ws)) pass.1 in
           pass_join (at rows p k) x ws (place_turn m c rows p k x n o is a ∙ s)
           (subst (λ (w : Walk). Passes w ws) (sym (place_walk m c rows p k x n o is a)) (rec now (Some (n, x ∷ [])) (next_place k)
           (rw b (place_fresh n x k now fresh.0)) (rw b fresh.1)))
 
   apart_on : (x v : Text) (ws : List Text) → IsOpen x → IsOpen v → (rows : List Row) (p : Option (Text × List Text)) (k : ℕ) → wants_value x ≡ true → Onward ws
-      → settle m c rows p ≡ [] → TakenBy is_bare ((x ++ 61 ∷ v) ∷ joined ws) rows p k → Passes (at rows p k) (x ∷ v ∷ ws)
+      → settle m c rows p ≡ [] → TakenBy is_bare ((x ++ 61 ∷ v) ∷ options_joined ws) rows p k → Passes (at rows p k) (x ∷ v ∷ ws)
   apart_on x v ws o ov rows p k w rec s e = go (served.longs n)
     where
       n : Text
@@ -246,8 +246,8 @@ module _ (m : Text) (c : List Rule) (served : Served c) where
       go (inr (inr a)) = absurd (true≢false (sym w ∙ ap wants_value (wanting x w).1 ∙ a.1))
       go (inr (inl a)) =
           let now = settled_rows c p rows in
-          let pass = guarded (is_bare v) _ (λ (t : ℕ × List Row). all_taken is_bare c t (joined ws)) (rw (joins x n v w is, a.0) at e) in
-          let fresh = fresh_of (has_row n now) (k, used (valued n) (v ∷ []) now) (λ t. all_taken is_bare c t (joined ws)) pass.1 in
+          let pass = guarded (is_bare v) _ (λ (t : ℕ × List Row). all_taken is_bare c t (options_joined ws)) (rw (joins x n v w is, a.0) at e) in
+          let fresh = fresh_of (has_row n now) (k, used (valued n) (v ∷ []) now) (λ t. all_taken is_bare c t (options_joined ws)) pass.1 in
           let plain = bare_is_open v pass.0 in
           pass_join (at rows p k) x (v ∷ ws) (waits_turn m c rows p k x n o.0 is a.0 ∙ s)
           (subst (λ (u : Walk). Passes u (v ∷ ws)) (sym (waits_walk m c rows p k x n o.0 is a.0)) (pass_join (wait now n k) v ws (value_turn m c now k v n ov plain a.1)

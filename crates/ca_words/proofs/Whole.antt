@@ -13,8 +13,8 @@ use Rattle.ca_words.specs.declared.name.Name.{Name}
 use Rattle.ca_words.specs.declared.name.Name.TheVariants.{Run, Check, Load, Replay, Follow, Report}
 use Rattle.ca_words.specs.declared.command.Command.TheVariants as command
 use Rattle.ca_words.specs.Line.{command_line}
-use Rattle.ca_words.specs.Reading.{Reads, is_open, name_in, name_of}
-use Rattle.ca_words.specs.Words.{Text, alone, command_in, joined, load_words, run_words}
+use Rattle.ca_words.specs.Reading.{RowsGive, is_open_word, command_name, name_told}
+use Rattle.ca_words.specs.Words.{Text, wordless, command_in, options_joined, load_words, run_words}
 use Rattle.ca_words.proofs.Rules.{load_rules, run_rules}
 use Rattle.ca_words.proofs.LongWords.{some≢none}
 use Rattle.ca_words.proofs.Walks.{Opens}
@@ -27,18 +27,18 @@ use Rattle.ca_words.proofs.Program.{check_entered, check_fault_is, follow_entere
 -- ---- by the command's name
 
 abbrev pub asked : Name → List Text → Option Command
-asked Run ws = run_words (joined ws)
-asked Check ws = alone command.Check (joined ws)
-asked Load ws = load_words (joined ws)
-asked Replay ws = alone command.Replay (joined ws)
-asked Follow ws = alone command.Follow (joined ws)
-asked Report ws = alone command.Report (joined ws)
+asked Run ws = run_words (options_joined ws)
+asked Check ws = wordless command.Check (options_joined ws)
+asked Load ws = load_words (options_joined ws)
+asked Replay ws = wordless command.Replay (options_joined ws)
+asked Follow ws = wordless command.Follow (options_joined ws)
+asked Report ws = wordless command.Report (options_joined ws)
 
-pub words_asked : (w : Text) (ws : List Text) → command_in (w ∷ ws) ≡ option_and_then (λ n. asked n ws) (name_of w)
+pub words_asked : (w : Text) (ws : List Text) → command_in (w ∷ ws) ≡ option_and_then (λ n. asked n ws) (name_told w)
 words_asked w ws = go (bytes_eq w (codes "run")) (bytes_eq w (codes "check")) (bytes_eq w (codes "load")) (bytes_eq w (codes "replay")) (bytes_eq w (codes "follow")) (bytes_eq w (codes "report")) refl refl refl refl refl refl
   where
     go : (a b d e f g : Bool) → bytes_eq w (codes "run") ≡ a → bytes_eq w (codes "check") ≡ b → bytes_eq w (codes "load") ≡ d → bytes_eq w (codes "replay") ≡ e → bytes_eq w (codes "follow") ≡ f → bytes_eq w (codes "report") ≡ g
-        → command_in (w ∷ ws) ≡ option_and_then (λ n. asked n ws) (name_of w)
+        → command_in (w ∷ ws) ≡ option_and_then (λ n. asked n ws) (name_told w)
     go true b d e f g h k l m n o = rw h refl
     go false true d e f g h k l m n o = rw (h, k) refl
     go false false true e f g h k l m n o = rw (h, k, l) refl
@@ -47,7 +47,7 @@ words_asked w ws = go (bytes_eq w (codes "run")) (bytes_eq w (codes "check")) (b
     go false false false false false true h k l m n o = rw (h, k, l, m, n, o) refl
     go false false false false false false h k l m n o = rw (h, k, l, m, n, o) refl
 
-asked_open : (n : Name) (ws : List Text) → is_some (asked n ws) ≡ true → list_all is_open ws ≡ true
+asked_open : (n : Name) (ws : List Text) → is_some (asked n ws) ≡ true → list_all is_open_word ws ≡ true
 asked_open Run ws e = run_open ws e
 asked_open Check ws e = alone_open command.Check ws e
 asked_open Load ws e = load_open ws e
@@ -63,7 +63,7 @@ word_of Replay = codes "replay"
 word_of Follow = codes "follow"
 word_of Report = codes "report"
 
-named : (w : Text) (n : Name) → name_of w ≡ Some n → w ≡ word_of n
+named : (w : Text) (n : Name) → name_told w ≡ Some n → w ≡ word_of n
 named w n e = go (bytes_eq w (codes "run")) (bytes_eq w (codes "check")) (bytes_eq w (codes "load")) (bytes_eq w (codes "replay")) (bytes_eq w (codes "follow")) (bytes_eq w (codes "report")) refl refl refl refl refl refl
   where
     inside_name : (a b : Name) → Some a ≡ Some b → word_of a ≡ word_of b
@@ -81,7 +81,7 @@ named w n e = go (bytes_eq w (codes "run")) (bytes_eq w (codes "check")) (bytes_
 -- ---- what clap takes, is what is asked for
 
 abbrev pub Told : Name → List Text → Type 0
-Told n ws = (t : Text) × (rows : List Row) × (subcommand_of command_line (word_of n ∷ ws) ≡ Some (t, rows)) × ((c : Option Command) → Reads n rows c → asked n ws ≡ c)
+Told n ws = (t : Text) × (rows : List Row) × (subcommand_of command_line (word_of n ∷ ws) ≡ Some (t, rows)) × ((c : Option Command) → RowsGive n rows c → asked n ws ≡ c)
 
 told : (n : Name) (ws : List Text) → Opens ws → fault_of command_line (word_of n ∷ ws) ≡ [] → Told n ws
 told Run ws o e =
@@ -105,52 +105,52 @@ none_if : {X : Type 0} (o : Option X) → (is_some o ≡ true → ⊥) → o ≡
 none_if None h = refl
 none_if (Some x) h = absurd (h refl)
 
-module _ (w : Text) (ws : List Text) (n : Name) (is : name_of w ≡ Some n) where
+module _ (w : Text) (ws : List Text) (n : Name) (is : name_told w ≡ Some n) where
   here : command_in (w ∷ ws) ≡ asked n ws
   here = words_asked w ws ∙ ap (option_and_then (λ m. asked m ws)) is
 
   -- a word that the product itself refuses
-  pub closed_none : list_all is_open ws ≡ false → command_in (w ∷ ws) ≡ None
+  pub closed_none : list_all is_open_word ws ≡ false → command_in (w ∷ ws) ≡ None
   closed_none h = here ∙ none_if (asked n ws) (λ e. true≢false (sym (asked_open n ws e) ∙ h))
 
   -- words that clap refuses
-  pub fault_none : list_all is_open ws ≡ true → (fault_of command_line (w ∷ ws) ≡ [] → ⊥) → command_in (w ∷ ws) ≡ None
+  pub fault_none : list_all is_open_word ws ≡ true → (fault_of command_line (w ∷ ws) ≡ [] → ⊥) → command_in (w ∷ ws) ≡ None
   fault_none h bad = here ∙ none_if (asked n ws) (λ e. bad (ap (λ z. fault_of command_line (z ∷ ws)) (named w n is) ∙ takes n ws (opens ws h) e))
 
   -- words that it takes
-  pub taken_told : list_all is_open ws ≡ true → fault_of command_line (w ∷ ws) ≡ []
-      → (t : Text) × (rows : List Row) × (subcommand_of command_line (w ∷ ws) ≡ Some (t, rows)) × ((c : Option Command) → Reads n rows c → command_in (w ∷ ws) ≡ c)
+  pub taken_told : list_all is_open_word ws ≡ true → fault_of command_line (w ∷ ws) ≡ []
+      → (t : Text) × (rows : List Row) × (subcommand_of command_line (w ∷ ws) ≡ Some (t, rows)) × ((c : Option Command) → RowsGive n rows c → command_in (w ∷ ws) ≡ c)
   taken_told h e =
       let r = told n ws (opens ws h) (ap (λ z. fault_of command_line (z ∷ ws)) (sym (named w n is)) ∙ e) in
       (r.0, r.1, ap (λ z. subcommand_of command_line (z ∷ ws)) (named w n is) ∙ r.2, λ c reads. here ∙ r.3 c reads)
 
 -- ---- the same, of all the words
 
-open_name : (w : Text) (ws : List Text) (n : Name) → name_in (w ∷ ws) ≡ Some n → (list_all is_open ws ≡ true) × (name_of w ≡ Some n)
-open_name w ws n e = go (list_all is_open ws) refl
+open_name : (w : Text) (ws : List Text) (n : Name) → command_name (w ∷ ws) ≡ Some n → (list_all is_open_word ws ≡ true) × (name_told w ≡ Some n)
+open_name w ws n e = go (list_all is_open_word ws) refl
   where
-    go : (b : Bool) → list_all is_open ws ≡ b → (list_all is_open ws ≡ true) × (name_of w ≡ Some n)
+    go : (b : Bool) → list_all is_open_word ws ≡ b → (list_all is_open_word ws ≡ true) × (name_told w ≡ Some n)
     go true h = (h, rw h at e)
     go false h = absurd (some≢none n (rw h at e))
 
-pub whole_none : (ws : List Text) → name_in ws ≡ None → command_in ws ≡ None
+pub whole_none : (ws : List Text) → command_name ws ≡ None → command_in ws ≡ None
 whole_none [] e = refl
-whole_none (w ∷ ws) e = go (list_all is_open ws) (name_of w) refl refl
+whole_none (w ∷ ws) e = go (list_all is_open_word ws) (name_told w) refl refl
   where
-    go : (b : Bool) (o : Option Name) → list_all is_open ws ≡ b → name_of w ≡ o → command_in (w ∷ ws) ≡ None
+    go : (b : Bool) (o : Option Name) → list_all is_open_word ws ≡ b → name_told w ≡ o → command_in (w ∷ ws) ≡ None
     go false (Some n) h k = closed_none w ws n k h
     go true (Some n) h k = absurd (some≢none n (sym (rw (h, k) at e)))
     go b None h k = words_asked w ws ∙ ap (option_and_then (λ n. asked n ws)) k
 
-pub whole_fault : (ws : List Text) (n : Name) → name_in ws ≡ Some n → (fault_of command_line ws ≡ [] → ⊥) → command_in ws ≡ None
+pub whole_fault : (ws : List Text) (n : Name) → command_name ws ≡ Some n → (fault_of command_line ws ≡ [] → ⊥) → command_in ws ≡ None
 whole_fault [] n e bad = refl
 whole_fault (w ∷ ws) n e bad =
     let o = open_name w ws n e in
     fault_none w ws n o.1 o.0 bad
 
 -- what is read of the matches of the words is what they ask for
-pub whole_told : (ws : List Text) (n : Name) (c : Option Command) → name_in ws ≡ Some n → fault_of command_line ws ≡ []
-    → ((t : Text) (rows : List Row) → subcommand_of command_line ws ≡ Some (t, rows) → Reads n rows c) → command_in ws ≡ c
+pub whole_told : (ws : List Text) (n : Name) (c : Option Command) → command_name ws ≡ Some n → fault_of command_line ws ≡ []
+    → ((t : Text) (rows : List Row) → subcommand_of command_line ws ≡ Some (t, rows) → RowsGive n rows c) → command_in ws ≡ c
 whole_told [] n c e none reads = absurd (some≢none n e)
 whole_told (w ∷ ws) n c e none reads =
     let o = open_name w ws n e in

@@ -12,19 +12,19 @@ Text = List ℕ
 
 -- ---- numbers
 
-abbrev pub is_digit : ℕ → Bool
-is_digit b = nat_le 48 b && nat_le b 57
+abbrev pub is_decimal_digit : ℕ → Bool
+is_decimal_digit b = nat_le 48 b && nat_le b 57
 
 -- one to seven decimal digits
 abbrev pub is_number : Text → Bool
-is_number v = nat_le 1 (length v) && (nat_le (length v) 7 && list_all is_digit v)
+is_number v = nat_le 1 (length v) && (nat_le (length v) 7 && list_all is_decimal_digit v)
 
 abbrev pub between : ℕ → ℕ → ℕ → Option ℕ
 between least most n = if nat_le least n && nat_le n most then Some n else None
 
 -- the number that a word writes, from `least` to `most`
-abbrev pub number_of : ℕ → ℕ → Text → Option ℕ
-number_of least most v = if is_number v then between least most (digits_value 10 v) else None
+abbrev pub number_asked : ℕ → ℕ → Text → Option ℕ
+number_asked least most v = if is_number v then between least most (digits_value 10 v) else None
 
 -- ---- what a word is
 
@@ -33,42 +33,42 @@ abbrev pub wants_value : Text → Bool
 wants_value word = bytes_eq word (codes "--workers") || bytes_eq word (codes "--budget")
 
 -- each option that stands apart from its value, joined to it: `--x V` is `--x=V` (61 is `=`)
-abbrev pub joined : List Text → List Text
-joined [] = []
-joined (w ∷ []) = w ∷ []
-joined (w ∷ v ∷ rest) =
-    if wants_value w then (w ++ 61 ∷ v) ∷ joined rest else w ∷ joined (v ∷ rest)
+abbrev pub options_joined : List Text → List Text
+options_joined [] = []
+options_joined (w ∷ []) = w ∷ []
+options_joined (w ∷ v ∷ rest) =
+    if wants_value w then (w ++ 61 ∷ v) ∷ options_joined rest else w ∷ options_joined (v ∷ rest)
 
 -- what follows `start` in a word that begins with it
-abbrev pub after : Text → Text → Option Text
-after [] word = Some word
-after (x ∷ start) [] = None
-after (x ∷ start) (y ∷ word) = if x == y then after start word else None
+abbrev pub behind_start : Text → Text → Option Text
+behind_start [] word = Some word
+behind_start (x ∷ start) [] = None
+behind_start (x ∷ start) (y ∷ word) = if x == y then behind_start start word else None
 
 abbrev pub workers_in : Text → Option Text
-workers_in = after (codes "--workers=")
+workers_in = behind_start (codes "--workers=")
 
 abbrev pub budget_in : Text → Option Text
-budget_in = after (codes "--budget=")
+budget_in = behind_start (codes "--budget=")
 
 abbrev pub is_journal : Text → Bool
 is_journal word = bytes_eq word (codes "--journal")
 
 -- a word that does not begin with `-`
-abbrev pub bare : Text → Option Text
-bare word = if is_some (after (codes "-") word) then None else Some word
+abbrev pub bare_word : Text → Option Text
+bare_word word = if is_some (behind_start (codes "-") word) then None else Some word
 
 -- ---- the commands
 
 -- a number given at most once, or what stands for it
 abbrev pub setting : ℕ → ℕ → ℕ → List Text → Option ℕ
 setting default least most [] = Some default
-setting default least most (v ∷ []) = number_of least most v
+setting default least most (v ∷ []) = number_asked least most v
 setting default least most (v ∷ w ∷ vs) = None
 
 -- a number given once
 abbrev pub one_number : ℕ → ℕ → List Text → Option ℕ
-one_number least most (v ∷ []) = number_of least most v
+one_number least most (v ∷ []) = number_asked least most v
 one_number least most _ = None
 
 -- an option without a value, given at most once
@@ -77,20 +77,20 @@ once [] = Some false
 once (w ∷ []) = Some true
 once (w ∷ v ∷ ws) = None
 
-abbrev pub journal_of : List Text → Option Bool
-journal_of ws = once (filter is_journal ws)
+abbrev pub journal_asked : List Text → Option Bool
+journal_asked ws = once (filter is_journal ws)
 
-abbrev pub workers_of : List Text → Option ℕ
-workers_of ws = setting 1 1 16 (filter_map workers_in ws)
+abbrev pub workers_asked : List Text → Option ℕ
+workers_asked ws = setting 1 1 16 (filter_map workers_in ws)
 
-abbrev pub budget_of : List Text → Option ℕ
-budget_of ws = setting 1000000 1 4000000 (filter_map budget_in ws)
+abbrev pub budget_asked : List Text → Option ℕ
+budget_asked ws = setting 1000000 1 4000000 (filter_map budget_in ws)
 
 abbrev pub is_run_word : Text → Bool
 is_run_word w = is_some (workers_in w) || (is_some (budget_in w) || is_journal w)
 
 abbrev pub is_load_word : Text → Bool
-is_load_word w = is_some (workers_in w) || is_some (bare w)
+is_load_word w = is_some (workers_in w) || is_some (bare_word w)
 
 -- a command with its parts, where each is there
 abbrev pub run_with : Option ℕ → Option ℕ → Option Bool → Option Command
@@ -103,24 +103,24 @@ load_with _ _ = None
 
 -- `run` and its options, each at most once, in any order
 abbrev pub run_words : List Text → Option Command
-run_words ws = if list_all is_run_word ws then run_with (workers_of ws) (budget_of ws) (journal_of ws) else None
+run_words ws = if list_all is_run_word ws then run_with (workers_asked ws) (budget_asked ws) (journal_asked ws) else None
 
 -- `load` with its number, and `--workers` at most once
 abbrev pub load_words : List Text → Option Command
-load_words ws = if list_all is_load_word ws then load_with (one_number 1 20000 (filter_map bare ws)) (workers_of ws) else None
+load_words ws = if list_all is_load_word ws then load_with (one_number 1 20000 (filter_map bare_word ws)) (workers_asked ws) else None
 
 -- a command that has no words of its own
-abbrev pub alone : Command → List Text → Option Command
-alone command [] = Some command
-alone command (w ∷ ws) = None
+abbrev pub wordless : Command → List Text → Option Command
+wordless command [] = Some command
+wordless command (w ∷ ws) = None
 
 -- what the words after the command_line's name ask for
 abbrev pub command_in : List Text → Option Command
 command_in [] = None
 command_in (w ∷ ws) =
-    if bytes_eq w (codes "run") then run_words (joined ws)
-    else (if bytes_eq w (codes "check") then alone Check (joined ws)
-    else (if bytes_eq w (codes "load") then load_words (joined ws)
-    else (if bytes_eq w (codes "replay") then alone Replay (joined ws)
-    else (if bytes_eq w (codes "follow") then alone Follow (joined ws)
-    else (if bytes_eq w (codes "report") then alone Report (joined ws) else None)))))
+    if bytes_eq w (codes "run") then run_words (options_joined ws)
+    else (if bytes_eq w (codes "check") then wordless Check (options_joined ws)
+    else (if bytes_eq w (codes "load") then load_words (options_joined ws)
+    else (if bytes_eq w (codes "replay") then wordless Replay (options_joined ws)
+    else (if bytes_eq w (codes "follow") then wordless Follow (options_joined ws)
+    else (if bytes_eq w (codes "report") then wordless Report (options_joined ws) else None)))))

@@ -3,7 +3,7 @@
 ghost use Rattle.std.specs.List.{list_all};
 ghost use Rattle.std.specs.Prelude.{◌≡◌, map, string_bytes};
 ghost use Rattle.std.specs.Str.{bytes_eq};
-ghost use Rattle.ca_words.specs.Reading.{is_open, name_in, name_of};
+ghost use Rattle.ca_words.specs.Reading.{is_open_word, command_name, name_told};
 
 /// The names of commands.
 #[derive(Clone, Copy)]
@@ -18,7 +18,7 @@ pub enum Name {
 
 /// The command that the words name, or None where they name none or one of the others is not for clap to read.
 pub fn name_in(words: &[String]) -> Option<Name>
-    ensures { result ≡ name_in (map string_bytes words.now) }
+    ensures { result ≡ command_name (map string_bytes words.now) }
 {
     match words {
         [first, rest @ ..] if are_open(rest) => name_of(first.as_str()),
@@ -28,7 +28,7 @@ pub fn name_in(words: &[String]) -> Option<Name>
 
 // The command that a word names.
 fn name_of(word: &str) -> Option<Name>
-    ensures { result ≡ name_of word.now }
+    ensures { result ≡ name_told word.now }
 {
     if is_word(word, "run") {
         Some(Name::Run)
@@ -54,7 +54,7 @@ fn is_word(word: &str, name: &str) -> bool
 }
 
 fn are_open(words: &[String]) -> bool
-    ensures { result ≡ list_all is_open (map string_bytes words.now) }
+    ensures { result ≡ list_all is_open_word (map string_bytes words.now) }
 {
     for word in words {
         if !is_open(word.as_str()) {
@@ -67,7 +67,7 @@ fn are_open(words: &[String]) -> bool
 // The word is not `--`, behind which clap takes all words as they are, and doesn't begin with a single `-`, behind
 // which it looks for short options.
 fn is_open(word: &str) -> bool
-    ensures { result ≡ is_open word.now }
+    ensures { result ≡ is_open_word word.now }
 {
     match word.as_bytes() {
         [b'-', b'-', _, ..] => true,

@@ -2,7 +2,7 @@
 
 ghost use Rattle.std.specs.List.{list_all};
 ghost use Rattle.std.specs.Prelude.{◌≡◌, option_map, option_to_list};
-ghost use Rattle.ca_words.specs.Words.{is_digit, is_number, number_of, setting};
+ghost use Rattle.ca_words.specs.Words.{is_decimal_digit, is_number, number_asked, setting};
 
 /// The number that an option was given, or the one that stands for it where it wasn't given; None where the text is
 /// no number from `least` to `most`.
@@ -17,7 +17,7 @@ pub fn setting(text: Option<&str>, default: u64, least: u64, most: u64) -> Optio
 
 /// The number that a text writes, where it is from `least` to `most`.
 pub fn number_of(text: &str, least: u64, most: u64) -> Option<u64>
-    ensures { result ≡ number_of least most text.now }
+    ensures { result ≡ number_asked least most text.now }
 {
     if !is_number(text) {
         return None;
@@ -37,7 +37,7 @@ fn is_number(text: &str) -> bool
 }
 
 fn are_digits(bytes: &[u8]) -> bool
-    ensures { result ≡ list_all is_digit bytes.now }
+    ensures { result ≡ list_all is_decimal_digit bytes.now }
 {
     for byte in bytes {
         if !(b'0' <= *byte && *byte <= b'9') {

@@ -3,7 +3,7 @@
 ghost use Rattle.std.specs.Prelude.{◌≡◌, ◌↔◌, Bool, ℕ, List, [], IfOk, Err, Some, None, map, option_to_list, string_bytes, codes};
 ghost use Rattle.clap.specs.Words.{Row, fault_of, first_value, found_of, one_text, rows_of, subcommand_of, subcommand_rows_of};
 ghost use Rattle.ca_words.specs.Line.{command_line};
-ghost use Rattle.ca_words.specs.Reading.{flag_text, Reads};
+ghost use Rattle.ca_words.specs.Reading.{flag_text, RowsGive};
 ghost use Rattle.ca_words.specs.Words.{command_in, load_with, one_number, run_with, setting};
 
 use crate::command::{Command, WordsError};
@@ -54,7 +54,7 @@ fn refusal(kind: ErrorKind) -> WordsError
 
 // What the named command was given.
 fn answer(name: Name, matches: &ArgMatches) -> Option<Command>
-    ensures { (t : List ℕ) (rows : List Row) → subcommand_rows_of matches.now ≡ Some (t, rows) → Reads name rows result }
+    ensures { (t : List ℕ) (rows : List Row) → subcommand_rows_of matches.now ≡ Some (t, rows) → RowsGive name rows result }
 {
     match matches.subcommand() {
         Some((_, inner)) => read(name, inner),
@@ -63,7 +63,7 @@ fn answer(name: Name, matches: &ArgMatches) -> Option<Command>
 }
 
 fn read(name: Name, matches: &ArgMatches) -> Option<Command>
-    ensures { Reads name (rows_of (found_of matches.now)) result }
+    ensures { RowsGive name (rows_of (found_of matches.now)) result }
 {
     match name {
         Name::Run => read_run(matches),

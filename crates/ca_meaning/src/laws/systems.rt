@@ -8,7 +8,7 @@ ghost use Rattle.ca_term.specs.declared.place.Place.{Place};
 ghost use Rattle.ca_term.specs.Program.{ProgramView};
 ghost use Rattle.ca_meaning.specs.Body.{local, nowhere};
 ghost use Rattle.ca_meaning.specs.System.{SystemBody, new_system, system_at, SystemRest};
-ghost use Rattle.ca_meaning.specs.WorkedTables.{Works, yes, seven, eight, list_of, mult_rows, deliver_rows, mix_rows, pub_rows, pipe_rows, merge_rows, onto_rows, feed_rows, job_rows, collect_rows};
+ghost use Rattle.ca_meaning.specs.WorkedTables.{Works, true_value, seven, eight, list_of, mult_rows, deliver_rows, mix_rows, pub_rows, pipe_rows, merge_rows, onto_rows, feed_rows, job_rows, collect_rows};
 
 /// Each system task comes to rest, and in one way alone. There it stands at an operation, at its end or at a fault. A
 /// new one is at rest.
@@ -26,10 +26,10 @@ pub fn worked_tables()
     ensures delivery { (program : ProgramView) (p : Place) → Works program p SystemTask.Deliver (port 1 ∷ port 4 ∷ seven ∷ port 3 ∷ []) deliver_rows }
     ensures mix { (program : ProgramView) (p : Place) → Works program p SystemTask.Mix (port 1 ∷ port 2 ∷ port 3 ∷ []) mix_rows }
     ensures publication { (program : ProgramView) (p : Place) → Works program p (SystemTask.Pub (PlainFunction.Builtin Builtin.IsOdd)) (port 1 ∷ port 2 ∷ []) pub_rows }
-    ensures pipe { (program : ProgramView) (p : Place) → Works program p SystemTask.Pipe (port 1 ∷ port 2 ∷ yes ∷ []) pipe_rows }
+    ensures pipe { (program : ProgramView) (p : Place) → Works program p SystemTask.Pipe (port 1 ∷ port 2 ∷ true_value ∷ []) pipe_rows }
     ensures merge { (program : ProgramView) (p : Place) → Works program p SystemTask.Merge (list_of (port 3 ∷ port 4 ∷ port 3 ∷ []) ∷ port 2 ∷ []) merge_rows }
-    ensures onto { (program : ProgramView) (p : Place) → Works program p SystemTask.Onto (port 1 ∷ list_of (seven ∷ eight ∷ seven ∷ []) ∷ yes ∷ port 2 ∷ []) onto_rows }
+    ensures onto { (program : ProgramView) (p : Place) → Works program p SystemTask.Onto (port 1 ∷ list_of (seven ∷ eight ∷ seven ∷ []) ∷ true_value ∷ port 2 ∷ []) onto_rows }
     ensures feed { (program : ProgramView) (p : Place) → Works program p SystemTask.Feed (port 1 ∷ port 2 ∷ port 3 ∷ []) feed_rows }
     ensures job { (program : ProgramView) (p : Place) → Works program p (SystemTask.Job Filter (PlainFunction.Builtin Builtin.IsOdd)) (port 1 ∷ []) job_rows }
-    ensures collect { (program : ProgramView) (p : Place) → Works program p SystemTask.Collect (port 1 ∷ port 2 ∷ yes ∷ port 3 ∷ []) collect_rows }
+    ensures collect { (program : ProgramView) (p : Place) → Works program p SystemTask.Collect (port 1 ∷ port 2 ∷ true_value ∷ port 3 ∷ []) collect_rows }
 {}

@@ -1,6 +1,6 @@
 use Rattle.std.proofs.Common.{◌≡◌, ◌+◌, ◌≤◌, length, map, take}
 use Rattle.ca_value.specs.Seq.{list, spare}
-use Rattle.ca_term.specs.View.{kernel, named}
+use Rattle.ca_term.specs.View.{kernel, binding_view}
 use Rattle.ca_term.proofs.+copy.Given as goal
 
 abbrev pub invariant-copy::copy_terms-loop-term : goal.invariant-copy::copy_terms-loop-term
@@ -12,6 +12,6 @@ invariant-copy::copy_terms-loop-term l = record {
 abbrev pub invariant-copy::copy_bindings-loop-binding :
     goal.invariant-copy::copy_bindings-loop-binding
 invariant-copy::copy_bindings-loop-binding l = record {
-  same : map named (list l.copies) ≡ map named (take l.binding-index l.binding-items);
+  same : map binding_view (list l.copies) ≡ map binding_view (take l.binding-index l.binding-items);
   room : length l.binding-items ≤ spare l.copies + l.binding-index;
 }

@@ -1,6 +1,6 @@
 use Rattle.std.proofs.Common.{◌≡◌, drop}
 use Rattle.ca_value.specs.View.{pair_view, pairs_view, trees, tree_pairs}
-use Rattle.ca_value.specs.Equality.{equals, equal_items, within, has_pair}
+use Rattle.ca_value.specs.Equality.{equals, equal_items, is_map_within, has_pair}
 use Rattle.ca_value.proofs.+equal.Given as goal
 
 abbrev pub invariant-equal::Seq+Value::equal-loop-i : goal.invariant-equal::Seq+Value::equal-loop-i
@@ -9,7 +9,7 @@ invariant-equal::Seq+Value::equal-loop-i l =
 
 abbrev pub invariant-value::Pairs::is_within-loop-pair : goal.invariant-value::Pairs::is_within-loop-pair
 invariant-value::Pairs::is_within-loop-pair l =
-    within (tree_pairs (drop l.pair-index l.pair-items)) (pairs_view l.other) ≡ within (pairs_view l.self) (pairs_view l.other)
+    is_map_within (tree_pairs (drop l.pair-index l.pair-items)) (pairs_view l.other) ≡ is_map_within (pairs_view l.self) (pairs_view l.other)
 
 abbrev pub invariant-value::Pair::is_in-loop-pair : goal.invariant-value::Pair::is_in-loop-pair
 invariant-value::Pair::is_in-loop-pair l =

@@ -8,7 +8,7 @@ ghost use Rattle.ca_value.specs.Outcome.{outcome, judged, Outcome, IsFault, Give
 ghost use Rattle.ca_value.specs.IsValue.{Scalars, IsValue, AreValues};
 ghost use Rattle.ca_value.specs.Vectors.{nth_of, appended};
 ghost use Rattle.ca_value.specs.Maps.{assoc_of};
-ghost use Rattle.ca_value.specs.Builtins.{answer, builtin_result, admits};
+ghost use Rattle.ca_value.specs.Builtins.{answer, builtin_result, admits_arguments};
 ghost use Rattle.ca_value.specs.declared.builtin.Builtin.{Builtin as PureBuiltin};
 
 use super::judge::judge;
@@ -24,7 +24,7 @@ use std::alloc::Global;
 /// The value of a builtin at one argument that the caller keeps, or its fault.
 #[tactic(auto, using(crate::proofs::OutcomeLaws::given_value, crate::proofs::OutcomeLaws::given_fault, crate::proofs::OutcomeLaws::given_sound))]
 pub fn apply_one(alloc: Global, builtin: Builtin, a: &Value) -> Result<Value, ApplyError>
-    requires { IsTrue (admits builtin 1) }
+    requires { IsTrue (admits_arguments builtin 1) }
     ensures value { IfOk result (λ v. builtin_result builtin (trees_of (view a.now ∷ [])) ≡ Ok (view v)) }
     ensures fault { IfErr result (λ e. IsFault e (builtin_result builtin (trees_of (view a.now ∷ [])))) }
     ensures sound { (w : Scalars) → AreValues w (trees_of (view a.now ∷ [])) → IfOk result (λ v. IsValue w (view v)) }
@@ -35,7 +35,7 @@ pub fn apply_one(alloc: Global, builtin: Builtin, a: &Value) -> Result<Value, Ap
 /// The value of a builtin at two arguments that the caller keeps, or its fault.
 #[tactic(auto, using(crate::proofs::OutcomeLaws::given_value, crate::proofs::OutcomeLaws::given_fault, crate::proofs::OutcomeLaws::given_sound))]
 pub fn apply_two(alloc: Global, builtin: Builtin, a: &Value, b: &Value) -> Result<Value, ApplyError>
-    requires { IsTrue (admits builtin 2) }
+    requires { IsTrue (admits_arguments builtin 2) }
     ensures value { IfOk result (λ v. builtin_result builtin (trees_of (view a.now ∷ view b.now ∷ [])) ≡ Ok (view v)) }
     ensures fault { IfErr result (λ e. IsFault e (builtin_result builtin (trees_of (view a.now ∷ view b.now ∷ [])))) }
     ensures sound { (w : Scalars) → AreValues w (trees_of (view a.now ∷ view b.now ∷ [])) → IfOk result (λ v. IsValue w (view v)) }
@@ -71,7 +71,7 @@ pub fn assoc_one(
 // The scalar, where the builtin has one here; else what its row answers.
 #[inline(always)]
 fn give_one(alloc: Global, builtin: Builtin, a: &Value) -> Result<Value, ApplyError>
-    requires { IsTrue (admits builtin 1) }
+    requires { IsTrue (admits_arguments builtin 1) }
     ensures { Gives result (builtin_result builtin (trees_of (view a.now ∷ []))) }
 {
     if let Some(n) = int_of_value(builtin, a) {
@@ -86,7 +86,7 @@ fn give_one(alloc: Global, builtin: Builtin, a: &Value) -> Result<Value, ApplyEr
 // The scalar, where the builtin has one here; else what its row answers.
 #[inline(always)]
 fn give_two(alloc: Global, builtin: Builtin, a: &Value, b: &Value) -> Result<Value, ApplyError>
-    requires { IsTrue (admits builtin 2) }
+    requires { IsTrue (admits_arguments builtin 2) }
     ensures { Gives result (builtin_result builtin (trees_of (view a.now ∷ view b.now ∷ []))) }
 {
     if let (Value::Int(x), Value::Int(y)) = (a, b) {
@@ -103,7 +103,7 @@ fn give_two(alloc: Global, builtin: Builtin, a: &Value, b: &Value) -> Result<Val
 #[inline(never)]
 #[tactic(auto, unfolding(crate::specs::Builtins::builtin_result))]
 fn row_of_one(alloc: Global, builtin: Builtin, a: &Value) -> Result<Value, ApplyError>
-    requires { IsTrue (admits builtin 1) }
+    requires { IsTrue (admits_arguments builtin 1) }
     ensures { Gives result (builtin_result builtin (trees_of (view a.now ∷ []))) }
 {
     applied(evaluate_one(alloc, builtin, a))
@@ -112,7 +112,7 @@ fn row_of_one(alloc: Global, builtin: Builtin, a: &Value) -> Result<Value, Apply
 #[inline(never)]
 #[tactic(auto, unfolding(crate::specs::Builtins::builtin_result))]
 fn row_of_two(alloc: Global, builtin: Builtin, a: &Value, b: &Value) -> Result<Value, ApplyError>
-    requires { IsTrue (admits builtin 2) }
+    requires { IsTrue (admits_arguments builtin 2) }
     ensures { Gives result (builtin_result builtin (trees_of (view a.now ∷ view b.now ∷ []))) }
 {
     if let Some(truth) = truth_of_values(builtin, a, b) {
@@ -160,7 +160,7 @@ fn applied(answer: Result<Answer<Value>, OutOfMemory>) -> Result<Value, ApplyErr
 
 // The rows that answer one operand with a value; all others by the list of its copy.
 fn evaluate_one(alloc: Global, builtin: Builtin, a: &Value) -> Result<Answer<Value>, OutOfMemory>
-    requires { IsTrue (admits builtin 1) }
+    requires { IsTrue (admits_arguments builtin 1) }
     ensures { IfOk result (λ r. outcome r ≡ judged (answer builtin (view a.now ∷ []))) }
 {
     match builtin {
@@ -179,7 +179,7 @@ fn evaluate_two(
     a: &Value,
     b: &Value,
 ) -> Result<Answer<Value>, OutOfMemory>
-    requires { IsTrue (admits builtin 2) }
+    requires { IsTrue (admits_arguments builtin 2) }
     ensures { IfOk result (λ r. outcome r ≡ judged (answer builtin (view a.now ∷ view b.now ∷ []))) }
 {
     match builtin {

@@ -1,5 +1,5 @@
 ghost use Rattle.std.specs.Prelude.{◌≡◌};
-ghost use Rattle.ca_value.specs.Outcome.{outcome, number, truth, judged};
+ghost use Rattle.ca_value.specs.Outcome.{outcome, number_outcome, truth_outcome, judged};
 
 use super::kinds::Answer;
 use crate::fault::ValueFault;
@@ -27,14 +27,14 @@ pub fn judge(answer: Answer<Value>) -> Answer<Value>
 
 /// The integer as a value, which needs no judging.
 pub fn int_value(answer: Answer<i64>) -> Answer<Value>
-    ensures { outcome result ≡ judged (number answer) }
+    ensures { outcome result ≡ judged (number_outcome answer) }
 {
     Ok(Value::Int(answer?))
 }
 
 /// The boolean as a value, which needs no judging.
 pub fn bool_value(answer: Answer<bool>) -> Answer<Value>
-    ensures { outcome result ≡ judged (truth answer) }
+    ensures { outcome result ≡ judged (truth_outcome answer) }
 {
     Ok(Value::Bool(answer?))
 }

@@ -5,7 +5,7 @@ ghost use Rattle.ca_value.specs.Tree.{nil};
 ghost use Rattle.ca_value.specs.View.{view, views, pair_view, pair_views, vector_trees, map_pairs};
 ghost use Rattle.ca_value.specs.Outcome.{outcome};
 ghost use Rattle.ca_value.specs.Kinds.{map_from};
-ghost use Rattle.ca_value.specs.Maps.{value_at, put, put_all, paired, item_under, get_of, count_of, item_set, items_assoc, assoc_of, without, without_all, dissoc_of, is_empty_of, vector_or_nil, halves_of, contains_of, walked, pair_vector};
+ghost use Rattle.ca_value.specs.Maps.{value_at, put_pair, put_all, paired, item_under, get_of, count_answer, item_set, items_assoc, assoc_of, without_pair, without_all, dissoc_of, is_empty_of, vector_or_nil, halves_of, contains_of, walked, pair_vector};
 ghost use Rattle.ca_value.specs.Vectors.{item_at};
 ghost use Rattle.ca_value.specs.Operations.{half_of};
 
@@ -107,7 +107,7 @@ fn copy_under(alloc: Global, items: &[Value], key: &Value) -> Result<Option<Valu
 /// How many items, or pairs, there are.
 #[tactic(auto, using(crate::proofs::Lists::items_of_trees_of, crate::proofs::Lists::entries_of_pairs_of))]
 pub fn count(collection: &Value) -> Answer<i64>
-    ensures { result ≡ count_of (view collection.now) }
+    ensures { result ≡ count_answer (view collection.now) }
 {
     match collection {
         Value::Map(pairs) => Ok(pairs.as_slice().len() as i64),
@@ -162,7 +162,7 @@ pub fn assoc_one(
 
 // The map with the value of the key set.
 fn map_with(alloc: Global, mut map: Map, key: Value, value: Value) -> Result<Value, OutOfMemory>
-    ensures { IfOk result (λ v. view v ≡ map_from (put (map_pairs map) (view key) (view value))) }
+    ensures { IfOk result (λ v. view v ≡ map_from (put_pair (map_pairs map) (view key) (view value))) }
 {
     map.put(alloc, key, value)?;
     Ok(Value::Map(map))
@@ -235,7 +235,7 @@ fn set_item(
 
 // The pairs but that of the key.
 fn without_key(pairs: Pairs, key: &Value) -> Pairs
-    ensures { pair_views (pairs_list result) ≡ without (pair_views (pairs_list pairs)) (view key.now) }
+    ensures { pair_views (pairs_list result) ≡ without_pair (pair_views (pairs_list pairs)) (view key.now) }
 {
     match place(pairs.as_slice(), key) {
         Some(place) => pairs.without(place),

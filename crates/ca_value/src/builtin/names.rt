@@ -1,7 +1,7 @@
 ghost use Rattle.std.specs.Prelude.{◌≡◌, ◌≢◌, false, IfSome, All, Contains};
 ghost use Rattle.ca_value.specs.declared.builtin.Builtin.{Builtin};
 ghost use Rattle.ca_value.specs.Names.{name_of, is_hidden};
-ghost use Rattle.ca_value.specs.Builtins.{admits};
+ghost use Rattle.ca_value.specs.Builtins.{admits_arguments};
 
 use super::Builtin;
 
@@ -121,7 +121,7 @@ impl Builtin {
 
     /// Whether the builtin takes so many arguments.
     pub fn admits(self, count: u64) -> bool
-        ensures { result ≡ admits self count }
+        ensures { result ≡ admits_arguments self count }
     {
         match self {
             Builtin::Add | Builtin::Multiply | Builtin::Str | Builtin::Vector => true,

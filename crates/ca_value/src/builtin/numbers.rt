@@ -2,7 +2,7 @@ ghost use Rattle.std.specs.Prelude.{◌≡◌, ◌≢◌, pos, int_rem};
 ghost use Rattle.ca_value.specs.Seq.{list};
 ghost use Rattle.ca_value.specs.View.{view, views};
 ghost use Rattle.ca_value.specs.Kinds.{with_integer, with_two, with_integers};
-ghost use Rattle.ca_value.specs.Numbers.{in_range, running, difference_of, quotient_of, remainder_of, modulus_of, floored, chosen, in_order, worker_count_of};
+ghost use Rattle.ca_value.specs.Numbers.{in_range, folded_in_range, difference_of, quotient_of, remainder_of, modulus_of, floored, preferred, are_in_order, worker_count_of};
 ghost use Rattle.ca_value.specs.Operations.{operation_of, choice_of, order_of};
 
 use super::kinds::{Answer, integer};
@@ -75,7 +75,7 @@ impl Order {
 
 /// The operation over all integers from left to right.
 pub fn run(operation: Operation, start: i64, args: &[Value]) -> Answer<i64>
-    ensures { result ≡ with_integers (running (operation_of operation) start) (views args.now) }
+    ensures { result ≡ with_integers (folded_in_range (operation_of operation) start) (views args.now) }
 {
     let mut total = Ok(start);
     for value in args {
@@ -103,7 +103,7 @@ pub fn difference(args: &[Value]) -> Answer<i64>
 
 /// The integer that the choice keeps of all.
 pub fn choose(choice: Choice, args: &[Value]) -> Answer<i64>
-    ensures { result ≡ with_integers (chosen (choice_of choice)) (views args.now) }
+    ensures { result ≡ with_integers (preferred (choice_of choice)) (views args.now) }
 {
     let Some((first, rest)) = args.split_first() else {
         return Err(ValueFault::WrongKind);
@@ -117,7 +117,7 @@ pub fn choose(choice: Choice, args: &[Value]) -> Answer<i64>
 
 /// Whether each integer and the next stand in this order.
 pub fn compare(order: Order, args: Items) -> Answer<bool>
-    ensures { result ≡ with_integers (in_order (order_of order)) (views (list args)) }
+    ensures { result ≡ with_integers (are_in_order (order_of order)) (views (list args)) }
 {
     let Some((first, rest)) = args.as_slice().split_first() else {
         return Err(ValueFault::WrongKind);

@@ -3,7 +3,7 @@ ghost use Rattle.ca_value.specs.Seq.{list};
 ghost use Rattle.ca_value.specs.View.{view, views};
 ghost use Rattle.ca_value.specs.Kinds.{with_integer};
 ghost use Rattle.ca_value.specs.Numbers.{is_zero, is_even};
-ghost use Rattle.ca_value.specs.Tests.{is_falsy, is_nil, is_the_bool, all_equal, test_of};
+ghost use Rattle.ca_value.specs.Tests.{is_falsy, is_nil_tree, is_the_bool, all_equal, test_of};
 
 use super::kinds::{Answer, integer};
 use crate::value::{Items, Value};
@@ -21,7 +21,7 @@ pub fn is_false_like(value: &Value) -> bool
 
 /// Whether the value is nil; false is not.
 pub fn is_nil_value(value: &Value) -> bool
-    ensures { result ≡ is_nil (view value.now) }
+    ensures { result ≡ is_nil_tree (view value.now) }
 {
     match value {
         Value::Nil => true,

@@ -4,7 +4,7 @@ ghost use Rattle.ca_value.specs.Tree.{int};
 ghost use Rattle.ca_value.specs.View.{view, views};
 ghost use Rattle.ca_value.specs.Outcome.{outcome, judged};
 ghost use Rattle.ca_value.specs.Kinds.{vector_from};
-ghost use Rattle.ca_value.specs.Vectors.{distance_of, integers_from, counted, bounds_of, range_of};
+ghost use Rattle.ca_value.specs.Vectors.{distance_of, integers_from, integers_between, bounds_of, range_of};
 
 use super::judge::GREATEST_WEIGHT;
 use super::kinds::{Answer, integer};
@@ -39,7 +39,7 @@ fn bounds(first: &Value, second: Option<Value>) -> Answer<(i64, i64)>
 
 // The integers from low up to, not including, high. Each weighs 1, and the vector 1 more.
 fn between(alloc: Global, low: i64, high: i64) -> Result<Answer<Value>, OutOfMemory>
-    ensures { IfOk result (λ r. outcome r ≡ judged (Ok (vector_from (counted low high)))) }
+    ensures { IfOk result (λ r. outcome r ≡ judged (Ok (vector_from (integers_between low high)))) }
 {
     let count = distance(low, high);
     if GREATEST_WEIGHT <= count {

@@ -2,7 +2,7 @@ ghost use Rattle.std.specs.Prelude.{◌≡◌, ◌++◌, IfOk, OnOk};
 ghost use Rattle.ca_value.specs.Seq.{list};
 ghost use Rattle.ca_value.specs.Tree.{text};
 ghost use Rattle.ca_value.specs.View.{view, views};
-ghost use Rattle.ca_value.specs.Texts.{joined, str_text};
+ghost use Rattle.ca_value.specs.Texts.{joined_text, str_text};
 
 use crate::memory::OutOfMemory;
 use crate::seq::Text;
@@ -12,13 +12,13 @@ use std::alloc::Global;
 /// The texts of the arguments, joined: nil as nothing, a text as it is, others as they read.
 #[inline(never)]
 pub fn str(alloc: Global, args: Items) -> Result<Value, OutOfMemory>
-    ensures { IfOk result (λ v. view v ≡ text (joined (views (list args)))) }
+    ensures { IfOk result (λ v. view v ≡ text (joined_text (views (list args)))) }
 {
     Value::text(alloc, join(alloc, args.as_slice())?)
 }
 
 fn join(alloc: Global, args: &[Value]) -> Result<Text, OutOfMemory>
-    ensures { IfOk result (λ t. list t ≡ joined (views args.now)) }
+    ensures { IfOk result (λ t. list t ≡ joined_text (views args.now)) }
 {
     let mut text = Text::new(alloc);
     text.reserve(bytes_of_texts(args))?;

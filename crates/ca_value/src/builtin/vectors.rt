@@ -3,7 +3,7 @@ ghost use Rattle.ca_value.specs.Seq.{list};
 ghost use Rattle.ca_value.specs.Tree.{nil};
 ghost use Rattle.ca_value.specs.View.{view, views, vector_trees};
 ghost use Rattle.ca_value.specs.Outcome.{outcome};
-ghost use Rattle.ca_value.specs.Vectors.{item_at, appended, nth_at, nth_of, first_of, last_of, popped, shortened, part_of, subvec_of, end_of, cut_of, part_between};
+ghost use Rattle.ca_value.specs.Vectors.{item_at, appended, nth_at, nth_of, first_item, item_at_end, popped, shortened, item_at_index, subvec_of, end_index, cut_of, part_between};
 
 use super::kinds::{Answer, integer, vector};
 use crate::fault::ValueFault;
@@ -117,7 +117,7 @@ fn item_or_nil(alloc: Global, items: &[Value], place: usize) -> Result<Value, Ou
 #[inline(never)]
 #[tactic(auto, using(crate::proofs::Lists::items_of_trees_of))]
 pub fn first(alloc: Global, collection: &Value) -> Result<Answer<Value>, OutOfMemory>
-    ensures { IfOk result (λ r. outcome r ≡ first_of (view collection.now)) }
+    ensures { IfOk result (λ r. outcome r ≡ first_item (view collection.now)) }
 {
     match collection {
         Value::Vector(items) => Ok(Ok(item_or_nil(alloc, items.as_slice(), 0)?)),
@@ -130,7 +130,7 @@ pub fn first(alloc: Global, collection: &Value) -> Result<Answer<Value>, OutOfMe
 #[inline(never)]
 #[tactic(auto, using(crate::proofs::Lists::items_of_trees_of))]
 pub fn last(alloc: Global, collection: &Value) -> Result<Answer<Value>, OutOfMemory>
-    ensures { IfOk result (λ r. outcome r ≡ last_of (view collection.now)) }
+    ensures { IfOk result (λ r. outcome r ≡ item_at_end (view collection.now)) }
 {
     match collection {
         Value::Vector(items) => Ok(Ok(last_item(alloc, items.as_slice())?)),
@@ -173,7 +173,7 @@ fn without_last(alloc: Global, mut items: Items) -> Result<Answer<Value>, OutOfM
 #[inline(never)]
 #[tactic(auto, using(crate::proofs::Lists::items_of_trees_of))]
 pub fn part(alloc: Global, collection: &Value, index: &Value) -> Result<Answer<Value>, OutOfMemory>
-    ensures { IfOk result (λ r. outcome r ≡ part_of (view collection.now) (view index.now)) }
+    ensures { IfOk result (λ r. outcome r ≡ item_at_index (view collection.now) (view index.now)) }
 {
     match collection {
         Value::Vector(items) => match integer(index) {
@@ -226,7 +226,7 @@ fn cut(
 
 // The end that is given, or else the count.
 fn end_place(items: &[Value], end: Option<Value>) -> Answer<i64>
-    ensures { result ≡ end_of (views items.now) (option_map view end) }
+    ensures { result ≡ end_index (views items.now) (option_map view end) }
 {
     match end {
         Some(end) => integer(&end),

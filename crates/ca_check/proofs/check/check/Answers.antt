@@ -4,7 +4,7 @@ use Rattle.ca_term.specs.Program.{program_view, procedure_view}
 use Rattle.ca_term.specs.Kernel.{Kernel}
 use Rattle.ca_reader.specs.declared.form.Form.{Form}
 use Rattle.ca_reader.specs.View.{form_trees}
-use Rattle.ca_check.specs.Expansion.{expansion_of, program_of, Refuses}
+use Rattle.ca_check.specs.Expansion.{expansion_of, program_of, RefusesForms}
 use Rattle.ca_forms.specs.WalkView.{gathered}
 use Rattle.ca_check.proofs.Checked.{accepted_program}
 use Rattle.ca_check.proofs.ScriptLaws.{refuses_is}
@@ -28,6 +28,6 @@ returns-clause-accepted c =
 
 pub returns-in_err-expansion-clause-refused : goal.returns-in_err-expansion-clause-refused
 returns-in_err-expansion-clause-refused c =
-    let h : Refuses c.in_err-expansion.field-0.0 (form_trees c.as_slice.result.now) = refuses_is c.in_err-expansion.field-0.0 (form_trees c.as_slice.result.now) c.in_err-expansion.ensures.err in
-    let g : Refuses c.in_err-expansion.field-0.0 (form_trees (list c.args.forms.now)) = rw c.as_slice.ensures at h in
+    let h : RefusesForms c.in_err-expansion.field-0.0 (form_trees c.as_slice.result.now) = refuses_is c.in_err-expansion.field-0.0 (form_trees c.as_slice.result.now) c.in_err-expansion.ensures.err in
+    let g : RefusesForms c.in_err-expansion.field-0.0 (form_trees (list c.args.forms.now)) = rw c.as_slice.ensures at h in
     search rules

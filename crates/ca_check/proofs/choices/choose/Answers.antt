@@ -3,7 +3,7 @@ use Rattle.ca_value.specs.Seq.{list}
 use Rattle.ca_term.specs.Kernel.{branch}
 use Rattle.ca_term.specs.View.{kernel}
 use Rattle.ca_check.specs.Choices.{choice_terms}
-use Rattle.ca_forms.specs.Outcome.{after, done, limited}
+use Rattle.ca_forms.specs.Outcome.{after_walk, done, limited}
 use Rattle.ca_forms.specs.WalkView.{gathered}
 use Rattle.ca_check.proofs.ChoiceLaws.{chosen_over, over_last, over_nil, choices_append}
 use Rattle.ca_check.proofs.choices.choose.Goals as goal
@@ -18,5 +18,5 @@ loop-choice-preserved c =
     let step : chosen_over (choice_terms (list c.loop-choice.choices)) (kernel c.loop-choice.made) (gathered c.loop-choice.bodies) ≡ chosen_over (choice_terms (list c.pop.new.self)) (kernel c.in_ok-made.made) (gathered c.branch-bodies.new.self)
     = ap (λ ks. chosen_over ks (kernel c.loop-choice.made) (gathered c.loop-choice.bodies)) (ap choice_terms cut ∙ choices_append (list c.pop.new.self) (c.in-Some.choice ∷ []))
     ∙ over_last (choice_terms (list c.pop.new.self)) (kernel c.in-Some.choice.test, kernel c.in-Some.choice.term) (kernel c.loop-choice.made) (gathered c.loop-choice.bodies)
-    ∙ ap (λ o. after o (λ w s. chosen_over (choice_terms (list c.pop.new.self)) w s)) made in
+    ∙ ap (λ o. after_walk o (λ w s. chosen_over (choice_terms (list c.pop.new.self)) w s)) made in
     sym step ∙ c.loop-choice.invariant

@@ -4,7 +4,7 @@ use Rattle.ca_value.specs.View.{trees}
 use Rattle.ca_meaning.specs.Registry.{Registry}
 use Rattle.ca_bank.specs.Bank.{members_spare_at, kept_at, registry_at}
 use Rattle.ca_registry.specs.Registries.{members_added}
-use Rattle.ca_registry.specs.Registry.{registered}
+use Rattle.ca_registry.specs.Registry.{registry_after}
 use Rattle.ca_bank.specs.declared.bank.Bank.{Bank}
 use Rattle.ca_commit.specs.Contents.{home}
 use Rattle.ca_commit.specs.Numbers.{number_of_bank}
@@ -17,7 +17,7 @@ pub returns-in-Some-clause-channels : goal.returns-in-Some-clause-channels
 returns-in-Some-clause-channels c = part_stays number_of_bank bank_in c.args.banks.now.items.items (home c.args.port.n) c.in-Some.place c.index_mut.result.now _ _ c.in-Some.ensures.found c.index_mut.ensures.value refl (ap kept_at c.deref_mut.ensures.value) (c.register.ensures.others.0)
 
 pub returns-in-Some-clause-registries : goal.returns-in-Some-clause-registries
-returns-in-Some-clause-registries c = part_changes number_of_bank registries_in c.args.banks.now.items.items c.args.port.n c.in-Some.place c.index_mut.result.now _ _ (option_map (registered c.args.name (trees (list c.args.rest)))) c.in-Some.ensures.found c.index_mut.ensures.value refl (ap registry_at c.deref_mut.ensures.value) (c.register.ensures.registered)
+returns-in-Some-clause-registries c = part_changes number_of_bank registries_in c.args.banks.now.items.items c.args.port.n c.in-Some.place c.index_mut.result.now _ _ (option_map (registry_after c.args.name (trees (list c.args.rest)))) c.in-Some.ensures.found c.index_mut.ensures.value refl (ap registry_at c.deref_mut.ensures.value) (c.register.ensures.registered)
 
 pub returns-in-None-clause-registries : goal.returns-in-None-clause-registries
 returns-in-None-clause-registries c = absurd (let k : false ≡ true = sym (ap (λ (o : Option Registry). is_some o) (no_part number_of_bank registries_in c.args.banks.now.items.items c.args.port.n c.in-None.ensures.none)) ∙ c.requires.there in cc)

@@ -10,7 +10,7 @@ use Rattle.ca_lower.specs.Lowered.{Lowered}
 use Rattle.ca_journal.specs.Coming.{coming}
 use Rattle.ca_journal.specs.Events.{events}
 use Rattle.ca_journal.specs.Note.{note_view}
-use Rattle.ca_replay.specs.MainEnd.{main_end}
+use Rattle.ca_replay.specs.MainEnd.{main_text_end}
 use Rattle.ca_replay.proofs.RunsTo.{moved_on, one_longer}
 use Rattle.ca_follow.specs.Followed.{IsLed}
 use Rattle.ca_follow.specs.Follower.{IsMadeFor, Leads, Refuses, has}
@@ -67,7 +67,7 @@ loop-entry-preserved c =
     let is : c.in_ok-goes_on.field-0 ≡ true = search rules in
     let led_to : Leads (valid_code c.loop-entry.follower.code.now) e (has c.loop-entry.follower) (has c.goes_on.new.follower) = c.in_ok-goes_on.ensures.leads is in
     let leads : Leads (valid_code c.args.code.now) e (has c.loop-entry.follower) (has c.goes_on.new.follower) = subst (λ v. Leads (valid_code v) e (has c.loop-entry.follower) (has c.goes_on.new.follower)) inv.code led_to in
-    let end : main_end e ≡ c.main_end-end.result = sym c.main_end-end.ensures in
+    let end : main_text_end e ≡ c.main_end-end.result = sym c.main_end-end.ensures in
     record {
       before = inv.before ++ e ∷ [];
       split = moved_on inv.before e rest (events c.args.journal.now) whole;

@@ -1,7 +1,7 @@
 use Rattle.std.proofs.Common.{◌≡◌, ◌∷◌, ◌++◌, [], ◌<◌, length, ap, ◌∙◌, arith}
 use Rattle.ca_value.specs.Seq.{list}
 use Rattle.ca_value.specs.View.{view, views}
-use Rattle.ca_journal_reader.specs.FieldText.{parted}
+use Rattle.ca_journal_reader.specs.FieldText.{arguments_parted}
 use Rattle.ca_journal_reader.proofs.Loops.{parted_push, map_more, map_there}
 use Rattle.ca_journal_reader.proofs.list.parted.Goals as goal
 
@@ -12,4 +12,4 @@ returns-clause-some c =
     let count = c.len.ensures in
     let some = c.if-len-eq0.false in
     let more : 0 < length left = omega (arith, count, some) in
-    ap (λ z. parted (views z)) whole ∙ ap parted (map_more view left c.in_ok-answer.answer) ∙ parted_push (views left) (view c.in_ok-answer.answer) (map_there view left more)
+    ap (λ z. arguments_parted (views z)) whole ∙ ap arguments_parted (map_more view left c.in_ok-answer.answer) ∙ parted_push (views left) (view c.in_ok-answer.answer) (map_there view left more)

@@ -9,10 +9,10 @@ use Rattle.ca_states.specs.Code.{one, pushing, putting, many}
 use Rattle.ca_term.specs.View.{bindings, founds, kernel, kernels}
 use Rattle.ca_lower.specs.declared.emit.Layout.{Layout}
 use Rattle.ca_lower.specs.Layouts.{layout_of}
-use Rattle.ca_lower.specs.Implements.{Target, paired}
+use Rattle.ca_lower.specs.Implements.{Target, paired_instruction}
 use Rattle.ca_lower.specs.Emit.{add, emit, finish}
 use Rattle.ca_lower.specs.InOrder.{emit_rest}
-use Rattle.ca_lower.specs.Splits.{stacked, stacked_all, Takes}
+use Rattle.ca_lower.specs.Splits.{stacked, stacked_all, TakesSplits}
 use Rattle.ca_lower.specs.Views.{builder_view, scope_view, target_view}
 use Rattle.ca_lower.proofs.LayoutLaws.{on_ok, one_done, two_done, push_done, put_done, row_done, other_laid}
 use Rattle.ca_lower.proofs.BuilderLaws.{bind_laid, loop_laid, count_bindings_length, count-terms, rest_next, drop_one, length_drop}
@@ -120,7 +120,7 @@ emit_builtin-returns-in_ok-right-in-Two-clause-code t c =
     let B = builder_view c.args.b.now in
     let left = c.in_ok-left-in-Two.left in
     let right = c.in_ok-right-in-Two.right in
-    on_ok c.put-in-Two.result (builder_view c.put-in-Two.new.self ≡ add (paired b h left.slot right.integer right.slot p ∷ []) (builder_view c.emit_second.new.b))
+    on_ok c.put-in-Two.result (builder_view c.put-in-Two.new.self ≡ add (paired_instruction b h left.slot right.integer right.slot p ∷ []) (builder_view c.emit_second.new.b))
     ((lp : Option Target) → builder_view c.put-in-Two.new.self ≡ emit w lp S h (apply (Builtin b) (kernels ts) p) B)
     (λ e. two_done w S h p b ts c.index-as_slice-0-in-Two.result c.index-as_slice-1.result left.next left.slot right.slot right.integer (scope_view (list c.emit_operand-in-Two.new.names)) B
     (builder_view c.emit_operand-in-Two.new.b) (builder_view c.emit_second.new.b) (builder_view c.put-in-Two.new.self)
@@ -256,7 +256,7 @@ emit_builtin-returns-in_ok-operand-in-One-clause-splits t c =
     let b = c.args.builtin in
     let ts = list c.args.operands.now in
     let x = c.index-as_slice-0.result in
-    kept c.put.result (Takes (stacked_all (kernels ts)) (list c.args.splits.now) (list c.emit_operand.new.splits))
+    kept c.put.result (TakesSplits (stacked_all (kernels ts)) (list c.args.splits.now) (list c.emit_operand.new.splits))
     (one_taken ts x (list c.args.splits.now) (list c.emit_operand.new.splits)
     (one_listed b ts x (lays_by b ts c.len.result c.layout_of.result Layout.One c.layout_of.ensures c.len.ensures c.in-One.is) (seen c.as_slice.result.now ts 0 x c.as_slice.ensures c.index-as_slice-0.is))
     c.in_ok-operand-in-One.ensures.splits)
@@ -267,7 +267,7 @@ emit_builtin-returns-in_ok-right-in-Two-clause-splits t c =
     let ts = list c.args.operands.now in
     let x = c.index-as_slice-0-in-Two.result in
     let y = c.index-as_slice-1.result in
-    kept c.put-in-Two.result (Takes (stacked_all (kernels ts)) (list c.args.splits.now) (list c.emit_second.new.splits))
+    kept c.put-in-Two.result (TakesSplits (stacked_all (kernels ts)) (list c.args.splits.now) (list c.emit_second.new.splits))
     (two_taken ts x y (list c.args.splits.now) (list c.emit_operand-in-Two.new.splits) (list c.emit_second.new.splits)
     (two_listed b ts x y (lays_by b ts c.len.result c.layout_of.result Layout.Two c.layout_of.ensures c.len.ensures c.in-Two.is) (seen c.as_slice-in-Two.result.now ts 0 x c.as_slice-in-Two.ensures c.index-as_slice-0-in-Two.is) (seen c.as_slice-in-Two-2.result.now ts 1 y c.as_slice-in-Two-2.ensures c.index-as_slice-1.is))
     c.in_ok-left-in-Two.ensures.splits c.in_ok-right-in-Two.ensures.splits)
@@ -278,7 +278,7 @@ emit_push-returns-clause-splits t c =
     let ts = list c.args.operands.now in
     let x = c.index-as_slice-0.result in
     let y = c.index-as_slice-1.result in
-    kept c.put.result (Takes (stacked_all (kernels ts)) (list c.args.splits.now) (list c.emit_operand.new.splits))
+    kept c.put.result (TakesSplits (stacked_all (kernels ts)) (list c.args.splits.now) (list c.emit_operand.new.splits))
     (two_taken ts x y (list c.args.splits.now) (list c.emit_term.new.splits) (list c.emit_operand.new.splits)
     (push_listed b ts x y c.requires.layout (seen c.as_slice.result.now ts 0 x c.as_slice.ensures c.index-as_slice-0.is) (seen c.as_slice-2.result.now ts 1 y c.as_slice-2.ensures c.index-as_slice-1.is))
     c.in_ok-emit_term.ensures.splits c.in_ok-item.ensures.splits)
@@ -290,7 +290,7 @@ emit_put-returns-clause-splits t c =
     let x = c.index-as_slice-0.result in
     let y = c.index-as_slice-1.result in
     let z = c.index-as_slice-2.result in
-    kept c.put.result (Takes (stacked_all (kernels ts)) (list c.args.splits.now) (list c.emit_operand-2.new.splits))
+    kept c.put.result (TakesSplits (stacked_all (kernels ts)) (list c.args.splits.now) (list c.emit_operand-2.new.splits))
     (three_taken ts x y z (list c.args.splits.now) (list c.emit_term.new.splits) (list c.emit_operand.new.splits) (list c.emit_operand-2.new.splits)
     (put_listed b ts x y z c.requires.layout (seen c.as_slice.result.now ts 0 x c.as_slice.ensures c.index-as_slice-0.is) (seen c.as_slice-2.result.now ts 1 y c.as_slice-2.ensures c.index-as_slice-1.is) (seen c.as_slice-3.result.now ts 2 z c.as_slice-3.ensures c.index-as_slice-2.is))
     c.in_ok-emit_term.ensures.splits c.in_ok-key.ensures.splits c.in_ok-value.ensures.splits)

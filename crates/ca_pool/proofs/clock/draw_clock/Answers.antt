@@ -3,7 +3,7 @@ use Rattle.ca_term.specs.Event.{EventView}
 use Rattle.ca_meaning.specs.Cost.{cost}
 use Rattle.ca_table.specs.Draws.{turn_view}
 use Rattle.ca_table.specs.Parts.{clockwork_seen}
-use Rattle.ca_table.specs.Worked.{Drew, leaves}
+use Rattle.ca_table.specs.Worked.{Drew, finds_run_end}
 use Rattle.ca_pool.proofs.Asides.{may_any, same_shown, timed_moved}
 use Rattle.ca_pool.proofs.clock.draw_clock.Goals as goal
 
@@ -27,7 +27,7 @@ pub draw_aside-requires-clause-room : goal.draw_aside-requires-clause-room
 draw_aside-requires-clause-room g c = let e = ap length c.requires.hidden in omega (arith, e)
 
 pub returns-clause-drew : goal.returns-clause-drew
-returns-clause-drew g c = λ k. subst (λ (es : List EventView). Drew (cost es) (leaves (turn_view c.args.what)) c.args.worker.now c.draw_aside.new.worker) c.requires.hidden (c.draw_aside.ensures.drew k)
+returns-clause-drew g c = λ k. subst (λ (es : List EventView). Drew (cost es) (finds_run_end (turn_view c.args.what)) c.args.worker.now c.draw_aside.new.worker) c.requires.hidden (c.draw_aside.ensures.drew k)
 
 pub returns-clause-carries : goal.returns-clause-carries
 returns-clause-carries g c = λ P n l clock0 held0 s show t. let a = g.A.Agent in let K = g.C.Clock in let held = c.args.held.now in let clock = c.args.clockwork in

@@ -6,7 +6,7 @@ use Rattle.ca_commit.specs.Touched as said
 use Rattle.ca_table.specs.Parts.{mark_view}
 use Rattle.ca_table.specs.declared.part.Clockwork.{Clockwork}
 use Rattle.ca_alone.specs.Schedule.{AtPicked, MaySettle, to_turn}
-use Rattle.ca_pool.specs.Asking.{IsFirst}
+use Rattle.ca_pool.specs.Asking.{IsFirstMoment}
 use Rattle.ca_pool.specs.Lone.{HasAsked, MayGo}
 use Rattle.ca_pool.proofs.Takens.{if_ok, same_show}
 use Rattle.ca_pool.proofs.Lone.{same_lone, stayed_may, stayed_one}
@@ -33,8 +33,8 @@ returns-in-None-clause-solo g c = λ most none may. let a = g.A.Agent in let m =
 
 pub returns-in-Some-clause-solo : goal.returns-in-Some-clause-solo
 returns-in-Some-clause-solo g c = let a = g.A.Agent in let m = g.met.A.Agent in let K = g.C.Clock in let k = c.read in let w = c.args.worker.now in let code = c.args.code.now in let first = c.in-Some.first in let us = k.new.ports.items in
-    let is = subst (λ (x : Clockwork g.row.C.Denot). IsFirst first x.timers.deadlines) c.deref-2.ensures (sym c.first.ensures.first ∙ c.in-Some.is) in
+    let is = subst (λ (x : Clockwork g.row.C.Denot). IsFirstMoment first x.timers.deadlines) c.deref-2.ensures (sym c.first.ensures.first ∙ c.in-Some.is) in
     if_ok
-    (λ x. (most : ℕ) → c.args.ports.now.items ≡ [] → IsFirst first c.args.clockwork.value.timers.deadlines → MayGo a.over a.place a.stands a.advances a.gives a.starts code AtPicked most w → HasAsked a.over a.place a.stands a.advances a.gives a.starts code us most x k.new.worker)
+    (λ x. (most : ℕ) → c.args.ports.now.items ≡ [] → IsFirstMoment first c.args.clockwork.value.timers.deadlines → MayGo a.over a.place a.stands a.advances a.gives a.starts code AtPicked most w → HasAsked a.over a.place a.stands a.advances a.gives a.starts code us most x k.new.worker)
     (λ x. (most : ℕ) → c.args.ports.now.items ≡ [] → MayGo a.over a.place a.stands a.advances a.gives a.starts code AtPicked most w → HasAsked a.over a.place a.stands a.advances a.gives a.starts code us most x k.new.worker)
     k.result (λ x f most none may. f most none is may) k.ensures.solo

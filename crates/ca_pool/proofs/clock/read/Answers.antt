@@ -4,7 +4,7 @@ use Rattle.ca_table.specs.Worked.{Drew}
 use Rattle.ca_table.proofs.Drawing.{drew_later, drew_none}
 use Rattle.ca_alone.specs.Schedule.{AtPicked}
 use Rattle.ca_pool.specs.Costs.{cost_asked, is_marked}
-use Rattle.ca_pool.specs.Asking.{IsFirst}
+use Rattle.ca_pool.specs.Asking.{IsFirstMoment}
 use Rattle.ca_pool.specs.Lone.{HasAsked, MayGo}
 use Rattle.ca_pool.proofs.Stays.{same_turns}
 use Rattle.ca_pool.proofs.Takens.{as_clocked, for_ok, if_ok, made_room, same_show}
@@ -53,10 +53,10 @@ returns-in-Err-clause-carries g c = λ P n l s. let a = g.A.Agent in let K = g.C
 pub returns-in-Ok-clause-solo : goal.returns-in-Ok-clause-solo
 returns-in-Ok-clause-solo g c = let a = g.A.Agent in let m = g.met.A.Agent in let K = g.C.Clock in let t = c.ready_to_ask-clockwork in let k = c.read_now in let code = c.args.code.now in let w = c.args.worker.now in let us = k.new.ports.items in let first = c.args.first in
     if_ok
-    (λ x. (most : ℕ) → c.args.ports.now.items ≡ [] → IsFirst first t.result.0.value.timers.deadlines → MayGo a.over a.place a.stands a.advances a.gives a.starts code AtPicked most t.new.worker → HasAsked a.over a.place a.stands a.advances a.gives a.starts code us most x k.new.worker)
-    (λ x. (most : ℕ) → c.args.ports.now.items ≡ [] → IsFirst first c.args.clockwork.value.timers.deadlines → MayGo a.over a.place a.stands a.advances a.gives a.starts code AtPicked most w → HasAsked a.over a.place a.stands a.advances a.gives a.starts code us most x k.new.worker)
+    (λ x. (most : ℕ) → c.args.ports.now.items ≡ [] → IsFirstMoment first t.result.0.value.timers.deadlines → MayGo a.over a.place a.stands a.advances a.gives a.starts code AtPicked most t.new.worker → HasAsked a.over a.place a.stands a.advances a.gives a.starts code us most x k.new.worker)
+    (λ x. (most : ℕ) → c.args.ports.now.items ≡ [] → IsFirstMoment first c.args.clockwork.value.timers.deadlines → MayGo a.over a.place a.stands a.advances a.gives a.starts code AtPicked most w → HasAsked a.over a.place a.stands a.advances a.gives a.starts code us most x k.new.worker)
     k.result
-    (λ x f most none is may. f most none (subst (λ (z : TimersPart). IsFirst first z.deadlines) (sym t.ensures.seen) is)
+    (λ x f most none is may. f most none (subst (λ (z : TimersPart). IsFirstMoment first z.deadlines) (sym t.ensures.seen) is)
     (same_may a.over a.place a.stands a.advances a.gives a.starts m.advanced m.answered m.started code {P = AtPicked} {most = most} {old = w} {new = t.new.worker} t.ensures.same (same_turns w.hand t.new.worker.hand t.ensures.hand) may))
     k.ensures.solo
 

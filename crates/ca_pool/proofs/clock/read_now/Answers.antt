@@ -3,7 +3,7 @@ use Rattle.ca_value.specs.Deadlines.{Deadline}
 use Rattle.ca_table.specs.Parts.{clockwork_seen}
 use Rattle.ca_alone.specs.OwnTurn.{IsDue}
 use Rattle.ca_alone.specs.Schedule.{AtPicked, Follow, MayTick, to_turn}
-use Rattle.ca_pool.specs.Asking.{IsFirst}
+use Rattle.ca_pool.specs.Asking.{IsFirstMoment}
 use Rattle.ca_pool.specs.Lone.{HasAsked, MayGo}
 use Rattle.ca_pool.proofs.Asides.{asked_reads}
 use Rattle.ca_pool.proofs.Takens.{if_ok, same_show}
@@ -35,7 +35,7 @@ pub returns-clause-solo : goal.returns-clause-solo
 returns-clause-solo g c = let a = g.A.Agent in let m = g.met.A.Agent in let K = g.C.Clock in let w = c.args.worker.now in let t = c.answer_now-clockwork in let p = c.pass in let code = c.args.code.now in let us = p.new.ports.items in
     if_ok
     (λ x. (k : Follow) (most : ℕ) → IsDue t.result.0.value.timers.deadlines t.result.1 → MayGo a.over a.place a.stands a.advances a.gives a.starts code (MayTick k) most w → HasTicked a.over a.place a.stands a.advances a.gives a.starts m.advanced m.answered m.started code k us most x p.new.worker)
-    (λ x. (most : ℕ) → c.args.ports.now.items ≡ [] → IsFirst c.args.first c.args.clockwork.value.timers.deadlines → MayGo a.over a.place a.stands a.advances a.gives a.starts code AtPicked most w → HasAsked a.over a.place a.stands a.advances a.gives a.starts code us most x p.new.worker)
+    (λ x. (most : ℕ) → c.args.ports.now.items ≡ [] → IsFirstMoment c.args.first c.args.clockwork.value.timers.deadlines → MayGo a.over a.place a.stands a.advances a.gives a.starts code AtPicked most w → HasAsked a.over a.place a.stands a.advances a.gives a.starts code us most x p.new.worker)
     p.result
     (λ x f most none first may. ticked_asked a.over a.place a.stands a.advances a.gives a.starts m.advanced m.answered m.started code us most x p.new.worker
     (f to_turn most (subst (λ (ds : List Deadline). IsDue ds t.result.1) (sym t.ensures.deadlines) (is_due c.args.first t.result.1 c.args.clockwork.value.timers.deadlines first c.if-now-first.false)) may))

@@ -17,7 +17,7 @@ use Rattle.ca_table.specs.Seen.{PartSeen}
 use Rattle.ca_table.specs.declared.part.Part.{Part}
 use Rattle.ca_table.proofs.Drawing.{drew_later, drew_none}
 use Rattle.ca_table.proofs.Staying.{shows_there}
-use Rattle.ca_pool.specs.Desk.{taken}
+use Rattle.ca_pool.specs.Desk.{desk_taken}
 use Rattle.ca_pool.specs.Preparing.{StartsFor}
 use Rattle.ca_pool.proofs.AtEvents.{clock_shown, kept_carrying, own_number, same_turns, taken_shown}
 use Rattle.ca_pool.proofs.PlansReadied.{if_some, no_channel_kept, no_registry_kept, numbers_moved, paused_kept, placed_kept, plan_kept, resolved_apart, resolved_rest, rest_ready}
@@ -45,7 +45,7 @@ Begins place starts code task s = (program : ProgramView) → Lowered program (v
 
 pub put_off-requires-clause-carries : goal.put_off-requires-clause-carries
 put_off-requires-clause-carries g c = let a = g.A.Agent in let K = g.C.Clock in let code = c.args.code.now in let id = c.args.table.now.id in let w = c.args.worker.now in let t = c.take_others-clock in let o = t.ensures in let w1 = t.new.worker in let held1 = t.new.held in let clock0 = t.result in let p = c.prepare-clock in let q = p.ensures in let w2 = p.new.worker in let held2 = p.new.held in let shows : Part g.row.A.Denot g.row.C.Denot → PartSeen g.row.A.Denot = part_seen K.least K.faults K.readings in let plan = plan_view c.args.plan in let r = c.requires.carries in
-    (r.0, r.1, r.2, clock_shown a.over a.stands code id r.0 r.1 r.2 K.least K.faults K.readings w2 clock0 p.result.0 held2 (err_is p.result.1 _ q.kept c.in-Err.is) (taken_shown a.over a.stands code id r.0 r.1 r.2 K.least K.faults K.readings w2 clock0 held1 held2 q.shown (own_number a.over a.stands code id r.0 r.1 r.2 K.least K.faults K.readings w1 w2 clock0 held1 q.same.number (kept_carrying a.over a.stands code id r.0 r.1 w1 w2 (taken shows r.1 code w1.number r.2 clock0 held1) q.same q.hand q.entries (o.carries r.0 r.1 r.2 r.3)))))
+    (r.0, r.1, r.2, clock_shown a.over a.stands code id r.0 r.1 r.2 K.least K.faults K.readings w2 clock0 p.result.0 held2 (err_is p.result.1 _ q.kept c.in-Err.is) (taken_shown a.over a.stands code id r.0 r.1 r.2 K.least K.faults K.readings w2 clock0 held1 held2 q.shown (own_number a.over a.stands code id r.0 r.1 r.2 K.least K.faults K.readings w1 w2 clock0 held1 q.same.number (kept_carrying a.over a.stands code id r.0 r.1 w1 w2 (desk_taken shows r.1 code w1.number r.2 clock0 held1) q.same q.hand q.entries (o.carries r.0 r.1 r.2 r.3)))))
 
 pub put_off-requires-clause-timers : goal.put_off-requires-clause-timers
 put_off-requires-clause-timers g c = let p = c.prepare-clock in err_is p.result.1 _ p.ensures.none c.in-Err.is
@@ -56,7 +56,7 @@ draw_plan-requires-clause-carries g c = let a = g.A.Agent in let K = g.C.Clock i
   r.1,
   r.2,
   clock0,
-  taken_shown a.over a.stands code id r.0 r.1 r.2 K.least K.faults K.readings w2 clock0 held1 held2 q.shown (own_number a.over a.stands code id r.0 r.1 r.2 K.least K.faults K.readings w1 w2 clock0 held1 q.same.number (kept_carrying a.over a.stands code id r.0 r.1 w1 w2 (taken shows r.1 code w1.number r.2 clock0 held1) q.same q.hand q.entries (o.carries r.0 r.1 r.2 r.3))),
+  taken_shown a.over a.stands code id r.0 r.1 r.2 K.least K.faults K.readings w2 clock0 held1 held2 q.shown (own_number a.over a.stands code id r.0 r.1 r.2 K.least K.faults K.readings w1 w2 clock0 held1 q.same.number (kept_carrying a.over a.stands code id r.0 r.1 w1 w2 (desk_taken shows r.1 code w1.number r.2 clock0 held1) q.same q.hand q.entries (o.carries r.0 r.1 r.2 r.3))),
   r.4,
   record { needed = o.clock; timely = o.timely; there = q.some; timers = ok_is p.result.1 c.in-Ok.spawned q.timers c.in-Ok.is; asked = ok_is p.result.1 c.in-Ok.spawned q.asked c.in-Ok.is },
   record {
@@ -94,7 +94,7 @@ returns-in-Ok-clause-drew g c = let t = c.take_others-clock in let p = c.prepare
 
 pub returns-in-Ok-clause-stepped : goal.returns-in-Ok-clause-stepped
 returns-in-Ok-clause-stepped g c = λ program n l s gone. let a = g.A.Agent in let K = g.C.Clock in let code = c.args.code.now in let id = c.args.table.now.id in let w = c.args.worker.now in let t = c.take_others-clock in let o = t.ensures in let w1 = t.new.worker in let held1 = t.new.held in let clock0 = t.result in let p = c.prepare-clock in let q = p.ensures in let w2 = p.new.worker in let held2 = p.new.held in let shows : Part g.row.A.Denot g.row.C.Denot → PartSeen g.row.A.Denot = part_seen K.least K.faults K.readings in let plan = plan_view c.args.plan in
-    c.draw_plan.ensures.stepped program n l clock0 (taken_shown a.over a.stands code id program n l K.least K.faults K.readings w2 clock0 held1 held2 q.shown (own_number a.over a.stands code id program n l K.least K.faults K.readings w1 w2 clock0 held1 q.same.number (kept_carrying a.over a.stands code id program n w1 w2 (taken shows n code w1.number l clock0 held1) q.same q.hand q.entries (o.carries program n l s)))) gone (record { needed = o.clock; timely = o.timely; there = q.some; timers = ok_is p.result.1 c.in-Ok.spawned q.timers c.in-Ok.is; asked = ok_is p.result.1 c.in-Ok.spawned q.asked c.in-Ok.is }) (record {
+    c.draw_plan.ensures.stepped program n l clock0 (taken_shown a.over a.stands code id program n l K.least K.faults K.readings w2 clock0 held1 held2 q.shown (own_number a.over a.stands code id program n l K.least K.faults K.readings w1 w2 clock0 held1 q.same.number (kept_carrying a.over a.stands code id program n w1 w2 (desk_taken shows n code w1.number l clock0 held1) q.same q.hand q.entries (o.carries program n l s)))) gone (record { needed = o.clock; timely = o.timely; there = q.some; timers = ok_is p.result.1 c.in-Ok.spawned q.timers c.in-Ok.is; asked = ok_is p.result.1 c.in-Ok.spawned q.asked c.in-Ok.is }) (record {
       number = λ u e. if_some (λ (x : Task g.row.A.Denot). x.number ≡ held1.new_task) c.in-Ok.spawned u (if_ok_is (λ y. IfSome y (λ (x : Task g.row.A.Denot). x.number ≡ held1.new_task)) p.result.1 c.in-Ok.spawned q.number c.in-Ok.is) e ∙ sym q.next.task;
       begins = λ u e. if_some (Begins a.place a.starts code c.args.task) c.in-Ok.spawned u (if_ok_is (λ y. IfSome y (Begins a.place a.starts code c.args.task)) p.result.1 c.in-Ok.spawned q.starts c.in-Ok.is) e program (subst (λ (x : ProgramView). Lowered x (valid_code code)) s.one.of_program c.requires.lowered) (subst (λ (x : ProgramView). SameGos x (valid_code code)) s.one.of_program c.requires.gos);
       within = λ u e. if_some (λ (x : Task g.row.A.Denot). a.over (valid_code code) x.agent) c.in-Ok.spawned u (if_ok_is (λ y. IfSome y (λ (x : Task g.row.A.Denot). a.over (valid_code code) x.agent)) p.result.1 c.in-Ok.spawned q.over c.in-Ok.is) e;
@@ -105,7 +105,7 @@ returns-in-Err-clause-refused g c = let t = c.take_others-clock in let p = c.pre
 
 pub returns-in-Err-clause-kept : goal.returns-in-Err-clause-kept
 returns-in-Err-clause-kept g c = λ program n l s. let a = g.A.Agent in let K = g.C.Clock in let code = c.args.code.now in let id = c.args.table.now.id in let w = c.args.worker.now in let t = c.take_others-clock in let o = t.ensures in let w1 = t.new.worker in let held1 = t.new.held in let clock0 = t.result in let p = c.prepare-clock in let q = p.ensures in let w2 = p.new.worker in let held2 = p.new.held in let shows : Part g.row.A.Denot g.row.C.Denot → PartSeen g.row.A.Denot = part_seen K.least K.faults K.readings in let plan = plan_view c.args.plan in
-    c.put_off.ensures.carries program n l (clock_shown a.over a.stands code id program n l K.least K.faults K.readings w2 clock0 p.result.0 held2 (err_is p.result.1 _ q.kept c.in-Err.is) (taken_shown a.over a.stands code id program n l K.least K.faults K.readings w2 clock0 held1 held2 q.shown (own_number a.over a.stands code id program n l K.least K.faults K.readings w1 w2 clock0 held1 q.same.number (kept_carrying a.over a.stands code id program n w1 w2 (taken shows n code w1.number l clock0 held1) q.same q.hand q.entries (o.carries program n l s)))))
+    c.put_off.ensures.carries program n l (clock_shown a.over a.stands code id program n l K.least K.faults K.readings w2 clock0 p.result.0 held2 (err_is p.result.1 _ q.kept c.in-Err.is) (taken_shown a.over a.stands code id program n l K.least K.faults K.readings w2 clock0 held1 held2 q.shown (own_number a.over a.stands code id program n l K.least K.faults K.readings w1 w2 clock0 held1 q.same.number (kept_carrying a.over a.stands code id program n w1 w2 (desk_taken shows n code w1.number l clock0 held1) q.same q.hand q.entries (o.carries program n l s)))))
 
 pub returns-in-Ok-clause-solo : goal.returns-in-Ok-clause-solo
 returns-in-Ok-clause-solo g c = λ few most may. let a = g.A.Agent in let m = g.met.A.Agent in let code = c.args.code.now in let t = c.take_others-clock in let p = c.prepare-clock in

@@ -10,7 +10,7 @@ use Rattle.ca_table.specs.declared.part.Part.{Part}
 use Rattle.ca_table.specs.Grips.{settled_one}
 use Rattle.ca_table.proofs.Drawing.{drew_what}
 use Rattle.ca_table.proofs.Loads.{then_worker}
-use Rattle.ca_pool.specs.Desk.{laid, laid_aside}
+use Rattle.ca_pool.specs.Desk.{laid_again, laid_aside}
 use Rattle.ca_pool.proofs.Desk.{beside_desk, desk_after, laid_after, moved_told, ready_laid, then_hand}
 use Rattle.ca_pool.proofs.LeftTimers.{lone_now, timers_drawn}
 use Rattle.ca_pool.proofs.draw.draw_aside.Goals as goal
@@ -23,7 +23,7 @@ draw_laid_aside-requires-clause-carries g c = let a = g.A.Agent in let K = g.C.C
     let r = c.requires.moved in let P = r.0 in let n = r.1 in let l = r.2 in let clock0 = r.3 in let held0 = r.4 in (
       P,
       n,
-      laid seen n code w.number l clock0 held0 clock held,
+      laid_again seen n code w.number l clock0 held0 clock held,
       lay.ensures.carries P c.args.table.now.id n l clock0 held0 r.6 r.5,
       moved_told a.over a.place a.advances a.gives a.starts seen code n lay.new.worker.number w.number lay.result (is_some clock) held (turn_view c.args.what) (laid_aside seen n code w.number l clock0 held0 clock held) lay.ensures.same.number lay.ensures.tells r.7,
     )
@@ -31,7 +31,7 @@ draw_laid_aside-requires-clause-carries g c = let a = g.A.Agent in let K = g.C.C
 pub give_back-requires : goal.give_back-requires
 give_back-requires g c = let a = g.A.Agent in let K = g.C.Clock in let seen = part_seen K.least K.faults K.readings in let code = c.args.code.now in let w = c.args.worker.now in let clock = c.args.clock in let held = c.args.held.now in let lay = c.lay_back-laid in let d = c.draw_laid_aside in let id = c.args.table.now.id in
     let r = c.requires.moved in let P = r.0 in let n = r.1 in let l = r.2 in let clock0 = r.3 in let held0 = r.4 in
-    let h = laid seen n code w.number l clock0 held0 clock held in
+    let h = laid_again seen n code w.number l clock0 held0 clock held in
     let moved = moved_told a.over a.place a.advances a.gives a.starts seen code n lay.new.worker.number w.number lay.result (is_some clock) held (turn_view c.args.what) (laid_aside seen n code w.number l clock0 held0 clock held) lay.ensures.same.number lay.ensures.tells r.7 in
     let drew = subst (λ (h : Carries (Part g.row.A.Denot g.row.C.Denot × PartSeen g.row.A.Denot)). IsCarrying a.over a.stands P code id n d.new.worker h) (beside_desk seen n code w.number l h.lane h.banks h.shards h.timers (ready_laid seen n code w.number l held0 held))
     (d.ensures.carries P n h (lay.ensures.carries P id n l clock0 held0 r.6 r.5) moved) in
@@ -52,7 +52,7 @@ returns-clause-drew g c = λ kept. let t = c.draw_laid_aside.ensures.drew in let
 
 pub returns-clause-carries : goal.returns-clause-carries
 returns-clause-carries g c = λ P n l clock0 held0 s same m. let a = g.A.Agent in let K = g.C.Clock in let seen = part_seen K.least K.faults K.readings in let code = c.args.code.now in let w = c.args.worker.now in let clock = c.args.clock in let held = c.args.held.now in let lay = c.lay_back-laid in let d = c.draw_laid_aside in let id = c.args.table.now.id in
-    let h = laid seen n code w.number l clock0 held0 clock held in
+    let h = laid_again seen n code w.number l clock0 held0 clock held in
     let moved = moved_told a.over a.place a.advances a.gives a.starts seen code n lay.new.worker.number w.number lay.result (is_some clock) held (turn_view c.args.what) (laid_aside seen n code w.number l clock0 held0 clock held) lay.ensures.same.number lay.ensures.tells m in
     let drew = subst (λ (h : Carries (Part g.row.A.Denot g.row.C.Denot × PartSeen g.row.A.Denot)). IsCarrying a.over a.stands P code id n d.new.worker h) (beside_desk seen n code w.number l h.lane h.banks h.shards h.timers (ready_laid seen n code w.number l held0 held))
     (d.ensures.carries P n h (lay.ensures.carries P id n l clock0 held0 same s) moved) in
@@ -62,7 +62,7 @@ returns-clause-carries g c = λ P n l clock0 held0 s same m. let a = g.A.Agent i
 
 pub returns-clause-timed : goal.returns-clause-timed
 returns-clause-timed g c = λ P n l clock0 held0 s same moved0 alone. let a = g.A.Agent in let K = g.C.Clock in let seen = part_seen K.least K.faults K.readings in let code = c.args.code.now in let w = c.args.worker.now in let clock = c.args.clock in let held = c.args.held.now in let lay = c.lay_back-laid in let d = c.draw_laid_aside in let id = c.args.table.now.id in let give = c.give_back in
-    let h = laid seen n code w.number l clock0 held0 clock held in
+    let h = laid_again seen n code w.number l clock0 held0 clock held in
     let moved = moved_told a.over a.place a.advances a.gives a.starts seen code n lay.new.worker.number w.number lay.result (is_some clock) held (turn_view c.args.what) (laid_aside seen n code w.number l clock0 held0 clock held) lay.ensures.same.number lay.ensures.tells moved0 in
     let drew = subst (λ (h : Carries (Part g.row.A.Denot g.row.C.Denot × PartSeen g.row.A.Denot)). IsCarrying a.over a.stands P code id n d.new.worker h) (beside_desk seen n code w.number l h.lane h.banks h.shards h.timers (ready_laid seen n code w.number l held0 held))
     (d.ensures.carries P n h (lay.ensures.carries P id n l clock0 held0 same s) moved) in

@@ -8,7 +8,7 @@ use Rattle.ca_table.proofs.Drawing.{drew_later, drew_none}
 use Rattle.ca_alone.specs.Schedule.{AtEmpty, MaySettle, to_rest}
 use Rattle.ca_pool.specs.Costs.{cost_idle, is_over}
 use Rattle.ca_pool.specs.Lone.{MayGo, Went}
-use Rattle.ca_pool.specs.Asking.{IsFirst}
+use Rattle.ca_pool.specs.Asking.{IsFirstMoment}
 use Rattle.ca_pool.proofs.Stays.{same_turns}
 use Rattle.ca_pool.proofs.Takens.{as_clocked, for_ok, if_ok, made_room, same_show}
 use Rattle.ca_pool.proofs.Lone.{same_may, stayed_may, stayed_one}
@@ -70,12 +70,12 @@ returns-then-not-is_first-clause-solo g c = λ most may. let a = g.A.Agent in le
     rests_empty a.over a.place a.stands a.advances a.gives a.starts m.advanced m.answered m.started code c.args.ports.now.items {most = most} {w = p.new.worker} (same_may a.over a.place a.stands a.advances a.gives a.starts m.advanced m.answered m.started code {P = AtEmpty} {most = most} {old = w} {new = p.new.worker} p.ensures.same p.ensures.turns may)
 
 pub returns-in-Ok-clause-solo : goal.returns-in-Ok-clause-solo
-returns-in-Ok-clause-solo g c = let a = g.A.Agent in let m = g.met.A.Agent in let K = g.C.Clock in let t = c.ready_to_ask-clockwork in let k = c.wait_late in let code = c.args.code.now in let w = c.args.worker.now in let us = k.new.ports.items in let first = c.args.first in let is = subst (λ (x : Clockwork g.row.C.Denot). IsFirst first x.timers.deadlines) c.deref-2.ensures (c.is_first.ensures c.if-not-is_first.false) in
+returns-in-Ok-clause-solo g c = let a = g.A.Agent in let m = g.met.A.Agent in let K = g.C.Clock in let t = c.ready_to_ask-clockwork in let k = c.wait_late in let code = c.args.code.now in let w = c.args.worker.now in let us = k.new.ports.items in let first = c.args.first in let is = subst (λ (x : Clockwork g.row.C.Denot). IsFirstMoment first x.timers.deadlines) c.deref-2.ensures (c.is_first.ensures c.if-not-is_first.false) in
     if_ok
-    (λ x. IsFirst first t.result.0.value.timers.deadlines → (most : ℕ) → MayGo a.over a.place a.stands a.advances a.gives a.starts code AtEmpty most t.new.worker → Went a.over a.place a.stands a.advances a.gives a.starts code (MaySettle to_rest us) most k.new.worker)
+    (λ x. IsFirstMoment first t.result.0.value.timers.deadlines → (most : ℕ) → MayGo a.over a.place a.stands a.advances a.gives a.starts code AtEmpty most t.new.worker → Went a.over a.place a.stands a.advances a.gives a.starts code (MaySettle to_rest us) most k.new.worker)
     (λ x. (most : ℕ) → MayGo a.over a.place a.stands a.advances a.gives a.starts code AtEmpty most w → Went a.over a.place a.stands a.advances a.gives a.starts code (MaySettle to_rest us) most k.new.worker)
     k.result
-    (λ x f most may. f (subst (λ (z : TimersPart). IsFirst first z.deadlines) (sym t.ensures.seen) is) most
+    (λ x f most may. f (subst (λ (z : TimersPart). IsFirstMoment first z.deadlines) (sym t.ensures.seen) is) most
     (same_may a.over a.place a.stands a.advances a.gives a.starts m.advanced m.answered m.started code {P = AtEmpty} {most = most} {old = w} {new = t.new.worker} t.ensures.same (same_turns w.hand t.new.worker.hand t.ensures.hand) may))
     k.ensures.solo
 

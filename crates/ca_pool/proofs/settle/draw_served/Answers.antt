@@ -1,6 +1,6 @@
 use Rattle.std.proofs.Common.{None}
 use Rattle.ca_commit.specs.Contents.{whole}
-use Rattle.ca_commit.specs.Settling.{settling}
+use Rattle.ca_commit.specs.Settling.{value_settled}
 use Rattle.ca_commit.specs.Showing.{channels_held}
 use Rattle.ca_pool.proofs.Asides.{served_moved, settled_held}
 use Rattle.ca_pool.proofs.LoneSettling.{settled_goes}
@@ -25,4 +25,4 @@ returns-clause-carries g c = λ program n l h. let a = g.A.Agent in let K = g.C.
 
 pub returns-clause-solo : goal.returns-clause-solo
 returns-clause-solo g c = λ k us most m. let a = g.A.Agent in let d = c.draw_aside.ensures in let held = c.args.held.now in let p = c.args.port.n in let side = c.args.side in
-    settled_goes a.over a.place a.stands a.advances a.gives a.starts g.met.A.Agent.advanced g.met.A.Agent.answered g.met.A.Agent.started c.args.code.now k us most c.args.wait.n c.args.branch p side (settling side (whole (channels_held held.banks) p)) c.settled_by-event.result c.settled_by-event.ensures.event d.same d.hand d.turns m
+    settled_goes a.over a.place a.stands a.advances a.gives a.starts g.met.A.Agent.advanced g.met.A.Agent.answered g.met.A.Agent.started c.args.code.now k us most c.args.wait.n c.args.branch p side (value_settled side (whole (channels_held held.banks) p)) c.settled_by-event.result c.settled_by-event.ensures.event d.same d.hand d.turns m

@@ -10,7 +10,7 @@ use Rattle.ca_commit.specs.Showing.{channels_held}
 use Rattle.ca_solo.specs.Stirs.{Ordered}
 use Rattle.ca_table.specs.Parts.{clockwork_seen}
 use Rattle.ca_alone.specs.OwnTurn.{IsDue}
-use Rattle.ca_pool.specs.Asking.{HasBanksOf, IsMadeFor}
+use Rattle.ca_pool.specs.Asking.{HasBanksOf, AreDuePortsMade}
 use Rattle.ca_pool.proofs.Asides.{asked_before, asked_reads}
 use Rattle.ca_pool.proofs.Takens.{as_shown, for_ok, show_kept}
 use Rattle.ca_pool.proofs.tick.tick_with.Goals as goal
@@ -26,7 +26,7 @@ draw_tick-requires-clause-carries g c = let a = g.A.Agent in let K = g.C.Clock i
 )
 
 pub draw_tick-requires-clause-made : goal.draw_tick-requires-clause-made
-draw_tick-requires-clause-made g c = let t = c.reserve_due-clockwork in subst (λ (x : TimersPart). IsMadeFor t.new.held x c.args.now) (sym t.ensures.seen) (for_ok t.result.1 _ c.in-Ok.is t.ensures.made)
+draw_tick-requires-clause-made g c = let t = c.reserve_due-clockwork in subst (λ (x : TimersPart). AreDuePortsMade t.new.held x c.args.now) (sym t.ensures.seen) (for_ok t.result.1 _ c.in-Ok.is t.ensures.made)
 
 pub draw_tick-requires-clause-there : goal.draw_tick-requires-clause-there
 draw_tick-requires-clause-there g c = let t = c.reserve_due-clockwork in

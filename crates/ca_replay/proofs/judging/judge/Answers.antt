@@ -6,7 +6,7 @@ use Rattle.ca_journal.specs.Coming.{coming}
 use Rattle.ca_journal.specs.Events.{events}
 use Rattle.ca_journal.specs.Note.{note_view}
 use Rattle.ca_replay.specs.Judged.{IsRefused, IsRun, LeadsOn, MayGoOn, SeesOn}
-use Rattle.ca_replay.specs.MainEnd.{main_end}
+use Rattle.ca_replay.specs.MainEnd.{main_text_end}
 use Rattle.ca_replay.proofs.JudgedRuns.{illegal_over, illegal_next, still_open}
 use Rattle.ca_replay.proofs.RunsTo.{fewer, moved_on, one_longer}
 use Rattle.ca_replay.proofs.judging.judge.Goals as goal
@@ -60,7 +60,7 @@ loop-entry-preserved g c =
     let is : c.in_ok-goes_on.field-0 ≡ true = search rules in
     let leads : LeadsOn g.O.Observer.most e c.loop-entry.world c.goes_on.new.world = c.in_ok-goes_on.ensures.run is in
     let sees : SeesOn g.O.Observer.saw g.O.Observer.most e c.loop-entry.world c.loop-entry.observer c.goes_on.new.observer = c.in_ok-goes_on.ensures.saw is in
-    let end : main_end e ≡ c.main_end-end.result = sym c.main_end-end.ensures in
+    let end : main_text_end e ≡ c.main_end-end.result = sym c.main_end-end.ensures in
     record {
       before = inv.before ++ e ∷ [];
       split = moved_on inv.before e rest journal whole;

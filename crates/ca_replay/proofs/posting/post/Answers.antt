@@ -5,7 +5,7 @@ use Rattle.ca_value.specs.View.{view}
 use Rattle.ca_term.specs.Event.{BranchView, branch_view, put_of}
 use Rattle.ca_term.specs.Program.{program_view}
 use Rattle.ca_scene.specs.Scene.{scene_state, task_at, tasks_of, IsScene}
-use Rattle.ca_replay.specs.Goings.{GoesOn, SameButTasks}
+use Rattle.ca_replay.specs.Goings.{TaskGoesOn, SameButTasks}
 use Rattle.ca_replay.specs.Moves.{HaveHomes, with_wait}
 use Rattle.ca_replay.proofs.Kept.{scene_went, stands_kept, tasks_kept}
 use Rattle.ca_replay.specs.SceneOf.{AreTasksOf}
@@ -38,7 +38,7 @@ returns-clause-step c =
     let puts : map branch_view (list c.in_ok-branches.branches) ≡ put_of c.args.port.n (view c.args.value.now) ∷ [] = search rules in
     let state : scene_state c.join_wait.new.scene ≡ with_wait c.args.wait None (map branch_view (list c.in_ok-branches.branches)) (scene_state c.args.scene.now) = search rules in
     let went : SameButTasks c.join_wait.new.scene c.go_on.new.scene = search rules in
-    let goes : GoesOn (program_view c.args.program.now) (tasks_of c.join_wait.new.scene) c.args.task (bool true) (tasks_of c.go_on.new.scene) = search rules in
+    let goes : TaskGoesOn (program_view c.args.program.now) (tasks_of c.join_wait.new.scene) c.args.task (bool true) (tasks_of c.go_on.new.scene) = search rules in
     post_step c.args.scene.now c.args.task c.args.wait c.args.port.n (view c.args.value.now) c.requires.admitted (program_view c.args.program.now) c.join_wait.new.scene c.go_on.new.scene
     (state ∙ ap (λ (bs : List BranchView). with_wait c.args.wait None bs (scene_state c.args.scene.now)) puts) went goes
 

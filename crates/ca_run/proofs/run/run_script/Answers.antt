@@ -8,7 +8,7 @@ use Rattle.ca_meaning.proofs.Possible.{body_rests}
 use Rattle.ca_journal.specs.Events.{events}
 use Rattle.ca_table.specs.Moments.{KeepsTime}
 use Rattle.ca_pool.specs.PoolEnds.{IsSolo}
-use Rattle.ca_run.specs.Answers.{end_of}
+use Rattle.ca_run.specs.Answers.{end_shown}
 use Rattle.ca_tasks.proofs.Sending.{task_send}
 use Rattle.ca_run.proofs.run.run_script.Goals as goal
 
@@ -26,7 +26,7 @@ returns-clause-end g c =
     let run = c.in_ok-run.run' in
     let told = c.in_ok-told.field-0 in
     let P = program_view c.args.program.now in
-    subst (λ j. HasEnd P c.args.budget (events j) (end_of told.end)) (sym c.in_ok-told.ensures.journal)
+    subst (λ j. HasEnd P c.args.budget (events j) (end_shown told.end)) (sym c.in_ok-told.ensures.journal)
     (subst (HasEnd P c.args.budget (events run.journal)) (sym c.in_ok-told.ensures.end) c.in_ok-run.ensures.end)
 
 pub returns-clause-moments : goal.returns-clause-moments

@@ -1,7 +1,7 @@
 use Rattle.std.proofs.Common.{◌≡◌, ◌∙◌, rules, ap, sym, subst, Some, false, true}
 use Rattle.ca_words.specs.declared.command.Command.TheVariants.{Load}
 use Rattle.ca_run.specs.Answers.{AnswersTo}
-use Rattle.ca_run.specs.Top.{RunsScript, reads, span_between}
+use Rattle.ca_run.specs.Top.{RunsScript, reads_source, span_between}
 use Rattle.ca_run.proofs.top.judge.Goals as goal
 
 pub judge_load-requires-clause-fit : goal.judge_load-requires-clause-fit
@@ -22,12 +22,12 @@ returns-in-Load-clause-ran g c = λ x e.
 
 pub returns-in-Run-clause-unread : goal.returns-in-Run-clause-unread
 returns-in-Run-clause-unread g c = λ silent. absurd (
-    let yes : reads c.in-Some.command ≡ true = search rules in
+    let yes : reads_source c.in-Some.command ≡ true = search rules in
     let z : true ≡ false = sym yes ∙ silent c.in-Some.command c.in-Some.is in cc)
 
 pub returns-in-Run-clause-broken : goal.returns-in-Run-clause-broken
 returns-in-Run-clause-broken g c = λ x e.
-    let yes : reads c.in-Some.command ≡ true = search rules in
+    let yes : reads_source c.in-Some.command ≡ true = search rules in
     let broken = c.judge_source.ensures.broken x e in
     ((c.in-Some.command, c.in-Some.is, yes), broken.0, broken.1)
 
@@ -37,7 +37,7 @@ returns-in-Run-clause-ran g c = λ x e.
 
 pub returns-in-Replay-clause-unread : goal.returns-in-Replay-clause-unread
 returns-in-Replay-clause-unread g c = λ silent. absurd (
-    let yes : reads c.in-Some.command ≡ true = search rules in
+    let yes : reads_source c.in-Some.command ≡ true = search rules in
     let z : true ≡ false = sym yes ∙ silent c.in-Some.command c.in-Some.is in cc)
 
 pub returns-in-Replay-clause-answers : goal.returns-in-Replay-clause-answers

@@ -1,6 +1,6 @@
 use Rattle.std.proofs.Common.{◌≡◌, ◌+◌, ◌-◌, ◌++◌, [], ◌∷◌, ◌≤◌, length, ◌∙◌, ap, arith}
 use Rattle.ca_value.specs.View.{view, views}
-use Rattle.ca_states.specs.Machine.{read, reads, slots_from, left_by}
+use Rattle.ca_states.specs.Machine.{read, reads, slots_from, left_in_slot}
 use Rattle.ca_states.proofs.RowLaws.{row_within}
 use Rattle.ca_states.proofs.SlotLaws.{read_next, read_other, take_next, views_push}
 use Rattle.ca_states.proofs.slots.take_into.Goals as goal
@@ -29,7 +29,7 @@ loop-i-preserved c =
       taken = take_next s (views c.take_at.new.slots) a i n c.loop-i-test.true c.take_at.ensures.taken ∙ c.loop-i.invariant.taken;
       later = λ k le.
           ap (λ z. read z k) c.take_at.ensures.taken
-          ∙ read_other s (a + i) k (left_by (read s (a + i))) (omega (arith, le))
+          ∙ read_other s (a + i) k (left_in_slot (read s (a + i))) (omega (arith, le))
           ∙ c.loop-i.invariant.later k (omega (arith, le));
       count = omega (arith, c.in_ok-push.ensures.len, c.loop-i.invariant.count);
       moved = ap (λ z. views z ++ reads s0 (slots_from (a + (i + 1)) (n - (i + 1)))) c.in_ok-push.ensures.items

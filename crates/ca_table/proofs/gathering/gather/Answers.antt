@@ -7,7 +7,7 @@ use Rattle.ca_journal.specs.Events.{events}
 use Rattle.ca_journal.specs.Merge.{events_of, in_order}
 use Rattle.ca_meaning.specs.Legal.{Reaches}
 use Rattle.ca_turns.specs.Places.{total}
-use Rattle.ca_turns.specs.Views.{stands}
+use Rattle.ca_turns.specs.Views.{hands_stood_for}
 use Rattle.ca_turns.proofs.Lists.{total-snoc}
 use Rattle.ca_commit.specs.Opening.{unasked}
 use Rattle.ca_table.specs.Draws.{drawn_moves}
@@ -115,6 +115,6 @@ returns-clause-alone g c = λ single. let xs = c.args.workers.items in let ys = 
     let both = All-pop (IsReady g.A.Agent.over g.A.Agent.stands P K c.args.table.id n) xs ys (Some first) popped c.requires.ready in
     let j = c.join_all-hand.ensures.joined n both.1 both.0 in let a = g.A.Agent in let k = g.C.Clock in let h = c.close-closed.ensures.history in let hand = c.join_all-hand.result in
     let moves = drawn_moves a.over a.place a.advances a.gives a.starts in let parts = map (part_seen k.least k.faults k.readings) c.close-closed.result.parts.items in
-    let alone : stands hand.view ≡ hand.view.hands = (let less = ap (total stands_for) popped ∙ total-snoc stands_for ys first in let all = c.requires.all in let count = j.counted in let hands = j.opened_for in omega (arith, less, all, count, hands)) in
+    let alone : hands_stood_for hand.view ≡ hand.view.hands = (let less = ap (total stands_for) popped ∙ total-snoc stands_for ys first in let all = c.requires.all in let count = j.counted in let hands = j.opened_for in omega (arith, less, all, count, hands)) in
     all_of_one (RanAlone moves (events c.in_ok-journal.journal) parts) xs ys first popped single
     (λ none. ran_alone moves first (events c.in_ok-journal.journal) h.0 parts hand (c.join_all-hand.ensures.alone none) h.1 alone both.1.one.above (c.in_ok-journal.ensures ∙ ap (λ es. events_of (in_order es)) j.notes))

@@ -2,8 +2,8 @@ use Rattle.std.proofs.Common.{◌∙◌, ℕ, ◌+◌, sym, ap, subst, arith}
 use Rattle.ca_states.specs.ValidCode.{valid_code}
 use Rattle.ca_commit.specs.Gathered.{kind_at}
 use Rattle.ca_commit.specs.Listings.{parts}
-use Rattle.ca_table.specs.Lifting.{first_of, lifted, place_in, with_all}
-use Rattle.ca_table.specs.Parts.{away, contents_seen, part_of, part_seen}
+use Rattle.ca_table.specs.Lifting.{first_part_number, lifted, row_place, with_row}
+use Rattle.ca_table.specs.Parts.{part_away, contents_seen, part_of, part_seen}
 use Rattle.ca_table.specs.Seen.{held_of}
 use Rattle.ca_table.specs.Sound.{IsSound}
 use Rattle.ca_table.specs.declared.part.Contents.{Contents}
@@ -27,18 +27,18 @@ from_contents-part-requires g c = let K = g.C.Clock in let w = c.args.worker.now
 
 pub returns-clause-ascending : goal.returns-clause-ascending
 returns-clause-ascending g c = let a = g.A.Agent in let K = g.C.Clock in let seen = part_seen K.least K.faults K.readings in let r = c.requires.carries in let w = c.args.worker.now in let n = r.1 in let k = c.args.number in let group = g.T.Sixteen.group in
-    let e = ap (first_of group) r.3.one.of in
+    let e = ap (first_part_number group) r.3.one.of in
     let at = ap (λ (m : ℕ). m + k) (c.first.ensures.number ∙ e) ∙ numbered_in group n w.number k in
-    let more = c.hold_at.ensures.carries r.0 n r.2 (place_in group k) r.3 (is_place group k c.requires.number) at in
-    let up = ascends a.over a.stands c.args.code.now c.args.table.now.id seen group g.T.Sixteen.as_contents g.T.Numbered.number r.0 n w c.hold_at.new.worker r.2 k (away n c.args.code.now, seen (part_of n c.args.code.now c.hold_at.result)) c.requires.number r.3 more c.hold_at.ensures.same.number (λ i h. let lt = c.requires.ascending i h in omega (arith, lt, e)) in
+    let more = c.hold_at.ensures.carries r.0 n r.2 (row_place group k) r.3 (is_place group k c.requires.number) at in
+    let up = ascends a.over a.stands c.args.code.now c.args.table.now.id seen group g.T.Sixteen.as_contents g.T.Numbered.number r.0 n w c.hold_at.new.worker r.2 k (part_away n c.args.code.now, seen (part_of n c.args.code.now c.hold_at.result)) c.requires.number r.3 more c.hold_at.ensures.same.number (λ i h. let lt = c.requires.ascending i h in omega (arith, lt, e)) in
     λ i h. let lt = up i h in omega (arith, lt, e)
 
 pub returns-clause-carries : goal.returns-clause-carries
 returns-clause-carries g c = λ program n h none s. let a = g.A.Agent in let K = g.C.Clock in let seen = part_seen K.least K.faults K.readings in let w = c.args.worker.now in let k = c.args.number in let group = g.T.Sixteen.group in let code = c.args.code.now in
-    let before = with_all group (lifted n code g.T.Sixteen.as_contents seen g.T.Numbered.number (parts c.args.list.now)) h in
-    let at = ap (λ (m : ℕ). m + k) (c.first.ensures.number ∙ ap (first_of group) s.one.of) ∙ numbered_in group n w.number k in
+    let before = with_row group (lifted n code g.T.Sixteen.as_contents seen g.T.Numbered.number (parts c.args.list.now)) h in
+    let at = ap (λ (m : ℕ). m + k) (c.first.ensures.number ∙ ap (first_part_number group) s.one.of) ∙ numbered_in group n w.number k in
     lifted_there a.over a.stands code c.args.table.now.id seen group g.T.Sixteen.as_contents g.T.Numbered.number program n c.hold_at.new.worker h (parts c.args.list.now) (parts c.push.new.self) k c.from_contents-part.result c.hold_at.result c.from_contents-part.ensures (let m = c.number.ensures in let f = c.if-number.false in omega (arith, m, f)) c.push.ensures.parts none
-    (c.hold_at.ensures.carries program n before (place_in group k) s (is_place group k c.requires.number) at)
+    (c.hold_at.ensures.carries program n before (row_place group k) s (is_place group k c.requires.number) at)
 
 pub returns-clause-list : goal.returns-clause-list
 returns-clause-list g c = let a = g.A.Agent in let K = g.C.Clock in let code = valid_code c.args.code.now in let w = c.args.worker.now in let k = c.args.number in let x = c.from_contents-part.result in (

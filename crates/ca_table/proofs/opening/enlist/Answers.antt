@@ -4,7 +4,7 @@ use Rattle.std.specs.Prelude.{All, option_to_list}
 use Rattle.ca_term.specs.Program.{program_view}
 use Rattle.ca_states.specs.ValidCode.{valid_code}
 use Rattle.ca_turns.specs.Hands.{IsFresh}
-use Rattle.ca_table.specs.Workers.{IsNew}
+use Rattle.ca_table.specs.Workers.{IsNewWorker}
 use Rattle.ca_table.proofs.opening.enlist.Goals as goal
 
 pub loop-hand-preserved : goal.loop-hand-preserved
@@ -17,7 +17,7 @@ loop-hand-preserved g c = let i = c.loop-hand.invariant in let xs = c.loop-hand.
       omega (arith, shorter, longer, count),
       λ id cs n fresh. let both = All-pop (IsFresh id cs n) xs ys (Some hand) popped (i.1 id cs n fresh).0 in (
         both.0,
-        subst (All (IsNew (program_view c.args.program.now) (valid_code c.args.code.now) c.args.workers id cs n)) (sym pushed) (All-push (IsNew (program_view c.args.program.now) (valid_code c.args.code.now) c.args.workers id cs n) ws _ (i.1 id cs n fresh).1 (record {
+        subst (All (IsNewWorker (program_view c.args.program.now) (valid_code c.args.code.now) c.args.workers id cs n)) (sym pushed) (All-push (IsNewWorker (program_view c.args.program.now) (valid_code c.args.code.now) c.args.workers id cs n) ws _ (i.1 id cs n fresh).1 (record {
           of = refl;
           below = omega (arith, shorter, count);
           of_program = ap program_view c.of.ensures;

@@ -4,8 +4,8 @@ use Rattle.std.specs.Map.{update}
 use Rattle.std.proofs.lemmas.Map.{update_here}
 use Rattle.ca_states.specs.ValidCode.{valid_code}
 use Rattle.ca_commit.specs.Tasks.{task_view}
-use Rattle.ca_table.specs.Grips.{Grips, nothing}
-use Rattle.ca_table.specs.Parts.{away, contents_seen, lane_seen, part_of, part_seen}
+use Rattle.ca_table.specs.Grips.{Grips, no_grip}
+use Rattle.ca_table.specs.Parts.{part_away, contents_seen, lane_seen, part_of, part_seen}
 use Rattle.ca_table.specs.Seen.{held_of, lane_of_seen}
 use Rattle.ca_table.specs.Workers.{part_of_lane}
 use Rattle.ca_table.specs.declared.part.Contents.{Contents}
@@ -19,10 +19,10 @@ use Rattle.ca_table.proofs.seating.sit.Goals as goal
 pub returns-clause-seated : goal.returns-clause-seated
 returns-clause-seated g c = λ program n r. let a = g.A.Agent in let m = g.met.A.Agent in let K = g.C.Clock in let w = c.args.worker.now in let lane = c.in-Lane.lane.value in let h = c.hold_out.ensures in let hand = c.hold_out.new.hand in
     let seen = part_seen K.least K.faults K.readings in
-    let held = h.grips nothing (grips_nothing w.hand r.nothing) in
-    let here = subst (λ (x : Contents g.row.A.Denot g.row.C.Denot). Grips hand (update eqb nothing w.number (Some (away w.workers c.args.code.now, seen (part_of w.workers c.args.code.now x))))) c.in-Lane.is held in
-    let gripped = subst (λ (k : ℕ). Grips hand (update eqb nothing w.number (Some (away k c.args.code.now, part_of_lane k c.args.code.now lane)))) r.one.of here in
-    let at = fit hand (update eqb nothing w.number (Some (away n c.args.code.now, part_of_lane n c.args.code.now lane))) w.number (away n c.args.code.now, part_of_lane n c.args.code.now lane) gripped (update_here nothing w.number (Some (away n c.args.code.now, part_of_lane n c.args.code.now lane))) in
+    let held = h.grips no_grip (grips_nothing w.hand r.nothing) in
+    let here = subst (λ (x : Contents g.row.A.Denot g.row.C.Denot). Grips hand (update eqb no_grip w.number (Some (part_away w.workers c.args.code.now, seen (part_of w.workers c.args.code.now x))))) c.in-Lane.is held in
+    let gripped = subst (λ (k : ℕ). Grips hand (update eqb no_grip w.number (Some (part_away k c.args.code.now, part_of_lane k c.args.code.now lane)))) r.one.of here in
+    let at = fit hand (update eqb no_grip w.number (Some (part_away n c.args.code.now, part_of_lane n c.args.code.now lane))) w.number (part_away n c.args.code.now, part_of_lane n c.args.code.now lane) gripped (update_here no_grip w.number (Some (part_away n c.args.code.now, part_of_lane n c.args.code.now lane))) in
     let k = knows_same a.over a.stands program (valid_code c.args.code.now) n w.hand.view hand.view h.same.same.opening r.one.knows in
     record {
       one = same_one a.over a.stands program (valid_code c.args.code.now) c.args.table.now.id n w hand h.same h.left r.one;

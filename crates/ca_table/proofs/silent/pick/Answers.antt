@@ -8,7 +8,7 @@ use Rattle.ca_commit.specs.Touched.{picks}
 use Rattle.ca_commit.specs.declared.task.Task.{Task}
 use Rattle.ca_table.specs.Carriers.{IsCarrying, LaneBox, just_lane, part_of_ready, with_ready}
 use Rattle.ca_table.specs.Carrying.{ready_place}
-use Rattle.ca_table.specs.Parts.{away}
+use Rattle.ca_table.specs.Parts.{part_away}
 use Rattle.ca_table.specs.Seen.{PartSeen, seen_ready}
 use Rattle.ca_table.specs.Sound.{AllOver}
 use Rattle.ca_table.proofs.Carriers.{carries_seated, in_left, lane_alone, seated_carries}
@@ -84,7 +84,7 @@ returns-in-None-clause-empty g c = λ free alone. let r = c.requires.seated in l
     let now = c.hold_ready-ready.new.worker in let turns = c.hold_ready-ready.ensures.turns in let place = c.args.worker.now.workers + 33 + at in
     let part : PartSeen g.row.A.Denot = part_of_ready n c.args.code.now q in
     let held = c.hold_ready-ready.ensures.carries r.0 n (just_lane n c.args.code.now l) (seated_carries a.over a.stands r.0 c.args.code.now id n c.args.worker.now l r.2) in
-    let left = in_left a.over a.stands r.0 c.args.code.now id n now place (ready_place at) tt (ap (λ (k : ℕ). k + 33 + at) r.2.one.of) (just_lane n c.args.code.now l) (away n c.args.code.now, part) held (ap length turns.same.stands_for ∙ alone ∙ sym turns.same.hands) in
+    let left = in_left a.over a.stands r.0 c.args.code.now id n now place (ready_place at) tt (ap (λ (k : ℕ). k + 33 + at) r.2.one.of) (just_lane n c.args.code.now l) (part_away n c.args.code.now, part) held (ap length turns.same.stands_for ∙ alone ∙ sym turns.same.hands) in
     (part, ap (λ (cs : List (PartSeen g.row.A.Denot)). get_elem? cs place) (left_same now.hand c.give_ready.new.worker.hand c.give_ready.ensures.turns) ∙ left, ap seen_ready c.in-None.ensures.none.0)
 
 pub returns-in-Some-clause-hand : goal.returns-in-Some-clause-hand

@@ -3,18 +3,18 @@ use lib.ListN.{get_elem?}
 use Rattle.std.specs.Prelude.{Some}
 use Rattle.ca_turns.proofs.Callers.{set_here, set_else, look_at, nothing_left}
 use Rattle.ca_turns.proofs.Lists.{in_range, both_some}
-use Rattle.ca_turns_counters.specs.Adding.{one_more}
+use Rattle.ca_turns_counters.specs.Adding.{counter_after}
 use Rattle.ca_turns_counters.proofs.adding.add_held.Goals as goal
 
 pub draw-number-requires-clause-touched : goal.draw-number-requires-clause-touched
 draw-number-requires-clause-touched c = let part = c.args.part in let n = c.count_up.ensures.parts in
-    ((one_more n.0, ap (λ l. get_elem? l part) n.2 ∙ set_here c.args.hand.now.parts part (Some (one_more n.0)) (in_range c.args.hand.now.parts part (Some n.0) n.1)), tt)
+    ((counter_after n.0, ap (λ l. get_elem? l part) n.2 ∙ set_here c.args.hand.now.parts part (Some (counter_after n.0)) (in_range c.args.hand.now.parts part (Some n.0) n.1)), tt)
 
 pub draw-number-requires-clause-moves : goal.draw-number-requires-clause-moves
 draw-number-requires-clause-moves c = let part = c.args.part in let n = c.count_up.ensures.parts in let x = c.requires.held.0 in let now = c.count_up.new.hand in
-    let written = ap (λ l. get_elem? l part) n.2 ∙ set_here c.args.hand.now.parts part (Some (one_more n.0)) (in_range c.args.hand.now.parts part (Some n.0) n.1) in let settled = ap (λ v. get_elem? v.held part) c.count_up.ensures.view ∙ x.2 in
+    let written = ap (λ l. get_elem? l part) n.2 ∙ set_here c.args.hand.now.parts part (Some (counter_after n.0)) (in_range c.args.hand.now.parts part (Some n.0) n.1) in let settled = ap (λ v. get_elem? v.held part) c.count_up.ensures.view ∙ x.2 in
     let same : n.0 ≡ x.0 = both_some n.0 x.0 (sym n.1 ∙ x.1) in
-    ap (map (λ (m : ℕ). m)) (look_at now.parts part [] (one_more n.0) written) ∙ ap (λ (m : ℕ). one_more m ∷ []) same ∙ sym (ap (map one_more) (look_at now.view.held part [] x.0 settled))
+    ap (map (λ (m : ℕ). m)) (look_at now.parts part [] (counter_after n.0) written) ∙ ap (λ (m : ℕ). counter_after m ∷ []) same ∙ sym (ap (map counter_after) (look_at now.view.held part [] x.0 settled))
 
 pub give_back-requires-clause-settled : goal.give_back-requires-clause-settled
 give_back-requires-clause-settled c = c.draw-number.ensures.settled 0 c.args.part refl

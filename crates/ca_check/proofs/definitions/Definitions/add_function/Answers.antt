@@ -1,8 +1,8 @@
 use Rattle.std.proofs.Common.{rules, ◌<◌, ◌≤◌}
 use Rattle.ca_term.specs.View.{kernel}
-use Rattle.ca_forms.specs.Depth.{depth_of}
+use Rattle.ca_forms.specs.Depth.{kernel_depth}
 use Rattle.ca_forms.specs.Tops.{add_function}
-use Rattle.ca_check.specs.TopsView.{tops_of, written_as, settled_as}
+use Rattle.ca_check.specs.TopsView.{tops_of, written_as, settled_view}
 use Rattle.ca_forms.specs.WalkView.{gathered, Fails}
 use Rattle.ca_check.proofs.SettledLaws.{add_fails, add_deep, add_done}
 use Rattle.ca_check.proofs.DefnLaws.{if_on_by}
@@ -23,17 +23,17 @@ returns-then-depth-gt60-clause-err c =
     let w = written_as c.args.defn.now in
     let t = tops_of c.args.self.now in
     let s = gathered c.args.self.now.walker.gathered in
-    let deep : 60 < depth_of (kernel c.in_ok-body.body.made) = search rules in
+    let deep : 60 < kernel_depth (kernel c.in_ok-body.body.made) = search rules in
     add_deep c.in_ok-hints.hints.looping c.in_ok-hints.hints.hidden.keys w c.args.place t (tops_of c.first_pass.new.self) s (gathered c.first_pass.new.self.walker.gathered)
-    c.in_ok-hints.ensures.ok c.in_ok-hints.ensures.kept c.in_ok-hints.ensures.gathered (settled_as c.in_ok-body.body.made c.in_ok-body.body.hidden.keys) (gathered c.settle.new.self.walker.gathered) c.in_ok-body.ensures.ok deep
+    c.in_ok-hints.ensures.ok c.in_ok-hints.ensures.kept c.in_ok-hints.ensures.gathered (settled_view c.in_ok-body.body.made c.in_ok-body.body.hidden.keys) (gathered c.settle.new.self.walker.gathered) c.in_ok-body.ensures.ok deep
 
 pub returns-clause-ok : goal.returns-clause-ok
 returns-clause-ok c =
     let w = written_as c.args.defn.now in
     let t = tops_of c.args.self.now in
     let s = gathered c.args.self.now.walker.gathered in
-    let flat : depth_of (kernel c.in_ok-body.body.made) ≤ 60 = search rules in
+    let flat : kernel_depth (kernel c.in_ok-body.body.made) ≤ 60 = search rules in
     if_on_by c.define.result _ _ (λ h.
     add_done c.in_ok-hints.hints.looping c.in_ok-hints.hints.hidden.keys w c.args.place t (tops_of c.first_pass.new.self) s (gathered c.first_pass.new.self.walker.gathered)
-    c.in_ok-hints.ensures.ok c.in_ok-hints.ensures.kept c.in_ok-hints.ensures.gathered (settled_as c.in_ok-body.body.made c.in_ok-body.body.hidden.keys) (gathered c.settle.new.self.walker.gathered) (gathered c.define.new.self.walker.gathered)
+    c.in_ok-hints.ensures.ok c.in_ok-hints.ensures.kept c.in_ok-hints.ensures.gathered (settled_view c.in_ok-body.body.made c.in_ok-body.body.hidden.keys) (gathered c.settle.new.self.walker.gathered) (gathered c.define.new.self.walker.gathered)
     (tops_of c.settle.new.self) (tops_of c.define.new.self) c.in_ok-body.ensures.ok flat c.in_ok-body.ensures.kept h c.define.ensures.gathered) c.define.ensures.ok

@@ -3,7 +3,7 @@ use Rattle.ca_value.specs.Seq.{list}
 use Rattle.ca_term.specs.View.{bindings}
 use Rattle.ca_forms.specs.Tops.{one_top, function, is_taken}
 use Rattle.ca_check.specs.TopsView.{tops_of, written_as}
-use Rattle.ca_check.specs.ScriptView.{Rest, ahead, rest_of}
+use Rattle.ca_check.specs.ScriptView.{ScriptRest, ahead, rest_of_script}
 use Rattle.ca_forms.specs.WalkView.{gathered, Fails}
 use Rattle.ca_check.proofs.DefnLaws.{binders_length, err_is}
 use Rattle.ca_check.proofs.TopLaws.{function_leads, function_fails, function_many, or_left}
@@ -32,7 +32,7 @@ returns-in_err-add_function-clause-err c =
     let t = tops_of c.args.self.now.definitions in
     let free : is_taken w.name t ≡ false = sym c.is_taken.ensures ∙ c.if-is_taken.false in
     let few : length w.parameters ≤ 16 = omega (arith, binders_length c.args.defn.now.parameters.now) in
-    let h : (rest : Rest) → Fails c.in_err-add_function.field-0.0 (rest_of c.args.self.now (one_top (function w) c.args.place rest))
+    let h : (rest : ScriptRest) → Fails c.in_err-add_function.field-0.0 (rest_of_script c.args.self.now (one_top (function w) c.args.place rest))
     = λ rest. function_fails c.in_err-add_function.field-0.0 w c.args.place rest t (gathered c.args.self.now.definitions.walker.gathered) free few c.in_err-add_function.ensures.err in
     let same : c.from_residual.result ≡ Err c.in_err-add_function.field-0.0 = search rules in
     err_is c.from_residual.result c.in_err-add_function.field-0.0 _ same h

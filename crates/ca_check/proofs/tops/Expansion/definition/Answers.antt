@@ -3,7 +3,7 @@ use Rattle.ca_reader.specs.View.{form_tree}
 use Rattle.ca_forms.specs.Tops.{one_top, def_top, bound_top}
 use Rattle.ca_check.specs.TopsView.{tops_of}
 use Rattle.ca_forms.specs.Walk.{walk}
-use Rattle.ca_forms.specs.WalkView.{gathered, parts_of}
+use Rattle.ca_forms.specs.WalkView.{gathered, form_parts}
 use Rattle.ca_check.proofs.TopLaws.{def_redefined, def_free, def_short, def_long, leads_by, stops_by}
 use Rattle.ca_check.proofs.tops.Expansion.definition.Goals as goal
 
@@ -14,13 +14,13 @@ returns-then-is_taken-clause-err c rest =
 
 pub returns-else-is_taken-clause-ok : goal.returns-else-is_taken-clause-ok
 returns-else-is_taken-clause-ok c =
-    leads_by c.bind.result (one_top (def_top (parts_of (drop 1 c.args.parts.now))) c.args.place) (bound_top c.in-Some.name.now (walk (form_tree c.value-item.result)) 1 c.args.place) c.args.self.now c.bind.new.self
+    leads_by c.bind.result (one_top (def_top (form_parts (drop 1 c.args.parts.now))) c.args.place) (bound_top c.in-Some.name.now (walk (form_tree c.value-item.result)) 1 c.args.place) c.args.self.now c.bind.new.self
     (λ rest. def_free c.args.parts.now c.name-item.result c.value-item.result c.args.place rest (tops_of c.args.self.now.definitions) (gathered c.args.self.now.definitions.walker.gathered) c.in-Some.name.now (omega arith) c.name-item.is c.value-item.is
     c.in-Some.ensures (sym c.is_taken.ensures ∙ c.if-is_taken.false)) c.bind.ensures.ok
 
 pub returns-else-is_taken-clause-err : goal.returns-else-is_taken-clause-err
 returns-else-is_taken-clause-err c =
-    stops_by c.bind.result (one_top (def_top (parts_of (drop 1 c.args.parts.now))) c.args.place) (bound_top c.in-Some.name.now (walk (form_tree c.value-item.result)) 1 c.args.place) c.args.self.now
+    stops_by c.bind.result (one_top (def_top (form_parts (drop 1 c.args.parts.now))) c.args.place) (bound_top c.in-Some.name.now (walk (form_tree c.value-item.result)) 1 c.args.place) c.args.self.now
     (λ rest. def_free c.args.parts.now c.name-item.result c.value-item.result c.args.place rest (tops_of c.args.self.now.definitions) (gathered c.args.self.now.definitions.walker.gathered) c.in-Some.name.now (omega arith) c.name-item.is c.value-item.is
     c.in-Some.ensures (sym c.is_taken.ensures ∙ c.if-is_taken.false)) c.bind.ensures.err
 

@@ -7,28 +7,28 @@ use Rattle.ca_forms.specs.Binders.{is_pattern, unpacked}
 use Rattle.ca_forms.specs.Meaning.{Meaning, block}
 use Rattle.ca_forms.specs.Plain.{meanings}
 use Rattle.ca_check.specs.TopsView.{total_binders}
-use Rattle.ca_forms.specs.WalkView.{gathered, env, parts_of, terms_of, Fails}
+use Rattle.ca_forms.specs.WalkView.{gathered, env, form_parts, terms_of, Fails}
 use Rattle.ca_check.proofs.DefnLaws.{if_ok_by}
 use Rattle.ca_check.proofs.PatternLaws.{unpacked_without, unpacked_walked, unpacked_fails}
 use Rattle.ca_check.proofs.walk.Walker.unpacked.Goals as goal
 
 pub returns-then-not-have_pattern-clause-ok : goal.returns-then-not-have_pattern-clause-ok
 returns-then-not-have_pattern-clause-ok c =
-    let m : Meaning = block (meanings (parts_of c.args.body.now)) in
+    let m : Meaning = block (meanings (form_parts c.args.body.now)) in
     let bs = total_binders (form_trees c.args.parameters.now) in
     let no : list_any is_pattern bs ≡ false = sym c.have_pattern.ensures ∙ search rules in
     rw (unpacked_without c.args.place c.args.first bs m no) c.block.ensures.ok
 
 pub returns-then-not-have_pattern-clause-err : goal.returns-then-not-have_pattern-clause-err
 returns-then-not-have_pattern-clause-err c =
-    let m : Meaning = block (meanings (parts_of c.args.body.now)) in
+    let m : Meaning = block (meanings (form_parts c.args.body.now)) in
     let bs = total_binders (form_trees c.args.parameters.now) in
     let no : list_any is_pattern bs ≡ false = sym c.have_pattern.ensures ∙ search rules in
     rw (unpacked_without c.args.place c.args.first bs m no) c.block.ensures.err
 
 pub returns-clause-ok : goal.returns-clause-ok
 returns-clause-ok c =
-    let m : Meaning = block (meanings (parts_of c.args.body.now)) in
+    let m : Meaning = block (meanings (form_parts c.args.body.now)) in
     let bs = total_binders (form_trees c.args.parameters.now) in
     let e = env c.args.self.now.scope c.args.functions.now c.args.at in
     let yes : list_any is_pattern bs ≡ true = sym c.have_pattern.ensures ∙ search rules in
@@ -39,7 +39,7 @@ returns-clause-ok c =
 
 pub returns-in_err-made-clause-err : goal.returns-in_err-made-clause-err
 returns-in_err-made-clause-err c =
-    let m : Meaning = block (meanings (parts_of c.args.body.now)) in
+    let m : Meaning = block (meanings (form_parts c.args.body.now)) in
     let bs = total_binders (form_trees c.args.parameters.now) in
     let e = env c.args.self.now.scope c.args.functions.now c.args.at in
     let yes : list_any is_pattern bs ≡ true = sym c.have_pattern.ensures ∙ search rules in

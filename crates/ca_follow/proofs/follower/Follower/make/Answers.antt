@@ -4,27 +4,27 @@ use Rattle.ca_states.specs.ValidCode.{valid_code}
 use Rattle.ca_commit.specs.Applying.{event_of}
 use Rattle.ca_commit.specs.Plans.{plan_view}
 use Rattle.ca_commit.specs.Tasks.{agent_of}
-use Rattle.ca_tasks.specs.Tasks.{over}
-use Rattle.ca_follow.specs.Events.{AreNew, start_of}
-use Rattle.ca_follow.specs.Follower.{AppliedFor, IsPlanOf, Knows, has}
+use Rattle.ca_tasks.specs.Tasks.{task_over_code}
+use Rattle.ca_follow.specs.Events.{AreNew, event_start}
+use Rattle.ca_follow.specs.Follower.{AppliedFor, IsPlanOf, KnowsTask, has}
 use Rattle.ca_follow.proofs.Operates.{knows_behind, leads_behind, refuses_old, refuses_other}
 use Rattle.ca_follow.proofs.Planned.{plan_apart}
 use Rattle.ca_follow.proofs.follower.Follower.make.Goals as goal
 
 pub applied-requires-clause-over : goal.applied-requires-clause-over
-applied-requires-clause-over c = subst (λ z. over (valid_code z.now) c.args.task.agent) (sym c.take_numbers.ensures.code) c.requires.over
+applied-requires-clause-over c = subst (λ z. task_over_code (valid_code z.now) c.args.task.agent) (sym c.take_numbers.ensures.code) c.requires.over
 
 pub applied-requires-clause-plan : goal.applied-requires-clause-plan
-applied-requires-clause-plan c = (start_of (event_view c.args.event.now), subst (λ h. IsPlanOf h (agent_of c.args.task) (start_of (event_view c.args.event.now)) (plan_view c.args.plan)) (sym c.take_numbers.ensures.same) c.requires.plan)
+applied-requires-clause-plan c = (event_start (event_view c.args.event.now), subst (λ h. IsPlanOf h (agent_of c.args.task) (event_start (event_view c.args.event.now)) (plan_view c.args.plan)) (sym c.take_numbers.ensures.same) c.requires.plan)
 
 pub applied-requires-clause-new : goal.applied-requires-clause-new
 applied-requires-clause-new c = c.if-not-are_new.ensures.0 refl
 
 pub applied-requires-clause-apart : goal.applied-requires-clause-apart
-applied-requires-clause-apart c = plan_apart (has c.args.self.now) (agent_of c.args.task) (start_of (event_view c.args.event.now)) (valid_code c.args.self.now.code.now) c.args.task.number (plan_view c.args.plan) c.requires.behind c.requires.plan
+applied-requires-clause-apart c = plan_apart (has c.args.self.now) (agent_of c.args.task) (event_start (event_view c.args.event.now)) (valid_code c.args.self.now.code.now) c.args.task.number (plan_view c.args.plan) c.requires.behind c.requires.plan
 
 pub applied-requires-clause-known : goal.applied-requires-clause-known
-applied-requires-clause-known c = subst (λ h. Knows h c.args.task.number) (sym c.take_numbers.ensures.same) (knows_behind (valid_code c.args.self.now.code.now) (has c.args.self.now) c.args.task.number (agent_of c.args.task) c.requires.behind)
+applied-requires-clause-known c = subst (λ h. KnowsTask h c.args.task.number) (sym c.take_numbers.ensures.same) (knows_behind (valid_code c.args.self.now.code.now) (has c.args.self.now) c.args.task.number (agent_of c.args.task) c.requires.behind)
 
 pub returns-then-not-are_new-clause-refused : goal.returns-then-not-are_new-clause-refused
 returns-then-not-are_new-clause-refused c none = let f = c.args.self.now in let d = c.take_numbers.new.self.held in let q = plan_view c.args.plan in

@@ -4,7 +4,7 @@ use Rattle.ca_term.specs.Event.{event_view}
 use Rattle.ca_states.specs.ValidCode.{valid_code}
 use Rattle.ca_commit.specs.Plans.{plan_view}
 use Rattle.ca_commit.specs.Tasks.{agent_of}
-use Rattle.ca_tasks.specs.Tasks.{over}
+use Rattle.ca_tasks.specs.Tasks.{task_over_code}
 use Rattle.ca_follow.specs.Follower.{IsMadeFor, IsPlanOf, LeadsBehind, RefusesBehind, has}
 use Rattle.ca_follow.proofs.Operates.{leads_before, refuses_before}
 use Rattle.ca_follow.proofs.Planned.{decided_event, refuse_only}
@@ -14,7 +14,7 @@ use Rattle.ca_follow.proofs.follower.Follower.operate.Goals as goal
 pub make-requires : goal.make-requires
 make-requires c = let p = c.in_ok-plan.ensures in let x = c.in_ok-plan.plan in let b = c.requires.behind in let code = c.settled_plan.ensures.code in record {
   follower = p.follower;
-  over = subst (λ z. over (valid_code z.now) c.args.task.agent) (sym code) c.requires.over;
+  over = subst (λ z. task_over_code (valid_code z.now) c.args.task.agent) (sym code) c.requires.over;
   plan = subst (λ n. IsPlanOf (has c.settled_plan.new.self) (agent_of c.args.task) n (plan_view x)) c.start_of.ensures p.plan;
   event = decided_event (plan_view x) p.decided (refuse_only x c.in_default.not-Refused);
   copies = p.copies;

@@ -6,7 +6,7 @@ use Rattle.ca_bank.specs.Kept.{pruned}
 use Rattle.ca_commit.specs.Listing.{changed_at}
 use Rattle.ca_commit.specs.Showing.{channels_held}
 use Rattle.std.proofs.Common.{option_map}
-use Rattle.ca_follow.specs.Follower.{SettledBy, Stands, has}
+use Rattle.ca_follow.specs.Follower.{SettledBy, FollowerStands, has}
 use Rattle.ca_follow.proofs.Prunes.{settle_prunes_fewer}
 use Rattle.ca_follow.proofs.Settled.{left_in, less_left, settled_after, stale_there}
 use Rattle.ca_follow.proofs.follower.Follower.settled.Goals as goal
@@ -30,6 +30,6 @@ loop-next-smaller c = let first = c.args.self.now in let old = c.loop-next.self 
 pub loop-next-preserved : goal.loop-next-preserved
 loop-next-preserved c = let first = c.args.self.now in let old = c.loop-next.self in let p = c.args.port.n in let k = c.in-Prune in
     let there = stale_there first old p k.field-0 k.side k.place (subst (λ n. SettledBy first old p n) k.is c.loop-next.invariant.settled) in record {
-      settled = settled_after c.prune.new.self c.settled_once-in-Prune.new.self p first c.in_ok-next-2.next (λ (program : ProgramView) (s : State) (st : Stands program (has first) s). c.prune.ensures.stands program s (there.stands program s st)) c.in_ok-next-2.ensures.settled;
+      settled = settled_after c.prune.new.self c.settled_once-in-Prune.new.self p first c.in_ok-next-2.next (λ (program : ProgramView) (s : State) (st : FollowerStands program (has first) s). c.prune.ensures.stands program s (there.stands program s st)) c.in_ok-next-2.ensures.settled;
       code = c.settled_once-in-Prune.ensures.code ∙ c.prune.ensures.code ∙ c.loop-next.invariant.code;
     }

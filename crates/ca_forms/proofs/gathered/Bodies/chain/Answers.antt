@@ -4,7 +4,7 @@ use Rattle.ca_term.specs.declared.term.Term.{Term}
 use Rattle.ca_term.specs.View.{kernel}
 use Rattle.ca_forms.specs.Judged.{chained, chain_of}
 use Rattle.ca_forms.specs.Meaning.{numbered}
-use Rattle.ca_forms.specs.Outcome.{after, done}
+use Rattle.ca_forms.specs.Outcome.{after_walk, done}
 use Rattle.ca_forms.specs.WalkView.{gathered, terms_of}
 use Rattle.ca_forms.proofs.ChainLaws.{chain_last}
 use Rattle.ca_forms.proofs.gathered.Bodies.chain.Goals as goal
@@ -17,5 +17,5 @@ loop-value-preserved c =
     let step : chain_of c.args.both (numbered c.args.first (terms_of (list c.loop-value.values))) (kernel c.loop-value.made) (gathered c.loop-value.self) ≡ chain_of c.args.both (numbered c.args.first (terms_of (list c.pop.new.self))) (kernel c.in_ok-made.made) (gathered c.chained.new.self)
     = ap (λ (xs : List Term). chain_of c.args.both (numbered c.args.first (terms_of xs)) (kernel c.loop-value.made) (gathered c.loop-value.self)) cut
     ∙ chain_last c.args.both c.args.first (list c.pop.new.self) c.in-Some.value (kernel c.loop-value.made) (gathered c.loop-value.self)
-    ∙ ap (λ o. after o (λ v s. chain_of c.args.both (numbered c.args.first (terms_of (list c.pop.new.self))) v s)) made in
+    ∙ ap (λ o. after_walk o (λ v s. chain_of c.args.both (numbered c.args.first (terms_of (list c.pop.new.self))) v s)) made in
     record { same = sym step ∙ c.loop-value.invariant.same; small = omega arith }

@@ -1,7 +1,7 @@
 use Rattle.std.proofs.Common.{◌≡◌, [], length, min, ◌+◌, ◌-◌, ◌*◌}
 use Rattle.ca_value.specs.Seq.{list}
 use Rattle.ca_value.specs.View.{views, map_pairs}
-use Rattle.ca_journal_reader.specs.ValueText.{items_in, pairs_in, value_in}
+use Rattle.ca_journal_reader.specs.ValueText.{items_read, pairs_read, value_read}
 use Rattle.ca_journal_reader.proofs.cursor.Cursor.+value.Given as goal
 
 abbrev pub decreases-value_within : goal.decreases-value_within
@@ -24,8 +24,8 @@ decreases-map l = l.depth * 4 + 3
 
 abbrev pub invariant-items-loop : goal.invariant-items-loop
 invariant-items-loop l =
-    items_in (value_in l.depth) (l.end - l.counter) (views (list l.items)) l.self.rest.now ≡ items_in (value_in l.depth) (length l.initial.self.rest.now) [] l.initial.self.rest.now
+    items_read (value_read l.depth) (l.end - l.counter) (views (list l.items)) l.self.rest.now ≡ items_read (value_read l.depth) (length l.initial.self.rest.now) [] l.initial.self.rest.now
 
 abbrev pub invariant-pairs-loop : goal.invariant-pairs-loop
 invariant-pairs-loop l =
-    pairs_in (value_in l.depth) (l.end - l.counter) (map_pairs l.map) l.self.rest.now ≡ pairs_in (value_in l.depth) (min (length l.initial.self.rest.now) 65536) [] l.initial.self.rest.now
+    pairs_read (value_read l.depth) (l.end - l.counter) (map_pairs l.map) l.self.rest.now ≡ pairs_read (value_read l.depth) (min (length l.initial.self.rest.now) 65536) [] l.initial.self.rest.now

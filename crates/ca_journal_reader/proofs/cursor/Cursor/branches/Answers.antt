@@ -4,8 +4,8 @@ use Rattle.ca_value.specs.declared.seq.Seq.{Seq}
 use Rattle.ca_term.specs.declared.event.Branch.{Branch}
 use Rattle.ca_term.specs.Event.{BranchView, branch_view}
 use Rattle.ca_journal_reader.specs.ValueText.{uncomma}
-use Rattle.ca_journal_reader.specs.FieldText.{branch_in, branches_in}
-use Rattle.ca_journal_reader.specs.Found.{Found, Finds, Gives}
+use Rattle.ca_journal_reader.specs.FieldText.{branch_in, branches_read}
+use Rattle.ca_journal_reader.specs.Found.{Found, Finds, FindsAtEnd}
 use Rattle.ca_journal_reader.specs.Words.{is_first}
 use Rattle.ca_journal_reader.proofs.Loops.{list_step, list_end, list_bad}
 use Rattle.ca_journal_reader.proofs.cursor.Cursor.branches.Goals as goal
@@ -25,11 +25,11 @@ returns-in_err-branch c =
     let n = length c.args.self.now.rest.now - c.loop.counter in
     let more : 0 < n = omega (arith, c.loop-test.true) in
     let at : is_first 10 c.loop.self.rest.now ≡ false = search rules in
-    let whole = branches_in c.args.self.now.rest.now in
+    let whole = branches_read c.args.self.now.rest.now in
     let refused = c.in_err-branch.field-0.0 in
     let same : c.from_residual.result ≡ Err refused = search rules in
     let is : Finds branch_view (Err refused) c.branch-self.new.self.rest.now (each_branch c.loop.self.rest.now) = subst (λ (z : List ℕ). Finds branch_view (Err refused) c.branch-self.new.self.rest.now (branch_in z)) c.skip_comma.ensures c.in_err-branch.ensures in
-    subst (λ r. Gives (λ (xs : Seq Branch). map branch_view (list xs)) r whole) (sym same) (list_bad branch_view (λ (xs : Seq Branch). map branch_view (list xs)) each_branch n (map branch_view (list c.loop.branches)) c.loop.self.rest.now c.branch-self.new.self.rest.now whole refused more at is c.loop.invariant)
+    subst (λ r. FindsAtEnd (λ (xs : Seq Branch). map branch_view (list xs)) r whole) (sym same) (list_bad branch_view (λ (xs : Seq Branch). map branch_view (list xs)) each_branch n (map branch_view (list c.loop.branches)) c.loop.self.rest.now c.branch-self.new.self.rest.now whole refused more at is c.loop.invariant)
 
 pub loop-preserved : goal.loop-preserved
 loop-preserved c =

@@ -4,8 +4,8 @@ use Rattle.ca_value.specs.declared.seq.Seq.{Seq}
 use Rattle.ca_value.specs.declared.value.Value.{Value}
 use Rattle.ca_value.specs.View.{view, views}
 use Rattle.ca_journal_reader.specs.ValueText.{value_field}
-use Rattle.ca_journal_reader.specs.FieldText.{values_in}
-use Rattle.ca_journal_reader.specs.Found.{Finds, Gives}
+use Rattle.ca_journal_reader.specs.FieldText.{values_read}
+use Rattle.ca_journal_reader.specs.Found.{Finds, FindsAtEnd}
 use Rattle.ca_journal_reader.specs.Words.{is_first}
 use Rattle.ca_journal_reader.proofs.Loops.{list_step, list_end, list_bad}
 use Rattle.ca_journal_reader.proofs.cursor.Cursor.values.Goals as goal
@@ -22,11 +22,11 @@ returns-in_err-value c =
     let n = length c.args.self.now.rest.now - c.loop.counter in
     let more : 0 < n = omega (arith, c.loop-test.true) in
     let at : is_first 10 c.loop.self.rest.now ≡ false = search rules in
-    let whole = values_in c.args.self.now.rest.now in
+    let whole = values_read c.args.self.now.rest.now in
     let refused = c.in_err-value.field-0.0 in
     let same : c.from_residual.result ≡ Err refused = search rules in
     let is : Finds view (Err refused) c.value.new.self.rest.now (value_field c.loop.self.rest.now) = c.in_err-value.ensures in
-    subst (λ r. Gives (λ (xs : Seq Value). views (list xs)) r whole) (sym same) (list_bad view (λ (xs : Seq Value). views (list xs)) value_field n (views (list c.loop.items)) c.loop.self.rest.now c.value.new.self.rest.now whole refused more at is c.loop.invariant)
+    subst (λ r. FindsAtEnd (λ (xs : Seq Value). views (list xs)) r whole) (sym same) (list_bad view (λ (xs : Seq Value). views (list xs)) value_field n (views (list c.loop.items)) c.loop.self.rest.now c.value.new.self.rest.now whole refused more at is c.loop.invariant)
 
 pub loop-preserved : goal.loop-preserved
 loop-preserved c =

@@ -1,6 +1,6 @@
 use Rattle.std.proofs.Common.{refl, sym, subst}
 use Rattle.ca_states.specs.Machine.{ComesTo}
-use Rattle.ca_states.specs.Standing.{Stands, state_view}
+use Rattle.ca_states.specs.Standing.{RunnerStands, state_view}
 use Rattle.ca_states.specs.ValidCode.{valid_code}
 use Rattle.ca_machine.proofs.Halting.{goes, halts_in}
 use Rattle.ca_machine.proofs.Tasks.{halts_has}
@@ -16,5 +16,5 @@ pub returns-in-Ok-clause-has : goal.returns-in-Ok-clause-has
 returns-in-Ok-clause-has c =
     let m = c.args.self.now in
     let C = valid_code c.args.code.now in
-    let stands = subst (λ D. Stands D (state_view m.runner)) c.requires.code (goes (valid_code m.code.value) m.runner m.stage m.halt c.requires.going m.ready) in
+    let stands = subst (λ D. RunnerStands D (state_view m.runner)) c.requires.code (goes (valid_code m.code.value) m.runner m.stage m.halt c.requires.going m.ready) in
     halts_has C c.args.code.now.valid (state_view m.runner) c.run_to.new.halt c.run_to.new.self stands c.in-Ok.ensures.halts

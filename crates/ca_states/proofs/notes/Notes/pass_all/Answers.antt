@@ -1,8 +1,8 @@
 use Rattle.std.proofs.Common.{◌+◌, ◌<◌, map, drop, ◌∙◌, sym, ap, subst, arith}
 use Rattle.std.specs.Prelude.{IsTrue, ◌&&◌}
 use Rattle.ca_states.specs.Code.{instruction, slots_view}
-use Rattle.ca_states.specs.Valid.{each, is_instruction_in_range, after, reads_known, known_after}
-use Rattle.ca_states.specs.Told.{told}
+use Rattle.ca_states.specs.Valid.{each, is_instruction_in_range, after_instruction, reads_known, known_after}
+use Rattle.ca_states.specs.Told.{slot_told}
 use Rattle.ca_states.proofs.RowLaws.{both, drop_item, reads_known_same, known_after_same}
 use Rattle.ca_states.proofs.notes.Notes.pass_all.Goals as goal
 
@@ -24,8 +24,8 @@ loop-instr-preserved c =
     let rest = drop_item c.args.instrs.now i x c.loop-instr-test.true c.instr-item.is in
     let more = map instruction (drop (i + 1) c.args.instrs.now) in
     let entry = slots_view c.args.entry.now in
-    let here = told c.loop-instr.self entry in
-    let there = told c.pass.new.self entry in (
+    let here = slot_told c.loop-instr.self entry in
+    let there = slot_told c.pass.new.self entry in (
       c.pass.ensures.same ∙ c.loop-instr.invariant.0,
       c.pass.ensures.block ∙ c.loop-instr.invariant.1,
       λ n lt b. c.pass.ensures.before n (subst (λ y. y < n) (sym c.loop-instr.invariant.1) lt) (c.loop-instr.invariant.2 n lt b),
@@ -33,9 +33,9 @@ loop-instr-preserved c =
           (subst (λ is. IsTrue (each (is_instruction_in_range c.args.width) (map instruction is))) rest c.loop-instr.invariant.3)).1,
       c.loop-instr.invariant.4
           ∙ ap (λ is. reads_known here (map instruction is)) rest
-          ∙ ap (λ b. b && reads_known (after (instruction x) here) more) (sym c.pass.ensures.reads ∙ c.if-not-pass.false)
-          ∙ sym (reads_known_same more there (after (instruction x) here) (c.pass.ensures.told entry)),
+          ∙ ap (λ b. b && reads_known (after_instruction (instruction x) here) more) (sym c.pass.ensures.reads ∙ c.if-not-pass.false)
+          ∙ sym (reads_known_same more there (after_instruction (instruction x) here) (c.pass.ensures.told entry)),
       λ k.
           c.loop-instr.invariant.5 k ∙ ap (λ is. known_after here (map instruction is) k) rest
-          ∙ sym (known_after_same more there (after (instruction x) here) (c.pass.ensures.told entry) k),
+          ∙ sym (known_after_same more there (after_instruction (instruction x) here) (c.pass.ensures.told entry) k),
     )

@@ -6,13 +6,13 @@ use Rattle.ca_value.specs.View.{view, views}
 use Rattle.ca_states.specs.declared.code.EntryPoint.{EntryPoint}
 use Rattle.ca_states.specs.declared.runner.Runner.{Runner}
 use Rattle.ca_states.specs.Code.{BlockView, CodeView, block_at, block_view, code_view}
-use Rattle.ca_states.specs.Machine.{Frame, State, begun, begun_at, started}
+use Rattle.ca_states.specs.Machine.{Frame, RunnerState, begun, begun_at, runner_started}
 use Rattle.ca_states.specs.ValidCode.{valid_code}
-use Rattle.ca_states.specs.Standing.{state_view, calls_view, entry_at, HasRoom, Stands}
+use Rattle.ca_states.specs.Standing.{state_view, calls_view, entry_at, HasRoom, RunnerStands}
 use Rattle.ca_states.proofs.StandingLaws.{valid_parts, start_room, start_standing}
 use Rattle.ca_states.proofs.runner.Runner.start.Goals as goal
 
-abbrev state_of : ℕ → List Tree → List Frame → State
+abbrev state_of : ℕ → List Tree → List Frame → RunnerState
 state_of n s fs = record { block = n; slots = s; frames = fs; turns = 0 }
 
 pub begun-requires : goal.begun-requires
@@ -41,8 +41,8 @@ returns-clause-stands c =
     ∙ ap (λ (E : CodeView). block_at E c.entry_point-entry.result.block) c.code-code.ensures.same
     ∙ ap (λ (q : EntryPoint). block_at C q.block) e in
     let s : views c.in_ok-slots.slots.items ≡ begun_at C p (views xs) = c.in_ok-slots.ensures ∙ ap (λ (d : BlockView). begun d.width (views xs)) b in
-    let same : started C p (views xs) ≡ state_view r =
+    let same : runner_started C p (views xs) ≡ state_view r =
     sym (ap (λ (q : EntryPoint). state_of q.block (views c.in_ok-slots.slots.items) (calls_view c.new.result)) e
     ∙ ap (λ t. state_of p.block t (calls_view c.new.result)) s
     ∙ ap (state_of p.block (begun_at C p (views xs))) c.new.ensures) in
-    subst (Stands C) same (start_standing C p (views xs) (subst (HasRoom C p) (sym (length-map xs view)) room))
+    subst (RunnerStands C) same (start_standing C p (views xs) (subst (HasRoom C p) (sym (length-map xs view)) room))

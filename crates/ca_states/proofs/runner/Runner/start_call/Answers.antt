@@ -7,7 +7,7 @@ use Rattle.ca_states.specs.declared.runner.Runner.{Runner}
 use Rattle.ca_states.specs.Code.{function_at}
 use Rattle.ca_states.specs.Machine.{calling}
 use Rattle.ca_states.specs.ValidCode.{valid_code}
-use Rattle.ca_states.specs.Standing.{state_view, HasRoom, Stands}
+use Rattle.ca_states.specs.Standing.{state_view, HasRoom, RunnerStands}
 use Rattle.ca_states.proofs.StandingLaws.{valid_parts, takes_room}
 use Rattle.ca_states.proofs.Calling.{calling_standing}
 use Rattle.ca_states.proofs.runner.Runner.start_call.Goals as goal
@@ -22,4 +22,4 @@ returns-clause-stands c =
     let same : state_view r ≡ calling C n (views xs) = grind (arith, common_steps) in
     let v = valid_parts C c.code-code.ensures.valid in
     let room = takes_room C v C.functions v.functions n (length xs) c.requires in
-    subst (Stands C) (sym same) (calling_standing C v n (views xs) (subst (HasRoom C (function_at C n)) (sym (length-map xs view)) room))
+    subst (RunnerStands C) (sym same) (calling_standing C v n (views xs) (subst (HasRoom C (function_at C n)) (sym (length-map xs view)) room))

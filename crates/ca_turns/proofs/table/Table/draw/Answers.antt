@@ -2,7 +2,7 @@ use Rattle.std.proofs.Common.{◌<◌, ◌≡◌, ◌∙◌, ◌+◌, refl, sym,
 use lib.ListN.{length-map, get_elem?}
 use Rattle.ca_turns.specs.Places.{AllIn}
 use Rattle.ca_turns.specs.Hands.{IsHolding, look, there, IsOut}
-use Rattle.ca_turns.specs.Views.{turn, drawing}
+use Rattle.ca_turns.specs.Views.{new_turn, drawing}
 use Rattle.ca_turns.proofs.Looks.{all_there, all_read, long_look, both_there, written_there, written_at, written_else}
 use Rattle.ca_turns.proofs.table.Table.draw.Goals as goal
 
@@ -17,7 +17,7 @@ draw_as-number-requires-clause-turn g c = let hand = c.hand.inside in let is = g
 
 pub returns-clause-drew : goal.returns-clause-drew
 returns-clause-drew g c = let is = g.O.Object.touches c.args.event.now in
-    (c.draw_as-number.ensures.drew _ refl).0 ∙ ap (λ v. drawing v.view is (turn c.draw_as-number.result c.args.event.now (look v.view.held is) (map g.O.Object.content (look v.parts is)))) c.hand.view_is
+    (c.draw_as-number.ensures.drew _ refl).0 ∙ ap (λ v. drawing v.view is (new_turn c.draw_as-number.result c.args.event.now (look v.view.held is) (map g.O.Object.content (look v.parts is)))) c.hand.view_is
 
 pub returns-clause-later : goal.returns-clause-later
 returns-clause-later g c k t e = (c.draw_as-number.ensures.drew _ refl).2 k t (ap (λ v. get_elem? v.view.turns k) c.hand.view_is ∙ e)

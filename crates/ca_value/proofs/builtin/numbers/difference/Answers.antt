@@ -8,19 +8,19 @@ use Rattle.ca_value.specs.Tree.{Tree}
 use Rattle.ca_value.specs.View.{view, views}
 use Rattle.ca_value.specs.Outcome.{Answer, ◌>>=◌}
 use Rattle.ca_value.specs.Kinds.{integer_of, integers_of, with_integers}
-use Rattle.ca_value.specs.Numbers.{difference_of, running}
+use Rattle.ca_value.specs.Numbers.{difference_of, folded_in_range}
 use Rattle.ca_value.proofs.builtin.numbers.difference.Goals as goal
 
 -- with more than one integer the difference runs on from the first
 joined : (a : ℤ) (z : Answer ℤ) (zs : Answer (List ℤ)) →
-    (z >>= (λ b. zs >>= λ bs. Ok (b ∷ bs)) >>= running ◌-ℤ◌ a) ≡
+    (z >>= (λ b. zs >>= λ bs. Ok (b ∷ bs)) >>= folded_in_range ◌-ℤ◌ a) ≡
     ((z >>= (λ b. zs >>= λ bs. Ok (b ∷ bs)) >>= λ xs. Ok (a ∷ xs)) >>= difference_of)
 joined a (Ok b) (Ok bs) = refl
 joined a (Ok b) (Err f) = refl
 joined a (Err f) zs = refl
 
 goes_on : (t : Tree) (us : List Tree) (a : ℤ) → Ok a ≡ integer_of t → length us ≢ 0 →
-    with_integers (running ◌-ℤ◌ a) us ≡ with_integers difference_of (t ∷ us)
+    with_integers (folded_in_range ◌-ℤ◌ a) us ≡ with_integers difference_of (t ∷ us)
 goes_on t [] a e h = absurd (h refl)
 goes_on t (u ∷ us) a e h = rw (← e) (joined a (integer_of u) (integers_of us))
 
@@ -32,5 +32,5 @@ returns c =
     let more : length (views c.in-Some.rest.now) ≢ 0 = grind (arith, common_steps, nat_tests) in
     let first : Ok a ≡ integer_of (view c.in-Some.first.now) = search rules in
     let e = goes_on (view c.in-Some.first.now) (views c.in-Some.rest.now) a first more in
-    let ran : c.run.result ≡ with_integers (running ◌-ℤ◌ a) (views c.in-Some.rest.now) = simp to_z-of_z at c.run.ensures in
+    let ran : c.run.result ≡ with_integers (folded_in_range ◌-ℤ◌ a) (views c.in-Some.rest.now) = simp to_z-of_z at c.run.ensures in
     ran ∙ e ∙ ap (with_integers difference_of) (sym split)
