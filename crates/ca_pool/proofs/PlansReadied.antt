@@ -2,7 +2,7 @@
 use Rattle.std.proofs.Common.{◌≡◌, ◌∙◌, ℕ, refl, sym, ap, subst, true, Option, Some, None, is_some}
 use Rattle.std.specs.Prelude.{IfSome}
 use Rattle.ca_term.specs.Operation.{OpView}
-use Rattle.ca_meaning.specs.Body.{At}
+use Rattle.ca_meaning.specs.Body.{At, at_op}
 use Rattle.ca_meaning.specs.Refusal.{operands_to_make}
 use Rattle.ca_meaning.specs.Registry.{Registry}
 use Rattle.ca_meaning.specs.Wait.{is_among}
@@ -33,7 +33,7 @@ use Rattle.ca_pool.specs.AtEvent.{HasNumbers}
 use Rattle.ca_pool.specs.Desk.{ButReady, holds_shards}
 use Rattle.ca_pool.specs.Named.{ports_to_hold}
 use Rattle.ca_pool.specs.OwnPlans.{IsOwnPlanFor}
-use Rattle.ca_pool.specs.Preparing.{HasRest}
+use Rattle.ca_pool.specs.Preparing.{HasRest, SpawnsAt}
 use Rattle.ca_pool.specs.Resolving.{TaskBringsApart, IsResolved, IsSeen}
 
 pub if_some : {X : Type 0} (P : X → Type 0) (o : Option X) (x : X) → IfSome o P → o ≡ Some x → P x
@@ -43,6 +43,24 @@ if_some P (Some y) x p e = subst P (let k : y ≡ x = cc in k) p
 -- it is a plan from some start
 pub from_its_start : {A : Type 0} (place : A → At) (h : Held A) (q : Planned) (a : TaskAgent A) → IsOwnPlanFor place h q a → IsPlanFor place h q a
 from_its_start place h q a own = (own.0, own.1, a.alts, own.2)
+
+-- it starts a task only where the operation spawns it
+pub own_spawns : {A : Type 0} (place : A → At) (h : Held A) (q : Planned) (a : TaskAgent A) → IsOwnPlanFor place h q a → SpawnsAt (place a.agent) q
+own_spawns place h (to_spawn kind r) a own =
+    let tells = subst (λ (q : Planned). PlanTells (parts_held 0 None None h) own.0.op q) (sym own.2) (plan_tells (parts_held 0 None None h) own.0.op a.alts) in
+    (tells.1.0, own.0.place, own.1 ∙ ap (λ (o : OpView). at_op (record { op = o; place = own.0.place })) tells.1.1)
+own_spawns place h (to_look w) a own = tt
+own_spawns place h (to_prune p side i) a own = tt
+own_spawns place h (to_refuse f) a own = tt
+own_spawns place h (to_do k b alts) a own = tt
+own_spawns place h (to_meet k b alts v o) a own = tt
+own_spawns place h (to_park bs) a own = tt
+own_spawns place h (to_post bs) a own = tt
+own_spawns place h (to_default v) a own = tt
+own_spawns place h (to_make what) a own = tt
+own_spawns place h (to_close p) a own = tt
+own_spawns place h (to_register name args) a own = tt
+own_spawns place h (to_print line) a own = tt
 
 module _ {A : Type 0} (place : A → At) (old new : Held A) (channels : (i : ℕ) → channels_held new.banks i ≡ channels_held old.banks i) (registries : (i : ℕ) → registries_held new.banks i ≡ registries_held old.banks i) (waits : (i : ℕ) → waits_held new.shards i ≡ waits_held old.shards i) where
   all_channels : channels_held new.banks ≡ channels_held old.banks

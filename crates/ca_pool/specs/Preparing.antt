@@ -3,11 +3,12 @@ use Rattle.std.specs.Prelude.{◌≡◌, ℕ, ◌≤◌, ◌<◌, List, Option, 
 use Rattle.ca_timers.specs.Timers.{TimersView}
 use Rattle.ca_term.specs.Operation.{SeedView, WantView, spawning}
 use Rattle.ca_term.specs.Program.{ProgramView}
+use Rattle.ca_term.specs.declared.place.Place.{Place}
 use Rattle.ca_meaning.specs.Body.{At, at_op}
 use Rattle.ca_meaning.specs.TaskSteps.{moments}
 use Rattle.ca_commit.specs.Agents.{starts_of}
 use Rattle.ca_commit.specs.Contents.{TimersPart, home}
-use Rattle.ca_commit.specs.Planning.{Planned, to_make, to_park, to_post}
+use Rattle.ca_commit.specs.Planning.{Planned, to_make, to_park, to_post, to_spawn}
 use Rattle.ca_commit.specs.Showing.{channels_held, waits_held}
 use Rattle.ca_commit.specs.TaskMoves.{GoOnBy}
 use Rattle.ca_commit.specs.Tasks.{agent_of}
@@ -65,6 +66,11 @@ HasRest h (to_park bs) = IsSome (waits_held h.shards (home h.new_wait))
 HasRest h (to_post bs) = IsSome (waits_held h.shards (home h.new_wait))
 HasRest h (to_make what) = IsSome (channels_held h.banks (home h.new_port))
 HasRest h other = Unit {0}
+
+-- a task is started only where an operation spawns it
+abbrev pub SpawnsAt : At → Planned → Type 0
+SpawnsAt at (to_spawn kind r) = (seed : SeedView) × (place : Place) × (at ≡ at_op (record { op = spawning seed; place = place }))
+SpawnsAt at other = Unit {0}
 
 module _ {A : Type 0} (place : A → At) (starts : ProgramView → SeedView → A → Type 0) (program : ProgramView) where
   -- the new task is the one that the operation starts

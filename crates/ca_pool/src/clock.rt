@@ -29,6 +29,7 @@ ghost use Rattle.ca_pool.specs.Lone.{HasAsked, MayGo};
 
 use crate::draw::draw_aside;
 use crate::hold::{take_clock, try_clock};
+use crate::limits::check_turns;
 use crate::release::put_off;
 use crate::tick::pass;
 use ca_agent::agent::Agent;
@@ -36,10 +37,9 @@ use ca_commit::clock::tick;
 use ca_commit::held::Held;
 use ca_states::valid_code::ValidCode;
 use ca_table::drawn::Turned;
-use ca_table::noting::{can_draw, make_room};
+use ca_table::noting::make_room;
 use ca_table::part::{Clockwork, Mark};
 use ca_table::pool::Pool;
-use ca_table::waiting::wait_for_good;
 use ca_table::worker::Worker;
 use ca_timers::clock::{Clock, Failed};
 use ca_turns::Table;
@@ -161,11 +161,7 @@ pub(crate) fn draw_clock<R: Wait, A: Agent, C: Clock + Drop>(
     ensures hand { SameHand worker.old.hand worker.new.hand }
     ensures turn { DrewTurn (turn_view what) worker.old.hand.view worker.new.hand.view }
 {
-    if !can_draw(worker) {
-        // No worker draws 2^59 events.
-        wait_for_good(rt);
-        unreachable!()
-    }
+    check_turns(rt, worker);
     draw_aside(table, code, worker, held, Some(clockwork), what);
 }
 

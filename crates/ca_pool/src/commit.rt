@@ -269,7 +269,7 @@ pub(crate) fn commit<R: Wait, A: Starting, C: Clock + Drop>(
     check_new(rt, held);
     check_alts(rt, &task);
     check_counts(rt, lane.counts, lane.since);
-    let (clock, prepared) = prepare(rt, alloc, code, worker, held, &task, &plan, clock);
+    let (clock, prepared) = prepare(alloc, code, worker, held, &task, &plan, clock);
     match prepared {
         Err(OutOfMemory) => {
             put_off(table, code, worker, held, clock);

@@ -11,6 +11,7 @@ ghost use Rattle.ca_meaning.specs.TaskSteps.{result_of};
 ghost use Rattle.ca_states.specs.ValidCode.{valid_code};
 ghost use Rattle.ca_lower.specs.Gos.{SameGos};
 ghost use Rattle.ca_lower.specs.Lowered.{Lowered};
+ghost use Rattle.ca_agent.specs.Seeds.{HasSeed};
 ghost use Rattle.ca_commit.specs.Applying.{HasParts, HasSpawned, IsMade, KeepsApart};
 ghost use Rattle.ca_commit.specs.Contents.{whole};
 ghost use Rattle.ca_commit.specs.Plans.{plan_view};
@@ -25,7 +26,7 @@ ghost use Rattle.ca_table.specs.Workers.{SameWorker};
 ghost use Rattle.ca_table.specs.declared.part.Lane.{Lane};
 ghost use Rattle.ca_pool.specs.AtEvent.{HasTaken, SameNext};
 ghost use Rattle.ca_pool.specs.Desk.{ButReady, ClockBox};
-ghost use Rattle.ca_pool.specs.Preparing.{AskedFor, ButTimers, HasRest, AreTimersTimely, StartsFor, clock_seen, clock_with, in_place};
+ghost use Rattle.ca_pool.specs.Preparing.{AskedFor, ButTimers, HasRest, AreTimersTimely, SpawnsAt, StartsFor, clock_seen, clock_with, in_place};
 
 use crate::hold::{take_clock, take_ready};
 use ca_agent::agent::Agent;
@@ -39,7 +40,6 @@ use ca_states::valid_code::ValidCode;
 use ca_table::noting::make_room;
 use ca_table::part::Clockwork;
 use ca_table::pool::Pool;
-use ca_table::waiting::wait_for_good;
 use ca_table::worker::Worker;
 use ca_term::operation::{Op, Seed, What};
 use ca_timers::clock::Clock;
@@ -264,14 +264,14 @@ fn ask_moment<C: Clock + Drop>(
     }
 }
 
-// The new task of a seed. Each seed of a run is of a task whose text or function the code has.
-fn start_task<R: Wait, A: Starting>(
-    rt: &R,
+// The new task of a seed.
+fn start_task<A: Starting>(
     alloc: Global,
     code: &ValidCode,
     seed: &Seed,
     number: u64,
 ) -> Result<Task<A>, OutOfMemory>
+    requires { HasSeed (valid_code code.now) (seed_view seed.now) }
     ensures number { IfOk result (λ s. s.number ≡ number) }
     ensures result { IfOk result (λ s. option_map port_number s.result ≡ result_of (seed_view seed.now)) }
     ensures alts { IfOk result (λ s. s.alts ≡ 0) }
@@ -285,16 +285,12 @@ fn start_task<R: Wait, A: Starting>(
             alts: 0,
             agent,
         }),
-        None => {
-            wait_for_good(rt);
-            unreachable!()
-        }
+        None => unreachable!(),
     }
 }
 
-// The new task of a spawn.
-fn spawned<R: Wait, A: Starting>(
-    rt: &R,
+// The new task of a spawn. Each seed at which a task over the code stands is of a task that the code has.
+fn spawned<A: Starting>(
     alloc: Global,
     code: &ValidCode,
     task: &Task<A>,
@@ -302,6 +298,8 @@ fn spawned<R: Wait, A: Starting>(
     number: u64,
 ) -> Result<Option<Task<A>>, OutOfMemory>
     requires at { is_at_op (A.place task.now.agent) ≡ true }
+    requires over { A.over (valid_code code.now) task.now.agent }
+    requires spawns { SpawnsAt (A.place task.now.agent) (plan_view plan.now) }
     ensures there { IfOk result (λ o. HasSpawned o (plan_view plan.now)) }
     ensures number { IfOk result (λ o. IfSome o (λ s. s.number ≡ number)) }
     ensures starts { IfOk result (λ o. IfSome o (λ s. (program : ProgramView) → Lowered program (valid_code code.now) → SameGos program (valid_code code.now) → StartsFor A.place A.starts program task.now s)) }
@@ -309,11 +307,8 @@ fn spawned<R: Wait, A: Starting>(
 {
     match plan {
         Plan::Spawn(_, _) => match &task.agent.want().op {
-            Op::Spawn(seed) => Ok(Some(start_task(rt, alloc, code, seed, number)?)),
-            _ => {
-                wait_for_good(rt);
-                unreachable!()
-            }
+            Op::Spawn(seed) => Ok(Some(start_task(alloc, code, seed, number)?)),
+            _ => unreachable!(),
         },
         Plan::Done(_) | Plan::Meet(_, _, _) | Plan::Park(_) | Plan::Post(_) => Ok(None),
         Plan::Default(_) | Plan::Make(_) | Plan::Close(_) => Ok(None),
@@ -342,8 +337,7 @@ fn reserve_parts<A: Agent, C: Clock + Drop>(
 }
 
 // All memory that the event takes: its entry, the new task, and what is made for it.
-fn make_parts<R: Wait, A: Starting, C: Clock + Drop>(
-    rt: &R,
+fn make_parts<A: Starting, C: Clock + Drop>(
     alloc: Global,
     code: &ValidCode,
     worker: &mut Worker<A, C>,
@@ -353,6 +347,8 @@ fn make_parts<R: Wait, A: Starting, C: Clock + Drop>(
     clock: &Option<Box<Clockwork<C>>>,
 ) -> Result<Option<Task<A>>, OutOfMemory>
     requires at { is_at_op (A.place task.now.agent) ≡ true }
+    requires over { A.over (valid_code code.now) task.now.agent }
+    requires spawns { SpawnsAt (A.place task.now.agent) (plan_view plan.now) }
     requires paused { (w : ℕ) → IsPaused A.place (whole (waits_held held.old.shards) w) }
     requires parts { HasParts held.old (plan_view plan.now) }
     requires apart { KeepsApart (plan_view plan.now) }
@@ -371,7 +367,7 @@ fn make_parts<R: Wait, A: Starting, C: Clock + Drop>(
     ensures over { IfOk result (λ o. IfSome o (λ s. A.over (valid_code code.now) s.agent)) }
 {
     make_room(worker)?;
-    let started = spawned(rt, alloc, code, task, plan, held.new_task)?;
+    let started = spawned(alloc, code, task, plan, held.new_task)?;
     reserve_parts(alloc, held, plan, clock)?;
     Ok(started)
 }
@@ -409,8 +405,7 @@ fn prepare_moment<A: Agent, C: Clock + Drop>(
 
 /// Makes all that the event of the plan needs; of a timeout the clock is asked last. The timers are held then. Where there
 /// is no memory the clockwork shows what it did.
-pub(crate) fn prepare<R: Wait, A: Starting, C: Clock + Drop>(
-    rt: &R,
+pub(crate) fn prepare<A: Starting, C: Clock + Drop>(
     alloc: Global,
     code: &ValidCode,
     worker: &mut Worker<A, C>,
@@ -423,6 +418,8 @@ pub(crate) fn prepare<R: Wait, A: Starting, C: Clock + Drop>(
     Result<Option<Task<A>>, OutOfMemory>,
 )
     requires at { is_at_op (A.place task.now.agent) ≡ true }
+    requires over { A.over (valid_code code.now) task.now.agent }
+    requires spawns { SpawnsAt (A.place task.now.agent) (plan_view plan.now) }
     requires paused { (w : ℕ) → IsPaused A.place (whole (waits_held held.old.shards) w) }
     requires rest { HasRest held.old (plan_view plan.now) }
     requires ready { is_some held.old.ready ≡ needs_ready (plan_view plan.now) }
@@ -447,7 +444,7 @@ pub(crate) fn prepare<R: Wait, A: Starting, C: Clock + Drop>(
     ensures over { IfOk result.1 (λ o. IfSome o (λ s. A.over (valid_code code.now) s.agent)) }
 {
     let clock = take_times(alloc, held, clock);
-    match make_parts(rt, alloc, code, worker, held, task, plan, &clock) {
+    match make_parts(alloc, code, worker, held, task, plan, &clock) {
         Err(OutOfMemory) => (put_times(held, clock), Err(OutOfMemory)),
         Ok(started) => prepare_moment(held, plan, clock, started),
     }

@@ -22,6 +22,7 @@ ghost use Rattle.ca_pool.specs.Lone.{HasLooked, HasSettled, MayGo, Went};
 use crate::cost::cost_of;
 use crate::draw::draw_aside;
 use crate::hold::{take_banks, take_ready, take_shards};
+use crate::limits::check_turns;
 use crate::prune::prune;
 use crate::release::put_off;
 use ca_agent::agent::Agent;
@@ -31,9 +32,8 @@ use ca_commit::settling::{SettleNext, reserve_settle, settle_next};
 use ca_states::valid_code::ValidCode;
 use ca_table::drawn::Turned;
 use ca_table::homes::Homes;
-use ca_table::noting::{can_draw, make_room};
+use ca_table::noting::make_room;
 use ca_table::pool::Pool;
-use ca_table::waiting::wait_for_good;
 use ca_table::worker::Worker;
 use ca_term::event::{Event, Side, WaitId};
 use ca_timers::clock::Clock;
@@ -154,11 +154,7 @@ fn draw_served<R: Wait, A: Agent, C: Clock + Drop>(
     ensures carries { (program : ProgramView) (n : ℕ) (l : Lane A) → IsCarrying A.over A.stands program code.now table.now.id n worker.old (desk_taken (part_seen C.least C.faults C.readings) n code.now worker.old.number l None held.old) → IsCarrying A.over A.stands program code.now table.now.id n worker.new (just_lane n code.now l) }
     ensures solo { (k : Follow) (us : List ℕ) (most : ℕ) → MayGo A.over A.place A.stands A.advances A.gives A.starts code.now (MaySettle k (port.n ∷ us)) most worker.old → Went A.over A.place A.stands A.advances A.gives A.starts code.now (MaySettle k (port.n ∷ us)) most worker.new }
 {
-    if !can_draw(worker) {
-        // No worker draws 2^59 events.
-        wait_for_good(rt);
-        unreachable!()
-    }
+    check_turns(rt, worker);
     let event = settled_by(held, port, side, wait, branch);
     let cost = cost_of(rt, &event);
     draw_aside(table, code, worker, held, None, Turned::Shown(event));

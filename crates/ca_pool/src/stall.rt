@@ -13,14 +13,14 @@ ghost use Rattle.ca_table.specs.declared.part.Part.{Part};
 ghost use Rattle.ca_pool.specs.Surveys.{Drops, Fills, Fulls, IsSpread, IsUndatedAt, IsStillAt, Surveys, is_stuck};
 ghost use Rattle.ca_pool.specs.Lone.{Stayed};
 
+use crate::limits::check_turns;
 use crate::survey::{Look, first_open, look_over};
 use ca_agent::agent::Agent;
 use ca_states::valid_code::ValidCode;
 use ca_table::drawn::Turned;
-use ca_table::noting::{can_draw, draw_event};
+use ca_table::noting::draw_event;
 use ca_table::pool::Pool;
 use ca_table::silent::silent;
-use ca_table::waiting::wait_for_good;
 use ca_table::worker::Worker;
 use ca_timers::clock::Clock;
 use ca_turns::{Busy, Table};
@@ -225,11 +225,7 @@ fn draw_stall<R: Wait, A: Agent, C: Clock + Drop>(
     ensures holds { (program : ProgramView) (n : ℕ) → IsOne A.over A.stands program (valid_code code.now) table.now.id n worker.old → (g : ℕ → Option (Part A C)) → Surveys (part_seen C.least C.faults C.readings) n (valid_code code.now) worker.old.hand g → Fulls (part_count n) g → IsOne A.over A.stands program (valid_code code.now) table.now.id n worker.new × Surveys (part_seen C.least C.faults C.readings) n (valid_code code.now) worker.new.hand g }
     ensures stayed { Stayed worker.old worker.new }
 {
-    if !can_draw(worker) {
-        // No worker draws 2^59 events.
-        wait_for_good(rt);
-        unreachable!()
-    }
+    check_turns(rt, worker);
     let drawn = silent(code, worker, Turned::Stall);
     draw_event(table, worker, drawn);
 }

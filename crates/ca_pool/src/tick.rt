@@ -27,13 +27,13 @@ use crate::clock::{Asked, draw_clock};
 use crate::cost::cost_of;
 use crate::draw::draw_aside;
 use crate::hold::try_banks;
+use crate::limits::check_turns;
 use ca_agent::agent::Agent;
 use ca_commit::clock::{reserve_tick, tick};
 use ca_commit::held::Held;
 use ca_states::valid_code::ValidCode;
 use ca_table::drawn::Turned;
 use ca_table::homes::Homes;
-use ca_table::noting::can_draw;
 use ca_table::part::Clockwork;
 use ca_table::pool::Pool;
 use ca_table::waiting::wait_for_good;
@@ -181,11 +181,7 @@ fn draw_tick<R: Wait, A: Agent, C: Clock + Drop>(
     ensures carries { (program : ProgramView) (n : ℕ) (l : Lane A) (clock0 : ClockBox C) → IsCarrying A.over A.stands program code.now table.now.id n worker.old (desk_taken (part_seen C.least C.faults C.readings) n code.now worker.old.number l (Some clock0) held.old) → IsAsked now (clockwork_seen C.least C.faults C.readings clock0.value) (clockwork_seen C.least C.faults C.readings clockwork.value) → IsCarrying A.over A.stands program code.now table.now.id n worker.new (just_lane n code.now l) }
     ensures solo { (k : Follow) (us : List ℕ) (most : ℕ) → IsDue clockwork.value.timers.deadlines now → Ordered (due now clockwork.value.timers.deadlines) us → MayGo A.over A.place A.stands A.advances A.gives A.starts code.now (MayTick k) most worker.old → (cost : ℕ) × (result ≡ Ticked cost) × Went A.over A.place A.stands A.advances A.gives A.starts code.now (MaySettle k us) most worker.new }
 {
-    if !can_draw(worker) {
-        // No worker draws 2^59 events.
-        wait_for_good(rt);
-        unreachable!()
-    }
+    check_turns(rt, worker);
     let (clockwork, ticked) = tick_over(alloc, held, clockwork, now);
     match ticked {
         Some(event) => {

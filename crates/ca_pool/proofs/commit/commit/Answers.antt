@@ -20,7 +20,7 @@ use Rattle.ca_table.proofs.Staying.{shows_there}
 use Rattle.ca_pool.specs.Desk.{desk_taken}
 use Rattle.ca_pool.specs.Preparing.{StartsFor}
 use Rattle.ca_pool.proofs.AtEvents.{clock_shown, kept_carrying, own_number, same_turns, taken_shown}
-use Rattle.ca_pool.proofs.PlansReadied.{if_some, no_channel_kept, no_registry_kept, numbers_moved, paused_kept, placed_kept, plan_kept, resolved_apart, resolved_rest, rest_ready}
+use Rattle.ca_pool.proofs.PlansReadied.{if_some, no_channel_kept, no_registry_kept, numbers_moved, own_spawns, paused_kept, placed_kept, plan_kept, resolved_apart, resolved_rest, rest_ready}
 use Rattle.ca_pool.proofs.Preparations.{all_parts}
 use Rattle.ca_pool.proofs.Resolutions.{err_is, if_ok_is, ok_is}
 use Rattle.ca_alone.specs.Schedule.{MaySettle, to_turn}
@@ -30,6 +30,9 @@ use Rattle.ca_pool.proofs.commit.commit.Goals as goal
 pub prepare-clock-requires-clause-paused : goal.prepare-clock-requires-clause-paused
 prepare-clock-requires-clause-paused g c = let o = c.take_others-clock.ensures.others in let held1 = c.take_others-clock.new.held in
     paused_kept g.A.Agent.place c.args.held.now held1 (λ i. ap (λ b. channels_held b i) o.banks) (λ i. ap (λ b. registries_held b i) o.banks) (λ i. ap (λ b. waits_held b i) o.shards) c.requires.held.paused
+
+pub prepare-clock-requires-clause-spawns : goal.prepare-clock-requires-clause-spawns
+prepare-clock-requires-clause-spawns g c = own_spawns g.A.Agent.place c.args.held.now (plan_view c.args.plan) (agent_of c.args.task) c.requires.resolved.plan_for
 
 pub prepare-clock-requires-clause-rest : goal.prepare-clock-requires-clause-rest
 prepare-clock-requires-clause-rest g c = rest_ready (plan_view c.args.plan) c.args.held.now c.take_others-clock.new.held c.take_others-clock.ensures.others (resolved_rest g.A.Agent.place c.args.held.now c.args.task c.args.plan c.requires.resolved)
