@@ -1,4 +1,4 @@
-ghost use Rattle.std.specs.Prelude.{◌≡◌, ◌≤◌, ◌<◌, ℕ, IfOk, Option, Some, Err};
+ghost use Rattle.std.specs.Prelude.{◌≡◌, ◌≤◌, ◌<◌, ℕ, List, IfOk, Option, Some, Err};
 ghost use Rattle.ca_term.specs.declared.event.Ending.TheVariants.{Faulted as FaultedEnding};
 ghost use Rattle.ca_term.specs.declared.fault.Fault.{Fault as FaultKind};
 ghost use Rattle.ca_term.specs.declared.place.Place.{Place as PlaceKind};
@@ -13,9 +13,12 @@ ghost use Rattle.ca_timers.specs.Causes.{Rose};
 ghost use Rattle.ca_table.specs.Moments.{KeepsTime};
 ghost use Rattle.ca_pool.specs.PoolEnds.{IsSolo, end_view};
 ghost use Rattle.ca_pool.specs.declared.run_end.RunStop.TheVariants.{ClockFailed};
+ghost use Rattle.ca_sealed.specs.KeepsLaws.{KeepsLaws};
 ghost use Rattle.ca_run.specs.Answers.{end_shown, line_of_end, main_fault};
+ghost use Rattle.ca_run.specs.Inputs.{ProgramOf};
 ghost use Rattle.ca_run.specs.Top.{EndLine};
 
+use crate::laws::journals_of_a_text_keep_the_laws;
 use ca_journal::journal::Journal;
 use ca_journal::last::last;
 use ca_journal::note::Note;
@@ -123,6 +126,7 @@ pub fn run_script<R: Threads + Wait + Sync, C: Clock + Drop + Send, G: Gate + Sy
     ensures moments { IfOk result (λ m. KeepsTime (events m.0.journal) (C.least clock) (C.readings clock) (C.readings m.1)) }
     ensures failed { (c : C) → result ≡ Err (ClockFailed c) → Rose (C.faults clock) (C.faults c) }
     ensures solo { IfOk result (λ m. workers ≡ 1 → IsSolo (program_view program.now) (events m.0.journal) (C.least clock) (C.readings clock) (C.readings m.1)) }
+    ensures laws { IfOk result (λ m. (input : List ℕ) → ProgramOf input (program_view program.now) → KeepsLaws (program_view program.now) (events m.0.journal)) }
 {
     let code = lower_moving(alloc, program)?;
     let main = AnyTask::main(alloc, &code)?;
@@ -134,5 +138,6 @@ pub fn run_script<R: Threads + Wait + Sync, C: Clock + Drop + Send, G: Gate + Sy
         end,
         clock,
     } = run;
+    journals_of_a_text_keep_the_laws();
     Ok((told(alloc, journal, end)?, clock))
 }

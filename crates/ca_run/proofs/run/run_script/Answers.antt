@@ -8,6 +8,7 @@ use Rattle.ca_meaning.proofs.Possible.{body_rests}
 use Rattle.ca_journal.specs.Events.{events}
 use Rattle.ca_table.specs.Moments.{KeepsTime}
 use Rattle.ca_pool.specs.PoolEnds.{IsSolo}
+use Rattle.ca_sealed.specs.KeepsLaws.{KeepsLaws}
 use Rattle.ca_run.specs.Answers.{end_shown}
 use Rattle.ca_tasks.proofs.Sending.{task_send}
 use Rattle.ca_run.proofs.run.run_script.Goals as goal
@@ -36,6 +37,12 @@ returns-clause-moments g c = let K = g.C.Clock in
 pub returns-clause-solo : goal.returns-clause-solo
 returns-clause-solo g c = λ one. let K = g.C.Clock in
     subst (λ j. IsSolo (program_view c.args.program.now) (events j) (K.least c.args.clock) (K.readings c.args.clock) (K.readings c.in_ok-run.run'.clock)) (sym c.in_ok-told.ensures.journal) (c.in_ok-run.ensures.solo one)
+
+pub returns-clause-laws : goal.returns-clause-laws
+returns-clause-laws g c = λ input is_program.
+    let P = program_view c.args.program.now in
+    subst (λ j. KeepsLaws P (events j)) (sym c.in_ok-told.ensures.journal)
+    (c.journals_of_a_text_keep_the_laws.ensures input P is_program (events c.in_ok-run.run'.journal) c.in_ok-run.ensures.legal)
 
 pub told-requires : goal.told-requires
 told-requires g c = record { end = (program_view c.args.program.now, c.args.budget, c.in_ok-run.ensures.end) }
